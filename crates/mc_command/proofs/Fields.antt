@@ -1,0 +1,42 @@
+-- Numbers of 32 bits by those of 64.
+use Rattle.std.proofs.Common.{◌≡◌, ℕ, ◌^◌, Bool, true, false, ◌&&◌, cond, List, Some, None, nat_lt, refl, arith, inl, inr, Result, Ok, Err}
+use Rattle.std.proofs.lemmas.Bool.{cases_lt}
+use Rattle.std.proofs.lemmas.Bool.Decides.{nat_tests}
+use Rattle.std.specs.Option.{ok_or}
+use Rattle.std.specs.Str.Parse.{digits_value}
+use Rattle.mc_wire.specs.Number.{number_of, is_digits}
+use Rattle.mc_command.specs.declared.refusal.Refusal.{Refusal}
+use Rattle.mc_command.specs.declared.refusal.Refusal.TheVariants.{BadFormat}
+use Rattle.mc_command.specs.Field.{unsigned_of, then_of}
+
+-- a number, where 32 bits have room for it
+abbrev pub narrow : ℕ → Result ℕ Refusal
+narrow number = cond (nat_lt number (2 ^ 32)) (Ok number) (Err BadFormat)
+
+narrow_again : (number : ℕ) → ok_or (cond (nat_lt number (2 ^ 32)) (Some number) None) BadFormat ≡ then_of (ok_or (cond (nat_lt number (2 ^ 64)) (Some number) None) BadFormat) narrow
+narrow_again number = elim (cases_lt number (2 ^ 32)) [
+  | inl below ↦
+      let first : nat_lt number (2 ^ 32) ≡ true = grind (arith, nat_tests) in
+      let second : nat_lt number (2 ^ 64) ≡ true = grind (arith, nat_tests) in
+      rw (second, first)
+  | inr past ↦
+      let first : nat_lt number (2 ^ 32) ≡ false = grind (arith, nat_tests) in
+      elim (cases_lt number (2 ^ 64)) [
+        | inl below ↦
+            let second : nat_lt number (2 ^ 64) ≡ true = grind (arith, nat_tests) in
+            rw (second, first)
+        | inr beyond ↦
+            let second : nat_lt number (2 ^ 64) ≡ false = grind (arith, nat_tests) in
+            rw (second, first)
+      ]
+]
+
+narrow_digits : (digits : Bool) (number : ℕ) → ok_or (cond (digits && nat_lt number (2 ^ 32)) (Some number) None) BadFormat ≡ then_of (ok_or (cond (digits && nat_lt number (2 ^ 64)) (Some number) None) BadFormat) narrow
+narrow_digits true number = narrow_again number
+narrow_digits false number = refl
+
+pub unsigned_of-narrow : (word : List ℕ) → unsigned_of (2 ^ 32) word ≡ then_of (unsigned_of (2 ^ 64) word) narrow
+unfolding number_of
+unsigned_of-narrow word = narrow_digits (is_digits word) (digits_value 10 word)
+
+pub ruleset narrows = unsigned_of-narrow

@@ -1,0 +1,15 @@
+pub mod Behind
+pub mod Blocks
+pub mod Fields
+pub mod GivingUp
+pub mod KeyLists
+pub mod Lines
+pub mod MetaCounts
+pub mod MetaLaws
+pub mod MetaLookups
+pub mod MetaWalks
+pub mod RowsClassic
+pub mod RowsMeta
+pub mod Sizes
+pub mod StorageLines
+pub mod Told

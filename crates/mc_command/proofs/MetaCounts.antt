@@ -1,0 +1,166 @@
+-- There is room for each flag that is given back: no letter stands twice, and eight are given back.
+use Rattle.std.proofs.Common.{◌≡◌, ◌≢◌, ◌⊎◌, ℕ, ◌+◌, ◌<◌, ◌≤◌, ◌==◌, Bool, true, false, ◌&&◌, ◌||◌, cond, not, List, [], ◌∷◌, ◌++◌, length, Option, Some, None, is_some, codes, refl, sym, ap, ◌∙◌, arith, inl, inr, get_or, set, get_or-set_other, get_or-set_same, length-append}
+use Rattle.std.proofs.lemmas.Bool.{eqb-true, eqb-false, eq-eqb}
+use Rattle.std.proofs.Math.ListN.{length-set}
+use Rattle.std.proofs.lemmas.List.{length-replicate}
+use Rattle.mc_command.specs.declared.meta.ReturnFlag.{ReturnFlag}
+use Rattle.mc_command.specs.declared.meta_flags.Asked.{Asked}
+use Rattle.mc_command.specs.declared.meta_flags.Flag.{Flag}
+use Rattle.mc_command.specs.declared.meta_flags.Flag.TheVariants as flag
+use Rattle.mc_command.specs.declared.meta_flags.FlagReader.{FlagReader}
+use Rattle.mc_command.specs.Meta.{is_among, return_flag}
+use Rattle.mc_command.specs.MetaReading.{IsCounted, seen_count, shown_count, with_flag, with_shown, unseen, nothing_asked}
+
+pub true_or_false : (b : Bool) → (b ≡ true) ⊎ (b ≡ false)
+true_or_false true = inl refl
+true_or_false false = inr refl
+
+-- two letters are one or not
+pub data SameLetter (a b : ℕ) : Type 0 where
+  same : (a == b) ≡ true → a ≡ b → SameLetter a b
+  other : (a == b) ≡ false → a ≢ b → SameLetter a b
+
+pub same_letter : (a b : ℕ) → SameLetter a b
+same_letter a b = elim (true_or_false (a == b)) [
+  | inl t ↦ same t (eqb-true a b t)
+  | inr t ↦ other t (eqb-false a b t)
+]
+
+not_first : (a b : Bool) → (a || b) ≡ false → (a ≡ false) × (b ≡ false)
+not_first true b h = absurd cc
+not_first false b h = (refl, h)
+
+later : (a b : Bool) → a ≡ false → (a || b) ≡ true → b ≡ true
+later true b t h = absurd cc
+later false b t h = h
+
+both : (a b : Bool) → (not a && b) ≡ true → (a ≡ false) × (b ≡ true)
+both true b h = absurd cc
+both false b h = (refl, h)
+
+seen_count-other : (seen : List Bool) (letter : ℕ) (letters : List ℕ) → is_among letters letter ≡ false → seen_count (set seen letter true) letters ≡ seen_count seen letters
+seen_count-other seen letter [] absent = refl
+seen_count-other seen letter (first ∷ letters) absent =
+    let parts = not_first (first == letter) (is_among letters letter) absent in
+    let ne : first ≢ letter = eqb-false first letter parts.0 in
+    rw (get_or-set_other seen letter first true false ne, seen_count-other seen letter letters parts.1)
+
+-- Of letters no one stands twice.
+abbrev is_distinct : List ℕ → Bool
+is_distinct [] = true
+is_distinct (letter ∷ letters) = not (is_among letters letter) && is_distinct letters
+
+seen_count-new : (seen : List Bool) (letter : ℕ) (letters : List ℕ) → is_distinct letters ≡ true → is_among letters letter ≡ true → letter < length seen → get_or seen letter false ≡ false → seen_count (set seen letter true) letters ≡ seen_count seen letters + 1
+seen_count-new seen letter [] distinct among within fresh = absurd cc
+seen_count-new seen letter (first ∷ letters) distinct among within fresh =
+    let parts = both (is_among letters first) (is_distinct letters) distinct in
+    elim (same_letter first letter) [
+      | same t e ↦
+          let absent : is_among letters letter ≡ false = rw (← e) parts.0 in
+          let now : get_or (set seen letter true) first false ≡ true = rw e (get_or-set_same seen letter true false within) in
+          let before : get_or seen first false ≡ false = rw e fresh in
+          rw (now, before, seen_count-other seen letter letters absent) (omega arith)
+      | other t ne ↦
+          let rest = later (first == letter) (is_among letters letter) t among in
+          rw (get_or-set_other seen letter first true false ne) (omega (arith, seen_count-new seen letter letters parts.1 rest within fresh))
+    ]
+
+bit_most : (b : Bool) → cond {A = ℕ} b 1 0 ≤ 1
+bit_most true = omega arith
+bit_most false = omega arith
+
+seen_count-most : (seen : List Bool) (letters : List ℕ) → seen_count seen letters ≤ length letters
+seen_count-most seen [] = omega arith
+seen_count-most seen (letter ∷ letters) = omega (arith, bit_most (get_or seen letter false), seen_count-most seen letters)
+
+seen_count-fresh : (seen : List Bool) (letter : ℕ) (letters : List ℕ) → is_among letters letter ≡ true → get_or seen letter false ≡ false → seen_count seen letters < length letters
+seen_count-fresh seen letter [] among fresh = absurd cc
+seen_count-fresh seen letter (first ∷ letters) among fresh =
+    elim (same_letter first letter) [
+      | same t e ↦
+          let before : get_or seen first false ≡ false = rw e fresh in
+          rw before (omega (arith, seen_count-most seen letters))
+      | other t ne ↦
+          let rest = later (first == letter) (is_among letters letter) t among in
+          omega (arith, bit_most (get_or seen first false), seen_count-fresh seen letter letters rest fresh)
+    ]
+
+pub eq_comm : (a b : ℕ) → (a == b) ≡ (b == a)
+eq_comm a b = elim (same_letter a b) [
+  | same t e ↦ t ∙ sym (eq-eqb b a (sym e))
+  | other t ne ↦ elim (same_letter b a) [
+    | same t' e ↦ absurd (ne (sym e))
+    | other t' ne' ↦ t ∙ sym t'
+  ]
+]
+
+some_if : (a : Bool) (shown : ReturnFlag) (rest : Option ReturnFlag) (b : Bool) → is_some rest ≡ b → is_some (cond a (Some shown) rest) ≡ (a || b)
+some_if true shown rest b h = refl
+some_if false shown rest b h = h
+
+shown_among : (letter : ℕ) → is_some (return_flag letter) ≡ is_among (codes "cfhklOst") letter
+shown_among letter =
+    rw (eq_comm 99 letter, eq_comm 102 letter, eq_comm 104 letter, eq_comm 107 letter, eq_comm 108 letter, eq_comm 79 letter, eq_comm 115 letter, eq_comm 116 letter)
+    (some_if (letter == 99) _ _ _ (some_if (letter == 102) _ _ _ (some_if (letter == 104) _ _ _ (some_if (letter == 107) _ _ _
+    (some_if (letter == 108) _ _ _ (some_if (letter == 79) _ _ _ (some_if (letter == 115) _ _ _ (some_if (letter == 116) _ _ _ refl))))))))
+
+with_flag-returned : (asked : Asked) (said : Flag) → (with_flag asked said).flags.returned ≡ asked.flags.returned
+with_flag-returned asked flag.Base64 = refl
+with_flag-returned asked flag.Quiet = refl
+with_flag-returned asked flag.Value = refl
+with_flag-returned asked flag.Invalidate = refl
+with_flag-returned asked (flag.Opaque token) = refl
+with_flag-returned asked (flag.Mode mode) = refl
+with_flag-returned asked (flag.Direction direction) = refl
+with_flag-returned asked (flag.Exptime exptime) = refl
+with_flag-returned asked (flag.Vivify exptime) = refl
+with_flag-returned asked (flag.Recache seconds) = refl
+with_flag-returned asked (flag.Compare unique) = refl
+with_flag-returned asked (flag.Amount amount) = refl
+with_flag-returned asked (flag.Initial number) = refl
+with_flag-returned asked (flag.ClientFlags flags) = refl
+with_flag-returned asked flag.Bare = refl
+
+-- there is room for the flag of a letter that was not seen
+pub room : (reader : FlagReader) (letter : ℕ) (said : Flag) (shown : ReturnFlag) → IsCounted reader → get_or reader.seen letter false ≡ false → return_flag letter ≡ Some shown → length (with_flag reader.asked said).flags.returned < 8
+unfolding shown_count
+room reader letter said shown counted fresh is =
+    let among : is_among (codes "cfhklOst") letter ≡ true = sym (shown_among letter) ∙ ap is_some is in
+    let below : seen_count reader.seen (codes "cfhklOst") < 8 = seen_count-fresh reader.seen letter (codes "cfhklOst") among fresh in
+    let same : length reader.asked.flags.returned ≡ seen_count reader.seen (codes "cfhklOst") = counted.shown in
+    rw (with_flag-returned reader.asked said, same) below
+
+counted_by : (seen : List Bool) (letter : ℕ) (asked : Asked) (shown : Option ReturnFlag) → is_among (codes "cfhklOst") letter ≡ is_some shown → letter < length seen → get_or seen letter false ≡ false → length asked.flags.returned ≡ seen_count seen (codes "cfhklOst") → length (with_shown asked shown).flags.returned ≡ seen_count (set seen letter true) (codes "cfhklOst")
+counted_by seen letter asked None among within fresh was = was ∙ sym (seen_count-other seen letter (codes "cfhklOst") among)
+counted_by seen letter asked (Some shown) among within fresh was =
+    rw (seen_count-new seen letter (codes "cfhklOst") refl among within fresh) (omega (arith, length-append asked.flags.returned (shown ∷ []), was))
+
+-- the count still holds with one flag more
+pub counted_more : (reader : FlagReader) (letter : ℕ) (said : Flag) → IsCounted reader → letter < 256 → get_or reader.seen letter false ≡ false →
+    IsCounted (record { seen = set reader.seen letter true; asked = with_shown (with_flag reader.asked said) (return_flag letter) })
+unfolding shown_count
+counted_more reader letter said counted within fresh =
+    let wide = counted.wide in
+    let below : letter < length reader.seen = omega arith in
+    record {
+      wide = length-set reader.seen letter true ∙ wide;
+      shown = counted_by reader.seen letter (with_flag reader.asked said) (return_flag letter) (sym (shown_among letter)) below fresh (ap length (with_flag-returned reader.asked said) ∙ counted.shown);
+    }
+
+pub counted_shown : (reader : FlagReader) (letter : ℕ) (said : Flag) (asked : Asked) (shown : ReturnFlag) (returned : List ReturnFlag) → IsCounted reader → letter < 256 → get_or reader.seen letter false ≡ false →
+    asked ≡ with_flag reader.asked said → Some shown ≡ return_flag letter → returned ≡ asked.flags.returned ++ shown ∷ [] →
+    IsCounted (record { seen = set reader.seen letter true; asked = record asked { flags = record asked.flags { returned = returned } } })
+counted_shown reader letter said asked shown returned counted within fresh is shows more =
+    rw (more, is) (rw (← shows) at (counted_more reader letter said counted within fresh))
+
+pub counted_bare : (reader : FlagReader) (letter : ℕ) (said : Flag) (asked : Asked) → IsCounted reader → letter < 256 → get_or reader.seen letter false ≡ false →
+    asked ≡ with_flag reader.asked said → None ≡ return_flag letter → IsCounted (record { seen = set reader.seen letter true; asked = asked })
+counted_bare reader letter said asked counted within fresh is shows =
+    rw is (rw (← shows) at (counted_more reader letter said counted within fresh))
+
+pub counted_first : (reader : FlagReader) → reader.seen ≡ unseen → reader.asked ≡ nothing_asked → IsCounted reader
+unfolding shown_count
+counted_first reader seen asked = record {
+  wide = rw seen (length-replicate 256 false);
+  shown = rw (seen, asked) refl;
+}

@@ -1,0 +1,191 @@
+-- Worked rows of the table of meta lines (protocol.txt, "Meta Commands"), by computation.
+use Rattle.std.proofs.Common.{◌≡◌, ◌++◌, ℕ, true, false, List, [], ◌∷◌, map, replicate, Some, None, pos, negsuc, codes, refl}
+use Rattle.base64.proofs.OnLiterals.{base64_on_literals}
+use Rattle.mc_wire.specs.Base64Key.{base64_bytes}
+use Rattle.mc_wire.specs.Number.{number_of}
+use Rattle.mc_wire.specs.Words.{words_of}
+use Rattle.mc_command.specs.declared.command.Command.TheVariants.{MetaGet, MetaSet, MetaDelete, MetaArithmetic}
+use Rattle.mc_command.specs.declared.command.Direction.TheVariants.{Increment, Decrement}
+use Rattle.mc_command.specs.declared.line.Line.{Line}
+use Rattle.mc_command.specs.declared.line.Line.TheVariants.{Whole, Data, Refused, Skip}
+use Rattle.mc_command.specs.declared.meta.MetaFlags.{MetaFlags}
+use Rattle.mc_command.specs.declared.meta.MetaMode.TheVariants as mode
+use Rattle.mc_command.specs.declared.meta.ReturnFlag.TheVariants.{Unique, ClientFlags, Fetched, Key, LastAccess, Opaque, Size, TimeLeft}
+use Rattle.mc_command.specs.declared.meta_line.MetaName.TheVariants.{Get, Set, Delete, Arithmetic}
+use Rattle.mc_command.specs.declared.refusal.Refusal.TheVariants.{BadFormat, BadKey, InvalidFlag, DuplicateFlag, OpaqueTooLong, TooLarge}
+use Rattle.mc_command.specs.Field.{is_key}
+use Rattle.mc_command.specs.Meta.{decoded_key, mode_of, direction_of, meta_line_of}
+
+-- lines of the four commands, by the text behind the name
+
+abbrev mg : List ℕ → Line
+mg text = meta_line_of Get (words_of text)
+
+abbrev ms : List ℕ → Line
+ms text = meta_line_of Set (words_of text)
+
+abbrev md : List ℕ → Line
+md text = meta_line_of Delete (words_of text)
+
+abbrev ma : List ℕ → Line
+ma text = meta_line_of Arithmetic (words_of text)
+
+abbrev no_flags : MetaFlags
+no_flags = record { base64 = false; quiet = false; returned = []; opaque = [] }
+
+-- no key, or no count: nothing is skipped
+few_words : map mg ([] ∷ codes "  " ∷ []) ++ map ms ([] ∷ codes "a" ∷ []) ++ map md ([] ∷ []) ++ map ma ([] ∷ [])
+    ≡ replicate 6 (Refused BadFormat)
+unfolding meta_line_of words_of
+few_words = refl
+
+-- each command has letters of its own, and case counts
+foreign_letters :
+    map mg (codes "a ?" ∷ codes "a V" ∷ codes "a C1" ∷ codes "a D1" ∷ codes "a F1" ∷ codes "a I" ∷ codes "a J1" ∷ codes "a MS" ∷ codes "a E1" ∷ codes "a x" ∷ [])
+    ++ map md (codes "a c" ∷ codes "a s" ∷ codes "a v" ∷ codes "a t" ∷ codes "a x" ∷ codes "a N1" ∷ codes "a D1" ∷ codes "a F1" ∷ [])
+    ++ map ma (codes "a s" ∷ codes "a f" ∷ codes "a h" ∷ codes "a l" ∷ codes "a I" ∷ codes "a R1" ∷ codes "a F1" ∷ [])
+    ≡ replicate 25 (Refused InvalidFlag)
+unfolding meta_line_of words_of
+foreign_letters = refl
+
+foreign_letters_of_ms : map ms (codes "a 0 v" ∷ codes "a 0 t" ∷ codes "a 0 I" ∷ codes "a 0 N1" ∷ codes "a 0 R1" ∷ codes "a 0 D1" ∷ codes "a 0 J1" ∷ codes "a 0 E1" ∷ [])
+    ≡ replicate 8 (Skip InvalidFlag 2)
+unfolding meta_line_of words_of number_of
+foreign_letters_of_ms = refl
+
+-- over the flags the first fault decides, and within one flag the letter, the duplicate, the long token
+-- and the bad one, in this order
+first_faults : map mg (codes "a v v ?" ∷ codes "a ? v v" ∷ codes "a Tx ?" ∷ codes "a T1 Tx" ∷ codes "a vx vy" ∷ (codes "a O1 O" ++ replicate 33 120) ∷ (codes "a O" ++ replicate 33 120 ++ codes " v v") ∷ (codes "a N O" ++ replicate 33 120) ∷ [])
+    ≡ Refused DuplicateFlag ∷ Refused InvalidFlag ∷ Refused BadFormat ∷ Refused DuplicateFlag ∷ Refused DuplicateFlag ∷ Refused DuplicateFlag ∷ Refused OpaqueTooLong ∷ Refused BadFormat ∷ []
+unfolding meta_line_of words_of number_of
+first_faults = refl
+
+-- flags before the key, the key before the count, the count before the rest
+faults_in_order :
+    map mg ((replicate 251 107 ++ codes " ?") ∷ (replicate 251 107 ++ codes " v v") ∷ replicate 251 107 ∷ (97 ∷ 127 ∷ []) ∷ [])
+    ++ map ms (codes "a x ?" ∷ codes "a x v" ∷ codes "a x O1 O2" ∷ (97 ∷ 127 ∷ codes " x") ∷ (97 ∷ 127 ∷ codes " 3") ∷ (97 ∷ 127 ∷ codes " 3 ?") ∷ (97 ∷ 127 ∷ codes " 1048577") ∷ codes "a x" ∷ codes "a x C1 ME" ∷ [])
+    ≡ Refused InvalidFlag ∷ Refused DuplicateFlag ∷ Refused BadKey ∷ Refused BadKey
+    ∷ Refused InvalidFlag ∷ Refused InvalidFlag ∷ Refused DuplicateFlag ∷ Refused BadKey ∷ Skip BadKey 5 ∷ Skip InvalidFlag 5 ∷ Skip BadKey 1048579 ∷ Refused BadFormat ∷ Refused BadFormat ∷ []
+unfolding meta_line_of words_of number_of is_key
+faults_in_order = refl
+
+-- flags that need a token and have none, or one out of range
+bad_tokens :
+    map mg (codes "a T" ∷ codes "a N" ∷ codes "a R" ∷ codes "a Tx" ∷ codes "a T9223372036854775808" ∷ codes "a N-9223372036854775809" ∷ codes "a R1.5" ∷ [])
+    ++ map md (codes "a C" ∷ codes "a C-1" ∷ codes "a C18446744073709551616" ∷ codes "a Tx" ∷ [])
+    ++ map ma (codes "a D" ∷ codes "a J" ∷ codes "a D-1" ∷ codes "a M" ∷ codes "a MX" ∷ codes "a MII" ∷ codes "a MS" ∷ [])
+    ≡ replicate 18 (Refused BadFormat)
+unfolding meta_line_of words_of number_of
+bad_tokens = refl
+
+bad_tokens_of_ms : map ms (codes "a 1 F" ∷ codes "a 1 F4294967296" ∷ codes "a 1 F-1" ∷ codes "a 1 C" ∷ codes "a 1 T" ∷ codes "a 1 M" ∷ codes "a 1 MX" ∷ codes "a 1 MI" ∷ codes "a 1 MSS" ∷ [])
+    ≡ replicate 9 (Skip BadFormat 3)
+unfolding meta_line_of words_of number_of
+bad_tokens_of_ms = refl
+
+-- a readable count skips its block; a large value and `C` in another mode are refused last
+counts : map ms (codes "a 4294967296" ∷ codes "a -1" ∷ codes "a 000000000000000000001" ∷ codes "a 4294967295" ∷ codes "a 1048577" ∷ codes "a 1048577 C1 MA" ∷ codes "a 2 C1 Ma" ∷ codes "a 2 Me C1" ∷ codes "a 2 C1 MP" ∷ codes "a 2 C1 Mr" ∷ [])
+    ≡ Refused BadFormat ∷ Refused BadFormat ∷ Refused BadFormat ∷ Skip TooLarge 4294967297 ∷ Skip TooLarge 1048579 ∷ Skip BadFormat 1048579 ∷ replicate 4 (Skip BadFormat 4)
+unfolding meta_line_of words_of number_of is_key
+counts = refl
+
+largest_value : ms (codes "a 1048576") ≡ Data (MetaSet (record { key = codes "a"; flags = no_flags; mode = mode.Set; compare = None; client_flags = 0; exptime = pos 0; block = [] })) 1048576
+unfolding meta_line_of words_of number_of is_key
+largest_value = refl
+
+-- modes in either case, of one letter alone
+modes : map mode_of (map codes ("E" ∷ "e" ∷ "A" ∷ "a" ∷ "P" ∷ "p" ∷ "R" ∷ "r" ∷ "S" ∷ "s" ∷ "" ∷ "I" ∷ "set" ∷ []))
+    ≡ Some mode.Add ∷ Some mode.Add ∷ Some mode.Append ∷ Some mode.Append ∷ Some mode.Prepend ∷ Some mode.Prepend ∷ Some mode.Replace ∷ Some mode.Replace ∷ Some mode.Set ∷ Some mode.Set ∷ None ∷ None ∷ None ∷ []
+modes = refl
+
+directions : map direction_of (map codes ("I" ∷ "i" ∷ "+" ∷ "D" ∷ "d" ∷ "-" ∷ "" ∷ "S" ∷ "incr" ∷ []))
+    ≡ Some Increment ∷ Some Increment ∷ Some Increment ∷ Some Decrement ∷ Some Decrement ∷ Some Decrement ∷ None ∷ None ∷ None ∷ []
+directions = refl
+
+-- all that a get may ask, with the returned flags in the order of the request
+whole_get : mg (codes "key s c O123 t k f h l q v T30 N-1 R60")
+    ≡ Whole (MetaGet (record {
+      key = codes "key";
+      flags = record { base64 = false; quiet = true; returned = Size ∷ Unique ∷ Opaque ∷ TimeLeft ∷ Key ∷ ClientFlags ∷ Fetched ∷ LastAccess ∷ []; opaque = codes "123" };
+      value = true;
+      touch = Some (pos 30);
+      vivify = Some (negsuc 0);
+      recache = Some (pos 60);
+    }))
+unfolding meta_line_of words_of number_of is_key
+whole_get = refl
+
+-- the order of flags decides the returned ones alone
+other_order : map mg (codes "a v T1 k N2 t q" ∷ codes "a q N2 k T1 v t" ∷ codes "a k t q v T1 N2" ∷ [])
+    ≡ replicate 3 (Whole (MetaGet (record {
+      key = codes "a";
+      flags = record { base64 = false; quiet = true; returned = Key ∷ TimeLeft ∷ []; opaque = [] };
+      value = true;
+      touch = Some (pos 1);
+      vivify = Some (pos 2);
+      recache = None;
+    })))
+unfolding meta_line_of words_of number_of is_key
+other_order = refl
+
+-- a token on a flag that takes none is ignored, `O` alone has the empty token, and 32 bytes are the most
+tokens_ignored : map mg (codes "a vxyz kq O" ∷ [])
+    ≡ Whole (MetaGet (record { key = codes "a"; flags = record { base64 = false; quiet = false; returned = Key ∷ Opaque ∷ []; opaque = [] }; value = true; touch = None; vivify = None; recache = None })) ∷ []
+unfolding meta_line_of words_of is_key
+tokens_ignored = refl
+
+longest_opaque : mg (codes "a O" ++ replicate 32 120)
+    ≡ Whole (MetaGet (record { key = codes "a"; flags = record { base64 = false; quiet = false; returned = Opaque ∷ []; opaque = replicate 32 120 }; value = false; touch = None; vivify = None; recache = None }))
+unfolding meta_line_of words_of is_key
+longest_opaque = refl
+
+-- a key in base64, wherever `b` stands; canonical only, and of 1 to 186 bytes
+base64_keys : map mg (codes "YQ== k b" ∷ codes "YQ== b k" ∷ [])
+    ≡ replicate 2 (Whole (MetaGet (record { key = codes "a"; flags = record { base64 = true; quiet = false; returned = Key ∷ []; opaque = [] }; value = false; touch = None; vivify = None; recache = None })))
+unfolding meta_line_of words_of decoded_key base64_bytes base64_on_literals
+base64_keys = refl
+
+base64_refused : map mg (codes "YR== b" ∷ codes "YQ b" ∷ codes "Y?== b" ∷ (replicate 252 65 ++ codes " b") ∷ []) ++ map ms (codes "YR== 2 b" ∷ codes "YR== x b" ∷ [])
+    ≡ replicate 4 (Refused BadKey) ++ (Skip BadKey 4 ∷ Refused BadKey ∷ [])
+unfolding meta_line_of words_of number_of decoded_key base64_bytes base64_on_literals
+base64_refused = refl
+
+-- without `b` the word itself is the key
+plain_key : md (codes "YQ==") ≡ Whole (MetaDelete (record { key = codes "YQ=="; flags = no_flags; compare = None; invalidate = false; exptime = None }))
+unfolding meta_line_of words_of is_key
+plain_key = refl
+
+whole_set : ms (codes "a 5 T30 s F7 C9 c q Oxy MS")
+    ≡ Data (MetaSet (record {
+      key = codes "a";
+      flags = record { base64 = false; quiet = true; returned = Size ∷ Unique ∷ Opaque ∷ []; opaque = codes "xy" };
+      mode = mode.Set;
+      compare = Some 9;
+      client_flags = 7;
+      exptime = pos 30;
+      block = [];
+    })) 5
+unfolding meta_line_of words_of number_of is_key
+whole_set = refl
+
+whole_delete : md (codes "a T30 I C5 q k")
+    ≡ Whole (MetaDelete (record { key = codes "a"; flags = record { base64 = false; quiet = true; returned = Key ∷ []; opaque = [] }; compare = Some 5; invalidate = true; exptime = Some (pos 30) }))
+unfolding meta_line_of words_of number_of is_key
+whole_delete = refl
+
+whole_arithmetic : map ma (codes "a N60 J007 D3 Md T-1 v t c C18446744073709551615" ∷ codes "a" ∷ [])
+    ≡ Whole (MetaArithmetic (record {
+      key = codes "a";
+      flags = record { base64 = false; quiet = false; returned = TimeLeft ∷ Unique ∷ []; opaque = [] };
+      value = true;
+      compare = Some 18446744073709551615;
+      direction = Decrement;
+      amount = 3;
+      initial = 7;
+      vivify = Some (pos 60);
+      exptime = Some (negsuc 0);
+    }))
+    ∷ Whole (MetaArithmetic (record { key = codes "a"; flags = no_flags; value = false; compare = None; direction = Increment; amount = 1; initial = 0; vivify = None; exptime = None }))
+    ∷ []
+unfolding meta_line_of words_of number_of is_key
+whole_arithmetic = refl

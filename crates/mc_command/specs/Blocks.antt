@@ -1,0 +1,32 @@
+-- From what a line's words are to what the line is, with the block behind it or none.
+use Rattle.std.specs.Prelude.{ℕ, ◌+◌, Option, Some, None, nat_lt, if◌then◌else◌, Result, Ok, Err, IsTrue}
+use Rattle.mc_command.specs.declared.command.Command.{Command}
+use Rattle.mc_command.specs.declared.refusal.Refusal.{Refusal}
+use Rattle.mc_command.specs.declared.refusal.Refusal.TheVariants.{BadFormat, TooLarge}
+use Rattle.mc_command.specs.declared.line.Line.{Line}
+use Rattle.mc_command.specs.declared.line.Line.TheVariants.{Whole, Data, Refused, Skip}
+use Rattle.mc_command.specs.Command.{can_give_up, refusal_takes_memory}
+
+-- a line that no block follows
+abbrev pub whole_line : Result Command Refusal → Line
+whole_line (Ok command) = Whole command
+whole_line (Err refusal) = Refused refusal
+
+-- A line that a block follows, with the count of its bytes where the word in that place is readable. A
+-- readable count tells what is skipped, whatever else is wrong; a value of more than 1,048,576 bytes is
+-- refused last.
+abbrev pub block_line : Option ℕ → Result Command Refusal → Line
+block_line (Some count) (Ok command) = if nat_lt 1048576 count then Skip TooLarge (count + 2) else Data command count
+block_line (Some count) (Err refusal) = Skip refusal (count + 2)
+block_line None (Ok command) = Refused BadFormat
+block_line None (Err refusal) = Refused refusal
+
+-- A line that asks this may be given up for want of memory.
+abbrev pub MayBeGivenUp : Result Command Refusal → Type 0
+MayBeGivenUp (Ok command) = IsTrue (can_give_up command)
+MayBeGivenUp (Err refusal) = IsTrue (refusal_takes_memory refusal)
+
+-- the bytes of a block with its line end, by its count
+abbrev pub bytes_with : Option ℕ → ℕ
+bytes_with None = 0
+bytes_with (Some count) = count + 2

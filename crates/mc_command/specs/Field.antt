@@ -1,0 +1,48 @@
+-- The words of a line as its fields: each is a value or a fault (protocol.txt, "Keys", "Storage commands").
+use Rattle.std.specs.Prelude.{ℕ, ◌≡◌, ◌≢◌, Bool, true, false, List, Option, Some, None, is_none, codes, ℤ, if◌then◌else◌, MatchResult, Result, Ok, Err}
+use Rattle.std.specs.Option.{ok_or}
+use Rattle.std.specs.Str.{bytes_eq}
+use Rattle.mc_wire.specs.Key.{key_fault}
+use Rattle.mc_wire.specs.Number.{number_of, integer_of}
+use Rattle.mc_wire.specs.declared.fault.WireFault.{WireFault}
+use Rattle.mc_wire.specs.declared.fault.WireFault.TheVariants as wire
+use Rattle.mc_command.specs.declared.refusal.Refusal.{Refusal}
+use Rattle.mc_command.specs.declared.refusal.Refusal.TheVariants.{BadFormat, BadKey, Memory}
+
+-- the refusal that a word's fault becomes
+abbrev pub refusal_for : WireFault → Refusal
+refusal_for wire.NoKey = BadKey
+refusal_for wire.KeyTooLong = BadKey
+refusal_for wire.KeyByte = BadKey
+refusal_for wire.NotBase64 = BadKey
+refusal_for wire.NotNumber = BadFormat
+refusal_for wire.Memory = Memory
+
+-- a key word
+unfoldable pub is_key : List ℕ → Bool
+is_key word = is_none (key_fault word)
+
+abbrev pub key_of : List ℕ → Result (List ℕ) Refusal
+key_of word = if is_key word then Ok word else Err BadKey
+
+-- an unsigned number below the bound
+abbrev pub unsigned_of : ℕ → List ℕ → Result ℕ Refusal
+unsigned_of bound word = ok_or (number_of bound word) BadFormat
+
+-- a signed number of 64 bits
+abbrev pub signed_of : List ℕ → Result ℤ Refusal
+signed_of word = ok_or (integer_of word) BadFormat
+
+-- the very word `noreply`, or nothing
+abbrev pub noreply_of : Option (List ℕ) → Result Bool Refusal
+noreply_of None = Ok false
+noreply_of (Some word) = if bytes_eq word (codes "noreply") then Ok true else Err BadFormat
+
+-- what comes of a value, where there is one; else its fault
+abbrev pub then_of : {A B : Type 0} → Result A Refusal → (A → Result B Refusal) → Result B Refusal
+then_of (Ok value) rest = rest value
+then_of (Err refusal) rest = Err refusal
+
+-- What was read is what was asked, unless it was given up for want of memory.
+abbrev pub Reads : {A : Type 0} → Result A Refusal → Result A Refusal → Type 0
+Reads asked read = MatchResult read (λ value. asked ≡ Ok value) (λ refusal. refusal ≢ Memory → asked ≡ Err refusal)

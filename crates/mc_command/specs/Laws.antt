@@ -1,0 +1,13 @@
+-- Laws of the command table.
+use Rattle.std.specs.Prelude.{ℕ, ◌≡◌, false, List, IsTrue}
+use Rattle.mc_command.specs.declared.command.Command.{Command}
+use Rattle.mc_command.specs.declared.line.Line.TheVariants.{Data}
+use Rattle.mc_command.specs.Command.{can_give_up}
+use Rattle.mc_command.specs.Line.{is_given_up}
+use Rattle.mc_command.specs.Table.{line_of}
+
+abbrev pub NeverWantsMemory : Type 0
+NeverWantsMemory = (words : List (List ℕ)) → is_given_up (line_of words) ≡ false
+
+abbrev pub DataCanBeGivenUp : Type 0
+DataCanBeGivenUp = (words : List (List ℕ)) (asked : Command) (count : ℕ) → line_of words ≡ Data asked count → IsTrue (can_give_up asked)

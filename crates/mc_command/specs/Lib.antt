@@ -1,0 +1,10 @@
+pub mod Command
+pub mod Field
+pub mod Line
+pub mod Blocks
+pub mod Classic
+pub mod Meta
+pub mod MetaReading
+pub mod Name
+pub mod Table
+pub mod Laws

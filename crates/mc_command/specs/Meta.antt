@@ -1,0 +1,243 @@
+-- The meta commands as a table: which flags each has, which tokens, and what a line of them is
+-- (protocol.txt, "Meta Commands": a name, a key, for `ms` the length of the data block, and flags, each
+-- one letter with its token joined to it).
+use Rattle.std.specs.Prelude.{ℕ, ℤ, pos, ◌==◌, ◌^◌, Bool, true, false, ◌&&◌, not, List, [], ◌∷◌, ◌++◌, length, drop, find, Option, Some, None, is_some, unwrap_or, option_and_then, nat_lt, codes, if◌then◌else◌, Result, Ok, Err}
+use Rattle.std.specs.List.{filter_map, list_any, slice_get}
+use Rattle.std.specs.Option.{ok_or, option_map, option_or}
+use Rattle.std.specs.Str.{byte}
+use Rattle.mc_wire.specs.Base64Key.{base64_key}
+use Rattle.mc_wire.specs.Number.{number_of, integer_of}
+use Rattle.mc_command.specs.declared.command.Command.{Command}
+use Rattle.mc_command.specs.declared.command.Command.TheVariants as command
+use Rattle.mc_command.specs.declared.command.Direction.{Direction}
+use Rattle.mc_command.specs.declared.command.Direction.TheVariants.{Increment, Decrement}
+use Rattle.mc_command.specs.declared.line.Line.{Line}
+use Rattle.mc_command.specs.declared.line.Line.TheVariants.{Refused}
+use Rattle.mc_command.specs.declared.meta.MetaArithmetic.{MetaArithmetic}
+use Rattle.mc_command.specs.declared.meta.MetaDelete.{MetaDelete}
+use Rattle.mc_command.specs.declared.meta.MetaFlags.{MetaFlags}
+use Rattle.mc_command.specs.declared.meta.MetaGet.{MetaGet}
+use Rattle.mc_command.specs.declared.meta.MetaMode.{MetaMode}
+use Rattle.mc_command.specs.declared.meta.MetaMode.TheVariants as mode
+use Rattle.mc_command.specs.declared.meta.MetaSet.{MetaSet}
+use Rattle.mc_command.specs.declared.meta.ReturnFlag.{ReturnFlag}
+use Rattle.mc_command.specs.declared.meta.ReturnFlag.TheVariants as shows
+use Rattle.mc_command.specs.declared.meta_line.MetaName.{MetaName}
+use Rattle.mc_command.specs.declared.meta_line.MetaName.TheVariants.{Get, Set, Delete, Arithmetic}
+use Rattle.mc_command.specs.declared.refusal.Refusal.{Refusal}
+use Rattle.mc_command.specs.declared.refusal.Refusal.TheVariants.{BadFormat, BadKey, InvalidFlag, DuplicateFlag, OpaqueTooLong}
+use Rattle.mc_command.specs.Blocks.{whole_line, block_line}
+use Rattle.mc_command.specs.Field.{key_of, then_of}
+
+-- the letters of the flags that each command has
+abbrev pub letters_of : MetaName → List ℕ
+letters_of Get = codes "bcfhklOqstvNRT"
+letters_of Set = codes "bkOqcsCFTM"
+letters_of Delete = codes "bkOqCIT"
+letters_of Arithmetic = codes "bkOqctvCDJMNT"
+
+abbrev pub is_among : List ℕ → ℕ → Bool
+is_among letters letter = list_any (λ other. other == letter) letters
+
+-- Look-ups in the words that are the flags of a line.
+
+abbrev pub has_letter : ℕ → List ℕ → Bool
+has_letter letter [] = false
+has_letter letter (first ∷ token) = first == letter
+
+-- whether the flag stands there
+abbrev pub has_flag : ℕ → List (List ℕ) → Bool
+has_flag letter words = list_any (has_letter letter) words
+
+-- its token: what is joined to the letter
+abbrev pub token_of : ℕ → List (List ℕ) → Option (List ℕ)
+token_of letter words = option_map (λ word. drop 1 word) (find (has_letter letter) words)
+
+abbrev pub signed_token : ℕ → List (List ℕ) → Option ℤ
+signed_token letter words = option_and_then integer_of (token_of letter words)
+
+abbrev pub unsigned_token : ℕ → ℕ → List (List ℕ) → Option ℕ
+unsigned_token bound letter words = option_and_then (number_of bound) (token_of letter words)
+
+-- Tokens.
+
+-- the mode of `ms`, in either case
+abbrev pub mode_of : List ℕ → Option MetaMode
+mode_of (letter ∷ []) =
+    if is_among (codes "Ee") letter then Some mode.Add
+    else (if is_among (codes "Aa") letter then Some mode.Append
+    else (if is_among (codes "Pp") letter then Some mode.Prepend
+    else (if is_among (codes "Rr") letter then Some mode.Replace
+    else (if is_among (codes "Ss") letter then Some mode.Set else None))))
+mode_of token = None
+
+-- the mode of `ma`
+abbrev pub direction_of : List ℕ → Option Direction
+direction_of (letter ∷ []) =
+    if is_among (codes "Ii+") letter then Some Increment
+    else (if is_among (codes "Dd-") letter then Some Decrement else None)
+direction_of token = None
+
+-- whether a token is one of the flag `M`
+abbrev pub has_mode : MetaName → List ℕ → Bool
+has_mode Set token = is_some (mode_of token)
+has_mode Arithmetic token = is_some (direction_of token)
+has_mode Get token = false
+has_mode Delete token = false
+
+-- whether a token is one of its flag: T, N and R are signed, C, D and J have 64 bits, F has 32; the other
+-- flags take none and ignore what is joined to them
+abbrev pub is_token : MetaName → ℕ → List ℕ → Bool
+is_token name letter token =
+    if is_among (codes "TNR") letter then is_some (integer_of token)
+    else (if is_among (codes "CDJ") letter then is_some (number_of (2 ^ 64) token)
+    else (if letter == byte "F" then is_some (number_of (2 ^ 32) token)
+    else (if letter == byte "M" then has_mode name token else true)))
+
+-- Faults.
+
+-- what refuses a flag that stands behind others
+abbrev pub flag_refusal : MetaName → List (List ℕ) → List ℕ → Option Refusal
+flag_refusal name before [] = Some InvalidFlag
+flag_refusal name before (letter ∷ token) =
+    if not (is_among (letters_of name) letter) then Some InvalidFlag
+    else (if has_flag letter before then Some DuplicateFlag
+    else (if letter == byte "O" && nat_lt 32 (length token) then Some OpaqueTooLong
+    else (if is_token name letter token then None else Some BadFormat)))
+
+-- what refuses the first of some flags that is refused; they stand behind others
+abbrev pub flags_refusal : MetaName → List (List ℕ) → List (List ℕ) → Option Refusal
+flags_refusal name before [] = None
+flags_refusal name before (word ∷ words) =
+    option_or (flag_refusal name before word) (flags_refusal name (before ++ word ∷ []) words)
+
+-- a value, unless something refuses it
+abbrev pub unless : {A : Type 0} → Option Refusal → Result A Refusal → Result A Refusal
+unless (Some refusal) value = Err refusal
+unless None value = value
+
+-- the key that a word gives in base64
+unfoldable pub decoded_key : List ℕ → Result (List ℕ) Refusal
+decoded_key word = ok_or (base64_key word) BadKey
+
+-- the key that a word gives, in base64 or as it stands
+abbrev pub meta_key_of : Bool → List ℕ → Result (List ℕ) Refusal
+meta_key_of base64 word = if base64 then decoded_key word else key_of word
+
+-- `ms` compares in its mode S alone
+abbrev pub is_set : MetaMode → Bool
+is_set mode.Set = true
+is_set mode.Add = false
+is_set mode.Replace = false
+is_set mode.Append = false
+is_set mode.Prepend = false
+
+abbrev pub compare_refusal : MetaSet → Option Refusal
+compare_refusal set = if is_some set.compare && not (is_set set.mode) then Some BadFormat else None
+
+-- Commands.
+
+-- the flag that is given back for a letter
+abbrev pub return_flag : ℕ → Option ReturnFlag
+return_flag letter =
+    if letter == byte "c" then Some shows.Unique
+    else (if letter == byte "f" then Some shows.ClientFlags
+    else (if letter == byte "h" then Some shows.Fetched
+    else (if letter == byte "k" then Some shows.Key
+    else (if letter == byte "l" then Some shows.LastAccess
+    else (if letter == byte "O" then Some shows.Opaque
+    else (if letter == byte "s" then Some shows.Size
+    else (if letter == byte "t" then Some shows.TimeLeft else None)))))))
+
+abbrev pub shown_flag : List ℕ → Option ReturnFlag
+shown_flag [] = None
+shown_flag (letter ∷ token) = return_flag letter
+
+-- what the flags of every command ask
+abbrev pub flags_of : List (List ℕ) → MetaFlags
+flags_of words = record {
+  base64 = has_flag (byte "b") words;
+  quiet = has_flag (byte "q") words;
+  returned = filter_map shown_flag words;
+  opaque = unwrap_or (token_of (byte "O") words) [];
+}
+
+abbrev pub get_of : List ℕ → List (List ℕ) → MetaGet
+get_of key words = record {
+  key = key;
+  flags = flags_of words;
+  value = has_flag (byte "v") words;
+  touch = signed_token (byte "T") words;
+  vivify = signed_token (byte "N") words;
+  recache = signed_token (byte "R") words;
+}
+
+abbrev pub set_of : List ℕ → List (List ℕ) → MetaSet
+set_of key words = record {
+  key = key;
+  flags = flags_of words;
+  mode = unwrap_or (option_and_then mode_of (token_of (byte "M") words)) mode.Set;
+  compare = unsigned_token (2 ^ 64) (byte "C") words;
+  client_flags = unwrap_or (unsigned_token (2 ^ 32) (byte "F") words) 0;
+  exptime = unwrap_or (signed_token (byte "T") words) (pos 0);
+  block = [];
+}
+
+abbrev pub delete_of : List ℕ → List (List ℕ) → MetaDelete
+delete_of key words = record {
+  key = key;
+  flags = flags_of words;
+  compare = unsigned_token (2 ^ 64) (byte "C") words;
+  invalidate = has_flag (byte "I") words;
+  exptime = signed_token (byte "T") words;
+}
+
+abbrev pub arithmetic_of : List ℕ → List (List ℕ) → MetaArithmetic
+arithmetic_of key words = record {
+  key = key;
+  flags = flags_of words;
+  value = has_flag (byte "v") words;
+  compare = unsigned_token (2 ^ 64) (byte "C") words;
+  direction = unwrap_or (option_and_then direction_of (token_of (byte "M") words)) Increment;
+  amount = unwrap_or (unsigned_token (2 ^ 64) (byte "D") words) 1;
+  initial = unwrap_or (unsigned_token (2 ^ 64) (byte "J") words) 0;
+  vivify = signed_token (byte "N") words;
+  exptime = signed_token (byte "T") words;
+}
+
+-- the command of this key and these flags
+abbrev pub command_of : MetaName → List ℕ → List (List ℕ) → Result Command Refusal
+command_of Get key words = Ok (command.MetaGet (get_of key words))
+command_of Set key words = unless (compare_refusal (set_of key words)) (Ok (command.MetaSet (set_of key words)))
+command_of Delete key words = Ok (command.MetaDelete (delete_of key words))
+command_of Arithmetic key words = Ok (command.MetaArithmetic (arithmetic_of key words))
+
+-- what a key word and the flags behind it ask: the flags are judged first
+abbrev pub meta_command_of : MetaName → List ℕ → List (List ℕ) → Result Command Refusal
+meta_command_of name word words =
+    unless (flags_refusal name [] words)
+    (then_of (meta_key_of (has_flag (byte "b") words) word) (λ key. command_of name key words))
+
+abbrev pub line_without_block : MetaName → List (List ℕ) → Line
+line_without_block name [] = Refused BadFormat
+line_without_block name (word ∷ words) = whole_line (meta_command_of name word words)
+
+-- a line of `ms`, whose second word counts the bytes of its block
+abbrev pub line_with_block : List (List ℕ) → Line
+line_with_block [] = Refused BadFormat
+line_with_block (word ∷ []) = Refused BadFormat
+line_with_block (word ∷ count ∷ words) = block_line (number_of (2 ^ 32) count) (meta_command_of Set word words)
+
+-- what a line of this name is, by the words behind the name
+unfoldable pub meta_line_of : MetaName → List (List ℕ) → Line
+meta_line_of Get words = line_without_block Get words
+meta_line_of Set words = line_with_block words
+meta_line_of Delete words = line_without_block Delete words
+meta_line_of Arithmetic words = line_without_block Arithmetic words
+
+-- the count of the bytes that a block behind such a line has, where the line has one and it is readable
+abbrev pub meta_count_in : MetaName → List (List ℕ) → Option ℕ
+meta_count_in Set words = option_and_then (number_of (2 ^ 32)) (slice_get words 1)
+meta_count_in Get words = None
+meta_count_in Delete words = None
+meta_count_in Arithmetic words = None

@@ -1,0 +1,164 @@
+//! The classic lines that no block follows: retrieval, deletion, arithmetic, touch, flush and verbosity.
+ghost use Rattle.std.specs.Prelude.{◌≡◌, ◌∷◌};
+ghost use Rattle.std.specs.Option.{option_copied};
+ghost use Rattle.mc_wire.specs.Words.{words_of};
+ghost use Rattle.mc_command.specs.Field.{Reads};
+ghost use Rattle.mc_command.specs.Classic as spec;
+
+use crate::block::Keys;
+use crate::command::{Command, Direction, Retrieval};
+use crate::field::{read_i64, read_key, read_noreply, read_u64};
+use crate::refusal::Refusal;
+use mc_wire::WordWalk;
+use std::alloc::Global;
+
+/// `get` and `gets`: KEY ..
+pub(crate) fn read_get(
+    alloc: Global,
+    with_unique: bool,
+    mut walk: WordWalk<'_>,
+) -> Result<Command, Refusal>
+    ensures { Reads (spec.get_words with_unique (words_of walk.entry.rest.now)) result }
+{
+    let Some(first) = walk.next() else {
+        return Err(Refusal::BadFormat);
+    };
+    let keys = read_keys(alloc, first, walk)?;
+    Ok(Command::Get(Retrieval {
+        keys,
+        touch: None,
+        with_unique,
+    }))
+}
+
+/// `gat` and `gats`: E KEY ..
+pub(crate) fn read_gat(
+    alloc: Global,
+    with_unique: bool,
+    mut walk: WordWalk<'_>,
+) -> Result<Command, Refusal>
+    ensures { Reads (spec.gat_words with_unique (words_of walk.entry.rest.now)) result }
+{
+    let (Some(exptime), Some(first)) = (walk.next(), walk.next()) else {
+        return Err(Refusal::BadFormat);
+    };
+    let exptime = read_i64(exptime)?;
+    let keys = read_keys(alloc, first, walk)?;
+    Ok(Command::Get(Retrieval {
+        keys,
+        touch: Some(exptime),
+        with_unique,
+    }))
+}
+
+/// The keys of a get: this word and those behind it.
+fn read_keys(alloc: Global, first: &[u8], walk: WordWalk<'_>) -> Result<Keys, Refusal>
+    ensures { Reads (spec.keys_of (first.now ∷ words_of walk.entry.rest.now)) result }
+{
+    let mut keys = Keys::one(alloc, read_key(alloc, first)?);
+    for word in walk {
+        let key = read_key(alloc, word)?;
+        keys.push(key)?;
+    }
+    Ok(keys)
+}
+
+/// `delete`: KEY [noreply], KEY 0 [noreply]
+pub(crate) fn read_delete(alloc: Global, mut walk: WordWalk<'_>) -> Result<Command, Refusal>
+    ensures { Reads (spec.delete_words (words_of walk.entry.rest.now)) result }
+{
+    let (Some(key), second, third, None) = (walk.next(), walk.next(), walk.next(), walk.next())
+    else {
+        return Err(Refusal::BadFormat);
+    };
+    let key = read_key(alloc, key)?;
+    let noreply = match (second, third) {
+        (Some(b"0"), word) | (word, None) => read_noreply(word)?,
+        _ => return Err(Refusal::BadFormat),
+    };
+    Ok(Command::Delete { key, noreply })
+}
+
+/// `incr` and `decr`: KEY U [noreply]
+pub(crate) fn read_count(
+    alloc: Global,
+    direction: Direction,
+    mut walk: WordWalk<'_>,
+) -> Result<Command, Refusal>
+    ensures { Reads (spec.count_words direction (words_of walk.entry.rest.now)) result }
+{
+    let (Some(key), Some(amount), noreply, None) = (
+        walk.next(),
+        walk.next(),
+        walk.next(),
+        walk.next(),
+    ) else {
+        return Err(Refusal::BadFormat);
+    };
+    let key = read_key(alloc, key)?;
+    let amount = read_u64(amount)?;
+    let noreply = read_noreply(noreply)?;
+    Ok(Command::Count {
+        key,
+        direction,
+        amount,
+        noreply,
+    })
+}
+
+/// `touch`: KEY E [noreply]
+pub(crate) fn read_touch(alloc: Global, mut walk: WordWalk<'_>) -> Result<Command, Refusal>
+    ensures { Reads (spec.touch_words (words_of walk.entry.rest.now)) result }
+{
+    let (Some(key), Some(exptime), noreply, None) = (
+        walk.next(),
+        walk.next(),
+        walk.next(),
+        walk.next(),
+    ) else {
+        return Err(Refusal::BadFormat);
+    };
+    let key = read_key(alloc, key)?;
+    let exptime = read_i64(exptime)?;
+    let noreply = read_noreply(noreply)?;
+    Ok(Command::Touch {
+        key,
+        exptime,
+        noreply,
+    })
+}
+
+/// `flush_all`: [E] [noreply]
+pub(crate) fn read_flush_all(mut walk: WordWalk<'_>) -> Result<Command, Refusal>
+    ensures { result ≡ spec.flush_words (words_of walk.entry.rest.now) }
+{
+    let (first, second, None) = (walk.next(), walk.next(), walk.next()) else {
+        return Err(Refusal::BadFormat);
+    };
+    let (delay, noreply) = match (first, second) {
+        (None, _) => return Ok(Command::FlushAll {
+            delay: 0,
+            noreply: false,
+        }),
+        (Some(b"noreply"), None) => return Ok(Command::FlushAll {
+            delay: 0,
+            noreply: true,
+        }),
+        (Some(delay), noreply) => (delay, noreply),
+    };
+    let delay = read_i64(delay)?;
+    let noreply = read_noreply(noreply)?;
+    Ok(Command::FlushAll { delay, noreply })
+}
+
+/// `verbosity`: U [noreply]
+pub(crate) fn read_verbosity(mut walk: WordWalk<'_>) -> Result<Command, Refusal>
+    ensures { result ≡ spec.verbosity_words (words_of walk.entry.rest.now) }
+{
+    let (Some(level), noreply, None) = (walk.next(), walk.next(), walk.next()) else {
+        return Err(Refusal::BadFormat);
+    };
+    read_u64(level)?;
+    let noreply = read_noreply(noreply)?;
+    Ok(Command::Verbosity { noreply })
+}

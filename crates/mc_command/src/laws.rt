@@ -1,0 +1,14 @@
+//! Laws of the command table, for whoever stands on it.
+ghost use Rattle.mc_command.specs.Laws.{NeverWantsMemory, DataCanBeGivenUp};
+
+/// Want of memory is never what the table says of a line: it is the reader's answer alone.
+#[tactic(auto, using(crate::proofs::Blocks::never_given_up))]
+pub fn table_never_wants_memory()
+    ensures { NeverWantsMemory }
+{}
+
+/// A line with a data block is a command that may be given up for want of memory.
+#[tactic(auto, using(crate::proofs::Blocks::data_stores))]
+pub fn data_can_be_given_up()
+    ensures { DataCanBeGivenUp }
+{}

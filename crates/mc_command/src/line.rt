@@ -1,0 +1,90 @@
+//! From a line to the command that it is.
+ghost use Rattle.mc_wire.specs.Words.{words_of};
+ghost use Rattle.mc_command.specs.Line.{Says};
+ghost use Rattle.mc_command.specs.Table.{line_of, line_named};
+ghost use Rattle.std.specs.Prelude.{◌≡◌};
+ghost use Rattle.mc_command.specs.Blocks as spec;
+
+use crate::classic::{
+    read_count, read_delete, read_flush_all, read_gat, read_get, read_touch, read_verbosity,
+};
+use crate::command::Command;
+use crate::meta_line::read_meta;
+use crate::name::{CommandName, read_name};
+use crate::refusal::Refusal;
+use crate::storage::{read_cas, read_storage};
+use mc_wire::{VALUE_LIMIT, WordWalk, words};
+use std::alloc::Global;
+
+/// What a line is.
+#[derive(Drop)]
+pub enum Line {
+    /// A command without a data block.
+    Whole(Command),
+    /// A storage command, its block still empty, and how many bytes the block has.
+    Data(Command, u32),
+    /// No command. Nothing behind the line is skipped.
+    Refused(Refusal),
+    /// No command, and how many bytes behind the line are skipped: its block and the two that end it.
+    Skip(Refusal, u64),
+}
+
+/// Reads a line, without its end.
+#[tactic(auto, unfolding(crate::specs::Table::line_of))]
+pub fn read_line(alloc: Global, line: &[u8]) -> Line
+    ensures { Says (line_of (words_of line.now)) result }
+{
+    let mut walk = words(line);
+    match walk.next().and_then(read_name) {
+        Some(name) => read_named(alloc, name, walk),
+        None => Line::Refused(Refusal::Unknown),
+    }
+}
+
+/// Reads the words behind a name.
+#[tactic(auto, using(crate::proofs::GivingUp::says_whole, crate::proofs::Lines::get_may, crate::proofs::Lines::gat_may, crate::proofs::Lines::delete_may, crate::proofs::Lines::count_may, crate::proofs::Lines::touch_may, crate::proofs::Lines::flush_may, crate::proofs::Told::verbosity_told, crate::proofs::Told::says_told))]
+fn read_named(alloc: Global, name: CommandName, walk: WordWalk<'_>) -> Line
+    ensures { Says (line_named name (words_of walk.entry.rest.now)) result }
+{
+    match name {
+        CommandName::Store(mode) => read_storage(alloc, mode, walk),
+        CommandName::CompareAndSwap => read_cas(alloc, walk),
+        CommandName::Get { with_unique } => whole_line(read_get(alloc, with_unique, walk)),
+        CommandName::GetAndTouch { with_unique } => whole_line(read_gat(alloc, with_unique, walk)),
+        CommandName::Delete => whole_line(read_delete(alloc, walk)),
+        CommandName::Count(direction) => whole_line(read_count(alloc, direction, walk)),
+        CommandName::Touch => whole_line(read_touch(alloc, walk)),
+        CommandName::FlushAll => whole_line(read_flush_all(walk)),
+        CommandName::Version => Line::Whole(Command::Version),
+        CommandName::Verbosity => whole_line(read_verbosity(walk)),
+        CommandName::Quit => Line::Whole(Command::Quit),
+        CommandName::MetaNoop => Line::Whole(Command::MetaNoop),
+        CommandName::Meta(name) => read_meta(alloc, name, walk),
+    }
+}
+
+/// A line that no block follows.
+pub(crate) fn whole_line(read: Result<Command, Refusal>) -> Line
+    ensures { result ≡ spec.whole_line read }
+{
+    match read {
+        Ok(command) => Line::Whole(command),
+        Err(refusal) => Line::Refused(refusal),
+    }
+}
+
+/// A line that a block follows, with the count of its bytes where that is readable: what is skipped then
+/// is the block and its line end, whatever else is wrong with the line.
+pub(crate) fn block_line(count: Option<u32>, read: Result<Command, Refusal>) -> Line
+    ensures { result ≡ spec.block_line count read }
+{
+    match (count, read) {
+        (Some(count), Ok(_)) if count as usize > VALUE_LIMIT => {
+            Line::Skip(Refusal::TooLarge, u64::from(count) + 2)
+        }
+        (Some(count), Ok(command)) => Line::Data(command, count),
+        (Some(count), Err(refusal)) => Line::Skip(refusal, u64::from(count) + 2),
+        (None, Ok(_)) => Line::Refused(Refusal::BadFormat),
+        (None, Err(refusal)) => Line::Refused(refusal),
+    }
+}

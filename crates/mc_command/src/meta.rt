@@ -1,0 +1,208 @@
+//! The meta commands (protocol.txt, "Meta Commands") and what their flags ask.
+ghost use Rattle.std.specs.Prelude.{◌≡◌, ◌<◌, ◌≤◌, [], ◌∷◌, ◌++◌, length};
+ghost use Rattle.std.specs.Option.{SomeIff};
+
+use crate::block::Block;
+use crate::command::Direction;
+use arrayvec::ArrayVec;
+use mc_wire::{Key, OPAQUE_LIMIT};
+use std::marker::Model;
+
+/// A flag that is given back in the reply.
+#[derive(Clone, Copy, Debug, Default, PartialEq, Eq)]
+pub enum ReturnFlag {
+    /// `c`: the unique.
+    #[default]
+    Unique,
+    /// `f`: the client flags.
+    ClientFlags,
+    /// `h`: whether the item was fetched before.
+    Fetched,
+    /// `k`: the key.
+    Key,
+    /// `l`: the seconds since the last access.
+    LastAccess,
+    /// `O`: the opaque token.
+    Opaque,
+    /// `s`: the length of the value.
+    Size,
+    /// `t`: the seconds left.
+    TimeLeft,
+}
+
+/// The token of the flag `O` (protocol.txt, "Meta Commands": "opaque value, consumes a token and
+/// copies back with response"): at most 32 bytes. It takes no memory of its own.
+#[derive(Drop)]
+pub struct Opaque {
+    bytes: ArrayVec<u8, OPAQUE_LIMIT>,
+}
+
+impl Model for Opaque {
+    ghost use Rattle.std.specs.Prelude.{ℕ, List};
+
+    ghost Value = { List ℕ };
+
+    ghost view = { λ opaque. opaque.bytes.items };
+}
+
+impl Opaque {
+    /// The token without bytes.
+    pub fn empty() -> Opaque
+        ensures { result ≡ [] }
+    {
+        Opaque {
+            bytes: ArrayVec::new(),
+        }
+    }
+
+    /// The token of these bytes, or `None` where they are more than 32.
+    pub fn from_token(token: &[u8]) -> Option<Opaque>
+        ensures { SomeIff result (length token.now ≤ 32) token.now }
+    {
+        let mut bytes = ArrayVec::new();
+        match bytes.try_extend_from_slice(token) {
+            Ok(()) => Some(Opaque { bytes }),
+            Err(_) => None,
+        }
+    }
+
+    /// The bytes of the token.
+    pub fn bytes(&self) -> &[u8]
+        ensures { result.now ≡ self.now }
+    {
+        self.bytes.as_slice()
+    }
+}
+
+/// The flags that are given back, in the order of the request: at most one of each of the eight.
+/// They take no memory of their own.
+#[derive(Drop)]
+pub struct Returned {
+    flags: ArrayVec<ReturnFlag, 8>,
+}
+
+impl Model for Returned {
+    ghost use Rattle.std.specs.Prelude.{List};
+    ghost use Rattle.mc_command.specs.declared.meta.ReturnFlag.{ReturnFlag};
+
+    ghost Value = { List ReturnFlag };
+
+    ghost view = { λ returned. returned.flags.items };
+}
+
+impl Returned {
+    /// No flag.
+    pub fn new() -> Returned
+        ensures { result ≡ [] }
+    {
+        Returned {
+            flags: ArrayVec::new(),
+        }
+    }
+
+    /// Adds a flag behind the others.
+    pub fn push(&mut self, flag: ReturnFlag)
+        requires { length self.old < 8 }
+        ensures { self.new ≡ self.old ++ flag ∷ [] }
+    {
+        self.flags.push(flag);
+    }
+
+    /// The flags, in the order of the request.
+    pub fn flags(&self) -> &[ReturnFlag]
+        ensures { result.now ≡ self.now }
+    {
+        self.flags.as_slice()
+    }
+}
+
+/// What every meta command's flags may ask of its reply.
+#[derive(Drop)]
+pub struct MetaFlags {
+    /// `b`: the key word is base64, and is shown so.
+    pub base64: bool,
+    /// `q`: replies that say nothing new are hidden.
+    pub quiet: bool,
+    /// The flags to be given back, in the order of the request.
+    pub returned: Returned,
+    /// The token of `O`; empty where there is none.
+    pub opaque: Opaque,
+}
+
+/// `mg`.
+#[derive(Drop)]
+pub struct MetaGet {
+    pub key: Key,
+    pub flags: MetaFlags,
+    /// `v`: the value is shown.
+    pub value: bool,
+    /// `T`: the exptime that a hit is given.
+    pub touch: Option<i64>,
+    /// `N`: a miss makes an empty item with this exptime.
+    pub vivify: Option<i64>,
+    /// `R`: who finds fewer seconds left than these is told to recompute.
+    pub recache: Option<i64>,
+}
+
+/// `ms`, with its data block.
+#[derive(Drop)]
+pub struct MetaSet {
+    pub key: Key,
+    pub flags: MetaFlags,
+    pub mode: MetaMode,
+    /// `C`: the unique that the item must have.
+    pub compare: Option<u64>,
+    /// `F`: the client flags, 0 where none are given.
+    pub client_flags: u32,
+    /// `T`: the exptime, 0 where none is given.
+    pub exptime: i64,
+    pub block: Block,
+}
+
+/// The mode of `ms`, its flag `M`.
+#[derive(Clone, Copy, Debug, PartialEq, Eq)]
+pub enum MetaMode {
+    /// `S`.
+    Set,
+    /// `E`.
+    Add,
+    /// `R`.
+    Replace,
+    /// `A`.
+    Append,
+    /// `P`.
+    Prepend,
+}
+
+/// `md`.
+#[derive(Drop)]
+pub struct MetaDelete {
+    pub key: Key,
+    pub flags: MetaFlags,
+    /// `C`: the unique that the item must have.
+    pub compare: Option<u64>,
+    /// `I`: the item is marked stale in place of going.
+    pub invalidate: bool,
+    /// `T`: the exptime that an item marked stale is given.
+    pub exptime: Option<i64>,
+}
+
+/// `ma`.
+#[derive(Drop)]
+pub struct MetaArithmetic {
+    pub key: Key,
+    pub flags: MetaFlags,
+    /// `v`: the number is shown.
+    pub value: bool,
+    /// `C`: the unique that the item must have.
+    pub compare: Option<u64>,
+    pub direction: Direction,
+    /// `D`: the amount, 1 where none is given.
+    pub amount: u64,
+    /// `J`: the number of a made item, 0 where none is given.
+    pub initial: u64,
+    /// `N`: a miss makes an item with this exptime.
+    pub vivify: Option<i64>,
+    /// `T`: the exptime that a present item is given.
+    pub exptime: Option<i64>,
+}

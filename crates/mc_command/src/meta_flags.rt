@@ -1,0 +1,274 @@
+//! The flags of a meta line (protocol.txt, "Meta Commands"): each is one letter, with its token joined to it.
+ghost use Rattle.std.specs.Prelude.{◌≡◌, [], OnOk, IfErr};
+ghost use Rattle.mc_wire.specs.Words.{words_of};
+ghost use Rattle.mc_command.specs.Meta.{flags_refusal, unless};
+ghost use Rattle.mc_command.specs.Meta as table;
+ghost use Rattle.mc_command.specs.MetaReading.{IsCounted, asked_of, nothing_asked, unseen, with_flag, with_word};
+ghost use Rattle.mc_command.specs.MetaReading as spec;
+
+use crate::command::Direction;
+use crate::field::{read_i64, read_u32, read_u64};
+use crate::meta::{MetaFlags, MetaMode, Opaque, ReturnFlag, Returned};
+use crate::meta_line::MetaName;
+use crate::refusal::Refusal;
+use mc_wire::WordWalk;
+
+/// What the flags of a line ask; nothing where a flag is not there.
+#[derive(Drop)]
+pub(crate) struct Asked {
+    pub(crate) flags: MetaFlags,
+    /// `v`.
+    pub(crate) value: bool,
+    /// `I`.
+    pub(crate) invalidate: bool,
+    /// `T`.
+    pub(crate) exptime: Option<i64>,
+    /// `N`.
+    pub(crate) vivify: Option<i64>,
+    /// `R`.
+    pub(crate) recache: Option<i64>,
+    /// `C`.
+    pub(crate) compare: Option<u64>,
+    /// `D`.
+    pub(crate) amount: Option<u64>,
+    /// `J`.
+    pub(crate) initial: Option<u64>,
+    /// `F`.
+    pub(crate) client_flags: Option<u32>,
+    /// `M` of `ms`.
+    pub(crate) mode: Option<MetaMode>,
+    /// `M` of `ma`.
+    pub(crate) direction: Option<Direction>,
+}
+
+/// One flag, with its token as a value.
+#[derive(Drop)]
+enum Flag {
+    /// `b`.
+    Base64,
+    /// `q`.
+    Quiet,
+    /// `v`.
+    Value,
+    /// `I`.
+    Invalidate,
+    /// `O`.
+    Opaque(Opaque),
+    /// `M` of `ms`.
+    Mode(MetaMode),
+    /// `M` of `ma`.
+    Direction(Direction),
+    /// `T`.
+    Exptime(i64),
+    /// `N`.
+    Vivify(i64),
+    /// `R`.
+    Recache(i64),
+    /// `C`.
+    Compare(u64),
+    /// `D`.
+    Amount(u64),
+    /// `J`.
+    Initial(u64),
+    /// `F`.
+    ClientFlags(u32),
+    /// A flag that only asks to be given back.
+    Bare,
+}
+
+/// Reads the flags of a line, its words behind the key and the count. The first flag that is refused
+/// decides.
+pub(crate) fn read_flags(name: MetaName, walk: WordWalk<'_>) -> Result<Asked, Refusal>
+    ensures { result ≡ unless (flags_refusal name [] (words_of walk.entry.rest.now)) (Ok (asked_of name (words_of walk.entry.rest.now))) }
+{
+    let mut reader = FlagReader::new();
+    for word in walk {
+        reader.read(name, word)?;
+    }
+    Ok(reader.asked)
+}
+
+/// The flags read so far.
+#[derive(Drop)]
+struct FlagReader {
+    /// For each byte, whether it was the letter of a flag.
+    seen: [bool; 256],
+    asked: Asked,
+}
+
+impl FlagReader {
+    fn new() -> FlagReader
+        ensures seen { result.seen ≡ unseen }
+        ensures asked { result.asked ≡ nothing_asked }
+    {
+        FlagReader {
+            seen: [false; 256],
+            asked: Asked::nothing(),
+        }
+    }
+
+    /// Reads one flag more. Where it is refused nothing is changed.
+    fn read(&mut self, name: MetaName, word: &[u8]) -> Result<(), Refusal>
+        requires { IsCounted self.old }
+        ensures counted { OnOk result (IsCounted self.new) }
+        ensures ok { OnOk result (with_word name self.old word.now ≡ Ok self.new) }
+        ensures err { IfErr result (λ refusal. with_word name self.old word.now ≡ Err refusal) }
+    {
+        let Some((letter, token)) = word.split_first() else {
+            return Err(Refusal::InvalidFlag);
+        };
+        let letter = *letter;
+        if !name.has_flag(letter) {
+            return Err(Refusal::InvalidFlag);
+        }
+        if self.seen[usize::from(letter)] {
+            return Err(Refusal::DuplicateFlag);
+        }
+        let flag = flag_of(name, letter, token)?;
+        self.asked.add(flag);
+        if let Some(shown) = return_flag(letter) {
+            self.asked.flags.returned.push(shown);
+        }
+        self.seen[usize::from(letter)] = true;
+        Ok(())
+    }
+}
+
+impl Asked {
+    /// What no flags ask.
+    fn nothing() -> Asked
+        ensures { result ≡ nothing_asked }
+    {
+        Asked {
+            flags: MetaFlags {
+                base64: false,
+                quiet: false,
+                returned: Returned::new(),
+                opaque: Opaque::empty(),
+            },
+            value: false,
+            invalidate: false,
+            exptime: None,
+            vivify: None,
+            recache: None,
+            compare: None,
+            amount: None,
+            initial: None,
+            client_flags: None,
+            mode: None,
+            direction: None,
+        }
+    }
+
+    /// Adds what a flag says beside that it is given back.
+    fn add(&mut self, flag: Flag)
+        ensures { self.new ≡ with_flag self.old flag }
+    {
+        match flag {
+            Flag::Base64 => self.flags.base64 = true,
+            Flag::Quiet => self.flags.quiet = true,
+            Flag::Value => self.value = true,
+            Flag::Invalidate => self.invalidate = true,
+            Flag::Opaque(token) => self.flags.opaque = token,
+            Flag::Mode(mode) => self.mode = Some(mode),
+            Flag::Direction(direction) => self.direction = Some(direction),
+            Flag::Exptime(exptime) => self.exptime = Some(exptime),
+            Flag::Vivify(exptime) => self.vivify = Some(exptime),
+            Flag::Recache(seconds) => self.recache = Some(seconds),
+            Flag::Compare(unique) => self.compare = Some(unique),
+            Flag::Amount(amount) => self.amount = Some(amount),
+            Flag::Initial(number) => self.initial = Some(number),
+            Flag::ClientFlags(flags) => self.client_flags = Some(flags),
+            Flag::Bare => {}
+        }
+    }
+}
+
+/// What a flag says, by its letter.
+fn flag_of(name: MetaName, letter: u8, token: &[u8]) -> Result<Flag, Refusal>
+    ensures { result ≡ spec.flag_of name letter token.now }
+{
+    match letter {
+        b'b' => Ok(Flag::Base64),
+        b'q' => Ok(Flag::Quiet),
+        b'v' => Ok(Flag::Value),
+        b'I' => Ok(Flag::Invalidate),
+        b'O' => opaque_flag(token),
+        b'M' => mode_flag(name, token),
+        b'T' => Ok(Flag::Exptime(read_i64(token)?)),
+        b'N' => Ok(Flag::Vivify(read_i64(token)?)),
+        b'R' => Ok(Flag::Recache(read_i64(token)?)),
+        b'C' => Ok(Flag::Compare(read_u64(token)?)),
+        b'D' => Ok(Flag::Amount(read_u64(token)?)),
+        b'J' => Ok(Flag::Initial(read_u64(token)?)),
+        b'F' => Ok(Flag::ClientFlags(read_u32(token)?)),
+        _ => Ok(Flag::Bare),
+    }
+}
+
+fn opaque_flag(token: &[u8]) -> Result<Flag, Refusal>
+    ensures { result ≡ spec.opaque_flag token.now }
+{
+    match Opaque::from_token(token) {
+        Some(opaque) => Ok(Flag::Opaque(opaque)),
+        None => Err(Refusal::OpaqueTooLong),
+    }
+}
+
+fn mode_flag(name: MetaName, token: &[u8]) -> Result<Flag, Refusal>
+    ensures { result ≡ spec.mode_flag name token.now }
+{
+    match name {
+        MetaName::Set => match mode_of(token) {
+            Some(mode) => Ok(Flag::Mode(mode)),
+            None => Err(Refusal::BadFormat),
+        },
+        MetaName::Arithmetic => match direction_of(token) {
+            Some(direction) => Ok(Flag::Direction(direction)),
+            None => Err(Refusal::BadFormat),
+        },
+        MetaName::Get | MetaName::Delete => Err(Refusal::BadFormat),
+    }
+}
+
+/// The mode of `ms`, in either case.
+fn mode_of(token: &[u8]) -> Option<MetaMode>
+    ensures { result ≡ table.mode_of token.now }
+{
+    match token {
+        [b'E' | b'e'] => Some(MetaMode::Add),
+        [b'A' | b'a'] => Some(MetaMode::Append),
+        [b'P' | b'p'] => Some(MetaMode::Prepend),
+        [b'R' | b'r'] => Some(MetaMode::Replace),
+        [b'S' | b's'] => Some(MetaMode::Set),
+        _ => None,
+    }
+}
+
+/// The mode of `ma`.
+fn direction_of(token: &[u8]) -> Option<Direction>
+    ensures { result ≡ table.direction_of token.now }
+{
+    match token {
+        [b'I' | b'i' | b'+'] => Some(Direction::Increment),
+        [b'D' | b'd' | b'-'] => Some(Direction::Decrement),
+        _ => None,
+    }
+}
+
+/// The flag that is given back for a letter, if one is.
+fn return_flag(letter: u8) -> Option<ReturnFlag>
+    ensures { result ≡ table.return_flag letter }
+{
+    match letter {
+        b'c' => Some(ReturnFlag::Unique),
+        b'f' => Some(ReturnFlag::ClientFlags),
+        b'h' => Some(ReturnFlag::Fetched),
+        b'k' => Some(ReturnFlag::Key),
+        b'l' => Some(ReturnFlag::LastAccess),
+        b'O' => Some(ReturnFlag::Opaque),
+        b's' => Some(ReturnFlag::Size),
+        b't' => Some(ReturnFlag::TimeLeft),
+        _ => None,
+    }
+}

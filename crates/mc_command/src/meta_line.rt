@@ -1,0 +1,195 @@
+//! From the words behind the name of a meta command to the line that they are (protocol.txt, "Meta Commands").
+ghost use Rattle.std.specs.Prelude.{◌≡◌};
+ghost use Rattle.mc_wire.specs.Words.{words_of};
+ghost use Rattle.mc_command.specs.Line.{Says};
+ghost use Rattle.mc_command.specs.Field.{Reads};
+ghost use Rattle.mc_command.specs.Meta.{decoded_key, is_among, letters_of, line_with_block, line_without_block, meta_command_of, meta_key_of, meta_line_of};
+ghost use Rattle.mc_command.specs.MetaReading.{arithmetic_by, command_by, delete_by, get_by, set_by};
+
+use crate::block::Block;
+use crate::command::{Command, Direction};
+use crate::field::{read_key, read_u32};
+use crate::line::{Line, block_line, whole_line};
+use crate::meta::{MetaArithmetic, MetaDelete, MetaGet, MetaMode, MetaSet};
+use crate::meta_flags::{Asked, read_flags};
+use crate::refusal::Refusal;
+use mc_wire::{Key, WordWalk};
+use std::alloc::Global;
+
+#[cfg(test)]
+mod tests;
+
+/// A meta command that takes a key.
+#[derive(Clone, Copy, Debug, PartialEq, Eq)]
+pub(crate) enum MetaName {
+    /// `mg`.
+    Get,
+    /// `ms`.
+    Set,
+    /// `md`.
+    Delete,
+    /// `ma`.
+    Arithmetic,
+}
+
+impl MetaName {
+    /// Whether the command has a flag of this letter.
+    pub(crate) fn has_flag(self, letter: u8) -> bool
+        ensures { result ≡ is_among (letters_of self) letter }
+    {
+        self.letters().contains(&letter)
+    }
+
+    /// The letters of its flags.
+    fn letters(self) -> &'static [u8]
+        ensures { result.now ≡ letters_of self }
+    {
+        match self {
+            MetaName::Get => b"bcfhklOqstvNRT",
+            MetaName::Set => b"bkOqcsCFTM",
+            MetaName::Delete => b"bkOqCIT",
+            MetaName::Arithmetic => b"bkOqctvCDJMNT",
+        }
+    }
+}
+
+/// Reads a meta line by its words behind the name.
+#[tactic(auto, unfolding(crate::specs::Meta::meta_line_of))]
+pub(crate) fn read_meta(alloc: Global, name: MetaName, walk: WordWalk<'_>) -> Line
+    ensures { Says (meta_line_of name (words_of walk.entry.rest.now)) result }
+{
+    match name {
+        MetaName::Set => read_with_block(alloc, walk),
+        MetaName::Get | MetaName::Delete | MetaName::Arithmetic => {
+            read_without_block(alloc, name, walk)
+        }
+    }
+}
+
+fn read_without_block(alloc: Global, name: MetaName, mut walk: WordWalk<'_>) -> Line
+    ensures { Says (line_without_block name (words_of walk.entry.rest.now)) result }
+{
+    let Some(word) = walk.next() else {
+        return Line::Refused(Refusal::BadFormat);
+    };
+    whole_line(read_command(alloc, name, word, walk))
+}
+
+fn read_with_block(alloc: Global, mut walk: WordWalk<'_>) -> Line
+    ensures { Says (line_with_block (words_of walk.entry.rest.now)) result }
+{
+    let (Some(word), Some(count)) = (walk.next(), walk.next()) else {
+        return Line::Refused(Refusal::BadFormat);
+    };
+    let count = read_u32(count).ok();
+    block_line(count, read_command(alloc, MetaName::Set, word, walk))
+}
+
+/// Reads what a key word and the flags behind it ask.
+fn read_command(
+    alloc: Global,
+    name: MetaName,
+    word: &[u8],
+    walk: WordWalk<'_>,
+) -> Result<Command, Refusal>
+    ensures { Reads (meta_command_of name word.now (words_of walk.entry.rest.now)) result }
+{
+    let asked = read_flags(name, walk)?;
+    let key = read_meta_key(alloc, asked.flags.base64, word)?;
+    asked.into_command(alloc, name, key)
+}
+
+/// Reads a key word, which may be base64.
+fn read_meta_key(alloc: Global, base64: bool, word: &[u8]) -> Result<Key, Refusal>
+    ensures { Reads (meta_key_of base64 word.now) result }
+{
+    if base64 {
+        read_base64_key(alloc, word)
+    } else {
+        read_key(alloc, word)
+    }
+}
+
+/// Reads a key word in base64.
+#[tactic(auto, unfolding(crate::specs::Meta::decoded_key))]
+fn read_base64_key(alloc: Global, word: &[u8]) -> Result<Key, Refusal>
+    ensures { Reads (decoded_key word.now) result }
+{
+    let key = Key::from_base64(alloc, word)?;
+    Ok(key)
+}
+
+impl Asked {
+    /// The command of this name and key, with the defaults of flags that are not there.
+    fn into_command(self, alloc: Global, name: MetaName, key: Key) -> Result<Command, Refusal>
+        ensures { result ≡ command_by name key self }
+    {
+        match name {
+            MetaName::Get => Ok(Command::MetaGet(self.into_get(key))),
+            MetaName::Set => {
+                let set = self.into_set(alloc, key);
+                if set.compare.is_some() && set.mode != MetaMode::Set {
+                    return Err(Refusal::BadFormat);
+                }
+                Ok(Command::MetaSet(set))
+            }
+            MetaName::Delete => Ok(Command::MetaDelete(self.into_delete(key))),
+            MetaName::Arithmetic => Ok(Command::MetaArithmetic(self.into_arithmetic(key))),
+        }
+    }
+
+    fn into_get(self, key: Key) -> MetaGet
+        ensures { result ≡ get_by key self }
+    {
+        MetaGet {
+            key,
+            flags: self.flags,
+            value: self.value,
+            touch: self.exptime,
+            vivify: self.vivify,
+            recache: self.recache,
+        }
+    }
+
+    fn into_set(self, alloc: Global, key: Key) -> MetaSet
+        ensures { result ≡ set_by key self }
+    {
+        MetaSet {
+            key,
+            flags: self.flags,
+            mode: self.mode.unwrap_or(MetaMode::Set),
+            compare: self.compare,
+            client_flags: self.client_flags.unwrap_or(0),
+            exptime: self.exptime.unwrap_or(0),
+            block: Block::empty(alloc),
+        }
+    }
+
+    fn into_delete(self, key: Key) -> MetaDelete
+        ensures { result ≡ delete_by key self }
+    {
+        MetaDelete {
+            key,
+            flags: self.flags,
+            compare: self.compare,
+            invalidate: self.invalidate,
+            exptime: self.exptime,
+        }
+    }
+
+    fn into_arithmetic(self, key: Key) -> MetaArithmetic
+        ensures { result ≡ arithmetic_by key self }
+    {
+        MetaArithmetic {
+            key,
+            flags: self.flags,
+            value: self.value,
+            compare: self.compare,
+            direction: self.direction.unwrap_or(Direction::Increment),
+            amount: self.amount.unwrap_or(1),
+            initial: self.initial.unwrap_or(0),
+            vivify: self.vivify,
+            exptime: self.exptime,
+        }
+    }
+}

@@ -1,0 +1,121 @@
+//! What a shard answers, and which answers are lawful for which kind of piece.
+ghost use Rattle.std.specs.Prelude.{◌≡◌};
+ghost use Rattle.mc_item.specs.Kind.{is_lawful};
+
+use crate::value::Value;
+
+/// The kind of a piece.
+#[derive(Clone, Copy, Debug, PartialEq, Eq)]
+pub enum Kind {
+    Store,
+    Fetch,
+    Count,
+    Delete,
+    Touch,
+    Flush,
+    MetaGet,
+    MetaStore,
+    MetaDelete,
+    MetaCount,
+}
+
+/// What a shard answers to one piece.
+#[derive(Drop)]
+pub enum Answer {
+    Stored,
+    NotStored,
+    Exists,
+    NotFound,
+    TooLarge,
+    /// The uniques of the shard are used up.
+    NoCas,
+    NoMemory,
+    Hit {
+        flags: u32,
+        unique: u64,
+        value: Value,
+    },
+    Miss,
+    /// The new number.
+    Number(u64),
+    NonNumeric,
+    Deleted,
+    Touched,
+    Done,
+    MetaHit(MetaHit),
+    MetaDone(MetaDone),
+}
+
+/// All that the flags of `mg` may show of a hit.
+#[derive(Drop)]
+pub struct MetaHit {
+    pub value: Value,
+    pub flags: u32,
+    pub unique: u64,
+    /// Whether it was fetched before this command.
+    pub fetched: bool,
+    /// The seconds since its last access before this command.
+    pub idle: u64,
+    /// The seconds left after this command; none is never.
+    pub left: Option<u64>,
+    pub marks: Marks,
+}
+
+/// The marks of a hit, shown in this order as `W`, `X`, `Z`.
+#[derive(Clone, Copy, Debug, PartialEq, Eq)]
+pub struct Marks {
+    /// `W`: this client is told to recompute the item.
+    pub won: bool,
+    /// `X`: the item is stale.
+    pub stale: bool,
+    /// `Z`: another client was told to recompute it.
+    pub sent: bool,
+}
+
+/// What `ms` and `ma` may show of the item that they stored or changed.
+#[derive(Clone, Copy, Debug, PartialEq, Eq)]
+pub struct MetaDone {
+    /// The new unique.
+    pub unique: u64,
+    /// The length of the value now stored.
+    pub size: u64,
+    /// The seconds left; none is never.
+    pub left: Option<u64>,
+    /// The number now stored, after `ma`; 0 after `ms`.
+    pub number: u64,
+}
+
+impl Answer {
+    /// Whether a piece of this kind may be answered so.
+    #[tactic(auto, unfolding(crate::specs::Kind::is_lawful))]
+    pub fn is_lawful(&self, kind: Kind) -> bool
+        ensures { result ≡ is_lawful kind self.now }
+    {
+        match self {
+            Answer::Stored => matches!(kind, Kind::Store),
+            Answer::NotStored | Answer::TooLarge => matches!(kind, Kind::Store | Kind::MetaStore),
+            Answer::Exists => matches!(
+                kind,
+                Kind::Store | Kind::MetaStore | Kind::MetaDelete | Kind::MetaCount
+            ),
+            Answer::NotFound => !matches!(kind, Kind::Fetch | Kind::Flush | Kind::MetaGet),
+            Answer::NoCas => !matches!(
+                kind,
+                Kind::Fetch | Kind::Delete | Kind::Touch | Kind::Flush
+            ),
+            Answer::NoMemory => !matches!(
+                kind,
+                Kind::Delete | Kind::Touch | Kind::Flush | Kind::MetaDelete
+            ),
+            Answer::Hit { .. } => matches!(kind, Kind::Fetch),
+            Answer::Miss => matches!(kind, Kind::Fetch | Kind::MetaGet),
+            Answer::Number(_) => matches!(kind, Kind::Count),
+            Answer::NonNumeric => matches!(kind, Kind::Count | Kind::MetaCount),
+            Answer::Deleted => matches!(kind, Kind::Delete | Kind::MetaDelete),
+            Answer::Touched => matches!(kind, Kind::Touch),
+            Answer::Done => matches!(kind, Kind::Flush | Kind::MetaDelete),
+            Answer::MetaHit(_) => matches!(kind, Kind::MetaGet),
+            Answer::MetaDone(_) => matches!(kind, Kind::MetaStore | Kind::MetaCount),
+        }
+    }
+}

@@ -1,0 +1,120 @@
+//! The value of an item.
+ghost use Rattle.std.specs.Prelude.{◌≡◌, ◌+◌, ◌≤◌, ◌==◌, length, IfOk};
+ghost use Rattle.std.specs.List.{list_all, position};
+ghost use Rattle.mc_item.specs.Value.{number_in, number_text, joined};
+ghost use Rattle.mc_wire.specs.Words.{is_space};
+
+use crate::memory::NoMemory;
+use itoa::Buffer;
+use mc_wire::number_u64;
+use std::alloc::{AllocError, Global};
+use std::marker::Model;
+
+/// The bytes that a client stored: at most 8,388,608.
+#[derive(Drop)]
+pub struct Value {
+    bytes: Vec<u8>,
+}
+
+impl Model for Value {
+    ghost use Rattle.std.specs.Prelude.{ℕ, List, ◌≤◌, length};
+
+    ghost Value = { List ℕ };
+
+    ghost view = { λ value. value.bytes.items };
+
+    ghost invariant = { λ value. length value.bytes.items ≤ 8388608 };
+}
+
+impl Value {
+    /// The value with these bytes, without a copy.
+    pub fn new(bytes: Vec<u8>) -> Value
+        requires { length bytes.items ≤ 8388608 }
+        ensures { result ≡ bytes.items }
+    {
+        Self { bytes }
+    }
+
+    /// The text of a number: its decimal digits, without padding.
+    pub fn of_number(alloc: Global, number: u64) -> Result<Value, NoMemory>
+        ensures { IfOk result (λ value. value ≡ number_text number) }
+    {
+        let mut buffer = Buffer::new();
+        let bytes = Vec::from_slice(alloc, buffer.format(number).as_bytes())?;
+        Ok(Value { bytes })
+    }
+
+    /// The bytes of the value.
+    pub fn bytes(&self) -> &[u8]
+        ensures value { result.now ≡ self.now }
+        ensures within { length self.now ≤ 8388608 }
+    {
+        self.bytes.as_slice()
+    }
+
+    /// How many bytes the value has.
+    pub fn len(&self) -> usize
+        ensures value { result ≡ length self.now }
+        ensures within { result ≤ 8388608 }
+    {
+        self.bytes.len()
+    }
+
+    /// Whether the value has no bytes.
+    pub fn is_empty(&self) -> bool
+        ensures { result ≡ (length self.now == 0) }
+    {
+        self.bytes.is_empty()
+    }
+
+    /// The number that the value holds (protocol.txt, "Increment/Decrement"): 1 to 20 digits, and after them spaces
+    /// alone.
+    #[tactic(auto, unfolding(crate::specs::Value::number_in))]
+    pub fn number(&self) -> Option<u64>
+        ensures { result ≡ number_in self.now }
+    {
+        let bytes = self.bytes();
+        let Some(space) = first_space(bytes) else {
+            return number_u64(bytes).ok();
+        };
+        if !is_spaces(&bytes[space + 1..]) {
+            return None;
+        }
+        number_u64(&bytes[..space]).ok()
+    }
+
+    /// The value with the block after it, as by `append`, or before it, as by `prepend`. Both stay as they are.
+    pub fn joined(&self, alloc: Global, block: &Value, after: bool) -> Result<Value, NoMemory>
+        requires { length self.now + length block.now ≤ 8388608 }
+        ensures { IfOk result (λ value. value ≡ joined self.now block.now after) }
+    {
+        let (front, back) = if after { (self, block) } else { (block, self) };
+        let mut bytes = Vec::with_capacity(alloc, front.len() + back.len())?;
+        bytes.extend_from_slice(front.bytes())?;
+        bytes.extend_from_slice(back.bytes())?;
+        Ok(Value { bytes })
+    }
+}
+
+/// The index of the first space.
+fn first_space(text: &[u8]) -> Option<usize>
+    ensures { result ≡ position is_space text.now }
+{
+    text.iter().position(|byte| *byte == b' ')
+}
+
+/// Whether all bytes are spaces.
+fn is_spaces(text: &[u8]) -> bool
+    ensures { result ≡ list_all is_space text.now }
+{
+    text.iter().all(|byte| *byte == b' ')
+}
+
+impl Clone for Value {
+    ghost is_clone = { λ value copy. copy ≡ value };
+
+    fn clone(&self) -> Result<Value, AllocError> {
+        let bytes = self.bytes.clone()?;
+        Ok(Value { bytes })
+    }
+}

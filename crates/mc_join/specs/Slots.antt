@@ -1,0 +1,38 @@
+-- The texts of replies over slots, some of which may be empty still: an empty slot shows nothing.
+use Rattle.std.specs.Prelude.{ℕ, Bool, true, false, List, [], ◌∷◌, ◌++◌, codes, Option, Some, None, if◌then◌else◌}
+use Rattle.std.specs.List.{flat_map, list_any, zip}
+use Rattle.mc_item.specs.declared.answer.Answer.{Answer}
+use Rattle.mc_split.specs.declared.form.Shape.{Shape}
+use Rattle.mc_split.specs.declared.form.Shape.TheVariants as shape
+use Rattle.mc_split.specs.Text.{memory_line, fixed_text, answer_line, is_no_memory, item_text, meta_text}
+
+-- the text of an answer that is there
+abbrev pub slot_text : (Answer → List ℕ) → Option Answer → List ℕ
+slot_text text None = []
+slot_text text (Some answer) = text answer
+
+-- the text of the first answer
+abbrev pub first_text : (Answer → List ℕ) → List (Option Answer) → List ℕ
+first_text text [] = []
+first_text text (slot ∷ slots) = slot_text text slot
+
+-- the items of these keys
+abbrev pub items_text : Bool → List (List ℕ) → List (Option Answer) → List ℕ
+items_text with_unique (key ∷ keys) (slot ∷ slots) = slot_text (item_text with_unique key) slot ++ items_text with_unique keys slots
+items_text with_unique [] slots = []
+items_text with_unique (key ∷ keys) [] = []
+
+-- a slot has an answer for want of memory
+abbrev pub lacks_memory : Option Answer → Bool
+lacks_memory None = false
+lacks_memory (Some answer) = is_no_memory answer
+
+abbrev pub unless_lacking : List (Option Answer) → List ℕ → List ℕ
+unless_lacking slots text = if list_any lacks_memory slots then memory_line else text
+
+-- the text of a reply of this shape, over its slots
+unfoldable pub slots_text : Shape → List (Option Answer) → List ℕ
+slots_text (shape.Fixed fixed) slots = fixed_text fixed
+slots_text (shape.Line noreply) slots = if noreply then [] else unless_lacking slots (first_text answer_line slots)
+slots_text (shape.Values keys with_unique) slots = unless_lacking slots (items_text with_unique keys slots ++ codes "END\r\n")
+slots_text (shape.Meta kind flags value key) slots = unless_lacking slots (first_text (meta_text kind flags value key) slots)

@@ -1,0 +1,238 @@
+//! The replies of the classic commands.
+ghost use Rattle.std.specs.Prelude.{◌≡◌, ◌∷◌, [], ◌++◌, IsTrue, OnOk, OnErr, codes, decimal};
+ghost use Rattle.std.specs.List.{concat, list_any};
+ghost use Rattle.mc_wire.specs.Outlet.{with_bytes, TookFront};
+ghost use Rattle.mc_split.specs.Text.{answer_line, item_text, plain_item, unique_item};
+ghost use Rattle.mc_join.specs.Slots.{slot_text, first_text, items_text, lacks_memory};
+
+use crate::fixed::put_memory_line;
+use itoa::Buffer;
+use mc_command::Keys;
+use mc_item::Answer;
+use mc_wire::{Key, OutFault, Outlet, put_all, put_parts};
+
+/// Whether an answer is for want of memory.
+pub fn any_lacks_memory(slots: &[Option<Answer>]) -> bool
+    ensures { result ≡ list_any lacks_memory slots.now }
+{
+    slots.iter().any(slot_lacks_memory)
+}
+
+fn slot_lacks_memory(slot: &Option<Answer>) -> bool
+    ensures { result ≡ lacks_memory slot.now }
+{
+    matches!(slot, Some(Answer::NoMemory))
+}
+
+/// Writes the line of the first answer.
+pub fn put_first_line<O: Outlet>(out: &mut O, slots: &[Option<Answer>]) -> Result<(), OutFault>
+    ensures input { O.input out.new ≡ O.input out.old }
+    ensures stays { IsTrue (O.has_failed out.old) → IsTrue (O.has_failed out.new) }
+    ensures failed { OnErr result (IsTrue (O.has_failed out.new)) }
+    ensures ok { OnOk result (O.taken out.new ≡ with_bytes (O.taken out.old) (first_text answer_line slots.now)) }
+    ensures err { OnErr result (TookFront (O.taken out.old) (O.taken out.new) (first_text answer_line slots.now)) }
+{
+    match slots {
+        [Some(answer), ..] => put_line(out, answer),
+        [None, ..] | [] => put_all(out, b""),
+    }
+}
+
+/// Writes the line of an answer; nothing for an answer that has none.
+pub fn put_line<O: Outlet>(out: &mut O, answer: &Answer) -> Result<(), OutFault>
+    ensures input { O.input out.new ≡ O.input out.old }
+    ensures stays { IsTrue (O.has_failed out.old) → IsTrue (O.has_failed out.new) }
+    ensures failed { OnErr result (IsTrue (O.has_failed out.new)) }
+    ensures ok { OnOk result (O.taken out.new ≡ with_bytes (O.taken out.old) (answer_line answer.now)) }
+    ensures err { OnErr result (TookFront (O.taken out.old) (O.taken out.new) (answer_line answer.now)) }
+{
+    match answer {
+        Answer::Stored => put_all(out, b"STORED\r\n"),
+        Answer::NotStored => put_all(out, b"NOT_STORED\r\n"),
+        Answer::Exists => put_all(out, b"EXISTS\r\n"),
+        Answer::NotFound => put_all(out, b"NOT_FOUND\r\n"),
+        Answer::TooLarge => put_all(out, b"SERVER_ERROR object too large for cache\r\n"),
+        Answer::NoCas => put_all(out, b"SERVER_ERROR out of cas uniques\r\n"),
+        Answer::NoMemory => put_memory_line(out),
+        Answer::Number(number) => put_number_line(out, *number),
+        Answer::NonNumeric => put_all(
+            out,
+            b"CLIENT_ERROR cannot increment or decrement non-numeric value\r\n",
+        ),
+        Answer::Deleted => put_all(out, b"DELETED\r\n"),
+        Answer::Touched => put_all(out, b"TOUCHED\r\n"),
+        Answer::Done => put_all(out, b"OK\r\n"),
+        Answer::Hit { .. } | Answer::Miss | Answer::MetaHit(_) | Answer::MetaDone(_) => {
+            put_all(out, b"")
+        }
+    }
+}
+
+fn put_number_line<O: Outlet>(out: &mut O, number: u64) -> Result<(), OutFault>
+    ensures input { O.input out.new ≡ O.input out.old }
+    ensures stays { IsTrue (O.has_failed out.old) → IsTrue (O.has_failed out.new) }
+    ensures failed { OnErr result (IsTrue (O.has_failed out.new)) }
+    ensures ok { OnOk result (O.taken out.new ≡ with_bytes (O.taken out.old) (concat (decimal number ∷ codes "\r\n" ∷ []))) }
+    ensures err { OnErr result (TookFront (O.taken out.old) (O.taken out.new) (concat (decimal number ∷ codes "\r\n" ∷ []))) }
+{
+    let mut digits = Buffer::new();
+    put_parts(out, &[digits.format(number).as_bytes(), b"\r\n"])
+}
+
+/// Writes the items found, in the order of the keys, and the line that ends them.
+pub fn put_values<O: Outlet>(
+    out: &mut O,
+    keys: &Keys,
+    with_unique: bool,
+    slots: &[Option<Answer>],
+) -> Result<(), OutFault>
+    ensures input { O.input out.new ≡ O.input out.old }
+    ensures stays { IsTrue (O.has_failed out.old) → IsTrue (O.has_failed out.new) }
+    ensures failed { OnErr result (IsTrue (O.has_failed out.new)) }
+    ensures ok { OnOk result (O.taken out.new ≡ with_bytes (O.taken out.old) (items_text with_unique keys.now slots.now ++ codes "END\r\n")) }
+    ensures err { OnErr result (TookFront (O.taken out.old) (O.taken out.new) (items_text with_unique keys.now slots.now ++ codes "END\r\n")) }
+{
+    let (key, others) = keys.parts();
+    let Some((slot, more)) = slots.split_first() else {
+        return put_all(out, b"END\r\n");
+    };
+    put_slot(out, key, with_unique, slot)?;
+    put_items(out, others, with_unique, more)?;
+    put_all(out, b"END\r\n")
+}
+
+/// Writes the items found.
+fn put_items<O: Outlet>(
+    out: &mut O,
+    keys: &[Key],
+    with_unique: bool,
+    slots: &[Option<Answer>],
+) -> Result<(), OutFault>
+    ensures input { O.input out.new ≡ O.input out.old }
+    ensures stays { IsTrue (O.has_failed out.old) → IsTrue (O.has_failed out.new) }
+    ensures failed { OnErr result (IsTrue (O.has_failed out.new)) }
+    ensures ok { OnOk result (O.taken out.new ≡ with_bytes (O.taken out.old) (items_text with_unique keys.now slots.now)) }
+    ensures err { OnErr result (TookFront (O.taken out.old) (O.taken out.new) (items_text with_unique keys.now slots.now)) }
+{
+    let mut rest = keys;
+    for slot in slots {
+        let Some((key, more)) = rest.split_first() else {
+            return Ok(());
+        };
+        put_slot(out, key, with_unique, slot)?;
+        rest = more;
+    }
+    Ok(())
+}
+
+/// Writes an item, where one was found.
+fn put_slot<O: Outlet>(
+    out: &mut O,
+    key: &Key,
+    with_unique: bool,
+    slot: &Option<Answer>,
+) -> Result<(), OutFault>
+    ensures input { O.input out.new ≡ O.input out.old }
+    ensures stays { IsTrue (O.has_failed out.old) → IsTrue (O.has_failed out.new) }
+    ensures failed { OnErr result (IsTrue (O.has_failed out.new)) }
+    ensures ok { OnOk result (O.taken out.new ≡ with_bytes (O.taken out.old) (slot_text (item_text with_unique key.now) slot.now)) }
+    ensures err { OnErr result (TookFront (O.taken out.old) (O.taken out.new) (slot_text (item_text with_unique key.now) slot.now)) }
+{
+    match slot {
+        Some(answer) => put_item(out, key.bytes(), with_unique, answer),
+        None => put_all(out, b""),
+    }
+}
+
+fn put_item<O: Outlet>(
+    out: &mut O,
+    key: &[u8],
+    with_unique: bool,
+    answer: &Answer,
+) -> Result<(), OutFault>
+    ensures input { O.input out.new ≡ O.input out.old }
+    ensures stays { IsTrue (O.has_failed out.old) → IsTrue (O.has_failed out.new) }
+    ensures failed { OnErr result (IsTrue (O.has_failed out.new)) }
+    ensures ok { OnOk result (O.taken out.new ≡ with_bytes (O.taken out.old) (item_text with_unique key.now answer.now)) }
+    ensures err { OnErr result (TookFront (O.taken out.old) (O.taken out.new) (item_text with_unique key.now answer.now)) }
+{
+    match answer {
+        Answer::Hit {
+            flags,
+            unique,
+            value,
+        } => {
+            if with_unique {
+                put_unique_item(out, key, *flags, *unique, value.bytes())
+            } else {
+                put_plain_item(out, key, *flags, value.bytes())
+            }
+        }
+        Answer::Stored
+        | Answer::NotStored
+        | Answer::Exists
+        | Answer::NotFound
+        | Answer::TooLarge
+        | Answer::NoCas
+        | Answer::NoMemory
+        | Answer::Miss
+        | Answer::Number(_)
+        | Answer::NonNumeric
+        | Answer::Deleted
+        | Answer::Touched
+        | Answer::Done
+        | Answer::MetaHit(_)
+        | Answer::MetaDone(_) => put_all(out, b""),
+    }
+}
+
+fn put_plain_item<O: Outlet>(
+    out: &mut O,
+    key: &[u8],
+    flags: u32,
+    value: &[u8],
+) -> Result<(), OutFault>
+    ensures input { O.input out.new ≡ O.input out.old }
+    ensures stays { IsTrue (O.has_failed out.old) → IsTrue (O.has_failed out.new) }
+    ensures failed { OnErr result (IsTrue (O.has_failed out.new)) }
+    ensures ok { OnOk result (O.taken out.new ≡ with_bytes (O.taken out.old) (plain_item key.now flags value.now)) }
+    ensures err { OnErr result (TookFront (O.taken out.old) (O.taken out.new) (plain_item key.now flags value.now)) }
+{
+    let mut flag_digits = Buffer::new();
+    let mut size_digits = Buffer::new();
+    let flags = flag_digits.format(flags).as_bytes();
+    let size = size_digits.format(value.len()).as_bytes();
+    put_parts(
+        out,
+        &[
+            b"VALUE ", key, b" ", flags, b" ", size, b"\r\n", value, b"\r\n",
+        ],
+    )
+}
+
+fn put_unique_item<O: Outlet>(
+    out: &mut O,
+    key: &[u8],
+    flags: u32,
+    unique: u64,
+    value: &[u8],
+) -> Result<(), OutFault>
+    ensures input { O.input out.new ≡ O.input out.old }
+    ensures stays { IsTrue (O.has_failed out.old) → IsTrue (O.has_failed out.new) }
+    ensures failed { OnErr result (IsTrue (O.has_failed out.new)) }
+    ensures ok { OnOk result (O.taken out.new ≡ with_bytes (O.taken out.old) (unique_item key.now flags unique value.now)) }
+    ensures err { OnErr result (TookFront (O.taken out.old) (O.taken out.new) (unique_item key.now flags unique value.now)) }
+{
+    let mut flag_digits = Buffer::new();
+    let mut size_digits = Buffer::new();
+    let mut unique_digits = Buffer::new();
+    let flags = flag_digits.format(flags).as_bytes();
+    let size = size_digits.format(value.len()).as_bytes();
+    let unique = unique_digits.format(unique).as_bytes();
+    put_parts(
+        out,
+        &[
+            b"VALUE ", key, b" ", flags, b" ", size, b" ", unique, b"\r\n", value, b"\r\n",
+        ],
+    )
+}

@@ -1,0 +1,344 @@
+//! The replies of the meta commands (protocol.txt, "Meta Commands").
+ghost use Rattle.std.specs.Prelude.{◌≡◌, ◌∷◌, [], IsTrue, OnOk, OnErr, codes, decimal};
+ghost use Rattle.std.specs.List.{concat};
+ghost use Rattle.mc_item.specs.declared.answer.Answer.TheVariants as answers;
+ghost use Rattle.mc_wire.specs.Base64Key.{base64_of};
+ghost use Rattle.mc_wire.specs.Outlet.{with_bytes, TookFront};
+ghost use Rattle.mc_split.specs.Text.{meta_text, coded_text, head_text, value_text, flags_text, flag_text, item_flag, key_flag, left_flag};
+ghost use Rattle.mc_split.specs.Text as spec;
+
+use crate::classic::put_line;
+use itoa::Buffer;
+use mc_command::{MetaFlags, ReturnFlag};
+use mc_item::{Answer, Marks, MetaDone, MetaHit};
+use mc_split::MetaKind;
+use mc_wire::{BASE64_LIMIT, Key, OutFault, Outlet, put_all, put_parts};
+
+/// Writes the reply of a meta command, or nothing where `q` hides it.
+pub fn put_meta<O: Outlet>(
+    out: &mut O,
+    kind: MetaKind,
+    flags: &MetaFlags,
+    value: bool,
+    key: &Option<Key>,
+    answer: &Answer,
+) -> Result<(), OutFault>
+    ensures input { O.input out.new ≡ O.input out.old }
+    ensures stays { IsTrue (O.has_failed out.old) → IsTrue (O.has_failed out.new) }
+    ensures failed { OnErr result (IsTrue (O.has_failed out.new)) }
+    ensures ok { OnOk result (O.taken out.new ≡ with_bytes (O.taken out.old) (meta_text kind flags.now value key.now answer.now)) }
+    ensures err { OnErr result (TookFront (O.taken out.old) (O.taken out.new) (meta_text kind flags.now value key.now answer.now)) }
+{
+    if flags.quiet && is_hidden(kind, value, answer) {
+        return put_all(out, b"");
+    }
+    put_coded(out, flags, value, key, answer)
+}
+
+/// Whether `q` hides the reply (protocol.txt, "noreply semantics for return codes").
+fn is_hidden(kind: MetaKind, value: bool, answer: &Answer) -> bool
+    ensures { result ≡ spec.is_hidden kind value answer.now }
+{
+    match kind {
+        MetaKind::Get => matches!(answer, Answer::Miss),
+        MetaKind::Set => matches!(answer, Answer::MetaDone(_)),
+        MetaKind::Delete => { matches!(answer, Answer::Deleted | Answer::Done | Answer::NotFound) }
+        MetaKind::Arithmetic => match answer {
+            Answer::MetaDone(_) => !value,
+            answer => matches!(answer, Answer::NotFound),
+        },
+    }
+}
+
+fn put_coded<O: Outlet>(
+    out: &mut O,
+    flags: &MetaFlags,
+    value: bool,
+    key: &Option<Key>,
+    answer: &Answer,
+) -> Result<(), OutFault>
+    ensures input { O.input out.new ≡ O.input out.old }
+    ensures stays { IsTrue (O.has_failed out.old) → IsTrue (O.has_failed out.new) }
+    ensures failed { OnErr result (IsTrue (O.has_failed out.new)) }
+    ensures ok { OnOk result (O.taken out.new ≡ with_bytes (O.taken out.old) (coded_text flags.now key.now answer.now value)) }
+    ensures err { OnErr result (TookFront (O.taken out.old) (O.taken out.new) (coded_text flags.now key.now answer.now value)) }
+{
+    match answer {
+        Answer::MetaHit(hit) => put_found(out, flags, value, key, answer, hit),
+        Answer::MetaDone(done) => put_done(out, flags, value, key, answer, done),
+        Answer::Deleted => put_head(out, b"HD", flags, key, answer, b""),
+        Answer::Done => put_head(out, b"HD", flags, key, answer, b""),
+        Answer::Miss => put_head(out, b"EN", flags, key, answer, b""),
+        Answer::NotStored => put_head(out, b"NS", flags, key, answer, b""),
+        Answer::Exists => put_head(out, b"EX", flags, key, answer, b""),
+        Answer::NotFound => put_head(out, b"NF", flags, key, answer, b""),
+        Answer::Stored
+        | Answer::TooLarge
+        | Answer::NoCas
+        | Answer::NoMemory
+        | Answer::Hit { .. }
+        | Answer::Number(_)
+        | Answer::NonNumeric
+        | Answer::Touched => put_line(out, answer),
+    }
+}
+
+/// Writes the reply of a hit of `mg`.
+fn put_found<O: Outlet>(
+    out: &mut O,
+    flags: &MetaFlags,
+    value: bool,
+    key: &Option<Key>,
+    answer: &Answer,
+    hit: &MetaHit,
+) -> Result<(), OutFault>
+    requires { answer.now ≡ answers.MetaHit hit.now }
+    ensures input { O.input out.new ≡ O.input out.old }
+    ensures stays { IsTrue (O.has_failed out.old) → IsTrue (O.has_failed out.new) }
+    ensures failed { OnErr result (IsTrue (O.has_failed out.new)) }
+    ensures ok { OnOk result (O.taken out.new ≡ with_bytes (O.taken out.old) (coded_text flags.now key.now answer.now value)) }
+    ensures err { OnErr result (TookFront (O.taken out.old) (O.taken out.new) (coded_text flags.now key.now answer.now value)) }
+{
+    let marks = marks_text(hit.marks);
+    if value {
+        put_value(out, hit.value.bytes(), flags, key, answer, marks)
+    } else {
+        put_head(out, b"HD", flags, key, answer, marks)
+    }
+}
+
+/// Writes the reply of what `ms` or `ma` did, with the number where `v` shows it.
+fn put_done<O: Outlet>(
+    out: &mut O,
+    flags: &MetaFlags,
+    value: bool,
+    key: &Option<Key>,
+    answer: &Answer,
+    done: &MetaDone,
+) -> Result<(), OutFault>
+    requires { answer.now ≡ answers.MetaDone done.now }
+    ensures input { O.input out.new ≡ O.input out.old }
+    ensures stays { IsTrue (O.has_failed out.old) → IsTrue (O.has_failed out.new) }
+    ensures failed { OnErr result (IsTrue (O.has_failed out.new)) }
+    ensures ok { OnOk result (O.taken out.new ≡ with_bytes (O.taken out.old) (coded_text flags.now key.now answer.now value)) }
+    ensures err { OnErr result (TookFront (O.taken out.old) (O.taken out.new) (coded_text flags.now key.now answer.now value)) }
+{
+    if value {
+        let mut digits = Buffer::new();
+        let number = digits.format(done.number).as_bytes();
+        put_value(out, number, flags, key, answer, b"")
+    } else {
+        put_head(out, b"HD", flags, key, answer, b"")
+    }
+}
+
+/// Writes a reply without a value.
+fn put_head<O: Outlet>(
+    out: &mut O,
+    code: &[u8],
+    flags: &MetaFlags,
+    key: &Option<Key>,
+    answer: &Answer,
+    marks: &[u8],
+) -> Result<(), OutFault>
+    ensures input { O.input out.new ≡ O.input out.old }
+    ensures stays { IsTrue (O.has_failed out.old) → IsTrue (O.has_failed out.new) }
+    ensures failed { OnErr result (IsTrue (O.has_failed out.new)) }
+    ensures ok { OnOk result (O.taken out.new ≡ with_bytes (O.taken out.old) (head_text code.now (flags_text flags.now key.now answer.now) marks.now)) }
+    ensures err { OnErr result (TookFront (O.taken out.old) (O.taken out.new) (head_text code.now (flags_text flags.now key.now answer.now) marks.now)) }
+{
+    put_all(out, code)?;
+    put_flags(out, flags, key, answer)?;
+    put_parts(out, &[marks, b"\r\n"])
+}
+
+/// Writes a reply with a value.
+fn put_value<O: Outlet>(
+    out: &mut O,
+    value: &[u8],
+    flags: &MetaFlags,
+    key: &Option<Key>,
+    answer: &Answer,
+    marks: &[u8],
+) -> Result<(), OutFault>
+    ensures input { O.input out.new ≡ O.input out.old }
+    ensures stays { IsTrue (O.has_failed out.old) → IsTrue (O.has_failed out.new) }
+    ensures failed { OnErr result (IsTrue (O.has_failed out.new)) }
+    ensures ok { OnOk result (O.taken out.new ≡ with_bytes (O.taken out.old) (value_text value.now (flags_text flags.now key.now answer.now) marks.now)) }
+    ensures err { OnErr result (TookFront (O.taken out.old) (O.taken out.new) (value_text value.now (flags_text flags.now key.now answer.now) marks.now)) }
+{
+    let mut digits = Buffer::new();
+    put_parts(out, &[b"VA ", digits.format(value.len()).as_bytes()])?;
+    put_flags(out, flags, key, answer)?;
+    put_parts(out, &[marks, b"\r\n", value, b"\r\n"])
+}
+
+/// The marks of a hit, in their order.
+fn marks_text(marks: Marks) -> &'static [u8]
+    ensures { result.now ≡ spec.marks_text marks }
+{
+    match (marks.won, marks.stale, marks.sent) {
+        (false, false, false) => b"",
+        (false, false, true) => b" Z",
+        (false, true, false) => b" X",
+        (false, true, true) => b" X Z",
+        (true, false, false) => b" W",
+        (true, false, true) => b" W Z",
+        (true, true, false) => b" W X",
+        (true, true, true) => b" W X Z",
+    }
+}
+
+/// Writes the returned flags, in the order of the request.
+fn put_flags<O: Outlet>(
+    out: &mut O,
+    flags: &MetaFlags,
+    key: &Option<Key>,
+    answer: &Answer,
+) -> Result<(), OutFault>
+    ensures input { O.input out.new ≡ O.input out.old }
+    ensures stays { IsTrue (O.has_failed out.old) → IsTrue (O.has_failed out.new) }
+    ensures failed { OnErr result (IsTrue (O.has_failed out.new)) }
+    ensures ok { OnOk result (O.taken out.new ≡ with_bytes (O.taken out.old) (flags_text flags.now key.now answer.now)) }
+    ensures err { OnErr result (TookFront (O.taken out.old) (O.taken out.new) (flags_text flags.now key.now answer.now)) }
+{
+    for flag in flags.returned.flags() {
+        put_flag(out, flags, key, answer, *flag)?;
+    }
+    Ok(())
+}
+
+fn put_flag<O: Outlet>(
+    out: &mut O,
+    flags: &MetaFlags,
+    key: &Option<Key>,
+    answer: &Answer,
+    flag: ReturnFlag,
+) -> Result<(), OutFault>
+    ensures input { O.input out.new ≡ O.input out.old }
+    ensures stays { IsTrue (O.has_failed out.old) → IsTrue (O.has_failed out.new) }
+    ensures failed { OnErr result (IsTrue (O.has_failed out.new)) }
+    ensures ok { OnOk result (O.taken out.new ≡ with_bytes (O.taken out.old) (flag_text flags.now key.now answer.now flag)) }
+    ensures err { OnErr result (TookFront (O.taken out.old) (O.taken out.new) (flag_text flags.now key.now answer.now flag)) }
+{
+    match flag {
+        ReturnFlag::Key => put_key(out, flags.base64, key),
+        ReturnFlag::Opaque => put_parts(out, &[b" O", flags.opaque.bytes()]),
+        ReturnFlag::Unique
+        | ReturnFlag::ClientFlags
+        | ReturnFlag::Fetched
+        | ReturnFlag::LastAccess
+        | ReturnFlag::Size
+        | ReturnFlag::TimeLeft => put_item_flag(out, answer, flag),
+    }
+}
+
+/// Writes the flag `k`, with ` b` behind a key in base64.
+fn put_key<O: Outlet>(out: &mut O, base64: bool, key: &Option<Key>) -> Result<(), OutFault>
+    ensures input { O.input out.new ≡ O.input out.old }
+    ensures stays { IsTrue (O.has_failed out.old) → IsTrue (O.has_failed out.new) }
+    ensures failed { OnErr result (IsTrue (O.has_failed out.new)) }
+    ensures ok { OnOk result (O.taken out.new ≡ with_bytes (O.taken out.old) (key_flag base64 key.now)) }
+    ensures err { OnErr result (TookFront (O.taken out.old) (O.taken out.new) (key_flag base64 key.now)) }
+{
+    match key {
+        None => put_all(out, b""),
+        Some(key) if base64 => {
+            let mut room = [0; BASE64_LIMIT];
+            put_parts(out, &[b" k", key.to_base64(&mut room), b" b"])
+        }
+        Some(key) => put_parts(out, &[b" k", key.bytes()]),
+    }
+}
+
+/// Writes a flag of what was found, stored or changed.
+fn put_item_flag<O: Outlet>(out: &mut O, answer: &Answer, flag: ReturnFlag) -> Result<(), OutFault>
+    ensures input { O.input out.new ≡ O.input out.old }
+    ensures stays { IsTrue (O.has_failed out.old) → IsTrue (O.has_failed out.new) }
+    ensures failed { OnErr result (IsTrue (O.has_failed out.new)) }
+    ensures ok { OnOk result (O.taken out.new ≡ with_bytes (O.taken out.old) (item_flag answer.now flag)) }
+    ensures err { OnErr result (TookFront (O.taken out.old) (O.taken out.new) (item_flag answer.now flag)) }
+{
+    match answer {
+        Answer::MetaHit(hit) => put_hit_flag(out, hit, flag),
+        Answer::MetaDone(done) => put_done_flag(out, done, flag),
+        Answer::Stored
+        | Answer::NotStored
+        | Answer::Exists
+        | Answer::NotFound
+        | Answer::TooLarge
+        | Answer::NoCas
+        | Answer::NoMemory
+        | Answer::Hit { .. }
+        | Answer::Miss
+        | Answer::Number(_)
+        | Answer::NonNumeric
+        | Answer::Deleted
+        | Answer::Touched
+        | Answer::Done => put_all(out, b""),
+    }
+}
+
+fn put_hit_flag<O: Outlet>(out: &mut O, hit: &MetaHit, flag: ReturnFlag) -> Result<(), OutFault>
+    ensures input { O.input out.new ≡ O.input out.old }
+    ensures stays { IsTrue (O.has_failed out.old) → IsTrue (O.has_failed out.new) }
+    ensures failed { OnErr result (IsTrue (O.has_failed out.new)) }
+    ensures ok { OnOk result (O.taken out.new ≡ with_bytes (O.taken out.old) (item_flag (answers.MetaHit hit.now) flag)) }
+    ensures err { OnErr result (TookFront (O.taken out.old) (O.taken out.new) (item_flag (answers.MetaHit hit.now) flag)) }
+{
+    match flag {
+        ReturnFlag::Unique => put_number(out, b" c", hit.unique),
+        ReturnFlag::ClientFlags => put_number(out, b" f", u64::from(hit.flags)),
+        ReturnFlag::Fetched if hit.fetched => put_all(out, b" h1"),
+        ReturnFlag::Fetched => put_all(out, b" h0"),
+        ReturnFlag::LastAccess => put_number(out, b" l", hit.idle),
+        ReturnFlag::Size => put_number(out, b" s", hit.value.bytes().len() as u64),
+        ReturnFlag::TimeLeft => put_left(out, hit.left),
+        ReturnFlag::Key | ReturnFlag::Opaque => put_all(out, b""),
+    }
+}
+
+fn put_done_flag<O: Outlet>(out: &mut O, done: &MetaDone, flag: ReturnFlag) -> Result<(), OutFault>
+    ensures input { O.input out.new ≡ O.input out.old }
+    ensures stays { IsTrue (O.has_failed out.old) → IsTrue (O.has_failed out.new) }
+    ensures failed { OnErr result (IsTrue (O.has_failed out.new)) }
+    ensures ok { OnOk result (O.taken out.new ≡ with_bytes (O.taken out.old) (item_flag (answers.MetaDone done.now) flag)) }
+    ensures err { OnErr result (TookFront (O.taken out.old) (O.taken out.new) (item_flag (answers.MetaDone done.now) flag)) }
+{
+    match flag {
+        ReturnFlag::Unique => put_number(out, b" c", done.unique),
+        ReturnFlag::Size => put_number(out, b" s", done.size),
+        ReturnFlag::TimeLeft => put_left(out, done.left),
+        ReturnFlag::ClientFlags
+        | ReturnFlag::Fetched
+        | ReturnFlag::LastAccess
+        | ReturnFlag::Key
+        | ReturnFlag::Opaque => put_all(out, b""),
+    }
+}
+
+/// Writes the flag `t`: the seconds left, -1 for never.
+fn put_left<O: Outlet>(out: &mut O, left: Option<u64>) -> Result<(), OutFault>
+    ensures input { O.input out.new ≡ O.input out.old }
+    ensures stays { IsTrue (O.has_failed out.old) → IsTrue (O.has_failed out.new) }
+    ensures failed { OnErr result (IsTrue (O.has_failed out.new)) }
+    ensures ok { OnOk result (O.taken out.new ≡ with_bytes (O.taken out.old) (left_flag left)) }
+    ensures err { OnErr result (TookFront (O.taken out.old) (O.taken out.new) (left_flag left)) }
+{
+    match left {
+        Some(seconds) => put_number(out, b" t", seconds),
+        None => put_all(out, b" t-1"),
+    }
+}
+
+/// Writes a flag's letter and its number.
+fn put_number<O: Outlet>(out: &mut O, letter: &[u8], number: u64) -> Result<(), OutFault>
+    ensures input { O.input out.new ≡ O.input out.old }
+    ensures stays { IsTrue (O.has_failed out.old) → IsTrue (O.has_failed out.new) }
+    ensures failed { OnErr result (IsTrue (O.has_failed out.new)) }
+    ensures ok { OnOk result (O.taken out.new ≡ with_bytes (O.taken out.old) (concat (letter.now ∷ decimal number ∷ []))) }
+    ensures err { OnErr result (TookFront (O.taken out.old) (O.taken out.new) (concat (letter.now ∷ decimal number ∷ []))) }
+{
+    let mut digits = Buffer::new();
+    put_parts(out, &[letter, digits.format(number).as_bytes()])
+}

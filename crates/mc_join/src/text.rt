@@ -1,0 +1,57 @@
+//! Writes the text of one reply.
+ghost use Rattle.std.specs.Prelude.{◌≡◌, List, IsTrue, OnOk, OnErr, Some, map, Option};
+ghost use Rattle.mc_item.specs.declared.answer.Answer.{Answer};
+ghost use Rattle.mc_wire.specs.Outlet.{with_bytes, TookFront};
+ghost use Rattle.mc_split.specs.Text.{shape_text};
+ghost use Rattle.mc_join.specs.Slots.{slots_text};
+
+use crate::classic::{any_lacks_memory, put_first_line, put_values};
+use crate::fixed::{put_fixed, put_memory_line};
+use crate::meta::put_meta;
+use mc_item::Answer;
+use mc_split::{Form, Shape};
+use mc_wire::{OutFault, Outlet, put_all};
+
+/// Writes the reply of a form whose parts are all answered. Where the outlet fails, it took a beginning of it.
+pub fn put_reply<O: Outlet>(out: &mut O, form: &Form) -> Result<(), OutFault>
+    ensures input { O.input out.new ≡ O.input out.old }
+    ensures stays { IsTrue (O.has_failed out.old) → IsTrue (O.has_failed out.new) }
+    ensures failed { OnErr result (IsTrue (O.has_failed out.new)) }
+    ensures ok { OnOk result ((answers : List Answer) → form.now.slots ≡ map (λ answer. Some answer) answers →
+        O.taken out.new ≡ with_bytes (O.taken out.old) (shape_text form.now.shape answers)) }
+    ensures err { OnErr result ((answers : List Answer) → form.now.slots ≡ map (λ answer. Some answer) answers →
+        TookFront (O.taken out.old) (O.taken out.new) (shape_text form.now.shape answers)) }
+{
+    put_slots(out, &form.shape, form.slots.answers())
+}
+
+/// Writes the reply of a shape, as far as its slots are filled.
+#[tactic(auto, unfolding(crate::specs::Slots::slots_text))]
+fn put_slots<O: Outlet>(
+    out: &mut O,
+    shape: &Shape,
+    slots: &[Option<Answer>],
+) -> Result<(), OutFault>
+    ensures input { O.input out.new ≡ O.input out.old }
+    ensures stays { IsTrue (O.has_failed out.old) → IsTrue (O.has_failed out.new) }
+    ensures failed { OnErr result (IsTrue (O.has_failed out.new)) }
+    ensures ok { OnOk result (O.taken out.new ≡ with_bytes (O.taken out.old) (slots_text shape.now slots.now)) }
+    ensures err { OnErr result (TookFront (O.taken out.old) (O.taken out.new) (slots_text shape.now slots.now)) }
+{
+    match shape {
+        Shape::Fixed(fixed) => put_fixed(out, *fixed),
+        Shape::Line { noreply: true } => put_all(out, b""),
+        _ if any_lacks_memory(slots) => put_memory_line(out),
+        Shape::Line { noreply: false } => put_first_line(out, slots),
+        Shape::Values { keys, with_unique } => put_values(out, keys, *with_unique, slots),
+        Shape::Meta {
+            kind,
+            flags,
+            value,
+            key,
+        } => match slots {
+            [Some(answer), ..] => put_meta(out, *kind, flags, *value, key, answer),
+            [None, ..] | [] => put_all(out, b""),
+        },
+    }
+}

@@ -1,0 +1,205 @@
+-- What a reader has given after each of its calls.
+use Rattle.std.proofs.Common.{◌≡◌, ℕ, suc, ◌+◌, ◌-◌, ◌<◌, ◌==◌, ◌||◌, ◌↔◌, Bool, true, false, List, [], ◌∷◌, ◌++◌, length, refl, sym, ap, ◌∙◌, arith, IsTrue, MatchBool, length-append, add-zero, zero-add, ◌⊎◌, inl, inr, if◌then◌else◌}
+use Rattle.std.specs.Bool.{OnTrue}
+use Rattle.std.proofs.lemmas.Bool.Decides.{nat_tests}
+use Rattle.mc_command.specs.declared.command.Command.{Command}
+use Rattle.mc_command.specs.declared.command.Command.TheVariants as command
+use Rattle.mc_command.specs.declared.refusal.Refusal.{Refusal}
+use Rattle.mc_command.specs.declared.refusal.Refusal.TheVariants.{Unknown, BadFormat, BadKey, InvalidFlag, DuplicateFlag, OpaqueTooLong, TooLarge, BadChunk, LineTooLong, Memory}
+use Rattle.mc_command.specs.Command.{can_give_up, refusal_takes_memory}
+use Rattle.mc_reader.specs.declared.reader.Reader.{Reader}
+use Rattle.mc_reader.specs.declared.state.State.{State}
+use Rattle.mc_reader.specs.declared.state.State.TheVariants as state
+use Rattle.mc_reader.specs.Spelling.{AreCommands, BeginCommands, Given, IsGiven, SpellsFront, SpellsNothing, closes, is_closed, is_closed_after, is_last, most_commands, refusal_closes}
+use Rattle.mc_reader.specs.State.{Holds, IsWhole, SpellsSomething, Waits}
+use Rattle.mc_reader.specs.Reader.{HasGiven, IsClosedLine, IsGivenWhole, IsNotAllGiven, IsUsedUp, entries_of}
+use Rattle.mc_reader.proofs.Fronts.{front_last, front_more, last_of, same_rest}
+
+-- More bytes come.
+pub fed_more : (old new : Reader) (fed more : List ℕ) (ended : Bool) (given : List Given) → new.ended ≡ old.ended → new.commands_left ≡ old.commands_left →
+    (old.state ≡ state.Closed → new.state ≡ state.Closed) → ((unread : List ℕ) → Holds old.state old.buffer unread → Holds new.state new.buffer (unread ++ more)) →
+    HasGiven old fed ended given → HasGiven new (fed ++ more) ended given
+fed_more old new fed more ended given same same_left closed holds h = record {
+  unread = h.unread ++ more;
+  ended_is = same ∙ h.ended_is;
+  left = rw same_left h.left;
+  front = front_more (entries_of given) 0 fed h.unread more h.front;
+  now = elim (is_closed (entries_of given)) as (λ shut. MatchBool shut (old.state ≡ state.Closed) ((0 < old.commands_left) × Holds old.state old.buffer h.unread) → MatchBool shut (new.state ≡ state.Closed) ((0 < new.commands_left) × Holds new.state new.buffer (h.unread ++ more))) [
+    | true ↦ λ now. closed now
+    | false ↦ λ now. (rw same_left now.0, holds h.unread now.1)
+  ] h.now;
+}
+
+-- Where more may come, the state is what the unread bytes are.
+pub still_open : (reader : Reader) (fed : List ℕ) (ended : Bool) (given : List Given) → HasGiven reader fed ended given → is_closed (entries_of given) ≡ false → (unread : List ℕ) × SpellsFront 0 fed (entries_of given) unread × Holds reader.state reader.buffer unread × (0 < reader.commands_left)
+still_open reader fed ended given h goes_on =
+    let now : (0 < reader.commands_left) × Holds reader.state reader.buffer h.unread = rw goes_on at h.now in
+    (h.unread, h.front, now.1, now.0)
+
+-- Where the commands given take up all, nothing is unread.
+pub nothing_unread : (reader : Reader) (fed : List ℕ) (ended : Bool) (given : List Given) → HasGiven reader fed ended given → IsUsedUp fed given → Holds reader.state reader.buffer []
+nothing_unread reader fed ended given h used =
+    let at = still_open reader fed ended given h used.1 in
+    rw (same_rest (entries_of given) 0 fed at.0 [] at.1 used.0) at at.2
+
+entries_last : (given : List Given) (one : Given) → entries_of (given ++ one ∷ []) ≡ entries_of given ++ one.entry ∷ []
+entries_last [] one = refl
+entries_last (g ∷ gs) one = ap (λ es. g.entry ∷ es) (entries_last gs one)
+
+entries_long : (given : List Given) → length (entries_of given) ≡ length given
+entries_long [] = refl
+entries_long (g ∷ gs) = ap suc (entries_long gs)
+
+or_false : (a : Bool) → (a || false) ≡ a
+or_false true = refl
+or_false false = refl
+
+or_parts : (a b : Bool) → (a || b) ≡ false → (a ≡ false) × (b ≡ false)
+or_parts true b e = absurd cc
+or_parts false b e = (refl, e)
+
+-- the last of the commands decides where no earlier one does
+closed_last : (entries : List Command) (before : ℕ) (entry : Command) → is_closed_after before entries ≡ false → is_closed_after before (entries ++ entry ∷ []) ≡ is_last (before + length entries) entry
+closed_last [] before entry goes_on = rw add-zero (or_false (is_last before entry))
+closed_last (first ∷ entries) before entry goes_on =
+    let shut = or_parts (is_last before first) (is_closed_after (before + 1) entries) goes_on in
+    let place : before + 1 + length entries ≡ before + length (first ∷ entries) = omega arith in
+    rw shut.0 (closed_last entries (before + 1) entry shut.1 ∙ ap (λ n. is_last n entry) place)
+
+refusal_goes_on : (refusal : Refusal) → IsTrue (refusal_takes_memory refusal) → refusal_closes refusal ≡ false
+refusal_goes_on Unknown h = refl
+refusal_goes_on BadFormat h = refl
+refusal_goes_on BadKey h = refl
+refusal_goes_on InvalidFlag h = refl
+refusal_goes_on DuplicateFlag h = refl
+refusal_goes_on OpaqueTooLong h = refl
+refusal_goes_on TooLarge h = refl
+refusal_goes_on BadChunk h = refl
+refusal_goes_on LineTooLong h = absurd cc
+refusal_goes_on Memory h = refl
+
+-- what may be given up closes nothing
+goes_on_given_up : (entry : Command) → IsTrue (can_give_up entry) → closes entry ≡ false
+goes_on_given_up (command.Store storage) h = refl
+goes_on_given_up (command.MetaSet set) h = refl
+goes_on_given_up (command.Get retrieval) h = refl
+goes_on_given_up (command.Delete key noreply) h = refl
+goes_on_given_up (command.Count key direction amount noreply) h = refl
+goes_on_given_up (command.Touch key exptime noreply) h = refl
+goes_on_given_up (command.FlushAll delay noreply) h = refl
+goes_on_given_up command.Version h = refl
+goes_on_given_up (command.Verbosity noreply) h = refl
+goes_on_given_up command.Quit h = absurd cc
+goes_on_given_up command.MetaNoop h = refl
+goes_on_given_up (command.MetaGet get) h = refl
+goes_on_given_up (command.MetaDelete delete) h = refl
+goes_on_given_up (command.MetaArithmetic arithmetic) h = refl
+goes_on_given_up (command.Refused refusal) h = refusal_goes_on refusal h
+
+-- what is shown closes the stream where what was spelled does
+shown_closes : (shown : Command) (one : Given) → IsGiven shown one → closes shown ≡ closes one.entry
+shown_closes shown one given = ap closes given.shown_is ∙ by one.given_up given.may where
+  by : (up : Bool) → OnTrue up (IsTrue (can_give_up one.entry)) → closes (if up then command.Refused Memory else one.entry) ≡ closes one.entry
+  by true may = sym (goes_on_given_up one.entry may)
+  by false may = refl
+
+same_tests : (left n : ℕ) → left + n ≡ most_commands → (n == most_commands) ≡ (left == 0)
+same_tests left n e = grind (arith, nat_tests)
+
+same_last : (entries : List Command) (left : ℕ) (shown : Command) (one : Given) → IsGiven shown one → left + (length entries + 1) ≡ most_commands → is_last (0 + length entries) one.entry ≡ closes shown || (left == 0)
+same_last entries left shown one given e =
+    rw (zero-add, same_tests left (length entries + 1) e, ← shown_closes shown one given) refl
+
+still_some : (P Q : Type 0) (last shuts : Bool) (left : ℕ) → last ≡ shuts || (left == 0) → MatchBool last P Q → MatchBool last P ((0 < left) × Q)
+still_some P Q true shuts left e h = h
+still_some P Q false shuts left e h = let parts = or_parts shuts (left == 0) (sym e) in (some_left left parts.1, h) where
+  some_left : (n : ℕ) → (n == 0) ≡ false → 0 < n
+  some_left n none = grind (arith, nat_tests)
+
+-- A command is given.
+pub gave : (old new : Reader) (fed : List ℕ) (ended : Bool) (given : List Given) (shown : Command) → new.ended ≡ old.ended → (old.state ≡ state.Closed → ⊥) →
+    ((unread : List ℕ) → Holds old.state old.buffer unread → IsWhole shown new.buffer unread) → new.commands_left ≡ old.commands_left - 1 →
+    (last : Bool) → last ≡ closes shown || (new.commands_left == 0) → MatchBool last (new.state ≡ state.Closed) (Holds new.state new.buffer new.buffer) →
+    HasGiven old fed ended given → (one : Given) × IsGiven shown one × BeginCommands fed (entries_of (given ++ one ∷ [])) × HasGiven new fed ended (given ++ one ∷ [])
+gave old new fed ended given shown same not_closed whole left_is is_over over_is after h = by_closed (is_closed (entries_of given)) refl h.now where
+  give : is_closed (entries_of given) ≡ false → 0 < old.commands_left → (w : IsWhole shown new.buffer h.unread) → (one : Given) × IsGiven shown one × BeginCommands fed (entries_of (given ++ one ∷ [])) × HasGiven new fed ended (given ++ one ∷ [])
+  give goes_on some w =
+      let entry = w.one.entry in
+      let front = front_last (entries_of given) 0 fed w.text new.buffer entry (rw w.unread_are at h.front) goes_on w.spelled in
+      let all : SpellsFront 0 fed (entries_of (given ++ w.one ∷ [])) new.buffer = rw (entries_last given w.one) front in
+      let left : new.commands_left + length (given ++ w.one ∷ []) ≡ most_commands = (let l = h.left in omega (arith, length-append given (w.one ∷ []))) in
+      let last : is_closed (entries_of (given ++ w.one ∷ [])) ≡ closes shown || (new.commands_left == 0) = ap is_closed (entries_last given w.one) ∙ (closed_last (entries_of given) 0 entry goes_on ∙ same_last (entries_of given) new.commands_left shown w.one w.given (omega (arith, entries_long given, length-append given (w.one ∷ [])))) in (
+        w.one,
+        w.given,
+        (new.buffer, all),
+        record {
+          unread = new.buffer;
+          ended_is = same ∙ h.ended_is;
+          left = left;
+          front = all;
+          now = rw (last, ← over_is) (still_some (new.state ≡ state.Closed) (Holds new.state new.buffer new.buffer) is_over (closes shown) new.commands_left over_is after);
+        },
+      )
+
+  by_closed : (shut : Bool) → is_closed (entries_of given) ≡ shut → MatchBool shut (old.state ≡ state.Closed) ((0 < old.commands_left) × Holds old.state old.buffer h.unread) → (one : Given) × IsGiven shown one × BeginCommands fed (entries_of (given ++ one ∷ [])) × HasGiven new fed ended (given ++ one ∷ [])
+  by_closed true e now = absurd (not_closed now)
+  by_closed false e now = give e now.0 (whole h.unread now.1)
+
+-- More bytes are needed.
+pub waited : (old new : Reader) (fed : List ℕ) (ended : Bool) (given : List Given) → new.ended ≡ old.ended → new.commands_left ≡ old.commands_left → new.ended ≡ false →
+    (old.state ≡ state.Closed → new.state ≡ state.Closed) → (new.state ≡ state.Closed → ⊥) →
+    ((unread : List ℕ) → Holds old.state old.buffer unread → Holds new.state new.buffer unread × SpellsNothing unread × Waits new.state new.buffer) →
+    HasGiven old fed ended given → (ended ≡ false) × IsGivenWhole fed given × HasGiven new fed ended given × Waits new.state new.buffer
+waited old new fed ended given same same_left more closed not_closed nothing h = by_closed (is_closed (entries_of given)) refl h.now where
+  by_closed : (shut : Bool) → is_closed (entries_of given) ≡ shut → MatchBool shut (old.state ≡ state.Closed) ((0 < old.commands_left) × Holds old.state old.buffer h.unread) → (ended ≡ false) × IsGivenWhole fed given × HasGiven new fed ended given × Waits new.state new.buffer
+  by_closed true e now = absurd (not_closed (closed now))
+  by_closed false e now =
+      let next = nothing h.unread now.1 in (
+        sym h.ended_is ∙ (sym same ∙ more),
+        ((h.unread, h.front, rw e next.1), e),
+        record { unread = h.unread; ended_is = same ∙ h.ended_is; left = rw same_left h.left; front = h.front; now = rw e (rw same_left now.0, next.0) },
+        next.2,
+      )
+
+waits_not : (s : State) (buffer : List ℕ) → Waits s buffer → s ≡ state.Closed → ⊥
+waits_not (state.Line long) buffer h e = cc
+waits_not (state.Block block) buffer h e = cc
+waits_not (state.Skip skipped) buffer h e = cc
+waits_not state.Closed buffer h e = h
+
+-- Nothing comes any more.
+pub came_to_end : (old new : Reader) (fed : List ℕ) (ended : Bool) (given : List Given) → new.ended ≡ old.ended → new.commands_left ≡ old.commands_left →
+    (new.ended ≡ true) ⊎ (new.state ≡ state.Closed) → (old.state ≡ state.Closed → new.state ≡ state.Closed) →
+    ((unread : List ℕ) → Holds old.state old.buffer unread → Holds new.state new.buffer unread × SpellsNothing unread × Waits new.state new.buffer) →
+    HasGiven old fed ended given → AreCommands fed (entries_of given) × (IsTrue ended ⊎ IsClosedLine given) × HasGiven new fed ended given
+came_to_end old new fed ended given same same_left over closed nothing h = by_closed (is_closed (entries_of given)) refl h.now where
+  by_closed : (shut : Bool) → is_closed (entries_of given) ≡ shut → MatchBool shut (old.state ≡ state.Closed) ((0 < old.commands_left) × Holds old.state old.buffer h.unread) → AreCommands fed (entries_of given) × (IsTrue ended ⊎ IsClosedLine given) × HasGiven new fed ended given
+  by_closed true e now = (
+    (h.unread, h.front, rw e tt),
+    inr e,
+    record { unread = h.unread; ended_is = same ∙ h.ended_is; left = rw same_left h.left; front = h.front; now = rw e (closed now) },
+  )
+  by_closed false e now =
+      let next = nothing h.unread now.1 in (
+        (h.unread, h.front, rw e next.1),
+        elim over [ inl stops ↦ inl (sym h.ended_is ∙ (sym same ∙ stops)) | inr shut ↦ absurd (waits_not new.state new.buffer next.2 shut) ],
+        record { unread = h.unread; ended_is = same ∙ h.ended_is; left = rw same_left h.left; front = h.front; now = rw e (rw same_left now.0, next.0) },
+      )
+
+-- A command is whole exactly where one is not given yet.
+pub whole_is : (reader : Reader) (fed : List ℕ) (ended : Bool) (given : List Given) (test : Bool) → ((unread : List ℕ) → Holds reader.state reader.buffer unread → IsTrue test ↔ SpellsSomething unread) → (reader.state ≡ state.Closed → test ≡ false) →
+    HasGiven reader fed ended given → IsTrue test ↔ IsNotAllGiven fed given
+whole_is reader fed ended given test says shut h = (forth, back) where
+  forth : IsTrue test → IsNotAllGiven fed given
+  forth holds = by_closed (is_closed (entries_of given)) refl h.now where
+    by_closed : (over : Bool) → is_closed (entries_of given) ≡ over → MatchBool over (reader.state ≡ state.Closed) ((0 < reader.commands_left) × Holds reader.state reader.buffer h.unread) → IsNotAllGiven fed given
+    by_closed true e now = let no_more = shut now in absurd cc
+    by_closed false e now =
+        let next = (says h.unread now.1).0 holds in
+        (next.2, (next.1, front_last (entries_of given) 0 fed next.0 next.1 next.2 (rw next.3 at h.front) e next.4))
+
+  back : IsNotAllGiven fed given → IsTrue test
+  back more =
+      let last = last_of (entries_of given) 0 fed more.0 more.1.0 more.1.1 in
+      let at = still_open reader fed ended given h last.goes_on in
+      (says at.0 at.2).1 (last.text, more.1.0, more.0, same_rest (entries_of given) 0 fed at.0 (last.text ++ more.1.0) at.1 last.front, last.spelled)

@@ -1,0 +1,16 @@
+use Rattle.std.proofs.Common.{refl, take}
+use Rattle.mc_reader.specs.Reader.{IsReader, IsWaiting}
+use Rattle.mc_reader.proofs.Readers.{fed_more, nothing_unread}
+use Rattle.mc_reader.proofs.reader.Reader.feed.Goals as goal
+
+pub returns-clause-fed : goal.returns-clause-fed
+unfolding IsReader
+returns-clause-fed c fed ended given h = fed_more c.args.self.now _ fed (take c.feed.result c.args.piece.now) ended given refl refl (λ e. (c.feed.ensures.closed e).0) c.feed.ensures.holds h
+
+pub returns-clause-progress : goal.returns-clause-progress
+unfolding IsWaiting
+returns-clause-progress c fed given h all waits some = c.feed.ensures.waits waits some
+
+pub returns-clause-whole : goal.returns-clause-whole
+unfolding IsReader
+returns-clause-whole c fed given h used short = c.feed.ensures.whole (nothing_unread c.args.self.now fed _ given h used) short

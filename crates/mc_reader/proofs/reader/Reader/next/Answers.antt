@@ -1,0 +1,25 @@
+use Rattle.std.proofs.Common.{◌≡◌, ◌||◌, ◌==◌, MatchBool, refl, rules}
+use Rattle.mc_reader.specs.declared.state.State.TheVariants as state
+use Rattle.mc_reader.specs.Spelling.{closes}
+use Rattle.mc_reader.specs.State.{Holds}
+use Rattle.mc_reader.specs.Reader.{IsReader, IsWaiting}
+use Rattle.mc_reader.proofs.Readers.{gave, waited}
+use Rattle.mc_reader.proofs.States.{not_complete}
+use Rattle.mc_reader.proofs.reader.Reader.next.Goals as goal
+use Rattle.mc_reader.proofs.reader.Reader.next.Goals.{then-closes, else-closes, then-last, else-last}
+
+pub returns-in_default : goal.returns-in_default
+unfolding IsReader IsWaiting
+returns-in_default c fed ended given h =
+    let found = c.in_default.ensures in
+    waited c.args.self.now _ fed ended given refl refl c.if-self.false (λ e. (found.closed e).0) (not_complete c.is_closed.result c.if-is_closed.false c.is_closed.ensures.1) found.none h
+
+pub returns : goal.returns
+unfolding IsReader IsWaiting
+returns c fed ended given h =
+    let shown = c.in-Some.command in
+    let left = c.saturating_sub-self.result in
+    let last_is : c.if-closes.last ≡ closes shown || (left == 0) = elim c.if-closes.branch [ then-closes w ↦ search rules | else-closes w ↦ search rules ] in
+    let state_is : MatchBool c.if-closes.last (c.if-last.state ≡ state.Closed) (Holds c.if-last.state c.take_command.new.buffer c.take_command.new.buffer) =
+    elim c.if-last.branch [ then-last w ↦ rw w.if-last.true w.state-is | else-last w ↦ rw (w.if-last.false, w.state-is) w.at_line-state.ensures.holds ] in
+    gave c.args.self.now _ fed ended given shown refl (λ e. let none = (c.in-Some.ensures.closed e).1 in absurd cc) c.in-Some.ensures.some c.saturating_sub-self.ensures c.if-closes.last last_is state_is h

@@ -1,0 +1,9 @@
+pub mod Logs
+pub mod Shards
+pub mod Pieces
+pub mod Commands
+pub mod Histories
+pub mod Fronts
+pub mod Turns
+pub mod Gathering
+pub mod Alone

@@ -1,0 +1,6 @@
+use Rattle.std.proofs.Common.{◌≡◌, length, []}
+use Rattle.mc_server.specs.Backs.{Backs}
+use Rattle.mc_server.proofs.serve.make_shards.Given as goal
+
+abbrev pub invariant-loop-index : goal.invariant-loop-index
+invariant-loop-index g l = (length l.shards.items ≡ l.index) × Backs l.sizes.shards l.sizes.items l.shards.items []

@@ -1,0 +1,160 @@
+//! The command line of the program.
+ghost use Rattle.std.specs.Prelude.{◌≡◌, ◌<◌, ◌≤◌, IfOk, codes, option_map};
+ghost use Rattle.clap.specs.Words.{first_value, found_of};
+ghost use Rattle.mc_server.specs.Options.{IsCount, IsMoment, status_of};
+
+use crate::serve::Sizes;
+use clap::error::ErrorKind;
+use clap::{Arg, ArgAction, ArgMatches, Command};
+use mc_wire::number_u64;
+use std::alloc::Global;
+use std::io;
+use std::io::{Eprint, Print};
+use thiserror::Error;
+
+/// The most shards that a server has.
+const MOST_SHARDS: u64 = 16;
+
+/// The most items that a shard holds.
+const MOST_ITEMS: u64 = 16_777_216;
+
+/// How the program is called.
+#[derive(Clone, Copy, Debug, PartialEq, Eq)]
+pub struct Options {
+    /// Every moment, in seconds since 1970, or none where the machine's clock tells the time.
+    pub at: Option<u64>,
+    pub sizes: Sizes,
+}
+
+/// What is wrong with a command line, or the help that it asks for.
+#[derive(Debug, Drop, Error)]
+pub enum OptionFault {
+    /// It is none of the calls of the program, or it asks for help.
+    #[error(transparent)]
+    Call(#[from] clap::Error),
+    /// A value is no number in its range.
+    #[error("{option} takes a number from {least} to {most}")]
+    Number {
+        option: &'static str,
+        least: u64,
+        most: u64,
+    },
+}
+
+impl OptionFault {
+    /// The status with which the program ends: 0 where help was asked for, 1 without memory, else 2.
+    pub fn status(&self) -> u8
+        ensures { result ≡ status_of self.now }
+    {
+        match self {
+            OptionFault::Call(error) => match error.kind() {
+                ErrorKind::DisplayHelp => 0,
+                ErrorKind::OutOfMemory => 1,
+                _ => 2,
+            },
+            OptionFault::Number { .. } => 2,
+        }
+    }
+
+    /// Prints the help to standard output, or what is wrong to standard error.
+    pub fn print<R: Print + Eprint>(&self, rt: &R) -> io::Result<()> {
+        match self {
+            OptionFault::Call(error) if error.kind() == ErrorKind::OutOfMemory => {
+                eprintln!(rt; "mcd: out of memory")
+            }
+            OptionFault::Call(error) => error.print(rt),
+            OptionFault::Number { .. } => eprintln!(rt; "mcd: {self}"),
+        }
+    }
+}
+
+/// Reads the words of the command line, the program's name among them.
+pub fn read_options(alloc: Global, words: &[String]) -> Result<Options, OptionFault>
+    ensures { IfOk result (λ options. (0 < options.sizes.shards) × (options.sizes.shards ≤ 16)
+        × (0 < options.sizes.items) × (options.sizes.items ≤ 16777216)) }
+{
+    let matches = parse(alloc, words)?;
+    options_in(&matches)
+}
+
+/// What was given, by a call of the program.
+fn parse<'a>(alloc: Global, words: &'a [String]) -> Result<ArgMatches<'a>, clap::Error> {
+    let stdio = Arg::new(alloc, "stdio")
+        .long("stdio")
+        .required(true)
+        .action(ArgAction::SetTrue)
+        .help("Serves one line over standard input and output");
+    let at = Arg::new(alloc, "at")
+        .long("at")
+        .action(ArgAction::Set)
+        .help("Every moment, in seconds since 1970");
+    let shards = Arg::new(alloc, "shards")
+        .long("shards")
+        .action(ArgAction::Set)
+        .help("How many shards there are, from 1 to 16 [default: 2]");
+    let items = Arg::new(alloc, "items")
+        .long("items")
+        .action(ArgAction::Set)
+        .help("How many items a shard holds, from 1 to 16777216 [default: 65536]");
+    let command = Command::new(alloc, "mcd")
+        .arg(stdio)?
+        .arg(at)?
+        .arg(shards)?
+        .arg(items)?;
+    command.try_get_matches_from(words)
+}
+
+/// The options of a call.
+fn options_in(matches: &ArgMatches<'_>) -> Result<Options, OptionFault>
+    ensures at { IfOk result (λ options. IsMoment (first_value (found_of matches.now) (codes "at")) options.at) }
+    ensures shards { IfOk result (λ options. IsCount 2 16 (first_value (found_of matches.now) (codes "shards")) options.sizes.shards) }
+    ensures items { IfOk result (λ options. IsCount 65536 16777216 (first_value (found_of matches.now) (codes "items")) options.sizes.items) }
+{
+    let at = moment_in(matches.get_str("at"))?;
+    let shards = count_in("--shards", matches.get_str("shards"), 2, MOST_SHARDS)?;
+    let items = count_in("--items", matches.get_str("items"), 65_536, MOST_ITEMS)?;
+    let sizes = Sizes {
+        shards: shards as usize,
+        items: items as usize,
+    };
+    Ok(Options { at, sizes })
+}
+
+/// The moment that is given, if one is.
+fn moment_in(given: Option<&str>) -> Result<Option<u64>, OptionFault>
+    ensures { IfOk result (λ at. IsMoment (option_map (λ text. text.now) given.entry) at) }
+{
+    let Some(text) = given else {
+        return Ok(None);
+    };
+    match number_u64(text.as_bytes()) {
+        Ok(number) => Ok(Some(number)),
+        Err(_) => Err(OptionFault::Number {
+            option: "--at",
+            least: 0,
+            most: u64::MAX,
+        }),
+    }
+}
+
+/// The count that is given, from 1 to the most, or where none is given this one.
+fn count_in(
+    option: &'static str,
+    given: Option<&str>,
+    default: u64,
+    most: u64,
+) -> Result<u64, OptionFault>
+    ensures { IfOk result (λ count. IsCount default most (option_map (λ text. text.now) given.entry) count) }
+{
+    let Some(text) = given else {
+        return Ok(default);
+    };
+    match number_u64(text.as_bytes()) {
+        Ok(number) if number >= 1 && number <= most => Ok(number),
+        _ => Err(OptionFault::Number {
+            option,
+            least: 1,
+            most,
+        }),
+    }
+}

@@ -1,0 +1,80 @@
+//! The bytes that were read of a line and not fed to the reader yet.
+ghost use Rattle.std.specs.Prelude.{◌≡◌, ◌==◌, ◌≤◌, [], IsTrue, OnOk, OnErr, IfOk, length, drop};
+ghost use Rattle.mc_server.specs.Lines.{Gave};
+
+use crate::lines::{Line, LineFault};
+use std::alloc::{AllocError, Global};
+use std::marker::Model;
+
+/// At most this many bytes are read at once.
+const ROOM: usize = 65_536;
+
+/// Bytes that were read and not fed yet, in a room that is taken once.
+#[derive(Drop)]
+pub(crate) struct Unread {
+    room: Vec<u8>,
+    start: usize,
+    end: usize,
+}
+
+impl Model for Unread {
+    ghost use Rattle.std.specs.Prelude.{ℕ, List, ◌-◌, ◌<◌, ◌≤◌, take, drop, length};
+
+    ghost Value = { List ℕ };
+
+    ghost view = { λ unread. take (unread.end - unread.start) (drop unread.start unread.room.items) };
+
+    ghost invariant = { λ unread. (unread.start ≤ unread.end) × (unread.end ≤ length unread.room.items) × (0 < length unread.room.items) };
+}
+
+impl Unread {
+    /// No bytes, and the room for those that will be read.
+    pub(crate) fn new(alloc: Global) -> Result<Unread, AllocError>
+        ensures { IfOk result (λ unread. unread ≡ []) }
+    {
+        let room = vec![in alloc; 0; ROOM]?;
+        Ok(Unread {
+            room,
+            start: 0,
+            end: 0,
+        })
+    }
+
+    /// Whether there are none.
+    pub(crate) fn is_empty(&self) -> bool
+        ensures { result ≡ (length self.now == 0) }
+    {
+        self.start == self.end
+    }
+
+    /// The bytes, in the order in which they were read.
+    pub(crate) fn bytes(&self) -> &[u8]
+        ensures { result.now ≡ self.now }
+    {
+        let (front, _) = self.room.as_slice().split_at(self.end);
+        front.split_at(self.start).1
+    }
+
+    /// So many bytes, from the front, were fed.
+    pub(crate) fn advance(&mut self, count: usize)
+        requires { count ≤ length self.old }
+        ensures { self.new ≡ drop count self.old }
+    {
+        self.start += count;
+    }
+
+    /// Reads more bytes in place of those that are there; answers whether there are any.
+    pub(crate) fn refill<L: Line>(&mut self, line: &mut L) -> Result<(), LineFault>
+        ensures stays { IsTrue (L.has_failed line.old) → IsTrue (L.has_failed line.new) }
+        ensures failed { OnErr result (IsTrue (L.has_failed line.new)) }
+        ensures taken { L.taken line.new ≡ L.taken line.old }
+        ensures ok { OnOk result (Gave (L.input line.old) self.new (L.input line.new)) }
+        ensures err { OnErr result ((L.input line.new ≡ L.input line.old) × (self.new ≡ [])) }
+        ensures sent { OnOk result (L.held_back line.new ≡ []) }
+    {
+        self.start = 0;
+        self.end = 0;
+        self.end = line.read(&mut self.room)?;
+        Ok(())
+    }
+}

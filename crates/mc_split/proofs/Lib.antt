@@ -1,0 +1,4 @@
+pub mod Parts
+pub mod Fills
+pub mod Shards
+pub mod Rows

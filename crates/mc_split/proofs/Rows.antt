@@ -1,0 +1,68 @@
+-- Worked rows of the pieces and of the shape of the reply, each computed.
+use Rattle.std.proofs.Common.{◌≡◌, ℕ, Bool, true, false, List, [], ◌∷◌, map, Option, Some, None, refl}
+use Rattle.std.specs.Prelude.{codes, pos}
+use Rattle.mc_wire.specs.Key.{fnv_of}
+use Rattle.mc_command.specs.declared.command.Command.TheVariants as command
+use Rattle.mc_command.specs.declared.command.Direction.TheVariants as direction
+use Rattle.mc_command.specs.declared.meta.MetaFlags.{MetaFlags}
+use Rattle.mc_command.specs.declared.meta.ReturnFlag.TheVariants as flag
+use Rattle.mc_item.specs.declared.op.Op.{Op}
+use Rattle.mc_item.specs.declared.op.Op.TheVariants as op
+use Rattle.mc_split.specs.declared.form.Shape.TheVariants as shape
+use Rattle.mc_split.specs.declared.form.Fixed.TheVariants as fixed
+use Rattle.mc_split.specs.declared.form.MetaKind.TheVariants as kind
+use Rattle.mc_split.specs.Pieces.{Asked, pieces_of}
+use Rattle.mc_split.specs.Shape.{shape_of}
+
+-- the keys of a get in the order of the request, a repeated one each time: with two shards a and c are on the
+-- first, b and d on the second
+get_pieces : pieces_of 2 (command.Get (record { keys = codes "a" ∷ codes "b" ∷ codes "a" ∷ codes "c" ∷ []; touch = Some (pos 10); with_unique = true }))
+    ≡ record { shard = 0; op = op.Fetch (codes "a") (Some (pos 10)) } ∷ record { shard = 1; op = op.Fetch (codes "b") (Some (pos 10)) }
+    ∷ record { shard = 0; op = op.Fetch (codes "a") (Some (pos 10)) } ∷ record { shard = 0; op = op.Fetch (codes "c") (Some (pos 10)) } ∷ []
+unfolding pieces_of fnv_of
+get_pieces = refl
+
+-- a flush on every shard, rising
+flush_pieces : pieces_of 3 (command.FlushAll (pos 5) true)
+    ≡ record { shard = 0; op = op.Flush (pos 5) } ∷ record { shard = 1; op = op.Flush (pos 5) } ∷ record { shard = 2; op = op.Flush (pos 5) } ∷ []
+unfolding pieces_of
+flush_pieces = refl
+
+-- noreply changes no piece
+count_pieces : pieces_of 2 (command.Count (codes "d") direction.Decrement 9 true) ≡ record { shard = 1; op = op.Count (codes "d") direction.Decrement 9 } ∷ []
+unfolding pieces_of fnv_of
+count_pieces = refl
+
+-- what asks no shard
+quit_pieces : pieces_of 2 command.Quit ≡ []
+unfolding pieces_of
+quit_pieces = refl
+
+-- ma with N30 and J13
+abbrev flags_k : MetaFlags
+flags_k = record { base64 = false; quiet = true; returned = flag.TimeLeft ∷ flag.Key ∷ []; opaque = [] }
+
+abbrev flags_t : MetaFlags
+flags_t = record { base64 = false; quiet = true; returned = flag.TimeLeft ∷ []; opaque = [] }
+
+vivify_pieces : pieces_of 2 (command.MetaArithmetic (record { key = codes "c"; flags = flags_k; value = true; compare = None; direction = direction.Increment; amount = 1; initial = 13; vivify = Some (pos 30); exptime = None }))
+    ≡ record { shard = 0; op = op.MetaCount (codes "c") None direction.Increment 1 None (Some (record { exptime = pos 30; initial = 13 })) } ∷ []
+unfolding pieces_of fnv_of
+vivify_pieces = refl
+
+-- the key is kept for the reply where the flag k stands
+shown : shape_of (command.MetaDelete (record { key = codes "a"; flags = flags_k; compare = None; invalidate = false; exptime = None })) ≡ shape.Meta kind.Delete flags_k false (Some (codes "a"))
+unfolding shape_of
+shown = refl
+
+not_shown : shape_of (command.MetaDelete (record { key = codes "a"; flags = flags_t; compare = None; invalidate = false; exptime = None })) ≡ shape.Meta kind.Delete flags_t false None
+unfolding shape_of
+not_shown = refl
+
+silent : shape_of (command.Verbosity true) ≡ shape.Fixed fixed.Nothing
+unfolding shape_of
+silent = refl
+
+spoken : shape_of (command.Verbosity false) ≡ shape.Fixed fixed.Ok
+unfolding shape_of
+spoken = refl

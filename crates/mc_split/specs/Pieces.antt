@@ -1,0 +1,46 @@
+-- The pieces of a command: what each shard is asked, in order.
+use Rattle.std.specs.Prelude.{ℕ, ℤ, List, [], ◌∷◌, Option, map}
+use Rattle.std.specs.List.{range_with_len}
+use Rattle.std.specs.Option.{option_map}
+use Rattle.mc_wire.specs.Key.{place_of}
+use Rattle.mc_command.specs.declared.command.Command.{Command}
+use Rattle.mc_command.specs.declared.command.Command.TheVariants as command
+use Rattle.mc_item.specs.declared.op.Op.{Op}
+use Rattle.mc_item.specs.declared.op.Op.TheVariants as op
+use Rattle.mc_item.specs.declared.op.Vivify.{Vivify}
+
+-- a piece: the shard that is asked, and what it is asked
+pub record Asked : Type 0 where
+  pub shard : ℕ
+  pub op : Op
+
+-- what is asked of the item under a key, which is on the key's shard
+abbrev pub asked_of : ℕ → List ℕ → Op → Asked
+asked_of shards key op = record { shard = place_of key shards; op = op }
+
+-- the item that ma makes of a miss: its exptime is the token of N, its number that of J
+abbrev pub vivify_of : Option ℤ → ℕ → Option Vivify
+vivify_of exptime initial = option_map (λ exptime. record { exptime = exptime; initial = initial }) exptime
+
+-- The pieces of a command, over so many shards: one for a command with one key, one a key in the order of the
+-- request for a get, one a shard in rising order for flush_all, and none for what asks no shard.
+unfoldable pub pieces_of : ℕ → Command → List Asked
+pieces_of shards (command.Store storage) =
+    asked_of shards storage.key (op.Store storage.key storage.mode storage.flags storage.exptime storage.block) ∷ []
+pieces_of shards (command.Get retrieval) = map (λ key. asked_of shards key (op.Fetch key retrieval.touch)) retrieval.keys
+pieces_of shards (command.Delete key noreply) = asked_of shards key (op.Delete key) ∷ []
+pieces_of shards (command.Count key direction amount noreply) = asked_of shards key (op.Count key direction amount) ∷ []
+pieces_of shards (command.Touch key exptime noreply) = asked_of shards key (op.Touch key exptime) ∷ []
+pieces_of shards (command.FlushAll delay noreply) = map (λ shard. record { shard = shard; op = op.Flush delay }) (range_with_len 0 shards)
+pieces_of shards command.Version = []
+pieces_of shards (command.Verbosity noreply) = []
+pieces_of shards command.Quit = []
+pieces_of shards command.MetaNoop = []
+pieces_of shards (command.MetaGet get) = asked_of shards get.key (op.MetaGet get.key get.touch get.vivify get.recache) ∷ []
+pieces_of shards (command.MetaSet set) =
+    asked_of shards set.key (op.MetaStore set.key set.mode set.compare set.client_flags set.exptime set.block) ∷ []
+pieces_of shards (command.MetaDelete delete) =
+    asked_of shards delete.key (op.MetaDelete delete.key delete.compare delete.invalidate delete.exptime) ∷ []
+pieces_of shards (command.MetaArithmetic arithmetic) =
+    asked_of shards arithmetic.key (op.MetaCount arithmetic.key arithmetic.compare arithmetic.direction arithmetic.amount arithmetic.exptime (vivify_of arithmetic.vivify arithmetic.initial)) ∷ []
+pieces_of shards (command.Refused refusal) = []

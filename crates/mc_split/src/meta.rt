@@ -1,0 +1,135 @@
+//! The pieces of the meta commands.
+ghost use Rattle.std.specs.Prelude.{◌≡◌, ◌<◌, IfOk};
+ghost use Rattle.std.specs.List.{list_any};
+ghost use Rattle.mc_split.specs.Pieces.{pieces_of};
+ghost use Rattle.mc_split.specs.Shape.{shape_of, shown_key, is_key_flag};
+ghost use Rattle.mc_split.specs.Splits.{Splits};
+
+use crate::classic::value_of;
+use crate::form::{MetaKind, Shape};
+use crate::plan::Plan;
+use crate::splitter::Splitter;
+use mc_command::{Command, MetaArithmetic, MetaDelete, MetaFlags, MetaGet, MetaSet, ReturnFlag};
+use mc_item::{NoMemory, Op, Vivify};
+use mc_wire::Key;
+use std::alloc::AllocError;
+
+/// Whether it is the flag `k`.
+fn is_key(flag: ReturnFlag) -> bool
+    ensures { result ≡ is_key_flag flag }
+{
+    matches!(flag, ReturnFlag::Key)
+}
+
+/// Whether the flag `k` is among those that are given back.
+fn shows_key(flags: &MetaFlags) -> bool
+    ensures { result ≡ list_any is_key_flag flags.now.returned }
+{
+    flags.returned.flags().iter().any(|flag| is_key(*flag))
+}
+
+/// A copy of the key, where the reply shows it.
+fn copy_shown(flags: &MetaFlags, key: &Key) -> Result<Option<Key>, AllocError>
+    ensures { IfOk result (λ shown. shown ≡ shown_key flags.now key.now) }
+{
+    if !shows_key(flags) {
+        return Ok(None);
+    }
+    let copy = key.clone()?;
+    Ok(Some(copy))
+}
+
+impl Splitter {
+    /// `mg`.
+    #[tactic(auto, unfolding(crate::specs::Pieces::pieces_of, crate::specs::Shape::shape_of))]
+    pub fn meta_get(self, get: MetaGet) -> Result<Plan, NoMemory>
+        requires { 0 < self.shards }
+        ensures { Splits result self.ticket self.moment self.shards (shape_of (Command.MetaGet get)) (pieces_of self.shards (Command.MetaGet get)) }
+    {
+        let shape = Shape::Meta {
+            kind: MetaKind::Get,
+            value: get.value,
+            key: copy_shown(&get.flags, &get.key)?,
+            flags: get.flags,
+        };
+        let shard = get.key.place(self.shards);
+        let op = Op::MetaGet {
+            key: get.key,
+            touch: get.touch,
+            vivify: get.vivify,
+            recache: get.recache,
+        };
+        self.one(shape, shard, op)
+    }
+
+    /// `ms`.
+    #[tactic(auto, unfolding(crate::specs::Pieces::pieces_of, crate::specs::Shape::shape_of))]
+    pub fn meta_set(self, set: MetaSet) -> Result<Plan, NoMemory>
+        requires { 0 < self.shards }
+        ensures { Splits result self.ticket self.moment self.shards (shape_of (Command.MetaSet set)) (pieces_of self.shards (Command.MetaSet set)) }
+    {
+        let shape = Shape::Meta {
+            kind: MetaKind::Set,
+            value: false,
+            key: copy_shown(&set.flags, &set.key)?,
+            flags: set.flags,
+        };
+        let shard = set.key.place(self.shards);
+        let op = Op::MetaStore {
+            key: set.key,
+            mode: set.mode,
+            compare: set.compare,
+            flags: set.client_flags,
+            exptime: set.exptime,
+            value: value_of(set.block)?,
+        };
+        self.one(shape, shard, op)
+    }
+
+    /// `md`.
+    #[tactic(auto, unfolding(crate::specs::Pieces::pieces_of, crate::specs::Shape::shape_of))]
+    pub fn meta_delete(self, delete: MetaDelete) -> Result<Plan, NoMemory>
+        requires { 0 < self.shards }
+        ensures { Splits result self.ticket self.moment self.shards (shape_of (Command.MetaDelete delete)) (pieces_of self.shards (Command.MetaDelete delete)) }
+    {
+        let shape = Shape::Meta {
+            kind: MetaKind::Delete,
+            value: false,
+            key: copy_shown(&delete.flags, &delete.key)?,
+            flags: delete.flags,
+        };
+        let shard = delete.key.place(self.shards);
+        let op = Op::MetaDelete {
+            key: delete.key,
+            compare: delete.compare,
+            invalidate: delete.invalidate,
+            exptime: delete.exptime,
+        };
+        self.one(shape, shard, op)
+    }
+
+    /// `ma`. The item that it makes of a miss has the exptime of `N` and the number of `J`.
+    #[tactic(auto, unfolding(crate::specs::Pieces::pieces_of, crate::specs::Shape::shape_of))]
+    pub fn meta_arithmetic(self, arithmetic: MetaArithmetic) -> Result<Plan, NoMemory>
+        requires { 0 < self.shards }
+        ensures { Splits result self.ticket self.moment self.shards (shape_of (Command.MetaArithmetic arithmetic)) (pieces_of self.shards (Command.MetaArithmetic arithmetic)) }
+    {
+        let shape = Shape::Meta {
+            kind: MetaKind::Arithmetic,
+            value: arithmetic.value,
+            key: copy_shown(&arithmetic.flags, &arithmetic.key)?,
+            flags: arithmetic.flags,
+        };
+        let shard = arithmetic.key.place(self.shards);
+        let initial = arithmetic.initial;
+        let op = Op::MetaCount {
+            key: arithmetic.key,
+            compare: arithmetic.compare,
+            direction: arithmetic.direction,
+            amount: arithmetic.amount,
+            exptime: arithmetic.exptime,
+            vivify: arithmetic.vivify.map(|exptime| Vivify { exptime, initial }),
+        };
+        self.one(shape, shard, op)
+    }
+}

@@ -1,0 +1,88 @@
+-- The outcomes of reading and touching.
+use Rattle.std.proofs.Common.{◌≡◌, ℕ, ℤ, true, false, List, [], Option, Some, None, refl, sym, ◌∙◌, nat_eq, subst}
+use Rattle.std.specs.Cmp.Lexicographic.{pointwise}
+use Rattle.std.specs.FinMap.{get}
+use Rattle.std.specs.Map.{lookup, remove_entry, set_value}
+use Rattle.lru.specs.LruCache.{promoted}
+use Rattle.mc_item.specs.declared.item.Item.{Item}
+use Rattle.mc_item.specs.declared.item.Expiry.{Expiry}
+use Rattle.mc_item.specs.declared.op.Op.TheVariants.{Fetch, Touch, MetaGet}
+use Rattle.mc_item.specs.declared.answer.Answer.{Answer}
+use Rattle.mc_item.specs.declared.answer.Answer.TheVariants.{Hit, Miss, NoMemory, NotFound, Touched, MetaHit}
+use Rattle.mc_item.specs.Expiry.{expiry_of, seconds_left}
+use Rattle.mc_item.specs.Kind.{kind_of, is_lawful}
+use Rattle.mc_store.specs.Found.{live}
+use Rattle.mc_store.specs.State.{State, met, first}
+use Rattle.mc_store.specs.Rows.{fetched_item, touched_item, shown_item, hit_of, made_hit}
+use Rattle.mc_store.specs.Step.{numbered, fetch_step, touch_step, meta_get_step, absent_meta_get, step_of}
+use Rattle.mc_store.specs.Shard.{Held, Keeps}
+use Rattle.mc_store.proofs.Shards.{with_entries, at_now}
+use Rattle.mc_store.proofs.Writes.{Closes, along, met_time}
+use Rattle.mc_store.proofs.Outcomes.{Ends, ends, misses_as, absent_as, lacks_as, uses_as}
+
+pub fetch_miss : (held : Held) (state : State) (key : List ℕ) (touch : Option ℤ) → Keeps held state → None ≡ live held.time (lookup (pointwise nat_eq key) held.entries) → Ends (met state (Some key)) (Fetch key touch) Miss (with_entries held (remove_entry (pointwise nat_eq key) held.entries))
+unfolding step_of kind_of is_lawful
+fetch_miss held state key touch h none =
+    ends (met state (Some key)) (Fetch key touch) Miss _ (λ _. refl) (misses_as held state key (λ s o. fetch_step s key touch o) Miss h none (λ s. refl))
+
+pub fetch_lacks : (held : Held) (state : State) (key : List ℕ) (touch : Option ℤ) (item : Item) → Keeps held state → Some item ≡ live held.time (lookup (pointwise nat_eq key) held.entries) → Ends (met state (Some key)) (Fetch key touch) NoMemory held
+unfolding step_of kind_of is_lawful
+fetch_lacks held state key touch item h is = ends (met state (Some key)) (Fetch key touch) NoMemory held (λ _. refl) (lacks_as held state key item _ h is)
+
+pub fetch_hit : (held : Held) (state : State) (key : List ℕ) (touch : Option ℤ) (item : Item) → Keeps held state → Some item ≡ live held.time (lookup (pointwise nat_eq key) held.entries) → Ends (met state (Some key)) (Fetch key touch) (Hit item.flags item.unique item.value) (with_entries held (set_value (pointwise nat_eq key) (promoted (pointwise nat_eq key) held.entries) (at_now (fetched_item item touch held.time) held.time)))
+unfolding step_of kind_of is_lawful
+fetch_hit held state key touch item h is =
+    ends (met state (Some key)) (Fetch key touch) (Hit item.flags item.unique item.value) _ (λ _. refl)
+    (uses_as held state key item (λ s o. fetch_step s key touch o) (λ i _. Hit i.flags i.unique i.value) (λ i time. fetched_item i touch time) h is (λ s u _. refl))
+
+pub touch_miss : (held : Held) (state : State) (key : List ℕ) (exptime : ℤ) → Keeps held state → None ≡ live held.time (lookup (pointwise nat_eq key) held.entries) → Ends (met state (Some key)) (Touch key exptime) NotFound (with_entries held (remove_entry (pointwise nat_eq key) held.entries))
+unfolding step_of kind_of is_lawful
+touch_miss held state key exptime h none =
+    ends (met state (Some key)) (Touch key exptime) NotFound _ (λ e. absurd cc) (misses_as held state key (λ s o. touch_step s key exptime o) NotFound h none (λ s. refl))
+
+pub touch_hit : (held : Held) (state : State) (key : List ℕ) (exptime : ℤ) (item : Item) → Keeps held state → Some item ≡ live held.time (lookup (pointwise nat_eq key) held.entries) → Ends (met state (Some key)) (Touch key exptime) Touched (with_entries held (set_value (pointwise nat_eq key) (promoted (pointwise nat_eq key) held.entries) (at_now (touched_item item exptime held.time) held.time)))
+unfolding step_of kind_of is_lawful
+touch_hit held state key exptime item h is =
+    ends (met state (Some key)) (Touch key exptime) Touched _ (λ e. absurd cc)
+    (uses_as held state key item (λ s o. touch_step s key exptime o) (λ _ _. Touched) (λ i time. touched_item i exptime time) h is (λ s u _. refl))
+
+pub meta_get_lacks : (held : Held) (state : State) (key : List ℕ) (touch vivify recache : Option ℤ) (item : Item) → Keeps held state → Some item ≡ live held.time (lookup (pointwise nat_eq key) held.entries) → Ends (met state (Some key)) (MetaGet key touch vivify recache) NoMemory held
+unfolding step_of kind_of is_lawful
+meta_get_lacks held state key touch vivify recache item h is = ends (met state (Some key)) (MetaGet key touch vivify recache) NoMemory held (λ _. refl) (lacks_as held state key item _ h is)
+
+pub meta_get_hit : (held : Held) (state : State) (key : List ℕ) (touch vivify recache : Option ℤ) (item : Item) → Keeps held state → Some item ≡ live held.time (lookup (pointwise nat_eq key) held.entries) → Ends (met state (Some key)) (MetaGet key touch vivify recache) (MetaHit (hit_of item touch recache held.time)) (with_entries held (set_value (pointwise nat_eq key) (promoted (pointwise nat_eq key) held.entries) (at_now (shown_item item touch recache held.time) held.time)))
+unfolding step_of kind_of is_lawful
+meta_get_hit held state key touch vivify recache item h is =
+    ends (met state (Some key)) (MetaGet key touch vivify recache) (MetaHit (hit_of item touch recache held.time)) _ (λ _. refl)
+    (uses_as held state key item (λ s o. meta_get_step s key touch vivify recache o) (λ i time. MetaHit (hit_of i touch recache time)) (λ i time. shown_item i touch recache time) h is (λ s u _. refl))
+
+pub meta_get_absent : (held : Held) (state : State) (key : List ℕ) (touch vivify recache : Option ℤ) (answer : Answer) (new : Held) → Keeps held state → None ≡ live held.time (lookup (pointwise nat_eq key) held.entries) → Closes (met state (Some key)) (absent_meta_get (met state (Some key)) key vivify) answer new → Ends (met state (Some key)) (MetaGet key touch vivify recache) answer new
+unfolding step_of kind_of is_lawful
+meta_get_absent held state key touch vivify recache answer new h none closes =
+    ends (met state (Some key)) (MetaGet key touch vivify recache) answer new (λ _. refl)
+    (along (met state (Some key)) (absent_meta_get (met state (Some key)) key vivify) (meta_get_step (met state (Some key)) key touch vivify recache (get (met state (Some key)).items key)) answer new
+    (absent_as held state key (λ s o. meta_get_step s key touch vivify recache o) (λ s. absent_meta_get s key vivify) h none (λ s. refl)) closes)
+
+-- an item that mg makes, before it has a unique
+abbrev pub empty_item : Expiry → ℕ → Item
+empty_item expiry unique = record { value = []; flags = 0; expiry = expiry; unique = unique; last_access = 0; fetched = false; stale = false; sent = true }
+
+pub recached_is : (held : Held) (state : State) (key : List ℕ) (exptime : ℤ) → Keeps held state →
+    numbered (met state (Some key)) (λ unique given. (MetaHit (made_hit (empty_item (expiry_of exptime held.time) unique) held.time), first given key (empty_item (expiry_of exptime held.time) unique))) ≡ absent_meta_get (met state (Some key)) key (Some exptime)
+recached_is held state key exptime h =
+    let time : (met state (Some key)).time ≡ held.time = met_time state key ∙ h.time in
+    subst (λ t. numbered (met state (Some key)) (λ unique given. (MetaHit (made_hit (empty_item (expiry_of exptime t) unique) t), first given key (empty_item (expiry_of exptime t) unique))) ≡ absent_meta_get (met state (Some key)) key (Some exptime)) time refl
+
+pub recached_as : (held : Held) (state : State) (key : List ℕ) (exptime : ℤ) (item : Item) (answer : Answer) (new : Held) → Keeps held state → item ≡ empty_item (expiry_of exptime held.time) 0 →
+    Closes (met state (Some key)) (numbered (met state (Some key)) (λ unique given. (MetaHit (made_hit (record item { unique = unique }) held.time), first given key (record item { unique = unique })))) answer new → Closes (met state (Some key)) (absent_meta_get (met state (Some key)) key (Some exptime)) answer new
+recached_as held state key exptime item answer new h is closes =
+    along (met state (Some key)) (numbered (met state (Some key)) (λ unique given. (MetaHit (made_hit (empty_item (expiry_of exptime held.time) unique) held.time), first given key (empty_item (expiry_of exptime held.time) unique)))) (absent_meta_get (met state (Some key)) key (Some exptime)) answer new
+    (recached_is held state key exptime h)
+    (subst (λ i. Closes (met state (Some key)) (numbered (met state (Some key)) (λ unique given. (MetaHit (made_hit (record i { unique = unique }) held.time), first given key (record i { unique = unique })))) answer new) is closes)
+
+-- the same, where the exptime is given as an option
+pub vivified_as : (settled : State) (key : List ℕ) (vivify : Option ℤ) (exptime : ℤ) (answer : Answer) (new : Held) → vivify ≡ Some exptime → Closes settled (absent_meta_get settled key (Some exptime)) answer new → Closes settled (absent_meta_get settled key vivify) answer new
+vivified_as settled key vivify exptime answer new is closes = subst (λ v. Closes settled (absent_meta_get settled key v) answer new) (sym is) closes
+
+pub made_hit_is : (item : Item) (expiry : Expiry) (unique time : ℕ) (left : Option ℕ) → item ≡ empty_item expiry 0 → left ≡ seconds_left item.expiry time → made_hit (record item { unique = unique }) time ≡ record { value = []; flags = 0; unique = unique; fetched = false; idle = 0; left = left; marks = record { won = true; stale = false; sent = false } }
+made_hit_is item expiry unique time left is left_is = rw (left_is, is)

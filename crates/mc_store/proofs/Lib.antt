@@ -1,0 +1,12 @@
+pub mod Changes
+pub mod Counts
+pub mod Deletes
+pub mod Evicts
+pub mod Gets
+pub mod Lists
+pub mod Outcomes
+pub mod Rows
+pub mod Shards
+pub mod StepLaws
+pub mod Stores
+pub mod Writes

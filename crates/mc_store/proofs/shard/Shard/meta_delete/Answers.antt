@@ -1,0 +1,36 @@
+use Rattle.std.proofs.Common.{◌≡◌, sym, true, false}
+use Rattle.mc_item.specs.Kind.{key_of}
+use Rattle.mc_store.specs.Shard.{IsShard, held_of}
+use Rattle.mc_store.proofs.Shards.{live_item}
+use Rattle.mc_store.proofs.Deletes.{meta_delete_miss, meta_delete_exists, meta_delete_hit, stale_refused, stale_done}
+use Rattle.mc_store.proofs.shard.Shard.meta_delete.Goals as goal
+
+pub returns-in_default-clause-acts : goal.returns-in_default-clause-acts
+unfolding IsShard key_of
+returns-in_default-clause-acts c = λ state h.
+    rw c.pop.ensures.entries (meta_delete_miss (held_of c.args.self.now) state c.args.key.now c.args.compare c.args.invalidate c.args.exptime h c.in_default.ensures)
+
+pub returns-then-is_other-clause-acts : goal.returns-then-is_other-clause-acts
+unfolding IsShard key_of
+returns-then-is_other-clause-acts c = λ state h.
+    meta_delete_exists (held_of c.args.self.now) state c.args.key.now c.args.compare c.args.invalidate c.args.exptime c.in-Some.item.now h c.in-Some.ensures (sym c.if-is_other.ensures)
+
+pub returns-then-not-invalidate-clause-acts : goal.returns-then-not-invalidate-clause-acts
+unfolding IsShard key_of
+returns-then-not-invalidate-clause-acts c = λ state h.
+    let no_mark : c.args.invalidate ≡ false = c.if-not-invalidate.true in
+    rw c.pop-then-not-invalidate.ensures.entries (meta_delete_hit (held_of c.args.self.now) state c.args.key.now c.args.compare c.args.invalidate c.args.exptime c.in-Some.item.now h c.in-Some.ensures (sym c.if-is_other.ensures) no_mark)
+
+pub returns-in_default-next_unique-clause-acts : goal.returns-in_default-next_unique-clause-acts
+unfolding IsShard key_of
+returns-in_default-next_unique-clause-acts c = λ state h.
+    let mark : c.args.invalidate ≡ true = c.if-not-invalidate.false in
+    stale_refused (held_of c.args.self.now) state c.args.key.now c.args.compare c.args.invalidate c.args.exptime c.in-Some.item.now h c.in-Some.ensures (sym c.if-is_other.ensures) mark c.in_default-next_unique.ensures
+
+pub returns-clause-acts : goal.returns-clause-acts
+unfolding IsShard key_of
+returns-clause-acts c = λ state h.
+    let mark : c.args.invalidate ≡ true = c.if-not-invalidate.false in
+    let there = (live_item c.args.self.now.time _ c.in-Some.item.now c.in-Some.ensures).0 in
+    rw (c.mark_stale.ensures c.in-Some.item.now there, c.expiry_from-expiry.ensures)
+    (stale_done (held_of c.args.self.now) state c.args.key.now c.args.compare c.args.invalidate c.args.exptime c.in-Some.item.now c.in-Some-next_unique.unique h c.in-Some.ensures (sym c.if-is_other.ensures) mark c.in-Some-next_unique.ensures.0 c.in-Some-next_unique.ensures.1)

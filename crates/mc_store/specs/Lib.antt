@@ -1,0 +1,6 @@
+pub mod Found
+pub mod Laws
+pub mod Rows
+pub mod Shard
+pub mod State
+pub mod Step

@@ -1,0 +1,237 @@
+-- What a shard answers to an operation, and what its state is then. Within one operation the tests stand in this
+-- order: absent or present, the unique, the number, the size, whether a unique is left.
+use Rattle.std.specs.Prelude.{ℕ, ◌≡◌, ◌+◌, ◌-◌, ◌%◌, ◌^◌, Bool, true, false, not, IsTrue, ℤ, ◌⊎◌, ◌++◌, List, length, Option, Some, None, nat_le, nat_lt, ◌==◌, if◌then◌else◌}
+use Rattle.std.specs.FinMap.{get, insert, remove}
+use Rattle.mc_wire.specs.declared.TheConstants.{VALUE_LIMIT}
+use Rattle.mc_command.specs.declared.command.StoreMode.{StoreMode}
+use Rattle.mc_command.specs.declared.command.StoreMode.TheVariants as store
+use Rattle.mc_command.specs.declared.command.Direction.{Direction}
+use Rattle.mc_command.specs.declared.command.Direction.TheVariants.{Increment, Decrement}
+use Rattle.mc_command.specs.declared.meta.MetaMode.{MetaMode}
+use Rattle.mc_command.specs.declared.meta.MetaMode.TheVariants.{Set, Add, Replace, Append, Prepend}
+use Rattle.mc_item.specs.declared.item.Item.{Item}
+use Rattle.mc_item.specs.declared.item.Expiry.{Expiry}
+use Rattle.mc_item.specs.declared.item.Expiry.TheVariants.{Never, At}
+use Rattle.mc_item.specs.declared.op.Op.{Op}
+use Rattle.mc_item.specs.declared.op.Op.TheVariants.{Store, Fetch, Count, Delete, Touch, Flush, MetaGet, MetaStore, MetaDelete, MetaCount}
+use Rattle.mc_item.specs.declared.op.Vivify.{Vivify}
+use Rattle.mc_item.specs.declared.answer.Answer.{Answer}
+use Rattle.mc_item.specs.declared.answer.MetaDone as done
+use Rattle.mc_item.specs.declared.answer.Answer.TheVariants.{Stored, NotStored, Exists, NotFound, TooLarge, NoCas, NoMemory, Hit, Miss, Number, NonNumeric, Deleted, Touched, Done, MetaHit, MetaDone}
+use Rattle.mc_item.specs.Expiry.{expiry_of}
+use Rattle.mc_item.specs.Value.{number_in}
+use Rattle.mc_item.specs.Kind.{kind_of, key_of, is_lawful}
+use Rattle.mc_store.specs.State.{Used, State, settle, flushed, with_items, first, next_unique, with_given}
+use Rattle.mc_store.specs.Rows.{fetched_item, touched_item, stored_item, joined_item, counted_item, counter_item, recached_item, stale_item, shown_item, hit_of, made_hit, done_of}
+
+-- an answer, and the state after it
+abbrev pub Outcome : Type 0
+Outcome = Answer × State
+
+-- what is answered of an item that was stored or changed
+abbrev pub Reply : Type 0
+Reply = done.MetaDone → Answer
+
+-- the outcome with the next unique, where that fits 64 bits; else nothing changes
+abbrev pub numbered : State → (ℕ → State → Outcome) → Outcome
+numbered state outcome = if nat_lt (next_unique state) (2 ^ 64) then outcome (next_unique state) (with_given state) else (NoCas, state)
+
+-- A unique is asked for, and it is not this one.
+abbrev pub is_other : Option ℕ → ℕ → Bool
+is_other None unique = false
+is_other (Some asked) unique = not (unique == asked)
+
+-- the outcome where the item has the unique that is asked for, if one is
+abbrev pub compared : State → Option ℕ → Item → Outcome → Outcome
+compared state compare item outcome = if is_other compare item.unique then (Exists, state) else outcome
+
+-- Reading
+
+abbrev pub fetch_step : State → List ℕ → Option ℤ → Option Used → Outcome
+fetch_step state key exptime None = (Miss, state)
+fetch_step state key exptime (Some used) =
+    (Hit used.item.flags used.item.unique used.item.value, first state key (fetched_item used.item exptime state.time))
+
+-- mg under an absent key
+abbrev pub absent_meta_get : State → List ℕ → Option ℤ → Outcome
+absent_meta_get state key None = (Miss, state)
+absent_meta_get state key (Some exptime) =
+    numbered state (λ unique given. (
+      MetaHit (made_hit (recached_item exptime state.time unique) state.time),
+      first given key (recached_item exptime state.time unique),
+    ))
+
+abbrev pub meta_get_step : State → List ℕ → Option ℤ → Option ℤ → Option ℤ → Option Used → Outcome
+meta_get_step state key touch vivify recache None = absent_meta_get state key vivify
+meta_get_step state key touch vivify recache (Some used) =
+    (MetaHit (hit_of used.item touch recache state.time), first state key (shown_item used.item touch recache state.time))
+
+-- Storing
+
+-- what a storage command asks: in which mode, at which unique, and what is to be stored
+pub record Storing : Type 0 where
+  pub mode : MetaMode
+  pub compare : Option ℕ
+  pub flags : ℕ
+  pub exptime : ℤ
+  pub value : List ℕ
+
+-- The item with this value and a new unique is the most recently used one, unless the value is too large.
+abbrev pub writes : State → List ℕ → List ℕ → (ℕ → Item) → Reply → Outcome
+writes state key value item_of reply =
+    if nat_lt VALUE_LIMIT (length value) then (TooLarge, state)
+    else numbered state (λ unique given. (reply (done_of (item_of unique) 0 state.time), first given key (item_of unique)))
+
+-- what is asked is stored
+abbrev pub stores : State → List ℕ → Storing → Reply → Outcome
+stores state key asked reply = writes state key asked.value (stored_item asked.value asked.flags asked.exptime state.time) reply
+
+-- what is asked is joined to the value that is there
+abbrev pub joins : State → List ℕ → Item → List ℕ → Reply → Outcome
+joins state key item value reply = writes state key value (joined_item item value) reply
+
+-- under an absent key
+abbrev pub absent_store : State → List ℕ → Storing → Reply → MetaMode → Option ℕ → Outcome
+absent_store state key asked reply mode (Some unique) = (NotFound, state)
+absent_store state key asked reply Set None = stores state key asked reply
+absent_store state key asked reply Add None = stores state key asked reply
+absent_store state key asked reply Replace None = (NotStored, state)
+absent_store state key asked reply Append None = (NotStored, state)
+absent_store state key asked reply Prepend None = (NotStored, state)
+
+-- under a key that is there; a refused add makes the item the most recently used one
+abbrev pub present_store : State → List ℕ → Storing → Reply → MetaMode → Item → Outcome
+present_store state key asked reply Add item = (NotStored, first state key item)
+present_store state key asked reply Set item = compared state asked.compare item (stores state key asked reply)
+present_store state key asked reply Replace item = compared state asked.compare item (stores state key asked reply)
+present_store state key asked reply Append item = compared state asked.compare item (joins state key item (item.value ++ asked.value) reply)
+present_store state key asked reply Prepend item = compared state asked.compare item (joins state key item (asked.value ++ item.value) reply)
+
+abbrev pub store_step : State → List ℕ → Storing → Reply → Option Used → Outcome
+store_step state key asked reply None = absent_store state key asked reply asked.mode asked.compare
+store_step state key asked reply (Some used) = present_store state key asked reply asked.mode used.item
+
+-- the classic commands are those of ms: cas is set at a unique
+abbrev pub mode_of : StoreMode → MetaMode
+mode_of store.Set = Set
+mode_of store.Add = Add
+mode_of store.Replace = Replace
+mode_of store.Append = Append
+mode_of store.Prepend = Prepend
+mode_of (store.Cas unique) = Set
+
+abbrev pub compare_of : StoreMode → Option ℕ
+compare_of (store.Cas unique) = Some unique
+compare_of store.Set = None
+compare_of store.Add = None
+compare_of store.Replace = None
+compare_of store.Append = None
+compare_of store.Prepend = None
+
+abbrev pub storing : MetaMode → Option ℕ → ℕ → ℤ → List ℕ → Storing
+storing mode compare flags exptime value = record { mode = mode; compare = compare; flags = flags; exptime = exptime; value = value }
+
+-- Counting (protocol.txt, "Increment/Decrement")
+
+-- It grows modulo 2^64, and falls to 0 at least.
+abbrev pub counted : Direction → ℕ → ℕ → ℕ
+counted Increment number amount = (number + amount) % 2 ^ 64
+counted Decrement number amount = number - amount
+
+-- what counting asks: at which unique, in which direction, by how much, and the exptime that it sets
+pub record Counting : Type 0 where
+  pub compare : Option ℕ
+  pub direction : Direction
+  pub amount : ℕ
+  pub exptime : Option ℤ
+
+abbrev pub changes : State → List ℕ → Item → Option ℤ → ℕ → Reply → Outcome
+changes state key item exptime number reply =
+    numbered state (λ unique given. (
+      reply (done_of (counted_item item number exptime state.time unique) number state.time),
+      first given key (counted_item item number exptime state.time unique),
+    ))
+
+abbrev pub counts : State → List ℕ → Item → Counting → Reply → Option ℕ → Outcome
+counts state key item asked reply None = (NonNumeric, state)
+counts state key item asked reply (Some number) = changes state key item asked.exptime (counted asked.direction number asked.amount) reply
+
+-- under an absent key
+abbrev pub absent_count : State → List ℕ → Reply → Option Vivify → Outcome
+absent_count state key reply None = (NotFound, state)
+absent_count state key reply (Some made) =
+    numbered state (λ unique given. (
+      reply (done_of (counter_item made.initial made.exptime state.time unique) made.initial state.time),
+      first given key (counter_item made.initial made.exptime state.time unique),
+    ))
+
+abbrev pub count_step : State → List ℕ → Counting → Reply → Option Vivify → Option Used → Outcome
+count_step state key asked reply vivify None = absent_count state key reply vivify
+count_step state key asked reply vivify (Some used) =
+    compared state asked.compare used.item (counts state key used.item asked reply (number_in used.item.value))
+
+abbrev pub counting : Option ℕ → Direction → ℕ → Option ℤ → Counting
+counting compare direction amount exptime = record { compare = compare; direction = direction; amount = amount; exptime = exptime }
+
+-- Touching, deleting and flushing
+
+abbrev pub touch_step : State → List ℕ → ℤ → Option Used → Outcome
+touch_step state key exptime None = (NotFound, state)
+touch_step state key exptime (Some used) = (Touched, first state key (touched_item used.item exptime state.time))
+
+abbrev pub deletes : State → List ℕ → Outcome
+deletes state key = (Deleted, with_items state (remove state.items key))
+
+abbrev pub delete_step : State → List ℕ → Option Used → Outcome
+delete_step state key None = (NotFound, state)
+delete_step state key (Some used) = deletes state key
+
+-- md with I: the item becomes stale where it stands
+abbrev pub stales : State → List ℕ → Used → Option ℤ → Outcome
+stales state key used exptime =
+    numbered state (λ unique given. (Done, with_items given (insert state.items key (record used { item = stale_item used.item exptime state.time unique }))))
+
+abbrev pub meta_delete_step : State → List ℕ → Option ℕ → Bool → Option ℤ → Option Used → Outcome
+meta_delete_step state key compare invalidate exptime None = (NotFound, state)
+meta_delete_step state key compare true exptime (Some used) = compared state compare used.item (stales state key used exptime)
+meta_delete_step state key compare false exptime (Some used) = compared state compare used.item (deletes state key)
+
+-- the second at which a flush is to come, if that is in the future
+abbrev pub coming : Expiry → ℕ → Option ℕ
+coming Never time = None
+coming (At second) time = if nat_le second time then None else Some second
+
+-- A flush that is not to come in the future runs at once. It replaces a pending one, at once or later.
+abbrev pub flush_step : State → Option ℕ → State
+flush_step state None = flushed state
+flush_step state (Some second) = record state { flush = Some second }
+
+-- The step
+
+-- what a settled shard answers, and its state then
+unfoldable pub step_of : State → Op → Outcome
+step_of state (Fetch key touch) = fetch_step state key touch (get state.items key)
+step_of state (Store key mode flags exptime value) =
+    store_step state key (storing (mode_of mode) (compare_of mode) flags exptime value) (λ done. Stored) (get state.items key)
+step_of state (Count key direction amount) =
+    count_step state key (counting None direction amount None) (λ done. Number done.number) None (get state.items key)
+step_of state (Delete key) = delete_step state key (get state.items key)
+step_of state (Touch key exptime) = touch_step state key exptime (get state.items key)
+step_of state (Flush delay) = (Done, flush_step state (coming (expiry_of delay state.time) state.time))
+step_of state (MetaGet key touch vivify recache) = meta_get_step state key touch vivify recache (get state.items key)
+step_of state (MetaStore key mode compare flags exptime value) =
+    store_step state key (storing mode compare flags exptime value) (λ done. MetaDone done) (get state.items key)
+step_of state (MetaDelete key compare invalidate exptime) =
+    meta_delete_step state key compare invalidate exptime (get state.items key)
+step_of state (MetaCount key compare direction amount exptime vivify) =
+    count_step state key (counting compare direction amount exptime) (λ done. MetaDone done) vivify (get state.items key)
+
+-- What a settled shard may answer, and its state then: memory may be wanting where the kind of the operation can
+-- want it, and nothing changes; else all is determined.
+unfoldable pub Answers : State → Op → Answer → State → Type 0
+Answers settled op answer new =
+    ((answer ≡ NoMemory) × IsTrue (is_lawful (kind_of op) NoMemory) × (new ≡ settled)) ⊎ ◌≡◌ {A = Outcome} (answer, new) (step_of settled op)
+
+-- one step of a shard: the state, the operation, its moment, the answer, and the state after it
+unfoldable pub IsStep : State → Op → ℕ → Answer → State → Type 0
+IsStep old op moment answer new = Answers (settle old (key_of op) moment) op answer new

@@ -1,0 +1,155 @@
+//! Counting: `incr`, `decr` and `ma` (protocol.txt, "Increment/Decrement").
+ghost use Rattle.std.specs.Prelude.{◌≡◌, true, None, IfErr};
+ghost use Rattle.std.specs.FinMap.{get};
+ghost use Rattle.mc_item.specs.declared.answer.Answer.{Answer as TheAnswer};
+ghost use Rattle.mc_item.specs.declared.answer.MetaDone.{MetaDone as TheDone};
+ghost use Rattle.mc_item.specs.Kind.{is_lawful};
+ghost use Rattle.mc_item.specs.declared.op.Op.TheVariants as op;
+ghost use Rattle.mc_store.specs.Step.{counted};
+
+use crate::items::is_other;
+use crate::shard::{Shard, fresh_item};
+use mc_command::Direction;
+use mc_item::{Answer, Item, Kind, MetaDone, Value, Vivify, expiry};
+use mc_wire::Key;
+use std::alloc::Global;
+
+/// What counting asks.
+#[derive(Clone, Copy)]
+struct Counting {
+    /// The unique that the item must have.
+    compare: Option<u64>,
+    direction: Direction,
+    amount: u64,
+    /// The exptime that it sets.
+    exptime: Option<i64>,
+}
+
+/// The number after it was counted: it grows modulo 2^64, and falls to 0 at least.
+fn counted(direction: Direction, number: u64, amount: u64) -> u64
+    ensures { result ≡ counted direction number amount }
+{
+    match direction {
+        Direction::Increment => number.wrapping_add(amount),
+        Direction::Decrement => number.saturating_sub(amount),
+    }
+}
+
+impl Shard {
+    ghost use Rattle.mc_store.specs.Step.{absent_count, count_step, counting};
+    ghost use Rattle.mc_store.specs.Shard.{Acts, Does, answered};
+
+    /// `incr`, `decr`.
+    #[tactic(auto, unfolding(mc_item::specs::Kind::is_lawful))]
+    pub(super) fn count_classic(
+        &mut self,
+        alloc: Global,
+        key: Key,
+        direction: Direction,
+        amount: u64,
+    ) -> Answer
+        ensures acts { Acts self.old (op.Count key direction amount) result self.new }
+        ensures lawful { is_lawful Kind.Count result ≡ true }
+    {
+        let asked = Counting {
+            compare: None,
+            direction,
+            amount,
+            exptime: None,
+        };
+        match self.count(alloc, key, asked, None) {
+            Ok(done) => Answer::Number(done.number),
+            Err(answer) => answer,
+        }
+    }
+
+    /// `ma`.
+    #[tactic(auto, unfolding(mc_item::specs::Kind::is_lawful))]
+    pub(super) fn meta_count(
+        &mut self,
+        alloc: Global,
+        key: Key,
+        compare: Option<u64>,
+        direction: Direction,
+        amount: u64,
+        exptime: Option<i64>,
+        vivify: Option<Vivify>,
+    ) -> Answer
+        ensures acts { Acts self.old (op.MetaCount key compare direction amount exptime vivify) result self.new }
+        ensures lawful { is_lawful Kind.MetaCount result ≡ true }
+    {
+        let asked = Counting {
+            compare,
+            direction,
+            amount,
+            exptime,
+        };
+        match self.count(alloc, key, asked, vivify) {
+            Ok(done) => Answer::MetaDone(done),
+            Err(answer) => answer,
+        }
+    }
+
+    /// Counts a present item, or makes one.
+    #[tactic(auto, unfolding(mc_item::specs::Kind::is_lawful))]
+    fn count(
+        &mut self,
+        alloc: Global,
+        key: Key,
+        asked: Counting,
+        vivify: Option<Vivify>,
+    ) -> Result<MetaDone, Answer>
+        ensures does { (reply : TheDone → TheAnswer) → Does self.old key (λ settled. count_step settled key (counting asked.compare asked.direction asked.amount asked.exptime) reply vivify (get settled.items key)) (answered reply result) self.new }
+        ensures refused { asked.compare ≡ None → IfErr result (λ answer. is_lawful Kind.Count answer ≡ true) }
+        ensures meta_refused { IfErr result (λ answer. is_lawful Kind.MetaCount answer ≡ true) }
+    {
+        let Some(item) = self.find(&key) else {
+            return self.count_absent(alloc, key, vivify);
+        };
+        if is_other(asked.compare, item.unique) {
+            return Err(Answer::Exists);
+        }
+        let Some(number) = item.number() else {
+            return Err(Answer::NonNumeric);
+        };
+        let number = counted(asked.direction, number, asked.amount);
+        let Ok(value) = Value::of_number(alloc, number) else {
+            return Err(Answer::NoMemory);
+        };
+        let new = Item {
+            value,
+            flags: item.flags,
+            expiry: self.expiry_from(asked.exptime, item.expiry),
+            unique: item.unique,
+            last_access: item.last_access,
+            fetched: item.fetched,
+            stale: item.stale,
+            sent: item.sent,
+        };
+        self.write_done(key, new, number)
+    }
+
+    /// Makes an item under a key that is not there, if that is asked.
+    #[tactic(auto, unfolding(mc_item::specs::Kind::is_lawful))]
+    fn count_absent(
+        &mut self,
+        alloc: Global,
+        key: Key,
+        vivify: Option<Vivify>,
+    ) -> Result<MetaDone, Answer>
+        ensures does { (reply : TheDone → TheAnswer) → Does self.old key (λ settled. absent_count settled key reply vivify) (answered reply result) self.new }
+        ensures refused { IfErr result (λ answer. is_lawful Kind.Count answer ≡ true) }
+        ensures meta_refused { IfErr result (λ answer. is_lawful Kind.MetaCount answer ≡ true) }
+    {
+        let Some(made) = vivify else {
+            self.settle(&key);
+            return Err(Answer::NotFound);
+        };
+        let Ok(value) = Value::of_number(alloc, made.initial) else {
+            self.settle(&key);
+            return Err(Answer::NoMemory);
+        };
+        let item = fresh_item(value, 0, expiry(made.exptime, self.time));
+        self.write_done(key, item, made.initial)
+    }
+}

@@ -1,0 +1,86 @@
+//! Deleting and flushing: `delete`, `md`, `flush_all`.
+ghost use Rattle.std.specs.Prelude.{◌≡◌, true};
+ghost use Rattle.mc_item.specs.Expiry.{expiry_of};
+ghost use Rattle.mc_item.specs.Kind.{is_lawful};
+ghost use Rattle.mc_item.specs.declared.op.Op.TheVariants as op;
+ghost use Rattle.mc_store.specs.Step.{coming};
+
+use crate::items::{is_other, mark_stale};
+use crate::shard::Shard;
+use mc_item::{Answer, Expiry, Kind, expiry};
+use mc_wire::Key;
+
+impl Shard {
+    ghost use Rattle.mc_store.specs.Shard.{Acts};
+
+    /// `delete`.
+    #[tactic(auto, unfolding(mc_item::specs::Kind::is_lawful))]
+    pub(super) fn delete(&mut self, key: &Key) -> Answer
+        ensures acts { Acts self.old (op.Delete key.now) result self.new }
+        ensures lawful { is_lawful Kind.Delete result ≡ true }
+    {
+        let Some(item) = self.items.pop(key) else {
+            return Answer::NotFound;
+        };
+        if item.is_dead(self.time) {
+            return Answer::NotFound;
+        }
+        Answer::Deleted
+    }
+
+    /// `md`; with `invalidate` the item is marked stale in place of going.
+    #[tactic(auto, unfolding(mc_item::specs::Kind::is_lawful))]
+    pub(super) fn meta_delete(
+        &mut self,
+        key: &Key,
+        compare: Option<u64>,
+        invalidate: bool,
+        exptime: Option<i64>,
+    ) -> Answer
+        ensures acts { Acts self.old (op.MetaDelete key.now compare invalidate exptime) result self.new }
+        ensures lawful { is_lawful Kind.MetaDelete result ≡ true }
+    {
+        let Some(item) = self.find(key) else {
+            self.items.pop(key);
+            return Answer::NotFound;
+        };
+        if is_other(compare, item.unique) {
+            return Answer::Exists;
+        }
+        if !invalidate {
+            self.items.pop(key);
+            return Answer::Deleted;
+        }
+        let Some(unique) = self.next_unique() else {
+            return Answer::NoCas;
+        };
+        let expiry = self.expiry_from(exptime, item.expiry);
+        mark_stale(&mut self.items, key, unique, expiry);
+        self.given += 1;
+        Answer::Done
+    }
+
+    /// `flush_all`: at once, or after a delay.
+    #[tactic(auto, unfolding(mc_item::specs::Kind::is_lawful))]
+    pub(super) fn flush_at(&mut self, delay: i64) -> Answer
+        ensures acts { Acts self.old (op.Flush delay) result self.new }
+        ensures lawful { is_lawful Kind.Flush result ≡ true }
+    {
+        let Some(second) = self.coming(delay) else {
+            self.remove_all();
+            return Answer::Done;
+        };
+        self.flush = Some(second);
+        Answer::Done
+    }
+
+    /// The second at which a flush with this delay is to come, if that is in the future.
+    fn coming(&self, delay: i64) -> Option<u64>
+        ensures { result ≡ coming (expiry_of delay self.now.time) self.now.time }
+    {
+        match expiry(delay, self.time) {
+            Expiry::At(second) if second > self.time => Some(second),
+            _ => None,
+        }
+    }
+}

@@ -1,0 +1,200 @@
+//! Reading and touching: `get`, `gat`, `mg`, `touch`.
+ghost use Rattle.std.specs.Prelude.{◌≡◌, ◌-◌, ◌||◌, true, false, []};
+ghost use Rattle.mc_item.specs.Expiry.{seconds_left};
+ghost use Rattle.mc_item.specs.Kind.{is_lawful};
+ghost use Rattle.mc_item.specs.declared.op.Op.TheVariants as op;
+ghost use Rattle.mc_store.specs.Rows.{is_won, has_fewer_left, marks_of};
+
+use crate::items::{Use, use_item};
+use crate::shard::Shard;
+use mc_item::{Answer, Expiry, Item, Kind, Marks, MetaHit, Value, expiry};
+use mc_wire::Key;
+use std::alloc::Global;
+
+/// Whether fewer seconds are left than the token of `R`; an item that never dies has none left.
+fn has_fewer_left(left: Option<u64>, recache: Option<i64>) -> bool
+    ensures { result ≡ has_fewer_left left recache }
+{
+    let (Some(left), Some(token)) = (left, recache) else {
+        return false;
+    };
+    token > 0 && left < token as u64
+}
+
+/// `W`: nobody was told to recompute the item, and it is stale or soon dead.
+fn is_won(item: &Item, recache: Option<i64>, time: u64) -> bool
+    ensures { result ≡ is_won item.now recache time }
+{
+    !item.sent && (item.stale || has_fewer_left(item.expiry.seconds_left(time), recache))
+}
+
+/// The marks of a hit, by the item before the command.
+fn marks_of(item: &Item, recache: Option<i64>, time: u64) -> Marks
+    ensures { result ≡ marks_of item.now recache time }
+{
+    Marks {
+        won: is_won(item, recache, time),
+        stale: item.stale,
+        sent: item.sent,
+    }
+}
+
+/// Whether a client was told to recompute the item, once these marks were shown.
+fn is_sent_after(marks: Marks) -> bool
+    ensures { result ≡ (marks.sent || marks.won) }
+{
+    marks.sent || marks.won
+}
+
+/// What is shown of the item, before the command, and of the expiry that it has now.
+fn hit_of(found: &Item, value: Value, expiry: Expiry, marks: Marks, time: u64) -> MetaHit
+    ensures { result ≡ record { value = value; flags = found.now.flags; unique = found.now.unique; fetched = found.now.fetched; idle = time - found.now.last_access; left = seconds_left expiry time; marks = marks } }
+{
+    MetaHit {
+        value,
+        flags: found.flags,
+        unique: found.unique,
+        fetched: found.fetched,
+        idle: time.saturating_sub(found.last_access),
+        left: expiry.seconds_left(time),
+        marks,
+    }
+}
+
+/// An empty item that a client is told to fill. It has no unique yet.
+fn empty_item(alloc: Global, expiry: Expiry) -> Item
+    ensures { result ≡ record { value = []; flags = 0; expiry = expiry; unique = 0; last_access = 0; fetched = false; stale = false; sent = true } }
+{
+    Item {
+        value: Value::new(Vec::new(alloc)),
+        flags: 0,
+        expiry,
+        unique: 0,
+        last_access: 0,
+        fetched: false,
+        stale: false,
+        sent: true,
+    }
+}
+
+/// What is shown of an empty item that this command made.
+fn made_hit(alloc: Global, unique: u64, left: Option<u64>) -> MetaHit
+    ensures { result ≡ record { value = []; flags = 0; unique = unique; fetched = false; idle = 0; left = left; marks = record { won = true; stale = false; sent = false } } }
+{
+    MetaHit {
+        value: Value::new(Vec::new(alloc)),
+        flags: 0,
+        unique,
+        fetched: false,
+        idle: 0,
+        left,
+        marks: Marks {
+            won: true,
+            stale: false,
+            sent: false,
+        },
+    }
+}
+
+impl Shard {
+    ghost use Rattle.mc_store.specs.Step.{absent_meta_get};
+    ghost use Rattle.mc_store.specs.Shard.{Acts, Does};
+
+    /// `get`, `gets`; with an exptime `gat` and `gats`.
+    #[tactic(auto, unfolding(mc_item::specs::Kind::is_lawful))]
+    pub(super) fn fetch(&mut self, key: &Key, touch: Option<i64>) -> Answer
+        ensures acts { Acts self.old (op.Fetch key.now touch) result self.new }
+        ensures lawful { is_lawful Kind.Fetch result ≡ true }
+    {
+        let Some(item) = self.find(key) else {
+            self.items.pop(key);
+            return Answer::Miss;
+        };
+        let Ok(value) = item.value.clone() else {
+            return Answer::NoMemory;
+        };
+        let (flags, unique) = (item.flags, item.unique);
+        let new = Use {
+            time: self.time,
+            expiry: self.expiry_from(touch, item.expiry),
+            fetched: true,
+            sent: item.sent,
+        };
+        use_item(&mut self.items, key, new);
+        Answer::Hit {
+            flags,
+            unique,
+            value,
+        }
+    }
+
+    /// `touch`.
+    #[tactic(auto, unfolding(mc_item::specs::Kind::is_lawful))]
+    pub(super) fn touch(&mut self, key: &Key, exptime: i64) -> Answer
+        ensures acts { Acts self.old (op.Touch key.now exptime) result self.new }
+        ensures lawful { is_lawful Kind.Touch result ≡ true }
+    {
+        let Some(item) = self.find(key) else {
+            self.items.pop(key);
+            return Answer::NotFound;
+        };
+        let new = Use {
+            time: self.time,
+            expiry: expiry(exptime, self.time),
+            fetched: item.fetched,
+            sent: item.sent,
+        };
+        use_item(&mut self.items, key, new);
+        Answer::Touched
+    }
+
+    /// `mg`.
+    #[tactic(auto, unfolding(mc_item::specs::Kind::is_lawful))]
+    pub(super) fn meta_get(
+        &mut self,
+        alloc: Global,
+        key: Key,
+        touch: Option<i64>,
+        vivify: Option<i64>,
+        recache: Option<i64>,
+    ) -> Answer
+        ensures acts { Acts self.old (op.MetaGet key touch vivify recache) result self.new }
+        ensures lawful { is_lawful Kind.MetaGet result ≡ true }
+    {
+        let Some(item) = self.find(&key) else {
+            return self.meta_get_absent(alloc, key, vivify);
+        };
+        let Ok(value) = item.value.clone() else {
+            return Answer::NoMemory;
+        };
+        let marks = marks_of(item, recache, self.time);
+        let expiry = self.expiry_from(touch, item.expiry);
+        let hit = hit_of(item, value, expiry, marks, self.time);
+        let new = Use {
+            time: self.time,
+            expiry,
+            fetched: true,
+            sent: is_sent_after(marks),
+        };
+        use_item(&mut self.items, &key, new);
+        Answer::MetaHit(hit)
+    }
+
+    /// `mg` of a key that is not there: with an exptime it makes an empty item, and this client is told to fill it.
+    #[tactic(auto, unfolding(mc_item::specs::Kind::is_lawful))]
+    fn meta_get_absent(&mut self, alloc: Global, key: Key, vivify: Option<i64>) -> Answer
+        ensures does { Does self.old key (λ settled. absent_meta_get settled key vivify) result self.new }
+        ensures lawful { is_lawful Kind.MetaGet result ≡ true }
+    {
+        let Some(exptime) = vivify else {
+            self.settle(&key);
+            return Answer::Miss;
+        };
+        let item = empty_item(alloc, expiry(exptime, self.time));
+        let left = item.expiry.seconds_left(self.time);
+        match self.write(key, item) {
+            Ok(unique) => Answer::MetaHit(made_hit(alloc, unique, left)),
+            Err(answer) => answer,
+        }
+    }
+}

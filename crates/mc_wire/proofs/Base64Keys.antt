@@ -1,0 +1,82 @@
+-- What decoding says of a base64 key word.
+use Rattle.std.proofs.Common.{◌≡◌, ℕ, ◌<◌, ◌≤◌, ◌+◌, ◌-◌, ◌*◌, ◌/◌, ◌%◌, true, false, List, [], ◌∷◌, length, Some, None, Ok, Err, take, drop, subst, nat_lt, nat_eq, refl, sym, ap, ◌∙◌, arith, length-append}
+use Rattle.std.proofs.lemmas.List.{length-replicate, take-append-drop}
+use Rattle.std.proofs.lemmas.Bool.Decides.{nat_tests}
+use Rattle.base64.specs.Engines.{standard}
+use Rattle.base64.specs.Rfc4648.{encoded_size}
+use Rattle.base64.specs.GeneralPurpose.{IsBytes, IsStrict, IsConsistent, decode_of, decoded_of}
+use Rattle.base64.specs.declared.decode.DecodeError.{DecodeError}
+use Rattle.base64.proofs.RoundTrip.{length-encode_symbols}
+use Rattle.base64.proofs.EngineFacts.{front_bytes, decode_of_strict, decode_of-encode_of, encode_of-nil}
+use Rattle.mc_wire.specs.Base64Key.{base64_bytes, base64_of, base64_key, base64_fault, IsBase64Of}
+use Rattle.mc_wire.specs.declared.fault.WireFault.TheVariants.{NotBase64}
+
+is_strict : IsStrict standard
+is_strict = (refl, refl)
+
+is_consistent : IsConsistent standard
+is_consistent = refl
+
+-- the length of a base64 text
+pub length-base64_of : (bytes : List ℕ) → length (base64_of bytes) ≡ encoded_size (length bytes) true
+unfolding base64_of
+length-base64_of bytes = omega (arith, length-append {A = ℕ}, length-encode_symbols, length-replicate {A = ℕ})
+
+short_text : (n : ℕ) → (4 * n + 2) / 3 + (3 - n % 3) % 3 ≤ 250 → n ≤ 186
+short_text n h = omega arith
+
+long_text : (n : ℕ) → n ≤ 186 → 0 < n → (0 < (4 * n + 2) / 3 + (3 - n % 3) % 3) × ((4 * n + 2) / 3 + (3 - n % 3) % 3 ≤ 250)
+long_text n h some = (omega arith, omega arith)
+
+pub decoded_ok : (word bytes : List ℕ) → decode_of standard word ≡ Ok bytes → base64_bytes word ≡ Some bytes
+unfolding base64_bytes decoded_of
+decoded_ok word bytes h = rw h
+
+pub decoded_err : (word : List ℕ) (e : DecodeError) → decode_of standard word ≡ Err e → base64_bytes word ≡ None
+unfolding base64_bytes decoded_of
+decoded_err word e h = rw h
+
+-- a key word that decodes
+pub record IsKeyWord (word bytes : List ℕ) : Type 0 where
+  pub key : base64_key word ≡ Some bytes
+  pub text : IsBase64Of word bytes
+  pub fault : base64_fault word ≡ None
+
+filled : (word bytes : List ℕ) → word ≡ base64_of bytes → 0 < length word → 0 < length bytes
+unfolding base64_of
+filled word [] text some = let none = ap length (text ∙ encode_of-nil standard) in omega (arith, none)
+filled word (byte ∷ bytes) text some = omega arith
+
+pub decoded_key : (word bytes : List ℕ) → IsBytes word → IsBytes bytes → 0 < length word → length word ≤ 250 → decode_of standard word ≡ Ok bytes → IsKeyWord word bytes
+unfolding base64_of
+decoded_key word bytes octets octets' some short decoded =
+    let first : nat_eq (length word) 0 ≡ false = grind (arith, nat_tests) in
+    let second : nat_lt 250 (length word) ≡ false = grind (arith, nat_tests) in
+    let value = decoded_ok word bytes decoded in
+    let text = decode_of_strict standard word bytes is_strict octets decoded in
+    record {
+      key = rw (first, second) value;
+      text = record { text = text; octets = octets'; some = filled word bytes text some; short = short_text (length bytes) (omega (arith, ap length text, length-base64_of bytes)) };
+      fault = rw (first, second, value);
+    }
+
+-- a word that does not decode
+pub undecoded_key : (word : List ℕ) → 0 < length word → length word ≤ 250 → base64_bytes word ≡ None → (base64_fault word ≡ Some NotBase64) × (base64_key word ≡ None)
+undecoded_key word some short none =
+    let first : nat_eq (length word) 0 ≡ false = grind (arith, nat_tests) in
+    let second : nat_lt 250 (length word) ≡ false = grind (arith, nat_tests) in
+    (rw (first, second, none), rw (first, second) none)
+
+-- the base64 text of a key gives the key
+pub text_key : (word bytes : List ℕ) → IsBase64Of word bytes → base64_key word ≡ Some bytes
+unfolding base64_of
+text_key word bytes is =
+    let long = long_text (length bytes) is.short is.some in
+    let size = ap length is.text ∙ length-base64_of bytes in
+    let first : nat_eq (length word) 0 ≡ false = grind (arith, nat_tests) in
+    let second : nat_lt 250 (length word) ≡ false = grind (arith, nat_tests) in
+    let back : decode_of standard word ≡ Ok bytes = rw is.text (decode_of-encode_of standard bytes is_consistent is.octets) in
+    rw (first, second) (decoded_ok word bytes back)
+
+pub IsBytes-take : (n : ℕ) (bytes : List ℕ) → IsBytes bytes → IsBytes (take n bytes)
+IsBytes-take n bytes octets = front_bytes (take n bytes) (drop n bytes) (subst IsBytes (sym (take-append-drop n bytes)) octets)

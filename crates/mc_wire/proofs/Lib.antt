@@ -1,0 +1,6 @@
+-- The lemmas of this crate.
+pub mod Base64Keys
+pub mod Numbers
+pub mod Splitting
+pub mod Outlets
+mod Rows

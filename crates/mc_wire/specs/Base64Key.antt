@@ -1,0 +1,36 @@
+-- Keys that a meta command's flag `b` gives in base64 (protocol.txt, Meta Commands), of the standard
+-- alphabet with padding (RFC 4648, section 4).
+use Rattle.std.specs.Prelude.{ℕ, ◌≡◌, ◌<◌, ◌≤◌, List, length, Option, Some, None, nat_lt, is_some, if◌then◌else◌, ◌==◌}
+use Rattle.base64.specs.Engines.{standard}
+use Rattle.base64.specs.GeneralPurpose.{IsBytes, decoded_of, encode_of}
+use Rattle.mc_wire.specs.declared.fault.WireFault.{WireFault}
+use Rattle.mc_wire.specs.declared.fault.WireFault.TheVariants.{NoKey, KeyTooLong, NotBase64}
+
+-- the base64 text of these bytes
+unfoldable pub base64_of : List ℕ → List ℕ
+base64_of bytes = encode_of standard bytes
+
+-- the bytes of a base64 text, padding and last bits just as encoding writes them
+unfoldable pub base64_bytes : List ℕ → Option (List ℕ)
+base64_bytes word = decoded_of standard word
+
+-- the word is the base64 text of these bytes, and there are as many as a key may have
+pub record IsBase64Of (word bytes : List ℕ) : Type 0 where
+  pub text : word ≡ base64_of bytes
+  pub octets : IsBytes bytes
+  pub some : 0 < length bytes
+  pub short : length bytes ≤ 186
+
+-- what hinders a word from giving a key in base64, in the order of the tests
+abbrev pub base64_fault : List ℕ → Option WireFault
+base64_fault word =
+    if length word == 0 then Some NoKey
+    else (if nat_lt 250 (length word) then Some KeyTooLong
+    else (if is_some (base64_bytes word) then None else Some NotBase64))
+
+-- the key that a word gives in base64
+abbrev pub base64_key : List ℕ → Option (List ℕ)
+base64_key word =
+    if length word == 0 then None
+    else (if nat_lt 250 (length word) then None
+    else base64_bytes word)

@@ -1,0 +1,7 @@
+-- The definitions that the contracts of this crate cite.
+pub mod Words
+pub mod Number
+pub mod Outlet
+pub mod Key
+pub mod Base64Key
+pub mod SameKey

@@ -1,0 +1,20 @@
+-- The words of a line (protocol.txt, Protocol).
+use Rattle.std.specs.Prelude.{ℕ, Bool, false, true, List, [], ◌∷◌, filter, ◌==◌}
+use Rattle.std.specs.List.{slice_split}
+
+-- words are parted by spaces
+abbrev pub is_space : ℕ → Bool
+is_space byte = byte == 32
+
+abbrev pub is_filled : List ℕ → Bool
+is_filled [] = false
+is_filled (byte ∷ bytes) = true
+
+-- the longest runs of bytes other than the space
+unfoldable pub words_of : List ℕ → List (List ℕ)
+words_of text = filter is_filled (slice_split is_space text)
+
+-- the words, with this one in front unless it is empty
+abbrev pub with_word : List ℕ → List (List ℕ) → List (List ℕ)
+with_word [] words = words
+with_word (byte ∷ bytes) words = (byte ∷ bytes) ∷ words

@@ -1,0 +1,204 @@
+//! Keys (protocol.txt, Keys), their base64 texts (protocol.txt, Meta Commands; RFC 4648, section 4)
+//! and the shard that each belongs to.
+ghost use Rattle.std.specs.Prelude.{◌≡◌, ◌≢◌, ◌<◌, ◌≤◌, ℕ, List, length, take, Some, None, OnOk, IfOk, IfErr, IsErrOf, OnSome, IfSome, IfNone};
+ghost use Rattle.std.specs.List.{list_all};
+ghost use Rattle.mc_wire.specs.Base64Key.{base64_of, base64_key, base64_fault, IsBase64Of};
+ghost use Rattle.mc_wire.specs.Key.{key_fault, place_of};
+ghost use Rattle.mc_wire.specs.Key as spec;
+ghost use Rattle.mc_wire.specs.declared.fault.WireFault.TheVariants.{NotBase64};
+
+use crate::fault::WireFault;
+use crate::{BASE64_LIMIT, KEY_LIMIT};
+use base64::engine::general_purpose::STANDARD;
+use std::alloc::{AllocError, Global};
+use std::hash::{Hash, Hasher};
+use std::marker::Model;
+
+/// Room in which any text of `KEY_LIMIT` bytes is decoded, in bytes.
+const DECODE_ROOM: usize = 189;
+
+/// The hash FNV-1a of 32 bits: what it starts from, and what each byte multiplies it by.
+const FNV_BASIS: u32 = 2_166_136_261;
+
+const FNV_PRIME: u32 = 16_777_619;
+
+/// A key: 1 to `KEY_LIMIT` bytes, of any value where it was read from base64. Contracts see the list
+/// of its bytes.
+#[derive(Drop)]
+pub struct Key {
+    bytes: Vec<u8>,
+}
+
+impl Model for Key {
+    ghost use Rattle.std.specs.Prelude.{ℕ, ◌<◌, ◌≤◌, List, length};
+
+    ghost Value = { List ℕ };
+
+    ghost view = { λ key. key.bytes.items };
+
+    ghost invariant = { λ key. (0 < length key.bytes.items) × (length key.bytes.items ≤ 250) };
+}
+
+impl Clone for Key {
+    ghost is_clone = { λ key copy. copy ≡ key };
+
+    fn clone(&self) -> Result<Key, AllocError> {
+        let bytes = self.bytes.clone()?;
+        Ok(Key { bytes })
+    }
+}
+
+impl PartialEq for Key {
+    ghost use Rattle.mc_wire.specs.SameKey.{same_key};
+    ghost use Rattle.std.specs.Cmp.{partial_equiv_from_equiv};
+    ghost use Rattle.std.specs.Cmp.Lexicographic.{nat_list_eq_equiv};
+
+    ghost eq = { same_key };
+
+    ghost laws = { partial_equiv_from_equiv nat_list_eq_equiv };
+
+    fn eq(&self, other: &Key) -> bool {
+        self.bytes == other.bytes
+    }
+}
+
+impl Eq for Key {
+    ghost use Rattle.std.specs.Cmp.Lexicographic.{nat_list_eq_equiv};
+
+    ghost laws = { nat_list_eq_equiv };
+}
+
+impl Hash for Key {
+    ghost use Rattle.std.proofs.Common.{rules};
+    ghost use Rattle.std.specs.Hash as fed;
+    ghost use Rattle.std.specs.Cmp.Rules.{hashing};
+
+    ghost hash_input = { fed.slice fed.u8 };
+
+    ghost respects_eq = { Prim.search (hashing, rules) };
+
+    fn hash<H: Hasher>(&self, state: &mut H) {
+        self.bytes.hash(state);
+    }
+}
+
+impl Key {
+    /// Reads a key word: 1 to `KEY_LIMIT` bytes, each from 33 to 126 or from 128 to 255. The faults
+    /// are `NoKey`, `KeyTooLong`, `KeyByte` and `Memory`, tested in this order.
+    pub fn from_word(alloc: Global, word: &[u8]) -> Result<Key, WireFault>
+        ensures ok { IfOk result (λ key. (key ≡ word.now) × (key_fault word.now ≡ None)) }
+        ensures fault { IfErr result (λ fault. fault ≢ WireFault.Memory → key_fault word.now ≡ Some fault) }
+        ensures memory { IsErrOf result WireFault.Memory → key_fault word.now ≡ None }
+    {
+        if word.is_empty() {
+            return Err(WireFault::NoKey);
+        }
+        if word.len() > KEY_LIMIT {
+            return Err(WireFault::KeyTooLong);
+        }
+        if !is_key_word(word) {
+            return Err(WireFault::KeyByte);
+        }
+        let bytes = Vec::from_slice(alloc, word)?;
+        Ok(Key { bytes })
+    }
+
+    /// Reads a key word in base64: at most `KEY_LIMIT` bytes of the standard alphabet with padding,
+    /// just as encoding would write them, for 1 to `DECODED_KEY_LIMIT` bytes of any value. The faults
+    /// are `NoKey`, `KeyTooLong`, `NotBase64` and `Memory`, tested in this order.
+    #[tactic(auto, using(crate::proofs::Base64Keys::text_key))]
+    pub fn from_base64(alloc: Global, word: &[u8]) -> Result<Key, WireFault>
+        ensures ok { IfOk result (λ key. base64_key word.now ≡ Some key) }
+        ensures text { IfOk result (λ key. IsBase64Of word.now key) }
+        ensures fits { OnOk result (base64_fault word.now ≡ None) }
+        ensures fault { IfErr result (λ fault. fault ≢ WireFault.Memory → base64_fault word.now ≡ Some fault) }
+        ensures none { IfErr result (λ fault. fault ≢ WireFault.Memory → base64_key word.now ≡ None) }
+        ensures memory { IsErrOf result WireFault.Memory → base64_fault word.now ≡ None }
+
+        // Whatever the answer is: a word that is the text of a key gives that key.
+        ensures whole { (bytes : List ℕ) → IsBase64Of word.now bytes → base64_key word.now ≡ Some bytes }
+    {
+        if word.is_empty() {
+            return Err(WireFault::NoKey);
+        }
+        if word.len() > KEY_LIMIT {
+            return Err(WireFault::KeyTooLong);
+        }
+        // Decoded aside first, so that a word that is no base64 asks for no memory.
+        let mut room = [0; DECODE_ROOM];
+        let Some(len) = decode(word, &mut room) else {
+            return Err(WireFault::NotBase64);
+        };
+        let bytes = Vec::from_slice(alloc, room.split_at(len).0)?;
+        Ok(Key { bytes })
+    }
+
+    /// The base64 text of the key, which this writes into the room. Of a key that was read from
+    /// base64 it is the word again. Takes no memory.
+    #[tactic(auto, unfolding(crate::specs::Base64Key::base64_of))]
+    pub fn to_base64<'a>(&self, room: &'a mut [u8; BASE64_LIMIT]) -> &'a [u8]
+        ensures text { result.now ≡ base64_of self.now }
+        ensures again { (word : List ℕ) → IsBase64Of word self.now → result.now ≡ word }
+    {
+        match STANDARD.encode_slice(self.bytes(), room) {
+            Ok(len) => room.split_at(len).0,
+            Err(_) => unreachable!(),
+        }
+    }
+
+    /// The bytes of the key: 1 to `KEY_LIMIT`.
+    pub fn bytes(&self) -> &[u8]
+        ensures value { result.now ≡ self.now }
+        ensures some { 0 < length result.now }
+        ensures short { length result.now ≤ 250 }
+    {
+        self.bytes.as_slice()
+    }
+
+    /// The shard that the key belongs to, of so many: its hash FNV-1a of 32 bits modulo their number.
+    /// Takes no memory.
+    #[tactic(auto, unfolding(crate::specs::Key::fnv_of))]
+    pub fn place(&self, shards: usize) -> usize
+        requires { 0 < shards }
+        ensures { result ≡ place_of self.now shards }
+    {
+        let hash = self.bytes.iter().fold(FNV_BASIS, |hash, byte| {
+            (hash ^ u32::from(*byte)).wrapping_mul(FNV_PRIME)
+        });
+        hash as usize % shards
+    }
+}
+
+/// Decodes a base64 text into the front of the room, and gives the number of its bytes, or `None`
+/// where the word is no such text. Padding and the bits behind the last byte must be as encoding
+/// writes them.
+fn decode(word: &[u8], room: &mut [u8]) -> Option<usize>
+    requires some { 0 < length word.now }
+    requires short { length word.now ≤ 250 }
+    requires enough { 189 ≤ length room.old }
+    ensures within { IfSome result (λ len. len ≤ length room.new) }
+    ensures key { IfSome result (λ len. base64_key word.now ≡ Some (take len room.new)) }
+    ensures text { IfSome result (λ len. IsBase64Of word.now (take len room.new)) }
+    ensures fits { OnSome result (base64_fault word.now ≡ None) }
+    ensures fault { IfNone result (base64_fault word.now ≡ Some NotBase64) }
+    ensures none { IfNone result (base64_key word.now ≡ None) }
+{
+    match STANDARD.decode_slice_unchecked(word, room) {
+        Ok(len) => Some(len),
+        Err(_) => None,
+    }
+}
+
+/// Whether each byte may stand in a key word.
+fn is_key_word(word: &[u8]) -> bool
+    ensures { result ≡ list_all spec.is_key_byte word.now }
+{
+    word.iter().all(|byte| is_key_byte(*byte))
+}
+
+/// Whether the byte is neither a control byte nor the space nor 127.
+fn is_key_byte(byte: u8) -> bool
+    ensures { result ≡ spec.is_key_byte byte }
+{
+    matches!(byte, 33..=126 | 128..=255)
+}

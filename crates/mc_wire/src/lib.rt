@@ -1,0 +1,46 @@
+//! The smallest parts of memcached's text protocol: the words of a line, the numbers and keys that
+//! words spell, and the outlets that replies are written to.
+#![tactic(auto)]
+
+mod fault;
+mod key;
+mod number;
+mod outlet;
+mod walk;
+
+pub use fault::{OutFault, WireFault};
+pub use key::Key;
+pub use number::{number_i64, number_u64};
+pub use outlet::{Outlet, put_all, put_parts};
+pub use walk::{WordWalk, words};
+
+#[cfg(test)]
+mod tests;
+
+/// A line has at most this many bytes, its `\n` among them.
+pub const LINE_LIMIT: usize = 65_536;
+
+/// A number has at most this many digits, its leading zeros among them.
+pub const DIGIT_LIMIT: usize = 20;
+
+/// A key has at most this many bytes (protocol.txt, Keys).
+pub const KEY_LIMIT: usize = 250;
+
+/// A key that a word gives in base64 has at most this many bytes: the text of one more byte is
+/// longer than `KEY_LIMIT`.
+pub const DECODED_KEY_LIMIT: usize = 186;
+
+/// The base64 text of any key has at most this many bytes.
+pub const BASE64_LIMIT: usize = 336;
+
+/// The token behind a meta command's flag `O` has at most this many bytes.
+pub const OPAQUE_LIMIT: usize = 32;
+
+/// A value has at most this many bytes.
+pub const VALUE_LIMIT: usize = 1_048_576;
+
+/// A storage line announces at most this many bytes; a larger number is no count.
+pub const ANNOUNCED_LIMIT: u64 = 4_294_967_295;
+
+/// The latest moment, in seconds: 2^40. A later one counts as this one.
+pub const LATEST_MOMENT: u64 = 1_099_511_627_776;

@@ -1,0 +1,74 @@
+//! Numbers, as the words of a line spell them (protocol.txt, Protocol).
+ghost use Rattle.std.specs.Prelude.{◌≡◌, ◌^◌, true, false, drop, MatchOption};
+ghost use Rattle.std.specs.Option.{ok_or};
+ghost use Rattle.std.specs.Str.Parse.{starts_with_minus};
+ghost use Rattle.mc_wire.specs.Number.{number_of, integer_of, with_digit};
+ghost use Rattle.mc_wire.specs.Number as spec;
+
+use crate::DIGIT_LIMIT;
+use crate::fault::WireFault;
+
+/// Reads an unsigned number of 64 bits: 1 to `DIGIT_LIMIT` digits, leading zeros allowed. Any other
+/// word is `NotNumber`. Takes no memory.
+pub fn number_u64(word: &[u8]) -> Result<u64, WireFault>
+    ensures { result ≡ ok_or (number_of (2 ^ 64) word.now) WireFault.NotNumber }
+{
+    if word.is_empty() || word.len() > DIGIT_LIMIT {
+        return Err(WireFault::NotNumber);
+    }
+    let mut value = 0;
+    for byte in word {
+        let Some(more) = append_digit(value, *byte) else {
+            return Err(WireFault::NotNumber);
+        };
+        value = more;
+    }
+    Ok(value)
+}
+
+/// Reads a signed number of 64 bits: an optional `-` and 1 to `DIGIT_LIMIT` digits, leading zeros
+/// allowed. Any other word is `NotNumber`, and so is a number below -2^63 or above 2^63-1. Takes no
+/// memory.
+pub fn number_i64(word: &[u8]) -> Result<i64, WireFault>
+    ensures { result ≡ ok_or (integer_of word.now) WireFault.NotNumber }
+{
+    match behind_minus(word) {
+        Some(digits) => negative(number_u64(digits)?),
+        None => positive(number_u64(word)?),
+    }
+}
+
+/// The number whose digits are those of the value and then this one, where 64 bits have room.
+fn append_digit(value: u64, digit: u8) -> Option<u64>
+    ensures { result ≡ with_digit value digit }
+{
+    if !digit.is_ascii_digit() {
+        return None;
+    }
+    value.checked_mul(10)?.checked_add(u64::from(digit - b'0'))
+}
+
+/// What stands behind the minus that a word begins with.
+fn behind_minus(word: &[u8]) -> Option<&[u8]>
+    ensures { MatchOption result (starts_with_minus word.now ≡ false)
+        (λ rest. (starts_with_minus word.now ≡ true) × (rest.now ≡ drop 1 word.now)) }
+{
+    match word {
+        [b'-', rest @ ..] => Some(rest),
+        _ => None,
+    }
+}
+
+/// The number that lies so far below zero.
+fn negative(size: u64) -> Result<i64, WireFault>
+    ensures { result ≡ ok_or (spec.negative size) WireFault.NotNumber }
+{
+    0i64.checked_sub_unsigned(size).ok_or(WireFault::NotNumber)
+}
+
+/// The number that lies so far above zero.
+fn positive(size: u64) -> Result<i64, WireFault>
+    ensures { result ≡ ok_or (spec.positive size) WireFault.NotNumber }
+{
+    0i64.checked_add_unsigned(size).ok_or(WireFault::NotNumber)
+}
