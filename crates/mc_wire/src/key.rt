@@ -69,16 +69,17 @@ impl Eq for Key {
 }
 
 impl Hash for Key {
-    ghost use Rattle.std.proofs.Common.{rules};
-    ghost use Rattle.std.specs.Hash as fed;
-    ghost use Rattle.std.specs.Cmp.Rules.{hashing};
+    ghost use Rattle.std.specs.Prelude.{List, ℕ, [], ◌∷◌};
+    ghost use Rattle.std.specs.Hash.{same_Alike};
+    ghost use Rattle.std.specs.Cmp.Lexicographic.{bytes_decides};
 
-    ghost hash_input = { fed.slice fed.u8 };
+    // All bytes in one write: a hasher takes them by words.
+    ghost hash_input = { λ key. key ∷ [] };
 
-    ghost respects_eq = { Prim.search (hashing, rules) };
+    ghost respects_eq = { (same_Alike (λ key. key ∷ []) bytes_decides).fed };
 
     fn hash<H: Hasher>(&self, state: &mut H) {
-        self.bytes.hash(state);
+        state.write(&self.bytes);
     }
 }
 
