@@ -1,0 +1,71 @@
+-- What a client gets, by the definitions alone: the command table, the protocol's step and the texts of replies.
+use Rattle.std.specs.Prelude.{ℕ, List, map, Option, None}
+use Rattle.std.specs.FinMap.{get}
+use Rattle.std.specs.Option.{option_and_then}
+use Rattle.mc_command.specs.declared.command.Command.{Command}
+use Rattle.mc_command.specs.declared.command.Command.TheVariants as command
+use Rattle.mc_command.specs.declared.line.Line.{Line}
+use Rattle.mc_command.specs.declared.line.Line.TheVariants.{Whole, Data, Refused, Skip}
+use Rattle.mc_item.specs.declared.answer.Answer.TheVariants.{Stored, Number, Done, MetaDone}
+use Rattle.mc_item.specs.declared.op.Op.{Op}
+use Rattle.mc_item.specs.declared.op.Op.TheVariants as op
+use Rattle.mc_item.specs.Expiry.{expiry_of}
+use Rattle.mc_item.specs.Kind.{key_of}
+use Rattle.mc_reader.specs.Spelling.{line_says, block_entry}
+use Rattle.mc_server.specs.Alone.{Taken, alone}
+use Rattle.mc_split.specs.Pieces.{pieces_of}
+use Rattle.mc_split.specs.Text.{text_of}
+use Rattle.mc_store.specs.State.{State, Used}
+use Rattle.mc_store.specs.Step.{Outcome, fetch_step, store_step, storing, mode_of, compare_of, count_step, counting, delete_step, touch_step, flush_step, coming, meta_get_step, meta_delete_step}
+
+-- a line without its end, and the bytes behind it that belong to it
+pub record Sent : Type 0 where
+  pub line : List ℕ
+  pub behind : List ℕ
+
+-- what is spelled by a line of which the table says this, with the bytes behind it
+abbrev pub entry_of : Line → List ℕ → Command
+entry_of (Whole entry) behind = entry
+entry_of (Data asked count) behind = block_entry asked count behind
+entry_of (Refused refusal) behind = command.Refused refusal
+entry_of (Skip refusal count) behind = command.Refused refusal
+
+abbrev pub spelled : Sent → Command
+spelled sent = entry_of (line_says sent.line) sent.behind
+
+abbrev pub taken_at : ℕ → Sent → Taken
+taken_at moment sent = record { entry = spelled sent; moment = moment }
+
+-- the replies of a server of two shards, still empty, at the moment
+abbrev pub replies : ℕ → List Sent → List ℕ
+replies moment sent = alone 2 65536 (map (taken_at moment) sent)
+
+-- what a shard answers where this stands under the key, and its state then
+abbrev pub step_on : State → Op → Option Used → Outcome
+step_on state (op.Fetch key touch) found = fetch_step state key touch found
+step_on state (op.Store key mode flags exptime value) found =
+    store_step state key (storing (mode_of mode) (compare_of mode) flags exptime value) (λ done. Stored) found
+step_on state (op.Count key direction amount) found =
+    count_step state key (counting None direction amount None) (λ done. Number done.number) None found
+step_on state (op.Delete key) found = delete_step state key found
+step_on state (op.Touch key exptime) found = touch_step state key exptime found
+step_on state (op.Flush delay) found = (Done, flush_step state (coming (expiry_of delay state.time) state.time))
+step_on state (op.MetaGet key touch vivify recache) found = meta_get_step state key touch vivify recache found
+step_on state (op.MetaStore key mode compare flags exptime value) found =
+    store_step state key (storing mode compare flags exptime value) (λ done. MetaDone done) found
+step_on state (op.MetaDelete key compare invalidate exptime) found =
+    meta_delete_step state key compare invalidate exptime found
+step_on state (op.MetaCount key compare direction amount exptime vivify) found =
+    count_step state key (counting compare direction amount exptime) (λ done. MetaDone done) vivify found
+
+-- what stands under the key of an operation
+abbrev pub found_by : State → Op → Option Used
+found_by state op = option_and_then (λ key. get state.items key) (key_of op)
+
+-- the outcomes of a command's pieces where this stands under its key
+abbrev pub outcomes_on : State → Sent → Option Used → List Outcome
+outcomes_on state sent found = map (λ asked. step_on state asked.op found) (pieces_of state.shards (spelled sent))
+
+-- the reply to a command where this stands under its key
+abbrev pub reply_on : State → Sent → Option Used → List ℕ
+reply_on state sent found = text_of (spelled sent) (map (λ outcome. outcome.0) (outcomes_on state sent found))
