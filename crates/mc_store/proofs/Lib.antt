@@ -6,6 +6,7 @@ pub mod Gets
 pub mod Lists
 pub mod Outcomes
 pub mod Rows
+pub mod Runs
 pub mod Shards
 pub mod StepLaws
 pub mod Stores

@@ -1,14 +1,12 @@
 -- What follows from the step, whatever the operations and their moments.
-use Rattle.std.specs.Prelude.{ℕ, ◌≡◌, ◌+◌, ◌<◌, ◌⊎◌, true, max, min, List, [], ◌∷◌, Some, None}
+use Rattle.std.specs.Prelude.{ℕ, ◌≡◌, ◌+◌, ◌<◌, ◌⊎◌, true, max, min, List, Some, None}
 use Rattle.std.specs.FinMap.{get}
 use Rattle.mc_item.specs.declared.op.Op.{Op}
 use Rattle.mc_item.specs.declared.answer.Answer.{Answer}
 use Rattle.mc_item.specs.declared.answer.Answer.TheVariants.{NoMemory}
 use Rattle.mc_item.specs.Kind.{kind_of, key_of, is_lawful}
-use Rattle.mc_store.specs.declared.shard.Shard.{Shard}
 use Rattle.mc_store.specs.State.{Items, State, latest, next_unique}
 use Rattle.mc_store.specs.Step.{IsStep}
-use Rattle.mc_store.specs.Shard.{IsShard}
 
 -- The item under the key is as it was, or gone.
 abbrev pub Stays : Items → Items → List ℕ → Type 0
@@ -39,14 +37,3 @@ UniquesDiffer = (one other : State) → one.shards ≡ other.shards → one.inde
 -- The time never goes back, and stays at or below the latest one.
 abbrev pub TimeRises : Type 0
 TimeRises = (old new : State) (op : Op) (moment : ℕ) (answer : Answer) → IsStep old op moment answer new → new.time ≡ max old.time (min moment latest)
-
--- The answers of operations that were done one after another, each at its moment, and the state after them
-abbrev pub Runs : State → List (Op × ℕ) → List Answer → State → Type 0
-Runs old [] [] new = new ≡ old
-Runs old [] (answer ∷ answers) new = ⊥
-Runs old (asked ∷ rest) [] new = ⊥
-Runs old (asked ∷ rest) (answer ∷ answers) new = (next : State) × IsStep old asked.0 asked.1 answer next × Runs next rest answers new
-
--- From whatever state the shard showed, the answers are a run.
-abbrev pub RunsThrough : Shard → List (Op × ℕ) → List Answer → Shard → Type 0
-RunsThrough old asked answers new = (state : State) → IsShard old state → (after : State) × Runs state asked answers after × IsShard new after
