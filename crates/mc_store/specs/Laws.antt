@@ -1,18 +1,17 @@
 -- What follows from the step, whatever the operations and their moments.
-use Rattle.std.specs.Prelude.{ℕ, ◌≡◌, ◌+◌, ◌<◌, ◌⊎◌, true, max, min, List, [], ◌∷◌, Some, None}
-use Rattle.std.specs.FinMap.{get}
+use Rattle.std.specs.Prelude.{ℕ, ◌≡◌, ◌+◌, ◌<◌, ◌≤◌, ◌⊎◌, Bool, true, false, max, min, List, Option, Some, None}
+use Rattle.std.specs.Option.{option_map_or}
+use Rattle.std.specs.FinMap.{get, contains_key, len}
+use Rattle.mc_item.specs.declared.item.Item.{Item}
 use Rattle.mc_item.specs.declared.op.Op.{Op}
+use Rattle.mc_item.specs.declared.answer.Kind.{Kind}
+use Rattle.mc_item.specs.declared.answer.Kind.TheVariants as kind
 use Rattle.mc_item.specs.declared.answer.Answer.{Answer}
-use Rattle.mc_item.specs.declared.answer.Answer.TheVariants.{NoMemory}
+use Rattle.mc_item.specs.declared.answer.Answer.TheVariants.{NoMemory, MetaHit}
+use Rattle.mc_item.specs.declared.answer.MetaHit as hit
 use Rattle.mc_item.specs.Kind.{kind_of, key_of, is_lawful}
-use Rattle.mc_store.specs.declared.shard.Shard.{Shard}
-use Rattle.mc_store.specs.State.{Items, State, latest, next_unique}
+use Rattle.mc_store.specs.State.{Used, Items, State, latest, is_due, settle, is_least_used, next_unique}
 use Rattle.mc_store.specs.Step.{IsStep}
-use Rattle.mc_store.specs.Shard.{IsShard}
-
--- The item under the key is as it was, or gone.
-abbrev pub Stays : Items → Items → List ℕ → Type 0
-Stays old new key = (get new key ≡ get old key) ⊎ (get new key ≡ None)
 
 -- An answer is lawful for the kind of its operation.
 abbrev pub AnswersAreLawful : Type 0
@@ -23,9 +22,26 @@ abbrev pub StepsAgree : Type 0
 StepsAgree = (old one other : State) (op : Op) (moment : ℕ) (answer second : Answer) → IsStep old op moment answer one → IsStep old op moment second other →
     ¬ (answer ≡ NoMemory) → ¬ (second ≡ NoMemory) → (answer ≡ second) × (one ≡ other)
 
--- No operation changes an item under another key, but by eviction or a flush.
+-- Other items
+
+-- The item under the key is as it was, or it is gone and there is a reason for that.
+abbrev pub StaysUnless : Type 0 → Items → Items → List ℕ → Type 0
+StaysUnless reason old new key = (get new key ≡ get old key) ⊎ ((get new key ≡ None) × reason)
+
+-- A new key came into a full map, and no item was used longer ago than that under the other key.
+abbrev pub IsEvicted : State → Option (List ℕ) → List ℕ → Type 0
+IsEvicted settled key other = (new : List ℕ) × (key ≡ Some new) × (contains_key settled.items new ≡ false) × (settled.capacity ≤ len settled.items) × (is_least_used settled.items other ≡ true)
+
+-- A pending flush was due, or the operation is a flush.
+abbrev pub IsFlushed : State → Op → ℕ → Type 0
+IsFlushed old op moment = (is_due old.flush (max old.time (min moment latest)) ≡ true) ⊎ (kind_of op ≡ kind.Flush)
+
+-- No operation changes an item under another key, but by a flush or by eviction.
 abbrev pub OthersStay : Type 0
-OthersStay = (old new : State) (op : Op) (moment : ℕ) (answer : Answer) → IsStep old op moment answer new → (other : List ℕ) → ¬ (key_of op ≡ Some other) → Stays old.items new.items other
+OthersStay = (old new : State) (op : Op) (moment : ℕ) (answer : Answer) → IsStep old op moment answer new → (other : List ℕ) → ¬ (key_of op ≡ Some other) →
+    StaysUnless (IsFlushed old op moment ⊎ IsEvicted (settle old (key_of op) moment) (key_of op) other) old.items new.items other
+
+-- Uniques
 
 -- A step gives one unique or none, and those that a shard gives rise.
 abbrev pub UniquesRise : Type 0
@@ -36,17 +52,52 @@ abbrev pub UniquesDiffer : Type 0
 UniquesDiffer = (one other : State) → one.shards ≡ other.shards → one.index < one.shards → other.index < other.shards →
     next_unique one ≡ next_unique other → (one.index ≡ other.index) × (one.given ≡ other.given)
 
+-- the unique, the value and the flags are the same
+pub record SameStored (before after : Item) : Type 0 where
+  pub unique : after.unique ≡ before.unique
+  pub value : after.value ≡ before.value
+  pub flags : after.flags ≡ before.flags
+
+-- Such an item was there under the key.
+abbrev pub IsKept : Items → List ℕ → Item → Type 0
+IsKept old key item = (before : Used) × (get old key ≡ Some before) × SameStored before.item item
+
+-- Whatever a step changes in what an item stores, it gives the item the new unique.
+abbrev pub UniquesTell : Type 0
+UniquesTell = (old new : State) (op : Op) (moment : ℕ) (answer : Answer) → IsStep old op moment answer new → (key : List ℕ) (used : Used) → get new.items key ≡ Some used →
+    IsKept old.items key used.item ⊎ ((used.item.unique ≡ next_unique old) × (new.given ≡ old.given + 1))
+
+-- Time
+
 -- The time never goes back, and stays at or below the latest one.
 abbrev pub TimeRises : Type 0
 TimeRises = (old new : State) (op : Op) (moment : ℕ) (answer : Answer) → IsStep old op moment answer new → new.time ≡ max old.time (min moment latest)
 
--- The answers of operations that were done one after another, each at its moment, and the state after them
-abbrev pub Runs : State → List (Op × ℕ) → List Answer → State → Type 0
-Runs old [] [] new = new ≡ old
-Runs old [] (answer ∷ answers) new = ⊥
-Runs old (asked ∷ rest) [] new = ⊥
-Runs old (asked ∷ rest) (answer ∷ answers) new = (next : State) × IsStep old asked.0 asked.1 answer next × Runs next rest answers new
+-- Who is told to recompute
 
--- From whatever state the shard showed, the answers are a run.
-abbrev pub RunsThrough : Shard → List (Op × ℕ) → List Answer → Shard → Type 0
-RunsThrough old asked answers new = (state : State) → IsShard old state → (after : State) × Runs state asked answers after × IsShard new after
+-- whether there is an item under the key that some client was told to recompute
+abbrev pub is_sent : Items → List ℕ → Bool
+is_sent items key = option_map_or (λ used. used.item.sent) (get items key) false
+
+-- A hit with W is of an item that nobody was told to recompute, or that was made then; now a client is told.
+abbrev pub WinnersAreFirst : Type 0
+WinnersAreFirst = (old new : State) (op : Op) (moment : ℕ) (shown : hit.MetaHit) → IsStep old op moment (MetaHit shown) new → shown.marks.won ≡ true → (key : List ℕ) → key_of op ≡ Some key →
+    (is_sent (settle old (key_of op) moment).items key ≡ false) × (is_sent new.items key ≡ true)
+
+-- the kinds that take that mark away from the item that they store or mark stale
+abbrev pub may_clear_sent : Kind → Bool
+may_clear_sent kind.Store = true
+may_clear_sent kind.MetaStore = true
+may_clear_sent kind.MetaDelete = true
+may_clear_sent kind.Fetch = false
+may_clear_sent kind.Count = false
+may_clear_sent kind.Delete = false
+may_clear_sent kind.Touch = false
+may_clear_sent kind.Flush = false
+may_clear_sent kind.MetaGet = false
+may_clear_sent kind.MetaCount = false
+
+-- No other kind takes it away, but with the item.
+abbrev pub SentStays : Type 0
+SentStays = (old new : State) (op : Op) (moment : ℕ) (answer : Answer) → IsStep old op moment answer new → may_clear_sent (kind_of op) ≡ false → (key : List ℕ) →
+    is_sent (settle old (key_of op) moment).items key ≡ true → (get new.items key ≡ None) ⊎ (is_sent new.items key ≡ true)

@@ -1,5 +1,6 @@
 //! The laws of the step, for whoever reasons about runs of one shard or of several.
-ghost use Rattle.mc_store.specs.Laws.{AnswersAreLawful, StepsAgree, OthersStay, UniquesRise, UniquesDiffer, TimeRises};
+ghost use Rattle.mc_store.specs.Laws.{AnswersAreLawful, StepsAgree, OthersStay, UniquesRise, UniquesDiffer, UniquesTell, TimeRises, WinnersAreFirst, SentStays};
+ghost use Rattle.mc_store.specs.RunLaws.{RunsAreOrderly, RunsShareNoUnique, RunsLeaveOthers, SameUniqueSameItem, ToldAlone};
 
 /// Does nothing: its contract states what follows from the step, whatever the operations and their moments.
 pub fn every_step()
@@ -8,5 +9,17 @@ pub fn every_step()
     ensures others { OthersStay }
     ensures uniques_rise { UniquesRise }
     ensures uniques_differ { UniquesDiffer }
+    ensures uniques_tell { UniquesTell }
     ensures time { TimeRises }
+    ensures winners_are_first { WinnersAreFirst }
+    ensures sent_stays { SentStays }
+{}
+
+/// Does nothing: its contract states what follows of lists of operations.
+pub fn every_run()
+    ensures orderly { RunsAreOrderly }
+    ensures share_no_unique { RunsShareNoUnique }
+    ensures leave_others { RunsLeaveOthers }
+    ensures same_unique_same_item { SameUniqueSameItem }
+    ensures told_alone { ToldAlone }
 {}

@@ -12,6 +12,7 @@ ghost use Rattle.mc_store.specs.Rows.{expiry_from, done_of};
 mod counting;
 mod deleting;
 mod reading;
+mod running;
 mod storing;
 
 use crate::items::Items;

@@ -1,4 +1,4 @@
-use Rattle.mc_store.proofs.StepLaws.{answers_are_lawful, steps_agree, others_stay, uniques_rise, uniques_differ, time_rises}
+use Rattle.mc_store.proofs.StepLaws.{answers_are_lawful, steps_agree, others_stay, uniques_rise, uniques_differ, uniques_tell, time_rises, winners_are_first, sent_stays}
 use Rattle.mc_store.proofs.laws.every_step.Goals as goal
 
 pub returns : goal.returns
@@ -8,5 +8,8 @@ returns c = record {
   others = others_stay;
   uniques_rise = uniques_rise;
   uniques_differ = uniques_differ;
+  uniques_tell = uniques_tell;
   time = time_rises;
+  winners_are_first = winners_are_first;
+  sent_stays = sent_stays;
 }

@@ -1,0 +1,73 @@
+-- What follows of whole lists of operations, whatever they are and at whatever moments.
+use Rattle.std.specs.Prelude.{ℕ, ◌≡◌, ◌+◌, ◌<◌, ◌≤◌, ◌⊎◌, ◌&&◌, Bool, false, not, List, [], ◌∷◌, Option, Some, None, All, Contains, if◌then◌else◌}
+use Rattle.std.specs.FinMap.{get}
+use Rattle.mc_wire.specs.SameKey.{same_key}
+use Rattle.mc_item.specs.declared.answer.Answer.{Answer}
+use Rattle.mc_item.specs.declared.answer.Answer.TheVariants.{MetaHit}
+use Rattle.mc_item.specs.Kind.{key_of}
+use Rattle.mc_store.specs.declared.shard.Shard.{Shard}
+use Rattle.mc_store.specs.State.{Used, State, settle, next_unique}
+use Rattle.mc_store.specs.Shard.{IsShard}
+use Rattle.mc_store.specs.Runs.{Asked, Runs, last_of, uniques_of, IsOrderly}
+use Rattle.mc_store.specs.Laws.{is_sent}
+
+-- Every run from what a shard shows is orderly.
+abbrev pub RunsAreOrderly : Type 0
+RunsAreOrderly = (shard : Shard) (old : State) (asked : List Asked) (answers : List Answer) (states : List State) → IsShard shard old → Runs old asked answers states → IsOrderly old asked answers states
+
+-- Two shards of one number of shards give no unique both.
+abbrev pub RunsShareNoUnique : Type 0
+RunsShareNoUnique = (one other : State) (asked more : List Asked) (answers replies : List Answer) (states after : List State) →
+    Runs one asked answers states → Runs other more replies after → one.shards ≡ other.shards → one.index < one.shards → other.index < other.shards → ¬ (one.index ≡ other.index) →
+    (unique : ℕ) → Contains (uniques_of one states) unique → Contains (uniques_of other after) unique → ⊥
+
+-- Items
+
+-- An item whose key no operation names is at the end as it was, or gone.
+abbrev pub RunsLeaveOthers : Type 0
+RunsLeaveOthers = (old : State) (asked : List Asked) (answers : List Answer) (states : List State) → Runs old asked answers states →
+    (key : List ℕ) → All (λ (ask : Asked). ¬ (key_of ask.0 ≡ Some key)) asked → (get (last_of old states).items key ≡ get old.items key) ⊎ (get (last_of old states).items key ≡ None)
+
+-- Each item has a unique below the next one; of the empty state this is so.
+abbrev pub IsGiven : State → Type 0
+IsGiven state = (key : List ℕ) (used : Used) → get state.items key ≡ Some used → used.item.unique < next_unique state
+
+-- What cas rests on: an item that has its unique again, or still, has its value and its flags.
+abbrev pub SameUniqueSameItem : Type 0
+SameUniqueSameItem = (old : State) (asked : List Asked) (answers : List Answer) (states : List State) → Runs old asked answers states → 0 < old.shards → IsGiven old →
+    IsGiven (last_of old states) × ((key : List ℕ) (before after : Used) → get old.items key ≡ Some before → get (last_of old states).items key ≡ Some after →
+    after.item.unique ≡ before.item.unique → (after.item.value ≡ before.item.value) × (after.item.flags ≡ before.item.flags))
+
+-- Who is told to recompute
+
+abbrev pub one_if : Bool → ℕ
+one_if test = if test then 1 else 0
+
+-- whether the answer is a hit that tells its client to recompute
+abbrev pub is_telling : Answer → Bool
+is_telling (MetaHit hit) = hit.marks.won
+is_telling _ = false
+
+abbrev pub is_asked : Option (List ℕ) → List ℕ → Bool
+is_asked None key = false
+is_asked (Some asked) key = same_key asked key
+
+-- how many clients were told to recompute the item under the key
+abbrev pub told : List ℕ → List Asked → List Answer → ℕ
+told key [] answers = 0
+told key (ask ∷ rest) [] = 0
+told key (ask ∷ rest) (answer ∷ answers) = one_if (is_asked (key_of ask.0) key && is_telling answer) + told key rest answers
+
+-- how often the mark that a client was told went from the item under the key, alone or with the item: as the shard
+-- settled, or by the operation
+abbrev pub cleared : List ℕ → State → List Asked → List State → ℕ
+cleared key old [] states = 0
+cleared key old (ask ∷ rest) [] = 0
+cleared key old (ask ∷ rest) (new ∷ states) =
+    one_if (is_sent old.items key && not (is_sent (settle old (key_of ask.0) ask.1).items key))
+    + (one_if (is_sent (settle old (key_of ask.0) ask.1).items key && not (is_sent new.items key)) + cleared key new rest states)
+
+-- Whoever is told is told alone: one client at first, and one more each time that the mark went.
+abbrev pub ToldAlone : Type 0
+ToldAlone = (old : State) (asked : List Asked) (answers : List Answer) (states : List State) → Runs old asked answers states → (key : List ℕ) →
+    told key asked answers + one_if (is_sent old.items key) ≤ cleared key old asked states + one_if (is_sent (last_of old states).items key)
