@@ -5,8 +5,8 @@ use Rattle.mc_command.specs.declared.name.CommandName.{CommandName}
 use Rattle.mc_command.specs.declared.name.CommandName.TheVariants as name
 use Rattle.mc_command.specs.declared.refusal.Refusal.{Refusal}
 use Rattle.mc_command.specs.declared.refusal.Refusal.TheVariants.{TooLarge}
-use Rattle.mc_command.specs.declared.line.Line.TheVariants.{Data, Refused, Skip}
-use Rattle.mc_command.specs.Command.{can_give_up, is_memory}
+use Rattle.mc_command.specs.declared.line.Line.TheVariants.{Whole, Data, Refused, Skip}
+use Rattle.mc_command.specs.Command.{can_give_up, is_memory, is_memory_refusal}
 use Rattle.mc_command.specs.Line.{is_given_up}
 use Rattle.mc_command.specs.Blocks.{whole_line, block_line, MayBeGivenUp}
 use Rattle.mc_command.specs.Classic.{count_in, storage_words, cas_words, get_words, gat_words, delete_words, count_words, touch_words, flush_words, verbosity_words}
@@ -40,6 +40,12 @@ pub never_given_up : (words : List (List ℕ)) → is_given_up (line_of words) �
 unfolding line_of
 never_given_up [] = refl
 never_given_up (name ∷ words) = told_if_named (name_of name) words
+
+pub never_whole_memory : (words : List (List ℕ)) (asked : Command) → line_of words ≡ Whole asked → is_memory_refusal asked ≡ false
+never_whole_memory words asked is = sym (ap is_given_up is) ∙ never_given_up words
+
+pub never_data_memory : (words : List (List ℕ)) (asked : Command) (count : ℕ) → line_of words ≡ Data asked count → is_memory_refusal asked ≡ false
+never_data_memory words asked count is = sym (ap is_given_up is) ∙ never_given_up words
 
 pub never_refused_memory : (words : List (List ℕ)) (refusal : Refusal) → line_of words ≡ Refused refusal → is_memory refusal ≡ false
 never_refused_memory words refusal is = sym (ap is_given_up is) ∙ never_given_up words

@@ -8,11 +8,12 @@ use Rattle.mc_command.specs.declared.command.Command.TheVariants as command
 use Rattle.mc_command.specs.declared.command.StoreMode.{StoreMode}
 use Rattle.mc_command.specs.declared.command.StoreMode.TheVariants.{Set, Add, Replace, Append, Prepend, Cas}
 use Rattle.mc_command.specs.declared.command.Direction.TheVariants.{Increment, Decrement}
-use Rattle.mc_command.specs.declared.refusal.Refusal.TheVariants.{Unknown, BadFormat, BadKey, TooLarge}
+use Rattle.mc_command.specs.declared.refusal.Refusal.TheVariants.{Unknown, BadFormat, BadKey, InvalidFlag, TooLarge}
 use Rattle.mc_command.specs.declared.line.Line.{Line}
 use Rattle.mc_command.specs.declared.line.Line.TheVariants.{Whole, Data, Refused, Skip}
 use Rattle.mc_command.specs.Field.{is_key}
 use Rattle.mc_command.specs.Classic.{keys_of}
+use Rattle.mc_command.specs.Meta.{meta_line_of}
 use Rattle.mc_command.specs.Name.{name_of}
 use Rattle.mc_command.specs.Table.{line_of}
 
@@ -202,3 +203,75 @@ other_rows =
 other_rows_so : AreSo other_rows
 unfolding line_of words_of name_of is_key keys_of number_of
 other_rows_so = refl
+
+-- signs, leading zeros, and the most digits
+abbrev number_rows : Rows
+number_rows =
+    (codes "set a 00000000000000000007 -0 1", Data (stored a Set 7 (pos 0) false) 1)
+    ∷ (codes "set a 0 00000000000000000009 1", Data (stored a Set 0 (pos 9) false) 1)
+    ∷ (codes "set a 0 -00000000000000000009 1", Data (stored a Set 0 (negsuc 8) false) 1)
+    ∷ (codes "set a 000000000000000000007 0 1", Skip BadFormat 3)
+    ∷ (codes "set a 0 000000000000000000009 1", Skip BadFormat 3)
+    ∷ (codes "set a 0 -000000000000000000009 1", Skip BadFormat 3)
+    ∷ (codes "set a 0 +1 1", Skip BadFormat 3)
+    ∷ (codes "set a 0 --1 1", Skip BadFormat 3)
+    ∷ (codes "set a 0 0 +1", Refused BadFormat)
+    ∷ (codes "cas a 0 0 1 00000000000000000007", Data (stored a (Cas 7) 0 (pos 0) false) 1)
+    ∷ (codes "cas a 0 0 1 000000000000000000007", Skip BadFormat 3)
+    ∷ (codes "incr a 007", Whole (command.Count a Increment 7 false))
+    ∷ (codes "incr a 00000000000000000005", Whole (command.Count a Increment 5 false))
+    ∷ (codes "incr a 000000000000000000005", Refused BadFormat)
+    ∷ (codes "incr a +1", Refused BadFormat)
+    ∷ (codes "decr a 18446744073709551615 noreply", Whole (command.Count a Decrement 18446744073709551615 true))
+    ∷ (codes "decr a 18446744073709551616 noreply", Refused BadFormat)
+    ∷ (codes "touch a -00000000000000000001", Whole (command.Touch a (negsuc 0) false))
+    ∷ (codes "touch a -000000000000000000001", Refused BadFormat)
+    ∷ (codes "touch a 9223372036854775807", Whole (command.Touch a (pos 9223372036854775807) false))
+    ∷ (codes "touch a 9223372036854775808", Refused BadFormat)
+    ∷ (codes "touch a +1", Refused BadFormat)
+    ∷ (codes "gat -0 a", got (a ∷ []) (Some (pos 0)) false)
+    ∷ (codes "gats 18446744073709551615 a", Refused BadFormat)
+    ∷ (codes "flush_all -9223372036854775808", Whole (command.FlushAll (negsuc 9223372036854775807) false))
+    ∷ (codes "flush_all -9223372036854775809", Refused BadFormat)
+    ∷ (codes "verbosity 18446744073709551615", Whole (command.Verbosity false))
+    ∷ (codes "verbosity 18446744073709551616", Refused BadFormat)
+    ∷ (codes "verbosity -1", Refused BadFormat)
+    ∷ []
+
+number_rows_so : AreSo number_rows
+unfolding line_of words_of name_of is_key keys_of number_of
+number_rows_so = refl
+
+-- `noreply` is a key in the place of one, and a bad word in any other place but its own
+abbrev noreply_rows : Rows
+noreply_rows =
+    (codes "set a noreply 0 1", Skip BadFormat 3)
+    ∷ (codes "set a 0 noreply 1", Skip BadFormat 3)
+    ∷ (codes "set a 0 0 noreply", Refused BadFormat)
+    ∷ (codes "set a 0 0 noreply 1", Refused BadFormat)
+    ∷ (codes "set a 0 0 1 noreply noreply", Skip BadFormat 3)
+    ∷ (codes "set a 0 0 1 noreply1", Skip BadFormat 3)
+    ∷ (codes "cas a 0 0 1 noreply 7", Skip BadFormat 3)
+    ∷ (codes "cas noreply 0 0 1 7", Data (stored (codes "noreply") (Cas 7) 0 (pos 0) false) 1)
+    ∷ (codes "gets noreply noreply", got (codes "noreply" ∷ codes "noreply" ∷ []) None true)
+    ∷ (codes "gat noreply a", Refused BadFormat)
+    ∷ (codes "gat 0 noreply", got (codes "noreply" ∷ []) (Some (pos 0)) false)
+    ∷ (codes "delete noreply", Whole (command.Delete (codes "noreply") false))
+    ∷ (codes "incr noreply 1", Whole (command.Count (codes "noreply") Increment 1 false))
+    ∷ (codes "decr a noreply 1", Refused BadFormat)
+    ∷ (codes "touch a noreply", Refused BadFormat)
+    ∷ (codes "touch noreply 0 noreply", Whole (command.Touch (codes "noreply") (pos 0) true))
+    ∷ (codes "flush_all noreply 5", Refused BadFormat)
+    ∷ (codes "verbosity noreply noreply", Refused BadFormat)
+    ∷ (codes "version noreply", Whole command.Version)
+    ∷ (codes "quit noreply", Whole command.Quit)
+    ∷ (codes "mn noreply", Whole command.MetaNoop)
+    ∷ (codes "mg a noreply", Refused InvalidFlag)
+    ∷ (codes "ms a 2 noreply", Skip InvalidFlag 4)
+    ∷ (codes "md a noreply", Refused InvalidFlag)
+    ∷ (codes "ma a noreply", Refused InvalidFlag)
+    ∷ []
+
+noreply_rows_so : AreSo noreply_rows
+unfolding line_of words_of name_of is_key keys_of number_of meta_line_of
+noreply_rows_so = refl

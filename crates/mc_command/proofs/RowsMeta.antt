@@ -189,3 +189,29 @@ whole_arithmetic : map ma (codes "a N60 J007 D3 Md T-1 v t c C184467440737095516
     ∷ []
 unfolding meta_line_of words_of number_of is_key
 whole_arithmetic = refl
+
+-- any fault of a flag before a bad key, and that before all that is told by the flags together or the count
+flags_before_keys :
+    map mg ((97 ∷ 127 ∷ codes " Tx") ∷ (97 ∷ 127 ∷ codes " O" ++ replicate 33 120) ∷ codes "YR== b b" ∷ codes "YR== b ?" ∷ [])
+    ++ map ms ((97 ∷ 127 ∷ codes " 2 C1 MA") ∷ (97 ∷ 127 ∷ codes " x C1 MA") ∷ codes "YR== 2 b b" ∷ codes "YR== x b ?" ∷ codes "YR== 1048577 b" ∷ codes "YR== 4294967296 b" ∷ [])
+    ≡ Refused BadFormat ∷ Refused OpaqueTooLong ∷ Refused DuplicateFlag ∷ Refused InvalidFlag
+    ∷ Skip BadKey 4 ∷ Refused BadKey ∷ Skip DuplicateFlag 4 ∷ Refused InvalidFlag ∷ Skip BadKey 1048579 ∷ Refused BadKey ∷ []
+unfolding meta_line_of words_of number_of is_key decoded_key base64_bytes base64_on_literals
+flags_before_keys = refl
+
+-- the ends of the ranges of tokens, signs, and the most digits
+widest_tokens : map ma (codes "a D18446744073709551615 J00000000000000000007 N-9223372036854775808 T-0" ∷ [])
+    ≡ Whole (MetaArithmetic (record { key = codes "a"; flags = no_flags; value = false; compare = None; direction = Increment; amount = 18446744073709551615; initial = 7; vivify = Some (negsuc 9223372036854775807); exptime = Some (pos 0) })) ∷ []
+unfolding meta_line_of words_of number_of is_key
+widest_tokens = refl
+
+too_wide_tokens : map ma (codes "a D18446744073709551616" ∷ codes "a J18446744073709551616" ∷ codes "a J000000000000000000007" ∷ codes "a D+1" ∷ codes "a N+1" ∷ codes "a T--1" ∷ codes "a T-" ∷ [])
+    ≡ replicate 7 (Refused BadFormat)
+unfolding meta_line_of words_of number_of
+too_wide_tokens = refl
+
+-- 186 bytes are the most that a word of base64 gives
+longest_base64 : md (replicate 248 65 ++ codes " b")
+    ≡ Whole (MetaDelete (record { key = replicate 186 0; flags = record { base64 = true; quiet = false; returned = []; opaque = [] }; compare = None; invalidate = false; exptime = None }))
+unfolding meta_line_of words_of decoded_key base64_bytes base64_on_literals
+longest_base64 = refl

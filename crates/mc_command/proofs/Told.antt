@@ -5,7 +5,8 @@ use Rattle.mc_command.specs.declared.refusal.Refusal.{Refusal}
 use Rattle.mc_command.specs.declared.refusal.Refusal.TheVariants.{Unknown, BadFormat, BadKey, InvalidFlag, DuplicateFlag, OpaqueTooLong, TooLarge, BadChunk, LineTooLong, Memory}
 use Rattle.mc_command.specs.declared.line.Line.{Line}
 use Rattle.mc_command.specs.declared.line.Line.TheVariants.{Whole, Data, Refused, Skip}
-use Rattle.mc_command.specs.Command.{is_memory, refusal_takes_memory}
+use Rattle.mc_command.specs.declared.command.Command.TheVariants as command
+use Rattle.mc_command.specs.Command.{can_give_up, is_memory, is_memory_refusal, refusal_takes_memory}
 use Rattle.mc_command.specs.Line.{Says, bytes_behind, is_given_up}
 use Rattle.mc_command.specs.Field.{then_of}
 use Rattle.mc_command.specs.Blocks.{whole_line, block_line, bytes_with, MayBeGivenUp}
@@ -14,7 +15,7 @@ use Rattle.mc_command.proofs.Lines.{Yields, yields_number, yields_noreply}
 
 -- no want of memory
 abbrev pub Told : Result Command Refusal → Type 0
-Told (Ok command) = Unit {0}
+Told (Ok command) = is_memory_refusal command ≡ false
 Told (Err refusal) = is_memory refusal ≡ false
 
 no_memory : (refusal : Refusal) → IsTrue (refusal_takes_memory refusal) → is_memory refusal ≡ false
@@ -29,9 +30,26 @@ no_memory TooLarge takes = refl
 no_memory BadChunk takes = refl
 no_memory LineTooLong takes = refl
 
+no_memory_command : (asked : Command) → IsTrue (can_give_up asked) → is_memory_refusal asked ≡ false
+no_memory_command (command.Refused refusal) may = no_memory refusal may
+no_memory_command (command.Store storage) may = refl
+no_memory_command (command.Get retrieval) may = refl
+no_memory_command (command.Delete key noreply) may = refl
+no_memory_command (command.Count key direction amount noreply) may = refl
+no_memory_command (command.Touch key exptime noreply) may = refl
+no_memory_command (command.FlushAll delay noreply) may = refl
+no_memory_command command.Version may = refl
+no_memory_command (command.Verbosity noreply) may = refl
+no_memory_command command.Quit may = refl
+no_memory_command command.MetaNoop may = refl
+no_memory_command (command.MetaGet get) may = refl
+no_memory_command (command.MetaSet set) may = refl
+no_memory_command (command.MetaDelete delete) may = refl
+no_memory_command (command.MetaArithmetic arithmetic) may = refl
+
 -- what may be given up is no want of memory itself
 pub told_may : (asked : Result Command Refusal) → MayBeGivenUp asked → Told asked
-told_may (Ok command) may = tt
+told_may (Ok command) may = no_memory_command command may
 told_may (Err refusal) may = no_memory refusal may
 
 pub told_then : {A : Type 0} (read : Result A Refusal) (rest : A → Result Command Refusal) → Yields read → ((value : A) → Told (rest value)) → Told (then_of read rest)
@@ -39,21 +57,21 @@ told_then (Ok value) rest yields told = told value
 told_then (Err refusal) rest yields told = no_memory refusal yields
 
 pub told_whole : (asked : Result Command Refusal) → Told asked → is_given_up (whole_line asked) ≡ false
-told_whole (Ok command) told = refl
+told_whole (Ok command) told = told
 told_whole (Err refusal) told = told
 
-told_sized : (large : Bool) (command : Command) (count : ℕ) → is_given_up (cond large (Skip TooLarge (count + 2)) (Data command count)) ≡ false
-told_sized true command count = refl
-told_sized false command count = refl
+told_sized : (large : Bool) (command : Command) (count : ℕ) → is_memory_refusal command ≡ false → is_given_up (cond large (Skip TooLarge (count + 2)) (Data command count)) ≡ false
+told_sized true command count told = refl
+told_sized false command count told = told
 
 pub told_block : (count : Option ℕ) (asked : Result Command Refusal) → Told asked → is_given_up (block_line count asked) ≡ false
-told_block (Some count) (Ok command) told = told_sized (nat_lt 1048576 count) command count
+told_block (Some count) (Ok command) told = told_sized (nat_lt 1048576 count) command count told
 told_block (Some count) (Err refusal) told = told
 told_block None (Ok command) told = refl
 told_block None (Err refusal) told = told
 
 verbosity_of_told : (level : List ℕ) (noreply : Option (List ℕ)) → Told (verbosity_of level noreply)
-verbosity_of_told level noreply = told_then _ _ (yields_number (2 ^ 64) level) (λ l. told_then _ _ (yields_noreply noreply) (λ n. tt))
+verbosity_of_told level noreply = told_then _ _ (yields_number (2 ^ 64) level) (λ l. told_then _ _ (yields_noreply noreply) (λ n. refl))
 
 pub verbosity_told : (words : List (List ℕ)) → Told (verbosity_words words)
 verbosity_told (level ∷ []) = verbosity_of_told level None

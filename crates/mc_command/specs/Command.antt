@@ -37,6 +37,24 @@ is_memory TooLarge = false
 is_memory BadChunk = false
 is_memory LineTooLong = false
 
+-- A command is the refusal for want of memory.
+abbrev pub is_memory_refusal : Command → Bool
+is_memory_refusal (Refused refusal) = is_memory refusal
+is_memory_refusal (Store storage) = false
+is_memory_refusal (Get retrieval) = false
+is_memory_refusal (Delete key noreply) = false
+is_memory_refusal (Count key direction amount noreply) = false
+is_memory_refusal (Touch key exptime noreply) = false
+is_memory_refusal (FlushAll delay noreply) = false
+is_memory_refusal Version = false
+is_memory_refusal (Verbosity noreply) = false
+is_memory_refusal Quit = false
+is_memory_refusal MetaNoop = false
+is_memory_refusal (command.MetaGet get) = false
+is_memory_refusal (command.MetaSet set) = false
+is_memory_refusal (command.MetaDelete delete) = false
+is_memory_refusal (command.MetaArithmetic arithmetic) = false
+
 -- Reading these lines may take memory before the fault is found.
 abbrev pub refusal_takes_memory : Refusal → Bool
 refusal_takes_memory BadFormat = true

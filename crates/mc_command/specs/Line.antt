@@ -2,7 +2,7 @@
 use Rattle.std.specs.Prelude.{ℕ, ◌≡◌, ◌+◌, Bool, false, IsTrue, MatchBool}
 use Rattle.mc_command.specs.declared.line.Line.{Line}
 use Rattle.mc_command.specs.declared.line.Line.TheVariants.{Whole, Data, Refused, Skip}
-use Rattle.mc_command.specs.Command.{can_give_up, is_memory, refusal_takes_memory}
+use Rattle.mc_command.specs.Command.{can_give_up, is_memory, is_memory_refusal, refusal_takes_memory}
 
 -- A line without a block may be given up.
 abbrev pub CanGiveUpLine : Line → Type 0
@@ -32,9 +32,9 @@ bytes_behind (Data command count) = count + 2
 bytes_behind (Refused refusal) = 0
 bytes_behind (Skip refusal count) = count
 
--- the refusal for want of memory, which no table gives
+-- whether a line is the refusal for want of memory, in any of its forms
 abbrev pub is_given_up : Line → Bool
-is_given_up (Whole command) = false
-is_given_up (Data command count) = false
+is_given_up (Whole command) = is_memory_refusal command
+is_given_up (Data command count) = is_memory_refusal command
 is_given_up (Refused refusal) = is_memory refusal
 is_given_up (Skip refusal count) = is_memory refusal
