@@ -4,3 +4,4 @@ pub mod Lines
 pub mod Machine
 pub mod States
 pub mod Readers
+mod Rows
