@@ -1,6 +1,6 @@
 -- A line whose commands were all done, with no memory wanting, took what it would take alone.
-use Rattle.std.proofs.Common.{◌≡◌, ℕ, ◌+◌, ◌<◌, Bool, true, false, cond, List, [], ◌∷◌, ◌++◌, length, map, filter, ◌==◌, ◌≢◌, refl, ap, ◌∙◌, eq-eqb, inl, inr, arith}
-use Rattle.std.specs.List.{AllByRecursion, flat_map}
+use Rattle.std.proofs.Common.{◌≡◌, ℕ, ◌+◌, ◌<◌, true, List, [], ◌∷◌, ◌++◌, length, map, ◌==◌, ◌≢◌, refl, ap, ◌∙◌, eq-eqb, inl, inr, arith}
+use Rattle.std.specs.List.{AllByRecursion}
 use Rattle.std.proofs.lemmas.Bool.{cases_Bool, eqb-true}
 use Rattle.mc_command.specs.declared.command.Command.{Command}
 use Rattle.mc_item.specs.declared.op.Op.{Op}
@@ -10,10 +10,10 @@ use Rattle.mc_split.specs.declared.plan.Ticket.{Ticket}
 use Rattle.mc_split.specs.Pieces.{Asked, pieces_of}
 use Rattle.mc_split.specs.Plan.{parts_from}
 use Rattle.mc_split.specs.Text.{text_of}
-use Rattle.mc_store.specs.State.{State, empty_state}
+use Rattle.mc_store.specs.State.{State}
 use Rattle.mc_store.specs.Step.{Outcome, IsStep, Answers}
-use Rattle.mc_server.specs.History.{Done, texts_of, text_done, IsAnswered}
-use Rattle.mc_server.specs.Log.{Ran, Run, ran, ran_by, ran_done, log_from, on_shard, IsLawful}
+use Rattle.mc_server.specs.History.{Done, texts_of, IsAnswered}
+use Rattle.mc_server.specs.Log.{Ran, Run, ran, ran_by, log_from, on_shard, IsLawful}
 use Rattle.mc_server.specs.Alone.{States, with_state, outcome_at, ended, taken_of, alone_from, alone, empty_states, HadMemory}
 
 -- a step that didn't want memory is determined

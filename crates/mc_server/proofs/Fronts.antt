@@ -1,8 +1,8 @@
 -- What the front of a stream spells, when more bytes come.
-use Rattle.std.proofs.Common.{◌≡◌, ℕ, ◌+◌, ◌<◌, ◌≤◌, ◌^◌, Bool, true, false, ◌||◌, ◌==◌, List, [], ◌∷◌, ◌++◌, length, MatchBool, refl, sym, ap, ◌∙◌, arith, append_assoc, suc, lit<}
+use Rattle.std.proofs.Common.{◌≡◌, ℕ, ◌+◌, ◌<◌, ◌≤◌, ◌^◌, Bool, true, false, ◌||◌, ◌==◌, List, [], ◌∷◌, ◌++◌, length, MatchBool, refl, ap, ◌∙◌, arith, append_assoc, suc, lit<}
 use Rattle.std.proofs.lemmas.Bool.{eqb-false}
 use Rattle.mc_command.specs.declared.command.Command.{Command}
-use Rattle.mc_reader.specs.Spelling.{SpellsFront, BeginCommands, AreCommands, SpellsNothing, is_last, is_closed, closes, most_commands}
+use Rattle.mc_reader.specs.Spelling.{SpellsFront, BeginCommands, AreCommands, is_last, is_closed, closes}
 
 match_bool : {P Q R S : Type 0} (b : Bool) → (P → R) → (Q → S) → MatchBool b P Q → MatchBool b R S
 match_bool true f g h = f h

@@ -1,5 +1,5 @@
 -- Bytes that are held back go out, one part after another.
-use Rattle.std.proofs.Common.{◌≡◌, ℕ, ◌+◌, ◌≤◌, List, [], ◌∷◌, ◌++◌, length, take, drop, Option, refl, sym, ap, ◌∙◌, arith, append-nil, length-append, length-drop}
+use Rattle.std.proofs.Common.{◌≡◌, ℕ, ◌+◌, ◌≤◌, List, [], ◌∷◌, ◌++◌, length, take, drop, Option, refl, sym, ap, ◌∙◌, arith, length-drop}
 use Rattle.std.proofs.lemmas.List.{take-append-drop, drop-drop, drop-append-le}
 use Rattle.mc_wire.specs.Outlet.{with_bytes}
 use Rattle.mc_wire.proofs.Outlets.{with_bytes-append, with_bytes-nil}

@@ -1,11 +1,11 @@
 -- A history that grows at its end.
-use Rattle.std.proofs.Common.{◌≡◌, ℕ, suc, ◌+◌, List, [], ◌∷◌, ◌++◌, length, map, refl, sym, ap, ◌∙◌, arith, append_assoc, append-nil, zero-add, add-zero}
-use Rattle.std.specs.List.{flat_map, AllByRecursion}
+use Rattle.std.proofs.Common.{◌≡◌, ℕ, suc, ◌+◌, List, [], ◌∷◌, ◌++◌, length, refl, sym, ap, ◌∙◌, arith, append_assoc, append-nil, zero-add, add-zero}
+use Rattle.std.specs.List.{AllByRecursion}
 use Rattle.std.proofs.lemmas.Grind.{flat_map-append}
 use Rattle.mc_reader.specs.Spelling.{Given}
 use Rattle.mc_reader.specs.Reader as reader
 use Rattle.mc_server.specs.History.{Done, entries_of, text_done, texts_of}
-use Rattle.mc_server.specs.Log.{Ran, log_from, log_of, ran_done}
+use Rattle.mc_server.specs.Log.{log_from, log_of, ran_done}
 
 pub entries_of-push : (history : List Done) (done : Done) → entries_of (history ++ done ∷ []) ≡ entries_of history ++ done.entry ∷ []
 entries_of-push [] done = refl

@@ -1,12 +1,12 @@
 -- A log that grows at its end.
-use Rattle.std.proofs.Common.{◌≡◌, ℕ, Bool, true, false, cond, List, [], ◌∷◌, ◌++◌, filter, ◌==◌, refl, sym, ap, ◌∙◌, append-nil, append_assoc, zero, suc, ◌<◌, length, set, Option, Some, None, arith, inl, inr}
+use Rattle.std.proofs.Common.{◌≡◌, ℕ, cond, List, [], ◌∷◌, ◌++◌, ◌==◌, refl, sym, ap, ◌∙◌, append-nil, append_assoc, zero, suc, ◌<◌, length, set, Some, arith, inl, inr}
 use Rattle.std.specs.List.{slice_get}
 use Rattle.std.proofs.lemmas.Bool.{cases_Bool, eqb-true, eqb-false}
 use Rattle.std.proofs.lemmas.List.Elements.{filter-append}
 use Rattle.mc_store.specs.declared.shard.Shard.{Shard}
 use Rattle.mc_store.specs.State.{State, empty_state}
 use Rattle.mc_store.specs.Step.{IsStep}
-use Rattle.mc_store.specs.Shard.{IsShard, Steps}
+use Rattle.mc_store.specs.Shard.{Steps}
 use Rattle.mc_server.specs.Log.{Ran, Run, on_shard, IsLawful}
 use Rattle.mc_server.specs.Backs.{Backs, Does}
 

@@ -1,5 +1,5 @@
 -- Shards that have done nothing yet.
-use Rattle.std.proofs.Common.{◌≡◌, ℕ, zero, suc, ◌⊎◌, inl, inr, List, [], ◌∷◌, ◌++◌, length, Option, Some, None, refl, sym, ap, arith}
+use Rattle.std.proofs.Common.{◌≡◌, ℕ, zero, suc, ◌⊎◌, inl, inr, List, [], ◌∷◌, ◌++◌, length, Some, refl, ap}
 use Rattle.std.specs.List.{slice_get}
 use Rattle.mc_store.specs.declared.shard.Shard.{Shard}
 use Rattle.mc_store.specs.State.{empty_state}

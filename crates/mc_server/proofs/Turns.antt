@@ -1,6 +1,5 @@
 -- The steps of a service, over plain data.
-use Rattle.std.proofs.Common.{◌≡◌, ℕ, ◌+◌, ◌-◌, ◌^◌, ◌<◌, ◌≤◌, min, Bool, true, false, ◌⊎◌, inl, inr, List, [], ◌∷◌, ◌++◌, length, take, drop, map, Option, Result, Ok, Err, IsTrue, refl, sym, ap, subst, ◌∙◌, arith, append_assoc, append-nil, length-append, ◌==◌}
-use Rattle.std.specs.List.{AllByRecursion}
+use Rattle.std.proofs.Common.{◌≡◌, ℕ, ◌+◌, ◌-◌, ◌^◌, ◌<◌, min, Bool, true, false, ◌⊎◌, inl, inr, List, [], ◌∷◌, ◌++◌, length, take, drop, Option, Result, Ok, Err, IsTrue, refl, sym, ap, subst, ◌∙◌, arith, append_assoc, append-nil, length-append, ◌==◌}
 use Rattle.std.proofs.lemmas.List.{take-append-drop}
 use Rattle.std.proofs.lemmas.Bool.{eqb-true}
 use Rattle.mc_wire.specs.Outlet.{Input, with_bytes, TookFront}
@@ -17,9 +16,9 @@ use Rattle.mc_server.specs.declared.serve.Service.{Service}
 use Rattle.mc_server.specs.Lines.{Gave, Sight}
 use Rattle.mc_server.specs.History.{Done, entries_of, text_done, texts_of, IsAnswered}
 use Rattle.mc_server.specs.Log.{Ran, log_of, ran_done}
-use Rattle.mc_server.specs.Explains.{Covers, Explains, IsExplained}
+use Rattle.mc_server.specs.Explains.{IsExplained}
 use Rattle.mc_server.specs.Backs.{Backs, DoesCommand, WriteSays}
-use Rattle.mc_server.specs.Stands.{Story, Stands, ReadSays, HasMoments}
+use Rattle.mc_server.specs.Stands.{Story, Stands, HasMoments}
 use Rattle.mc_split.proofs.Shards.{pieces_within}
 use Rattle.mc_server.proofs.Alone.{texts_alone}
 use Rattle.mc_server.proofs.Logs.{lawful}

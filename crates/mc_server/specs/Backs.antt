@@ -1,5 +1,5 @@
 -- What the shards have done, as the steps of one command are stated.
-use Rattle.std.specs.Prelude.{ℕ, ◌≡◌, ◌+◌, ◌<◌, List, [], ◌∷◌, ◌++◌, length, Option, Some, Result, Ok, Err}
+use Rattle.std.specs.Prelude.{ℕ, ◌≡◌, ◌+◌, ◌<◌, List, [], ◌∷◌, ◌++◌, Option, Some, Result, Ok, Err}
 use Rattle.std.specs.List.{slice_get}
 use Rattle.mc_wire.specs.Outlet.{with_bytes, TookFront}
 use Rattle.mc_wire.specs.declared.fault.OutFault.{OutFault}

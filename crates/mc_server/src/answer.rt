@@ -4,12 +4,11 @@ ghost use Rattle.mc_wire.specs.declared.fault.OutFault.{OutFault};
 ghost use Rattle.mc_item.specs.declared.answer.Answer.{Answer};
 ghost use Rattle.mc_reader.specs.Spelling.{Given};
 ghost use Rattle.mc_reader.specs.Reader.{IsGiven};
-ghost use Rattle.mc_server.specs.History as spec;
 ghost use Rattle.mc_server.specs.History.{Done, text_done};
 ghost use Rattle.mc_server.specs.Log.{ran_by};
 ghost use Rattle.mc_server.specs.Backs.{ArePlanned, Does, DoesCommand, WriteSays};
 
-use mc_command::{Command, Refusal};
+use mc_command::Command;
 use mc_join::put_reply;
 use mc_split::{Form, Piece, Plan, Ticket, split};
 use mc_store::Shard;
@@ -43,18 +42,8 @@ fn run_pieces(
     }
 }
 
-/// Whether it is the refusal that the reader gives where it found no memory for a command.
-fn is_memory_refusal(command: &Command) -> bool
-    ensures { result ≡ spec.is_memory_refusal command.now }
-{
-    match command {
-        Command::Refused(refusal) => *refusal == Refusal::Memory,
-        _ => false,
-    }
-}
-
-/// Does what a command asks, at the moment, and writes its reply. Where there is no memory for its plan, or
-/// it is the reader's refusal for want of memory, it is given up.
+/// Does what a command asks, at the moment, and writes its reply. Where there is no memory for its plan, it is
+/// given up.
 pub(crate) fn serve_command<O: Outlet>(
     alloc: Global,
     shards: &mut Vec<Shard>,
@@ -72,9 +61,6 @@ pub(crate) fn serve_command<O: Outlet>(
         (done : Done) × DoesCommand (length shards.old.items) ticket.0 moment one shards.old.items shards.new.items done
         × WriteSays result (O.taken out.old) (O.taken out.new) (text_done done) }
 {
-    if is_memory_refusal(&command) {
-        return put_all(out, MEMORY_LINE);
-    }
     let Ok(plan) = split(alloc, command, ticket, moment, shards.len()) else {
         return put_all(out, MEMORY_LINE);
     };

@@ -1,8 +1,8 @@
-use Rattle.std.proofs.Common.{◌≡◌, length, sym, ◌∙◌, arith, inl, inr}
+use Rattle.std.proofs.Common.{◌≡◌, length, ◌∙◌, arith}
 use Rattle.mc_split.specs.Pieces.{pieces_of}
 use Rattle.mc_server.proofs.Pieces.{planned_from, blanks_from}
-use Rattle.mc_server.specs.History.{memory_line}
-use Rattle.mc_server.proofs.Commands.{may_give_up, gives_up, serves, write_says, reply_says}
+use Rattle.mc_split.specs.Text.{memory_line}
+use Rattle.mc_server.proofs.Commands.{gives_up, serves, write_says, reply_says}
 use Rattle.mc_server.proofs.answer.serve_command.Goals as goal
 
 pub returns-clause-served : goal.returns-clause-served
@@ -11,7 +11,7 @@ returns-clause-served g c = λ one given.
     let count : c.len.result ≡ length c.args.shards.now.items = omega (arith, c.len.ensures) in
     let ran = c.run_pieces.ensures.ran in
     let served = serves (length c.args.shards.now.items) c.args.command c.args.ticket c.args.moment one c.args.shards.now.items c.run_pieces.new.shards.items c.in-Ok.plan.form c.run_pieces.new.form c.in-Ok.plan.pieces.items
-    given (sym c.if-is_memory_refusal.ensures) c.in-Ok.ensures.shape (rw count at c.in-Ok.ensures.pieces) (record { answers = ran.0; same = ran.1; form_is = ran.2; does = ran.3 }) in
+    given c.in-Ok.ensures.shape (rw count at c.in-Ok.ensures.pieces) (record { answers = ran.0; same = ran.1; form_is = ran.2; does = ran.3 }) in
     (served.done, served.does, rw served.text_is (reply_says c.put_reply.result _ _ c.run_pieces.new.form served.done.answers served.slots c.put_reply.ensures.ok c.put_reply.ensures.err))
 
 pub run_pieces-requires-clause-planned : goal.run_pieces-requires-clause-planned
@@ -24,12 +24,7 @@ pub run_pieces-requires-clause-slots : goal.run_pieces-requires-clause-slots
 run_pieces-requires-clause-slots g c =
     c.in-Ok.ensures.slots ∙ (rw (c.in-Ok.ensures.pieces) (blanks_from 0 c.args.ticket c.args.moment (pieces_of c.len.result c.args.command)))
 
-pub returns-then-is_memory_refusal-clause-served : goal.returns-then-is_memory_refusal-clause-served
-returns-then-is_memory_refusal-clause-served g c = λ one given.
-    let up = gives_up (length c.args.shards.now.items) c.args.ticket.0 c.args.moment one c.args.shards.now.items (may_give_up c.args.command one given (inr (sym c.if-is_memory_refusal.ensures))) in
-    (up.done, up.does, rw up.text_is (write_says c.put_all.result _ _ memory_line c.put_all.ensures.ok c.put_all.ensures.err))
-
 pub returns-in_default-clause-served : goal.returns-in_default-clause-served
 returns-in_default-clause-served g c = λ one given.
-    let up = gives_up (length c.args.shards.now.items) c.args.ticket.0 c.args.moment one c.args.shards.now.items (may_give_up c.args.command one given (inl c.in_default.ensures.gives_up)) in
-    (up.done, up.does, rw up.text_is (write_says c.put_all-in_default.result _ _ memory_line c.put_all-in_default.ensures.ok c.put_all-in_default.ensures.err))
+    let up = gives_up (length c.args.shards.now.items) c.args.ticket.0 c.args.moment c.args.command one c.args.shards.now.items given c.in_default.ensures.gives_up in
+    (up.done, up.does, rw up.text_is (write_says c.put_all.result _ _ memory_line c.put_all.ensures.ok c.put_all.ensures.err))

@@ -1,4 +1,4 @@
-use Rattle.std.proofs.Common.{◌≡◌, ◌+◌, ◌∷◌, [], refl, ap, length, length-append, arith}
+use Rattle.std.proofs.Common.{◌≡◌, ◌+◌, ◌∷◌, [], ap, length, length-append, arith}
 use Rattle.mc_server.proofs.Shards.{Backs-none, Backs-new}
 use Rattle.mc_server.proofs.serve.make_shards.Goals as goal
 

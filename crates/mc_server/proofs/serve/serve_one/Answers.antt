@@ -1,4 +1,4 @@
-use Rattle.std.proofs.Common.{arith, refl, ◌<◌, length}
+use Rattle.std.proofs.Common.{refl, ◌<◌, length}
 use Rattle.mc_server.specs.Lines.{Sight}
 use Rattle.mc_server.proofs.Turns.{no_story, starts}
 use Rattle.mc_server.proofs.serve.serve_one.Goals as goal

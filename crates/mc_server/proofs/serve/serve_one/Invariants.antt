@@ -1,4 +1,4 @@
-use Rattle.std.proofs.Common.{◌<◌, ◌≡◌, length}
+use Rattle.std.proofs.Common.{◌<◌, length}
 use Rattle.mc_server.specs.Stands.{Story, Stands, HasMoments}
 use Rattle.mc_server.proofs.serve.serve_one.Given as goal
 

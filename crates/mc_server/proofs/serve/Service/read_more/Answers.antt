@@ -1,6 +1,6 @@
-use Rattle.std.proofs.Common.{◌≡◌, [], true, sym, ◌∙◌}
+use Rattle.std.proofs.Common.{sym, ◌∙◌}
 use Rattle.mc_server.specs.Lines.{Sight}
-use Rattle.mc_server.proofs.Turns.{refills, ends, fails, empty_is}
+use Rattle.mc_server.proofs.Turns.{refills, ends, empty_is}
 use Rattle.mc_server.proofs.serve.Service.read_more.Goals as goal
 
 pub returns-then-not-is_empty-clause-says : goal.returns-then-not-is_empty-clause-says
