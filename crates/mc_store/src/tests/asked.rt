@@ -1,0 +1,143 @@
+//! What a row of a test asks of a shard, as plain data.
+use mc_command::{Direction, MetaMode, StoreMode};
+use mc_item::{Op, Value, Vivify};
+use mc_wire::{Key, WireFault};
+use std::alloc::{AllocError, Global};
+
+/// What is asked of the item under a key.
+#[derive(Clone, Copy)]
+pub enum Ask {
+    /// `set` for good.
+    Set(&'static str),
+    /// `set` with an exptime.
+    SetFor(i64, &'static str),
+    /// `set` with the flags 3 and the exptime 30.
+    Flagged(&'static str),
+    /// `set` of so many bytes `x`.
+    Long(usize),
+    Put(StoreMode, &'static str),
+    Get,
+    Gat(i64),
+    Count(Direction, u64),
+    Delete,
+    Touch(i64),
+    /// Of the whole shard, whatever the key.
+    Flush(i64),
+    /// `mg`, with its flags `T`, `N` and `R`.
+    Mg(Option<i64>, Option<i64>, Option<i64>),
+    /// `ms` with the flags 9 and the exptime 99, with its flag `C`.
+    Ms(MetaMode, Option<u64>, &'static str),
+    /// `md`, with its flag `C`, and whether `I` stands.
+    Md(Option<u64>, bool),
+    /// `ma` that adds, with its flags `C`, `D`, and `N` with `J`.
+    Ma(Option<u64>, u64, Option<Vivify>),
+}
+
+/// A moment, a key, what is asked then, and what is shown of the answer.
+pub type Row = (u64, &'static str, Ask, &'static str);
+
+/// The text that is asked to be stored.
+fn text_of(ask: Ask) -> &'static str {
+    match ask {
+        Ask::Set(text)
+        | Ask::SetFor(_, text)
+        | Ask::Flagged(text)
+        | Ask::Put(_, text)
+        | Ask::Ms(_, _, text) => text,
+        _ => "",
+    }
+}
+
+fn long_value(alloc: Global, length: usize) -> Result<Value, AllocError> {
+    let bytes = vec![in alloc; b'x'; length.min(2_000_000)]?;
+    Ok(Value::new(bytes))
+}
+
+fn value_of(alloc: Global, ask: Ask) -> Result<Value, AllocError> {
+    if let Ask::Long(length) = ask {
+        return long_value(alloc, length);
+    }
+    let bytes = Vec::from_slice(alloc, text_of(ask).as_bytes())?;
+    if bytes.len() > 40 {
+        return Ok(Value::new(Vec::new(alloc)));
+    }
+    Ok(Value::new(bytes))
+}
+
+fn stored(key: Key, value: Value, mode: StoreMode, flags: u32, exptime: i64) -> Op {
+    Op::Store {
+        key,
+        mode,
+        flags,
+        exptime,
+        value,
+    }
+}
+
+/// An operation that stores a value; any other one gives its key back.
+fn storing(key: Key, value: Value, ask: Ask) -> Result<Op, Key> {
+    match ask {
+        Ask::Set(_) | Ask::Long(_) => Ok(stored(key, value, StoreMode::Set, 0, 0)),
+        Ask::SetFor(exptime, _) => Ok(stored(key, value, StoreMode::Set, 0, exptime)),
+        Ask::Flagged(_) => Ok(stored(key, value, StoreMode::Set, 3, 30)),
+        Ask::Put(mode, _) => Ok(stored(key, value, mode, 0, 0)),
+        Ask::Ms(mode, compare, _) => Ok(Op::MetaStore {
+            key,
+            mode,
+            compare,
+            flags: 9,
+            exptime: 99,
+            value,
+        }),
+        _ => Err(key),
+    }
+}
+
+/// An operation that takes no value.
+fn reading(key: Key, ask: Ask) -> Op {
+    match ask {
+        Ask::Gat(exptime) => Op::Fetch {
+            key,
+            touch: Some(exptime),
+        },
+        Ask::Count(direction, amount) => Op::Count {
+            key,
+            direction,
+            amount,
+        },
+        Ask::Delete => Op::Delete { key },
+        Ask::Touch(exptime) => Op::Touch { key, exptime },
+        Ask::Flush(delay) => Op::Flush { delay },
+        Ask::Mg(touch, vivify, recache) => Op::MetaGet {
+            key,
+            touch,
+            vivify,
+            recache,
+        },
+        Ask::Md(compare, invalidate) => Op::MetaDelete {
+            key,
+            compare,
+            invalidate,
+            exptime: None,
+        },
+        Ask::Ma(compare, amount, vivify) => Op::MetaCount {
+            key,
+            compare,
+            direction: Direction::Increment,
+            amount,
+            exptime: None,
+            vivify,
+        },
+        _ => Op::Fetch { key, touch: None },
+    }
+}
+
+/// The operation, with its own key and value.
+pub fn op_of(alloc: Global, word: &str, ask: Ask) -> Result<Op, WireFault> {
+    let key = Key::from_word(alloc, word.as_bytes())?;
+    let value = value_of(alloc, ask)?;
+    match storing(key, value, ask) {
+        Ok(op) => Ok(op),
+        Err(key) => Ok(reading(key, ask)),
+    }
+}
