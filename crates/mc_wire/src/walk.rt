@@ -29,6 +29,7 @@ impl<'a> Iterator for WordWalk<'a> {
     ghost remaining = { item_count (λ walk. words_of walk.rest.now) };
 
     #[tactic(auto, unfolding(crate::specs::Words::words_of))]
+    #[inline(always)]
     fn next(&mut self) -> Option<&'a [u8]> {
         while !self.rest.is_empty() {
             let (word, rest) = cut_at_space(self.rest);
