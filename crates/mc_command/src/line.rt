@@ -64,6 +64,7 @@ fn read_named(alloc: Global, name: CommandName, walk: WordWalk<'_>) -> Line
 }
 
 /// A line that no block follows.
+#[inline(always)]
 pub(crate) fn whole_line(read: Result<Command, Refusal>) -> Line
     ensures { result ≡ spec.whole_line read }
 {
@@ -75,6 +76,7 @@ pub(crate) fn whole_line(read: Result<Command, Refusal>) -> Line
 
 /// A line that a block follows, with the count of its bytes where that is readable: what is skipped then
 /// is the block and its line end, whatever else is wrong with the line.
+#[inline(always)]
 pub(crate) fn block_line(count: Option<u32>, read: Result<Command, Refusal>) -> Line
     ensures { result ≡ spec.block_line count read }
 {

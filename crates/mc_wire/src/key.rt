@@ -190,11 +190,16 @@ fn decode(word: &[u8], room: &mut [u8]) -> Option<usize>
     }
 }
 
-/// Whether each byte may stand in a key word.
+/// Whether each byte may stand in a key word. No byte ends the scan, so that it is compiled to test many
+/// bytes at once.
 fn is_key_word(word: &[u8]) -> bool
     ensures { result ≡ list_all spec.is_key_byte word.now }
 {
-    word.iter().all(|byte| is_key_byte(*byte))
+    let mut good = true;
+    for byte in word {
+        good &= is_key_byte(*byte);
+    }
+    good
 }
 
 /// Whether the byte is neither a control byte nor the space nor 127.

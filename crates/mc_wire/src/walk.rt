@@ -1,8 +1,11 @@
 //! The words of a line (protocol.txt, Protocol).
-ghost use Rattle.std.specs.Prelude.{◌≡◌, ◌<◌, length};
+ghost use Rattle.std.specs.Prelude.{◌≡◌, ◌+◌, ◌<◌, ◌≤◌, false, length, take, drop};
 ghost use Rattle.std.specs.Iterator.{YieldsFirstRef, item_count};
-ghost use Rattle.std.specs.List.{position};
+ghost use Rattle.std.specs.List.{position, list_any};
 ghost use Rattle.mc_wire.specs.Words.{words_of, with_word, is_space};
+
+/// So many bytes are searched for a space at once.
+const RUN: usize = 16;
 
 /// The words of a text, one after another.
 #[derive(Drop)]
@@ -26,6 +29,7 @@ impl<'a> Iterator for WordWalk<'a> {
     ghost remaining = { item_count (λ walk. words_of walk.rest.now) };
 
     #[tactic(auto, unfolding(crate::specs::Words::words_of))]
+    #[inline(always)]
     fn next(&mut self) -> Option<&'a [u8]> {
         while !self.rest.is_empty() {
             let (word, rest) = cut_at_space(self.rest);
@@ -49,9 +53,45 @@ fn cut_at_space(text: &[u8]) -> (&[u8], &[u8])
     }
 }
 
-/// The index of the first space, by a plain scan, since words are short.
+/// The index of the first space: a plain scan of what stands behind runs that have none.
 fn first_space(text: &[u8]) -> Option<usize>
     ensures { result ≡ position is_space text.now }
 {
+    let passed = front_without_space(text);
+    match first_space_plain(text.split_at(passed).1) {
+        Some(at) => Some(passed + at),
+        None => None,
+    }
+}
+
+/// The index of the first space, byte by byte.
+fn first_space_plain(text: &[u8]) -> Option<usize>
+    ensures { result ≡ position is_space text.now }
+{
     text.iter().position(|byte| *byte == b' ')
+}
+
+/// How many bytes at the front need no plain scan: runs of 16 without a space, as most of a long key.
+fn front_without_space(text: &[u8]) -> usize
+    ensures within { result ≤ length text.now }
+    ensures none { list_any is_space (take result text.now) ≡ false }
+{
+    let mut passed = 0;
+    while text.len() - passed >= RUN && !has_space(text, passed) {
+        passed += RUN;
+    }
+    passed
+}
+
+/// Whether a space is among the 16 bytes from there. No byte ends the scan, so that it is compiled to
+/// test all of them at once.
+fn has_space(text: &[u8], from: usize) -> bool
+    requires { from + 16 ≤ length text.now }
+    ensures { result ≡ list_any is_space (take 16 (drop from text.now)) }
+{
+    let mut found = false;
+    for i in 0..RUN {
+        found |= text[from + i] == b' ';
+    }
+    found
 }
