@@ -1,5 +1,5 @@
 //! The pieces of the classic commands.
-ghost use Rattle.std.specs.Prelude.{◌≡◌, ◌<◌, ◌∷◌, [], IfOk, map};
+ghost use Rattle.std.specs.Prelude.{◌≡◌, ◌<◌, ◌∷◌, [], IfOk, OnErr, length, map};
 ghost use Rattle.std.specs.List.{range_with_len};
 ghost use Rattle.mc_split.specs.Pieces.{pieces_of, asked_of};
 ghost use Rattle.mc_split.specs.Shape.{shape_of};
@@ -13,10 +13,11 @@ use mc_item::{Kind, LARGEST_VALUE, NoMemory, Op, Value};
 use mc_wire::Key;
 use std::collections::VecDeque;
 
-/// The value of a data block, without a copy. Blocks above the limit of values are refused while they are read, so
-/// none comes that no value can hold.
+/// The value of a data block, without a copy and without memory. Blocks above the limit of values are refused while
+/// they are read, so none comes that no value can hold.
 pub fn value_of(block: Block) -> Result<Value, NoMemory>
-    ensures { IfOk result (λ value. value ≡ block) }
+    ensures ok { IfOk result (λ value. value ≡ block) }
+    ensures err { OnErr result (LARGEST_VALUE < length block) }
 {
     let bytes = block.into_bytes();
     if bytes.len() > LARGEST_VALUE {

@@ -11,6 +11,9 @@ mod splitter;
 mod tests;
 
 pub use form::{Fixed, Form, MetaKind, Shape, Slots};
-pub use laws::{parts_are_numbered, pieces_name_their_shard, shards_are_there};
+pub use laws::{
+    flags_change_their_order_alone, only_silent_replies_are_empty, parts_are_numbered,
+    pieces_name_their_shard, quiet_replies_are_empty_or_loud, shards_are_there,
+};
 pub use mc_item::NoMemory;
 pub use plan::{Piece, Plan, Ticket, split};

@@ -157,3 +157,71 @@ fn a_meta_reply_keeps_the_key_where_it_shows_it(rt: HostRuntime) -> Result<(), F
     }
     Ok(())
 }
+
+/// As many keys as the longest line has room for.
+#[test]
+fn a_get_of_32766_keys(rt: HostRuntime) -> Result<(), Fail> {
+    let alloc = rt.alloc();
+    let key = Key::from_word(alloc, b"a")?;
+    let mut keys = Keys::one(alloc, key.clone()?);
+    for _ in 1..32_766u32 {
+        keys.push(key.clone()?)?;
+    }
+    let get = Command::Get(Retrieval {
+        keys,
+        touch: None,
+        with_unique: false,
+    });
+    let mut plan = split(alloc, get, TICKET, MOMENT, 2)?;
+    assert_eq!(rt; plan.pieces.len(), 32_766);
+    assert_eq!(rt; plan.form.slots.answers().len(), 32_766);
+    let last = plan
+        .pieces
+        .pop_back()
+        .map(|(shard, piece)| (shard, piece.part));
+    assert_eq!(rt; last, Some((0, 32_765)));
+    Ok(())
+}
+
+/// Whether the command was made and split over two shards; then its pieces are for these.
+fn is_split(
+    rt: &impl Abort,
+    alloc: Global,
+    command: Result<Command, WireFault>,
+    shards: &[usize],
+) -> bool {
+    let Ok(command) = command else {
+        return false;
+    };
+    let Ok(plan) = split(alloc, command, TICKET, MOMENT, 2) else {
+        return false;
+    };
+    has_shards(rt, &plan, shards);
+    true
+}
+
+/// Holds whichever one allocation is refused, as by `rt try --test --fail-alloc N` for each N: one command isn't
+/// split, and the others are.
+#[test]
+fn a_refused_allocation_refuses_one_plan(rt: HostRuntime) {
+    let alloc = rt.alloc();
+    let mut refused = 0usize;
+    for _ in 0..2u8 {
+        let flush = Command::FlushAll {
+            delay: 0,
+            noreply: false,
+        };
+        let made = [
+            is_split(&rt, alloc, get(alloc), &[0, 1, 0, 0]),
+            is_split(&rt, alloc, set(alloc), &[1]),
+            is_split(&rt, alloc, meta_get(alloc, true), &[0]),
+            is_split(&rt, alloc, Ok(flush), &[0, 1]),
+        ];
+        refused = made
+            .iter()
+            .filter(|one| !**one)
+            .count()
+            .saturating_add(refused);
+    }
+    assert!(rt; refused <= 1);
+}

@@ -1,0 +1,71 @@
+-- A quiet command beside the loud one: its reply is empty or the same, and its pieces are the same.
+use Rattle.std.proofs.Common.{◌≡◌, ℕ, Bool, true, false, ◌&&◌, ◌⊎◌, inl, inr, cond, List, [], ◌∷◌, Option, refl}
+use Rattle.std.specs.List.{list_any}
+use Rattle.mc_command.specs.declared.command.Command.{Command}
+use Rattle.mc_command.specs.declared.command.Command.TheVariants as command
+use Rattle.mc_command.specs.declared.meta.MetaFlags.{MetaFlags}
+use Rattle.mc_item.specs.declared.answer.Answer.{Answer}
+use Rattle.mc_split.specs.declared.form.MetaKind.{MetaKind}
+use Rattle.mc_split.specs.declared.form.MetaKind.TheVariants as kind
+use Rattle.mc_split.specs.declared.form.Shape.TheVariants as shape
+use Rattle.mc_split.specs.Pieces.{pieces_of}
+use Rattle.mc_split.specs.Shape.{shape_of, shown_key}
+use Rattle.mc_split.specs.Text.{coded_text, is_hidden, is_no_memory, memory_line, shape_text, text_of}
+use Rattle.mc_split.specs.TextLaws.{loud, without_quiet}
+
+-- nothing is said where the test holds
+abbrev EmptyOr : List ℕ → List ℕ → Type 0
+EmptyOr text other = (text ≡ []) ⊎ (text ≡ other)
+
+hidden_or_not : (test lacks : Bool) (shown : List ℕ) → EmptyOr (cond lacks memory_line (cond test [] shown)) (cond lacks memory_line shown)
+hidden_or_not true true shown = inr refl
+hidden_or_not true false shown = inl refl
+hidden_or_not false lacks shown = inr refl
+
+noreply_or_not : (noreply : Bool) (text : List ℕ) → EmptyOr (cond noreply [] text) text
+noreply_or_not true text = inl refl
+noreply_or_not false text = inr refl
+
+meta_or_not : (kind : MetaKind) (flags : MetaFlags) (value : Bool) (key : Option (List ℕ)) (answers : List Answer) →
+    EmptyOr (shape_text (shape.Meta kind flags value key) answers) (shape_text (shape.Meta kind (without_quiet flags) value key) answers)
+unfolding shape_text
+meta_or_not kind flags value key [] = inl refl
+meta_or_not kind flags value key (answer ∷ answers) =
+    hidden_or_not (flags.quiet && is_hidden kind value answer) (list_any is_no_memory (answer ∷ answers)) (coded_text flags key answer value)
+
+pub empty_or_loud : (command : Command) (answers : List Answer) → (text_of command answers ≡ []) ⊎ (text_of command answers ≡ text_of (loud command) answers)
+unfolding shape_of shape_text
+empty_or_loud (command.Store storage) answers = noreply_or_not storage.noreply (shape_text (shape.Line false) answers)
+empty_or_loud (command.Get retrieval) answers = inr refl
+empty_or_loud (command.Delete key noreply) answers = noreply_or_not noreply (shape_text (shape.Line false) answers)
+empty_or_loud (command.Count key direction amount noreply) answers = noreply_or_not noreply (shape_text (shape.Line false) answers)
+empty_or_loud (command.Touch key exptime noreply) answers = noreply_or_not noreply (shape_text (shape.Line false) answers)
+empty_or_loud (command.FlushAll delay noreply) answers = noreply_or_not noreply (shape_text (shape.Line false) answers)
+empty_or_loud command.Version answers = inr refl
+empty_or_loud (command.Verbosity true) answers = inl refl
+empty_or_loud (command.Verbosity false) answers = inr refl
+empty_or_loud command.Quit answers = inl refl
+empty_or_loud command.MetaNoop answers = inr refl
+empty_or_loud (command.MetaGet get) answers = meta_or_not kind.Get get.flags get.value (shown_key get.flags get.key) answers
+empty_or_loud (command.MetaSet set) answers = meta_or_not kind.Set set.flags false (shown_key set.flags set.key) answers
+empty_or_loud (command.MetaDelete delete) answers = meta_or_not kind.Delete delete.flags false (shown_key delete.flags delete.key) answers
+empty_or_loud (command.MetaArithmetic arithmetic) answers = meta_or_not kind.Arithmetic arithmetic.flags arithmetic.value (shown_key arithmetic.flags arithmetic.key) answers
+empty_or_loud (command.Refused refusal) answers = inr refl
+
+pub asks_as_loud : (shards : ℕ) (command : Command) → pieces_of shards command ≡ pieces_of shards (loud command)
+unfolding pieces_of
+asks_as_loud shards (command.Store storage) = refl
+asks_as_loud shards (command.Get retrieval) = refl
+asks_as_loud shards (command.Delete key noreply) = refl
+asks_as_loud shards (command.Count key direction amount noreply) = refl
+asks_as_loud shards (command.Touch key exptime noreply) = refl
+asks_as_loud shards (command.FlushAll delay noreply) = refl
+asks_as_loud shards command.Version = refl
+asks_as_loud shards (command.Verbosity noreply) = refl
+asks_as_loud shards command.Quit = refl
+asks_as_loud shards command.MetaNoop = refl
+asks_as_loud shards (command.MetaGet get) = refl
+asks_as_loud shards (command.MetaSet set) = refl
+asks_as_loud shards (command.MetaDelete delete) = refl
+asks_as_loud shards (command.MetaArithmetic arithmetic) = refl
+asks_as_loud shards (command.Refused refusal) = refl
