@@ -1,1 +1,4 @@
+pub mod Answered
+pub mod Joins
+pub mod Queues
 pub mod Texts

@@ -1,21 +1,18 @@
 -- Texts written one part after another, and texts over slots that are all filled.
-use Rattle.std.proofs.Common.{◌≡◌, ℕ, ◌≤◌, Bool, true, false, List, [], ◌∷◌, ◌++◌, length, take, map, Option, Some, None, refl, sym, ap, ◌∙◌, append_assoc, append-nil, arith, cond, ◌<◌, ◌+◌, drop, get_or}
-use Rattle.std.specs.Prelude.{if◌then◌else◌, codes, ◌||◌, Result, Ok, Err, OnOk, OnErr}
-use Rattle.std.specs.List.{list_any, zip, flat_map}
-use Rattle.std.proofs.lemmas.List.{at_drop_more, at_drop_all}
+use Rattle.std.proofs.Common.{◌≡◌, ℕ, Bool, true, false, List, [], ◌∷◌, ◌++◌, length, take, map, Option, Some, refl, sym, ap, ◌∙◌, append_assoc, append-nil, arith, ◌<◌, ◌+◌, drop, get_or}
+use Rattle.std.specs.Prelude.{codes, ◌||◌, Result, Ok, Err, OnOk, OnErr}
+use Rattle.std.specs.List.{concat, list_any, slice_get, zip, flat_map}
+use Rattle.std.proofs.lemmas.List.{at_drop_more, take_at, take-take, take-append-drop}
+use Rattle.std.proofs.lemmas.Option.{same_Some}
+use Rattle.std.proofs.Common.{subst, zero, suc}
 use Rattle.mc_wire.specs.Outlet.{with_bytes, TookFront}
 use Rattle.mc_wire.proofs.Outlets.{with_bytes-append, with_bytes-nil, took_after}
 use Rattle.mc_item.specs.declared.answer.Answer.{Answer}
 use Rattle.mc_split.specs.declared.form.Shape.{Shape}
 use Rattle.mc_split.specs.declared.form.Shape.TheVariants as shape
-use Rattle.mc_split.specs.Text.{shape_text, item_text, is_no_memory, memory_line, values_text, of_first, unless_no_memory}
+use Rattle.mc_split.specs.Text.{shape_text, item_text, is_no_memory, of_first, unless_no_memory}
+use Rattle.mc_join.specs.Written.{WroteBut}
 use Rattle.mc_join.specs.Slots.{slots_text, items_text, lacks_memory, first_text, slot_text, unless_lacking}
-
--- of a whole text all was taken but this rest
-pub record WroteBut (old now : Option (List ℕ)) (whole rest : List ℕ) : Type 0 where
-  pub front : List ℕ
-  pub taken : now ≡ with_bytes old front
-  pub parts : whole ≡ front ++ rest
 
 pub wrote_none : (old : Option (List ℕ)) (whole : List ℕ) → WroteBut old old whole whole
 wrote_none old whole = record { front = []; taken = sym (with_bytes-nil old); parts = refl }
@@ -121,3 +118,66 @@ flat_map-next f xs ys i d same below =
 pub value-parts : (size digits flags rest : List ℕ) → digits ≡ size → codes "VA " ++ (size ++ (flags ++ rest)) ≡ (codes "VA " ++ (digits ++ [])) ++ (flags ++ rest)
 value-parts size digits flags rest same =
     ap (λ xs. codes "VA " ++ (xs ++ (flags ++ rest))) (sym same) ∙ ap (λ xs. codes "VA " ++ xs) (ap (λ xs. xs ++ (flags ++ rest)) (sym (append-nil digits)))
+
+-- a text that was put behind others in memory and then cut off again
+pub kept_front : (old new bytes : List ℕ) (n : ℕ) → n ≡ length old → TookFront (Some old) (Some new) bytes → take n new ≡ old
+kept_front old new bytes n whole front =
+    let after : new ≡ old ++ take front.count bytes = cc (front.taken) in
+    ap (λ xs. take n xs) after ∙ take_at old (take front.count bytes) n (sym whole)
+
+-- the texts that were gathered went out, and then this one
+pub gathered_last : (old mid new : Option (List ℕ)) (room text left : List ℕ) → mid ≡ with_bytes old room → new ≡ with_bytes mid text → left ≡ [] → WroteBut old new (room ++ text) left
+gathered_last old mid new room text left first second empty =
+    record {
+      front = room ++ text;
+      taken = second ∙ (ap (λ t. with_bytes t text) first ∙ with_bytes-append old room text);
+      parts = sym (append-nil (room ++ text)) ∙ ap (λ xs. (room ++ text) ++ xs) (sym empty);
+    }
+
+-- the texts that were gathered went out, and of this one a beginning
+pub gathered_cut : (old mid new : Option (List ℕ)) (room text : List ℕ) → mid ≡ with_bytes old room → TookFront mid new text → TookFront old new (room ++ text)
+gathered_cut old mid new room text first front =
+    let P : List ℕ → Type 0 = λ xs. TookFront old new (room ++ xs) in
+    subst P (append-nil text) (took_after old mid new room text [] first front)
+
+-- a text more, of which this is left
+pub wrote_on : (old mid new : Option (List ℕ)) (done room text left : List ℕ) → WroteBut old mid done room → WroteBut mid new (room ++ text) left → WroteBut old new (done ++ text) left
+wrote_on old mid new done room text left so_far more =
+    record {
+      front = so_far.front ++ more.front;
+      taken = more.taken ∙ (ap (λ t. with_bytes t more.front) so_far.taken ∙ with_bytes-append old so_far.front more.front);
+      parts = ap (λ xs. xs ++ text) so_far.parts ∙ (append_assoc so_far.front room text ∙ (ap (λ xs. so_far.front ++ xs) more.parts ∙ sym (append_assoc so_far.front more.front left)));
+    }
+
+-- a text more was cut
+pub cut_on : (old mid new : Option (List ℕ)) (done room text more whole : List ℕ) → whole ≡ (done ++ text) ++ more → WroteBut old mid done room → TookFront mid new (room ++ text) → TookFront old new whole
+cut_on old mid new done room text more whole parts so_far front =
+    let joined : so_far.front ++ ((room ++ text) ++ more) ≡ whole =
+    sym (append_assoc so_far.front (room ++ text) more)
+    ∙ (ap (λ xs. xs ++ more) (sym (append_assoc so_far.front room text) ∙ ap (λ xs. xs ++ text) (sym so_far.parts)) ∙ sym parts) in
+    let P : List ℕ → Type 0 = λ xs. TookFront old new xs in
+    subst P joined (took_after old mid new so_far.front (room ++ text) more so_far.taken front)
+
+abbrev pub texts_of : {X : Type 0} → (X → List ℕ) → List X → List ℕ
+texts_of text xs = concat (map text xs)
+
+texts_of-append : {X : Type 0} (text : X → List ℕ) (xs ys : List X) → texts_of text (xs ++ ys) ≡ texts_of text xs ++ texts_of text ys
+texts_of-append text [] ys = refl
+texts_of-append text (x ∷ xs) ys = ap (λ zs. text x ++ zs) (texts_of-append text xs ys) ∙ sym (append_assoc (text x) (texts_of text xs) (texts_of text ys))
+
+-- the texts of one more
+pub texts_of-more : {X : Type 0} (text : X → List ℕ) (i : ℕ) (xs : List X) (x : X) → slice_get xs i ≡ Some x → texts_of text (take (i + 1) xs) ≡ texts_of text (take i xs) ++ text x
+texts_of-more text i [] x here = absurd (cc)
+texts_of-more text zero (first ∷ xs) x here = append-nil (text first) ∙ ap text (same_Some first x here)
+texts_of-more text (suc i) (first ∷ xs) x here =
+    let e : suc i + 1 ≡ suc (i + 1) = omega arith in
+    ap (λ k. texts_of text (take k (first ∷ xs))) e
+    ∙ (ap (λ ys. text first ++ ys) (texts_of-more text i xs x here) ∙ sym (append_assoc (text first) (texts_of text (take i xs)) (text x)))
+
+-- the texts before one, and it, and those behind it
+pub texts_of-around : {X : Type 0} (text : X → List ℕ) (i n : ℕ) (xs : List X) (x : X) → slice_get xs i ≡ Some x → i < n → texts_of text (take n xs) ≡ (texts_of text (take i xs) ++ text x) ++ texts_of text (drop (i + 1) (take n xs))
+texts_of-around text i n xs x here below =
+    let front : take (i + 1) (take n xs) ≡ take (i + 1) xs = take-take (i + 1) n xs (omega (arith, below)) in
+    ap (λ ys. texts_of text ys) (sym (take-append-drop (i + 1) (take n xs)))
+    ∙ (texts_of-append text (take (i + 1) (take n xs)) (drop (i + 1) (take n xs))
+    ∙ ap (λ ys. ys ++ texts_of text (drop (i + 1) (take n xs))) (ap (λ ys. texts_of text ys) front ∙ texts_of-more text i xs x here))

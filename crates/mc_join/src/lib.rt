@@ -3,7 +3,11 @@
 
 mod classic;
 mod fixed;
+mod joiner;
 mod meta;
+mod queue;
+mod room;
 mod text;
 
+pub use joiner::{Full, Gone, Joiner, Stranger};
 pub use text::put_reply;

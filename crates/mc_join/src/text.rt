@@ -3,6 +3,8 @@ ghost use Rattle.std.specs.Prelude.{◌≡◌, List, IsTrue, OnOk, OnErr, Some, 
 ghost use Rattle.mc_item.specs.declared.answer.Answer.{Answer};
 ghost use Rattle.mc_wire.specs.Outlet.{with_bytes, TookFront};
 ghost use Rattle.mc_split.specs.Text.{shape_text};
+ghost use Rattle.mc_join.specs.Held.{IsDue};
+ghost use Rattle.mc_join.specs.Replies.{form_text};
 ghost use Rattle.mc_join.specs.Slots.{slots_text};
 
 use crate::classic::{any_lacks_memory, put_first_line, put_values};
@@ -23,6 +25,18 @@ pub fn put_reply<O: Outlet>(out: &mut O, form: &Form) -> Result<(), OutFault>
         TookFront (O.taken out.old) (O.taken out.new) (shape_text form.now.shape answers)) }
 {
     put_slots(out, &form.shape, form.slots.answers())
+}
+
+/// Writes the reply of a form whose parts are all answered.
+pub(crate) fn put_due<O: Outlet>(out: &mut O, form: &Form) -> Result<(), OutFault>
+    requires { IsDue form.now }
+    ensures input { O.input out.new ≡ O.input out.old }
+    ensures stays { IsTrue (O.has_failed out.old) → IsTrue (O.has_failed out.new) }
+    ensures failed { OnErr result (IsTrue (O.has_failed out.new)) }
+    ensures ok { OnOk result (O.taken out.new ≡ with_bytes (O.taken out.old) (form_text form.now)) }
+    ensures err { OnErr result (TookFront (O.taken out.old) (O.taken out.new) (form_text form.now)) }
+{
+    put_reply(out, form)
 }
 
 /// Writes the reply of a shape, as far as its slots are filled.

@@ -1,11 +1,9 @@
-use Rattle.std.proofs.Common.{refl, sym, ◌∙◌, ap, drop, ◌+◌}
+use Rattle.std.proofs.Common.{refl, ◌∙◌, drop, ◌+◌}
 use Rattle.std.proofs.lemmas.List.{at_drop_all}
 use Rattle.std.proofs.lemmas.Result.{err_from_is_err_and}
-use Rattle.mc_wire.specs.Outlet.{TookFront}
-use Rattle.mc_item.specs.declared.answer.Answer.{Answer}
 use Rattle.mc_split.specs.Text.{item_text}
 use Rattle.mc_join.specs.Slots.{items_text, slot_text}
-use Rattle.mc_join.proofs.Texts.{WroteBut, wrote_none, wrote_more, wrote_all, took_part, items-next, items-no_keys, items-no_slots}
+use Rattle.mc_join.proofs.Texts.{wrote_none, wrote_more, wrote_all, took_part, items-next, items-no_keys, items-no_slots}
 use Rattle.mc_join.proofs.classic.put_items.Goals as goal
 
 pub loop-slot-init : goal.loop-slot-init

@@ -1,6 +1,6 @@
 use Rattle.std.proofs.Common.{◌≡◌, IsTrue, drop}
 use Rattle.mc_join.specs.Slots.{items_text}
-use Rattle.mc_join.proofs.Texts.{WroteBut}
+use Rattle.mc_join.specs.Written.{WroteBut}
 use Rattle.mc_join.proofs.classic.put_items.Given as goal
 
 abbrev pub invariant-loop-slot : goal.invariant-loop-slot

@@ -1,7 +1,5 @@
-use Rattle.std.proofs.Common.{List, codes, ◌++◌}
+use Rattle.std.proofs.Common.{codes}
 use Rattle.std.proofs.lemmas.Result.{err_from_is_err_and}
-use Rattle.mc_split.specs.Text.{item_text}
-use Rattle.mc_join.specs.Slots.{items_text, slot_text}
 use Rattle.mc_join.proofs.Texts.{took_second, took_third, values-parts, on_err}
 use Rattle.mc_join.proofs.classic.put_values.Goals as goal
 

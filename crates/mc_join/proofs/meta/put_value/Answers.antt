@@ -1,4 +1,4 @@
-use Rattle.std.proofs.Common.{List, [], ◌∷◌, ◌++◌, ◌∙◌, codes, length, decimal}
+use Rattle.std.proofs.Common.{[], ◌++◌, ◌∙◌, codes, length, decimal}
 use Rattle.std.proofs.lemmas.Result.{err_from_is_err_and}
 use Rattle.mc_split.specs.Text.{flags_text}
 use Rattle.mc_join.proofs.Texts.{took_first, took_second, took_third, value-parts, on_err}

@@ -1,5 +1,5 @@
 use Rattle.std.proofs.Common.{ap, ◌∙◌}
-use Rattle.mc_wire.specs.Outlet.{with_bytes, TookFront}
+use Rattle.mc_wire.specs.Outlet.{with_bytes}
 use Rattle.mc_join.specs.Slots.{slots_text}
 use Rattle.mc_join.proofs.Texts.{on_ok, on_err, slots_text-filled}
 use Rattle.mc_join.proofs.text.put_reply.Goals as goal

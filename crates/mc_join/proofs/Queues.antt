@@ -1,0 +1,108 @@
+-- The forms of the open tickets: their numbers, their places, and those whose turn has come.
+use Rattle.std.proofs.Common.{◌≡◌, ◌≢◌, ℕ, zero, suc, ◌+◌, ◌-◌, ◌<◌, ◌≤◌, true, false, List, [], ◌∷◌, ◌++◌, length, drop, get_or, Some, None, refl, sym, ap, subst, ◌∙◌, arith}
+use Rattle.std.proofs.Common.{length-set}
+use Rattle.std.specs.List.{slice_get, slice_set}
+use Rattle.std.specs.List.{prefix_len}
+use Rattle.std.proofs.Common.{eq-eqb, ne_eqb}
+use Rattle.std.proofs.lemmas.List.Sums.{prefix_len-drop_yes, prefix_len-drop_no, prefix_len-drop_all}
+use Rattle.std.proofs.lemmas.Option.{get_or_from_slice_get, same_Some, slice_get_within}
+use Rattle.mc_split.specs.Slots.{missing_in}
+use Rattle.mc_join.specs.Replies.{is_answered}
+use Rattle.mc_item.specs.declared.answer.Answer.{Answer}
+use Rattle.mc_ring.specs.Reply.{Shown}
+use Rattle.mc_split.specs.declared.form.Form.{Form}
+use Rattle.mc_split.specs.declared.plan.Ticket.{Ticket}
+use Rattle.mc_join.specs.Held.{Held, AreNumbered, Awaits, AwaitsAt, IsAwaited, Fills, with_answer}
+
+pub numbered_at : (n : ℕ) (forms : List Form) (place : ℕ) (form : Form) → AreNumbered n forms → slice_get forms place ≡ Some form → form.ticket.0 ≡ n + place
+numbered_at n [] place form numbered here = absurd (cc)
+numbered_at n (first ∷ forms) zero form numbered here =
+    let same : first ≡ form = same_Some first form here in
+    let e : first.ticket.0 ≡ form.ticket.0 = ap (λ (f : Form). f.ticket.0) same in
+    omega (arith, numbered.0, e)
+numbered_at n (first ∷ forms) (suc place) form numbered here =
+    let below = numbered_at (n + 1) forms place form numbered.1 here in omega (arith, below)
+
+-- one form more, with the next number
+pub numbered_more : (n : ℕ) (forms : List Form) (form : Form) → AreNumbered n forms → form.ticket.0 ≡ n + length forms → AreNumbered n (forms ++ form ∷ [])
+numbered_more n [] form numbered next = (omega (arith, next), tt)
+numbered_more n (first ∷ forms) form numbered next = (numbered.0, numbered_more (n + 1) forms form numbered.1 (omega (arith, next)))
+
+-- another form in the place of one of the same number
+pub numbered_set : (n : ℕ) (forms : List Form) (place : ℕ) (old new : Form) → AreNumbered n forms → slice_get forms place ≡ Some old → new.ticket ≡ old.ticket → AreNumbered n (slice_set forms place new)
+numbered_set n [] place old new numbered here same = tt
+numbered_set n (first ∷ forms) zero old new numbered here same =
+    let e : first ≡ old = same_Some first old here in
+    (ap (λ (t : Ticket). t.0) same ∙ (sym (ap (λ (f : Form). f.ticket.0) e) ∙ numbered.0), numbered.1)
+numbered_set n (first ∷ forms) (suc place) old new numbered here same =
+    (numbered.0, numbered_set (n + 1) forms place old new numbered.1 here same)
+
+pub numbered_along : (n m : ℕ) (forms : List Form) → n ≡ m → AreNumbered n forms → AreNumbered m forms
+numbered_along n m forms same numbered = rw same at numbered
+
+-- the forms behind the first ones
+pub numbered_drop : (n count : ℕ) (forms : List Form) → AreNumbered n forms → count ≤ length forms → AreNumbered (n + count) (drop count forms)
+numbered_drop n zero forms numbered within = numbered_along n (n + 0) forms (omega arith) numbered
+numbered_drop n (suc count) [] numbered within = tt
+numbered_drop n (suc count) (first ∷ forms) numbered within =
+    numbered_along (n + 1 + count) (n + suc count) (drop count forms) (omega arith) (numbered_drop (n + 1) count forms numbered.1 (omega (arith, within)))
+
+pub same_ticket : (a b : Ticket) → a.0 ≡ b.0 → a ≡ b
+same_ticket a b e = ap (λ n. record { 0 = n }) e
+
+-- a reply that no form of its ticket can await
+pub unopened : (held : Held) (reply : Shown) → AreNumbered held.handed held.forms → ((place : ℕ) → place < length held.forms → reply.ticket.0 ≢ held.handed + place) → IsAwaited held reply → ⊥
+unopened held reply numbered none w =
+    let at = numbered_at held.handed held.forms w.0 w.1.form numbered w.1.here in
+    none w.0 (slice_get_within held.forms w.0 w.1.form w.1.here) (ap (λ (t : Ticket). t.0) (sym w.1.ticket) ∙ at)
+
+-- the form of the reply's ticket does not await it
+pub unwanted : (held : Held) (reply : Shown) (place : ℕ) (form : Form) → AreNumbered held.handed held.forms → reply.ticket.0 ≡ held.handed + place → slice_get held.forms place ≡ Some form → (Awaits form reply → ⊥) → IsAwaited held reply → ⊥
+unwanted held reply place form numbered at here not w =
+    let there = numbered_at held.handed held.forms w.0 w.1.form numbered w.1.here in
+    let ticket : w.1.form.ticket.0 ≡ reply.ticket.0 = ap (λ (t : Ticket). t.0) w.1.ticket in
+    let same : w.0 ≡ place = omega (arith, there, ticket, at) in
+    let found : Some w.1.form ≡ Some form = sym w.1.here ∙ (ap (λ i. slice_get held.forms i) same ∙ here) in
+    let forms : w.1.form ≡ form = same_Some w.1.form form found in
+    let P : Form → Type 0 = λ f. Awaits f reply in
+    not (subst P forms w.1.awaits)
+
+-- the place of a ticket has a form
+pub some_there : (forms : List Form) (place : ℕ) → place < length forms → slice_get forms place ≡ None → ⊥
+some_there [] place below none = omega (arith, below)
+some_there (form ∷ forms) zero below none = absurd (cc)
+some_there (form ∷ forms) (suc place) below none = some_there forms place (omega (arith, below)) none
+
+pub awaits_at : (held : Held) (reply : Shown) (place : ℕ) (form : Form) → AreNumbered held.handed held.forms → reply.ticket.0 ≡ held.handed + place → slice_get held.forms place ≡ Some form → Awaits form reply → AwaitsAt held reply place
+awaits_at held reply place form numbered at here awaits =
+    let there = numbered_at held.handed held.forms place form numbered here in
+    record { form = form; here = here; ticket = same_ticket form.ticket reply.ticket (there ∙ sym at); awaits = awaits }
+
+-- what a filled slot leaves of the numbers
+pub fills_numbered : (n : ℕ) (old new : List Form) (place part : ℕ) (answer : Answer) → AreNumbered n old → Fills old new place part answer → AreNumbered n new
+fills_numbered n old new place part answer numbered fills =
+    let P : List Form → Type 0 = λ forms. AreNumbered n forms in
+    subst P (sym fills.after) (numbered_set n old place fills.form (with_answer part answer fills.form) numbered fills.here refl)
+
+pub fills_length : (old new : List Form) (place part : ℕ) (answer : Answer) → Fills old new place part answer → length new ≡ length old
+fills_length old new place part answer fills = ap length fills.after ∙ length-set old place (with_answer part answer fills.form)
+
+-- the forms that are left behind so many
+pub left_forms : (forms : List Form) (count : ℕ) → count ≤ length forms → drop (length forms - (length forms - count)) forms ≡ drop count forms
+left_forms forms count within = ap (λ n. drop n forms) (omega (arith, within))
+
+-- counting the forms that have all their answers: one more has, or this one has not, or there is none left
+pub counts_yes : (forms : List Form) (i : ℕ) (form : Form) → slice_get forms i ≡ Some form → missing_in form.slots ≡ 0 → i + prefix_len is_answered (drop i forms) ≡ prefix_len is_answered forms → (i + 1) + prefix_len is_answered (drop (i + 1) forms) ≡ prefix_len is_answered forms
+counts_yes forms i form here none so_far =
+    let passes : is_answered (get_or forms i form) ≡ true = ap is_answered (get_or_from_slice_get forms i form form here) ∙ eq-eqb (missing_in form.slots) 0 none in
+    let step = prefix_len-drop_yes is_answered forms i form (slice_get_within forms i form here) passes in
+    omega (arith, step, so_far)
+
+pub counts_no : (forms : List Form) (i : ℕ) (form : Form) → slice_get forms i ≡ Some form → missing_in form.slots ≢ 0 → i + prefix_len is_answered (drop i forms) ≡ prefix_len is_answered forms → i ≡ prefix_len is_answered forms
+counts_no forms i form here some so_far =
+    let fails : is_answered (get_or forms i form) ≡ false = ap is_answered (get_or_from_slice_get forms i form form here) ∙ ne_eqb (missing_in form.slots) 0 some in
+    let step = prefix_len-drop_no is_answered forms i form (slice_get_within forms i form here) fails in
+    omega (arith, step, so_far)
+
+pub counts_all : (forms : List Form) (i : ℕ) → length forms ≤ i → i + prefix_len is_answered (drop i forms) ≡ prefix_len is_answered forms → i ≡ prefix_len is_answered forms
+counts_all forms i all so_far = let step = prefix_len-drop_all is_answered forms i all in omega (arith, step, so_far)

@@ -1,0 +1,15 @@
+use Rattle.std.proofs.Common.{refl, arith}
+use Rattle.mc_ring.specs.Reply.{shown}
+use Rattle.mc_join.proofs.Queues.{fills_numbered, fills_length}
+use Rattle.mc_join.proofs.Joins.{join_accept}
+use Rattle.mc_join.proofs.joiner.Joiner.accept.Goals as goal
+
+pub invariant_of-self : goal.invariant_of-self
+invariant_of-self c =
+    let same = fills_length _ _ _ _ _ c.fill.ensures.items in
+    let fits = c.self.invariant.1 in
+    (fills_numbered _ _ _ _ _ _ c.self.invariant.0 c.fill.ensures.items, omega (arith, same, fits))
+
+pub returns-clause-joined : goal.returns-clause-joined
+returns-clause-joined c =
+    rw (← c.self.view_is) (join_accept _ _ (shown c.args.reply) c.in-Some.place (rw (← c.self.view_is) at c.in-Some.ensures.some) c.fill.ensures.items refl c.self.invariant.0)

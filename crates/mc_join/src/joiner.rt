@@ -1,0 +1,186 @@
+//! Holds the answers that come back early until their turn.
+ghost use Rattle.std.specs.Prelude.{◌≡◌, ◌≢◌, ◌<◌, ◌≤◌, ◌+◌, ◌^◌, ◌-◌, ◌∷◌, ◌++◌, [], ℕ, List, true, false, IsTrue, IsOk, IfOk, IfErr, IfSome, IfNone, OnOk, OnErr, Ok, length, min, drop};
+ghost use Rattle.mc_ring.specs.Reply.{Shown, shown};
+ghost use Rattle.mc_split.specs.declared.form.Form.{Form};
+ghost use Rattle.mc_wire.specs.Outlet.{with_bytes, TookFront};
+ghost use Rattle.mc_join.specs.Held.{AreNumbered, AwaitsAt, IsAwaited, TakesIn, due_text, nothing_held, opened_count};
+ghost use Rattle.mc_join.specs.Joined.{IsJoiner, unhanded};
+ghost use Rattle.mc_join.specs.Replies.{complete, replies};
+
+use crate::queue::{add, awaits, count_complete, fill, put_first};
+use crate::room::Room;
+use circular_buffer::HeapCircularBuffer;
+use mc_ring::Reply;
+use mc_split::{Form, Ticket};
+use mc_wire::Outlet;
+use std::alloc::{AllocError, Global};
+use std::marker::Model;
+
+/// As many tickets are open as may be.
+#[derive(Clone, Copy, Debug, PartialEq, Eq)]
+pub struct Full;
+
+/// The outlet has failed, and nothing is handed out any more.
+#[derive(Clone, Copy, Debug, PartialEq, Eq)]
+pub struct Gone;
+
+/// A reply that isn't awaited, handed back.
+#[derive(Drop)]
+pub struct Stranger {
+    pub reply: Reply,
+}
+
+/// The replies of one connection, in the order of its commands, whenever their answers come.
+#[derive(Drop)]
+pub struct Joiner {
+    /// The forms of the open tickets, in order.
+    forms: HeapCircularBuffer<Form>,
+    /// How many commands were handed out. It may pass the greatest ticket by one.
+    handed: u128,
+    /// The outlet has failed.
+    gone: bool,
+    room: Room,
+}
+
+impl Model for Joiner {
+    ghost use Rattle.std.specs.Prelude.{◌≤◌, ◌+◌, ◌^◌, length};
+    ghost use Rattle.mc_join.specs.Held.{Held, AreNumbered};
+
+    ghost Value = { Held };
+
+    ghost view = { λ joiner. record { window = joiner.forms.capacity; handed = joiner.handed; forms = joiner.forms.items; gone = joiner.gone } };
+
+    ghost invariant = { λ joiner. AreNumbered joiner.handed joiner.forms.items × (joiner.handed + length joiner.forms.items ≤ 2 ^ 64) };
+}
+
+impl Joiner {
+    /// A joiner of which so many tickets may be open at a time. All memory is taken here.
+    pub fn new(alloc: Global, window: usize) -> Result<Joiner, AllocError>
+        requires { 0 < window }
+        ensures held { IfOk result (λ joiner. joiner ≡ nothing_held window) }
+        ensures joined { IfOk result (λ joiner. IsJoiner joiner [] [] []) }
+    {
+        Ok(Joiner {
+            forms: HeapCircularBuffer::with_capacity(alloc, window)?,
+            handed: 0,
+            gone: false,
+            room: Room::new(alloc)?,
+        })
+    }
+
+    /// Opens the next ticket. Takes no memory. Where as many tickets are open as may be, the form is let go.
+    pub fn open(&mut self, form: Form) -> Result<(), Full>
+        requires { form.ticket.0 ≡ opened_count self.old }
+        ensures ok { OnOk result (self.new ≡ record self.old { forms = self.old.forms ++ form ∷ [] }) }
+        ensures room { length self.old.forms < self.old.window → IsOk result }
+        ensures full { OnErr result (length self.old.forms ≡ self.old.window) }
+        ensures err { OnErr result (self.new ≡ self.old) }
+        ensures joined { OnOk result ((opened : List Form) (accepted : List Shown) (handed : List (List ℕ)) →
+            IsJoiner self.old opened accepted handed → IsJoiner self.new (opened ++ form ∷ []) accepted handed) }
+    {
+        let _number = form.ticket.0;
+        if !add(&mut self.forms, form) {
+            return Err(Full);
+        }
+        Ok(())
+    }
+
+    /// The place of an open ticket.
+    fn place_of(&self, ticket: Ticket) -> Option<usize>
+        ensures numbered { AreNumbered self.now.handed self.now.forms }
+        ensures some { IfSome result (λ place. (place < length self.now.forms) × (ticket.0 ≡ self.now.handed + place)) }
+        ensures none { IfNone result ((place : ℕ) → place < length self.now.forms → ticket.0 ≢ self.now.handed + place) }
+    {
+        let ticket = u128::from(ticket.0);
+        if ticket < self.handed || ticket - self.handed >= self.forms.len() as u128 {
+            return None;
+        }
+        Some((ticket - self.handed) as usize)
+    }
+
+    /// The place of the form that awaits a reply.
+    fn awaiting(&self, reply: &Reply) -> Option<usize>
+        ensures some { IfSome result (λ place. AwaitsAt self.now (shown reply.now) place) }
+        ensures none { IfNone result (¬ IsAwaited self.now (shown reply.now)) }
+    {
+        let place = self.place_of(reply.ticket)?;
+        let form = self.forms.get(place)?;
+        if awaits(form, reply) {
+            Some(place)
+        } else {
+            None
+        }
+    }
+
+    /// Takes in a reply, whichever of the open tickets and parts it is to. Takes no memory.
+    pub fn accept(&mut self, reply: Reply) -> Result<(), Stranger>
+        ensures awaited { OnOk result (IsAwaited self.old (shown reply)) }
+        ensures takes_in { OnOk result (TakesIn self.old self.new (shown reply)) }
+        ensures stranger { IfErr result (λ stranger. shown stranger.reply ≡ shown reply) }
+        ensures unawaited { OnErr result (¬ IsAwaited self.old (shown reply)) }
+        ensures unchanged { OnErr result (self.new ≡ self.old) }
+        ensures joined { OnOk result ((opened : List Form) (accepted : List Shown) (handed : List (List ℕ)) →
+            IsJoiner self.old opened accepted handed → IsJoiner self.new opened (accepted ++ shown reply ∷ []) handed) }
+    {
+        let Some(place) = self.awaiting(&reply) else {
+            return Err(Stranger { reply });
+        };
+        fill(&mut self.forms, place, reply.part, reply.answer);
+        Ok(())
+    }
+
+    /// How many tickets are open.
+    pub fn waiting(&self) -> usize
+        ensures { result ≡ length self.now.forms }
+    {
+        self.forms.len()
+    }
+
+    /// Writes the replies whose turn has come, in the order of their tickets, and gives how many commands it passed.
+    /// Small replies go out together. After a fault nothing is written any more. Takes no memory.
+    pub fn hand<O: Outlet>(&mut self, out: &mut O) -> Result<u64, Gone>
+        ensures input { O.input out.new ≡ O.input out.old }
+        ensures stays { IsTrue (O.has_failed out.old) → IsTrue (O.has_failed out.new) }
+        ensures failed { OnErr result (IsTrue (O.has_failed out.new)) }
+        // Once an outlet has failed.
+        ensures silent { IsTrue self.old.gone → (result ≡ Ok 0) × (self.new ≡ self.old) × (O.taken out.new ≡ O.taken out.old) }
+        // Until then.
+        ensures count { self.old.gone ≡ false → IfOk result (λ count. count ≡ length (complete self.old.forms)) }
+        ensures left { IfOk result (λ count. self.new ≡ record self.old { handed = self.old.handed + count; forms = drop count self.old.forms }) }
+        ensures none_left { self.old.gone ≡ false → OnOk result (complete self.new.forms ≡ []) }
+        ensures written { OnOk result (O.taken out.new ≡ with_bytes (O.taken out.old) (due_text self.old)) }
+        ensures gone { OnErr result (self.new ≡ record self.old { gone = true }) }
+        // The outlet took a beginning of what was due.
+        ensures cut { OnErr result (TookFront (O.taken out.old) (O.taken out.new) (due_text self.old)) }
+        // By the lists of forms opened, replies accepted and texts handed.
+        ensures turn { (opened : List Form) (accepted : List Shown) (handed : List (List ℕ)) → self.old.gone ≡ false →
+            IsJoiner self.old opened accepted handed → due_text self.old ≡ unhanded opened accepted handed }
+        ensures joined { self.old.gone ≡ false → OnOk result ((opened : List Form) (accepted : List Shown) (handed : List (List ℕ)) →
+            IsJoiner self.old opened accepted handed → IsJoiner self.new opened accepted (replies opened accepted)) }
+        ensures joined_gone { OnErr result ((opened : List Form) (accepted : List Shown) (handed : List (List ℕ)) →
+            IsJoiner self.old opened accepted handed → IsJoiner self.new opened accepted handed) }
+    {
+        if self.gone {
+            return Ok(0);
+        }
+        let count = count_complete(&self.forms);
+        if let Err(_fault) = put_first(out, &mut self.room, &self.forms, count) {
+            self.gone = true;
+            return Err(Gone);
+        }
+        self.forms.truncate_front(self.forms.len() - count);
+        self.handed += count as u128;
+        Ok(count as u64)
+    }
+
+    /// Makes it as new. Takes no memory.
+    pub fn reset(&mut self)
+        ensures held { self.new ≡ nothing_held self.old.window }
+        ensures joined { IsJoiner self.new [] [] [] }
+    {
+        self.forms.clear();
+        self.handed = 0;
+        self.gone = false;
+        self.room.clear();
+    }
+}

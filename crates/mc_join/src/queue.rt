@@ -1,0 +1,91 @@
+//! The forms of the open tickets, in order.
+ghost use Rattle.std.specs.Prelude.{◌≡◌, ◌<◌, ◌≤◌, ℕ, List, [], ◌∷◌, ◌++◌, IsTrue, false, IfOk, OnOk, OnErr, Some, None, length, map, take, slice_get, IfSome, ◌↔◌};
+ghost use Rattle.std.specs.List.{concat, prefix_len};
+ghost use Rattle.mc_ring.specs.Reply.{shown};
+ghost use Rattle.mc_split.specs.declared.form.Form.{Form};
+ghost use Rattle.mc_wire.specs.Outlet.{with_bytes, TookFront};
+ghost use Rattle.mc_join.specs.Held.{Awaits, Fills, HasPart};
+ghost use Rattle.mc_join.specs.Replies.{complete, form_text, is_answered};
+
+use crate::room::Room;
+use circular_buffer::HeapCircularBuffer;
+use mc_item::Answer;
+use mc_ring::Reply;
+use mc_split::Form;
+use mc_wire::{OutFault, Outlet};
+
+/// Puts a form behind the others, where there is a place for it; else it is let go.
+pub(crate) fn add(forms: &mut HeapCircularBuffer<Form>, form: Form) -> bool
+    ensures added { IsTrue result → forms.new.items ≡ forms.old.items ++ form ∷ [] }
+    ensures room { length forms.old.items < forms.old.capacity → IsTrue result }
+    ensures full { result ≡ false → (forms.new ≡ forms.old) × (length forms.old.items ≡ forms.old.capacity) }
+    ensures capacity { forms.new.capacity ≡ forms.old.capacity }
+{
+    if forms.len() >= forms.capacity() {
+        return false;
+    }
+    forms.try_push_back(form).is_ok()
+}
+
+/// How many forms from the front on have all their answers.
+pub(crate) fn count_complete(forms: &HeapCircularBuffer<Form>) -> usize
+    ensures count { result ≡ prefix_len is_answered forms.now.items }
+    ensures within { result ≤ length forms.now.items }
+{
+    let len = forms.len();
+    for count in 0..len {
+        let Some(form) = forms.get(count) else {
+            unreachable!()
+        };
+        if !form.slots.is_filled() {
+            return count;
+        }
+    }
+    len
+}
+
+/// Writes the replies of the first forms, gathered in the room. Where the outlet fails, it took a beginning of them.
+pub(crate) fn put_first<O: Outlet>(
+    out: &mut O,
+    room: &mut Room,
+    forms: &HeapCircularBuffer<Form>,
+    count: usize,
+) -> Result<(), OutFault>
+    requires { count ≡ prefix_len is_answered forms.now.items }
+    ensures input { O.input out.new ≡ O.input out.old }
+    ensures stays { IsTrue (O.has_failed out.old) → IsTrue (O.has_failed out.new) }
+    ensures failed { OnErr result (IsTrue (O.has_failed out.new)) }
+    ensures ok { OnOk result (O.taken out.new ≡ with_bytes (O.taken out.old) (concat (map form_text (complete forms.now.items)))) }
+    ensures err { OnErr result (TookFront (O.taken out.old) (O.taken out.new) (concat (map form_text (complete forms.now.items)))) }
+{
+    room.clear();
+    for index in 0..count {
+        let Some(form) = forms.get(index) else {
+            unreachable!()
+        };
+        room.gather(out, form)?;
+    }
+    room.send(out)
+}
+
+/// Whether a form awaits a reply: it has such a part, which has no answer yet, and it is of the reply's kind.
+pub(crate) fn awaits(form: &Form, reply: &Reply) -> bool
+    ensures { IsTrue result ↔ Awaits form.now (shown reply.now) }
+{
+    match form.slots.answers().get(reply.part) {
+        Some(None) => form.kind == reply.kind,
+        Some(Some(_)) | None => false,
+    }
+}
+
+/// Puts an answer into the slot of a part of the form at this place.
+pub(crate) fn fill(forms: &mut HeapCircularBuffer<Form>, place: usize, part: usize, answer: Answer)
+    requires { HasPart forms.old.items place part }
+    ensures items { Fills forms.old.items forms.new.items place part answer }
+    ensures capacity { forms.new.capacity ≡ forms.old.capacity }
+{
+    let Some(form) = forms.get_mut(place) else {
+        unreachable!()
+    };
+    form.fill(part, answer);
+}
