@@ -1,20 +1,91 @@
-//! A line over memory, whose input comes in pieces.
+//! A line over memory, which is cut into pieces and may fail.
+ghost use Rattle.std.specs.Prelude.{◌≡◌, IsTrue};
+
 use mc_server::{Line, LineFault};
 use mc_wire::{OutFault, Outlet};
+use std::alloc::Global;
 
-/// Gives its input in pieces of at most so many bytes, and keeps what it takes.
-#[derive(Drop)]
-pub struct MemoryLine {
-    pub input: Vec<u8>,
-    pub given: usize,
+/// How a line is cut, and where it fails.
+#[derive(Clone, Copy)]
+pub struct Cutting {
+    /// At most so many bytes are read at once.
     pub piece: usize,
-    pub output: Vec<u8>,
-    pub failed: bool,
-    /// The last read found the end of the input.
-    pub ended: bool,
+    /// At most so many bytes are written at once.
+    pub portion: usize,
+    /// The place of the read or write that fails, from 0.
+    pub fails_at: usize,
 }
 
-impl Outlet for MemoryLine {
+/// Gives its input in pieces, and keeps what it takes.
+#[derive(Drop)]
+pub struct MemoryLine<'a> {
+    input: &'a [u8],
+    cutting: Cutting,
+    given: usize,
+    output: Vec<u8>,
+    calls: usize,
+    failed: bool,
+    failed_reading: bool,
+    /// The last read found the end of the input.
+    ended: bool,
+}
+
+impl<'a> MemoryLine<'a> {
+    /// A line of which nothing was read, and that took nothing.
+    pub fn new(alloc: Global, input: &'a [u8], cutting: Cutting) -> MemoryLine<'a> {
+        MemoryLine {
+            input,
+            cutting,
+            given: 0,
+            output: Vec::new(alloc),
+            calls: 0,
+            failed: false,
+            failed_reading: false,
+            ended: false,
+        }
+    }
+
+    /// The bytes that were read of it.
+    pub fn given(&self) -> &'a [u8] {
+        let input = self.input;
+        input.split_at(self.given.min(input.len())).0
+    }
+
+    /// The bytes that it took.
+    pub fn output(&self) -> &[u8] {
+        self.output.as_slice()
+    }
+
+    /// How many reads and writes there were.
+    pub fn calls(&self) -> usize {
+        self.calls
+    }
+
+    /// Whether it has failed.
+    pub fn has_failed(&self) -> bool {
+        self.failed
+    }
+
+    /// Whether it was a read that failed.
+    pub fn has_failed_reading(&self) -> bool {
+        self.failed_reading
+    }
+
+    /// Counts a call; whether it fails.
+    fn fails(&mut self) -> bool
+        ensures failed { result ≡ self.new.failed }
+        ensures stays { IsTrue self.old.failed → IsTrue self.new.failed }
+        ensures ended { self.new.ended ≡ self.old.ended }
+    {
+        if self.calls == self.cutting.fails_at {
+            self.failed = true;
+        }
+        self.calls = self.calls.wrapping_add(1);
+        self.failed
+    }
+}
+
+impl Outlet for MemoryLine<'_> {
     ghost use Rattle.std.specs.Prelude.{None};
 
     ghost has_failed = { λ line. line.failed };
@@ -24,19 +95,28 @@ impl Outlet for MemoryLine {
     ghost input = { λ line. record { given = None; ended = line.ended } };
 
     fn write(&mut self, bytes: &[u8]) -> Result<usize, OutFault> {
-        if self.failed || self.output.extend_from_slice(bytes).is_err() {
+        if self.fails() {
+            return Err(OutFault);
+        }
+        let count = bytes.len().min(self.cutting.portion.max(1));
+        let (front, _) = bytes.split_at(count);
+        if self.output.extend_from_slice(front).is_err() {
             self.failed = true;
             return Err(OutFault);
         }
-        Ok(bytes.len())
+        Ok(count)
     }
 }
 
-impl Line for MemoryLine {
+impl Line for MemoryLine<'_> {
     fn read(&mut self, room: &mut [u8]) -> Result<usize, LineFault> {
-        let rest = self.input.as_slice();
+        if self.fails() {
+            self.failed_reading = true;
+            return Err(LineFault);
+        }
+        let rest = self.input;
         let rest = rest.split_at(self.given.min(rest.len())).1;
-        let count = rest.len().min(self.piece).min(room.len());
+        let count = rest.len().min(self.cutting.piece).min(room.len());
         let (now, _) = rest.split_at(count);
         room.split_at_mut(count).0.copy_from_slice(now);
         self.given = self.given.saturating_add(count);
@@ -45,6 +125,9 @@ impl Line for MemoryLine {
     }
 
     fn flush(&mut self) -> Result<(), OutFault> {
+        if self.failed {
+            return Err(OutFault);
+        }
         Ok(())
     }
 }

@@ -1,65 +1,176 @@
-//! Runs the worked rows of data/rows.txt through `serve_one`, each whole and cut into small pieces, and prints
-//! those whose output isn't the row's.
+//! Runs the worked rows of data/rows.txt through `serve_one`: each whole and cut into small pieces, its output
+//! taken a few bytes at a time or gathered, and with each of its reads and writes failing in turn. Prints those
+//! whose output isn't the row's.
 #![tactic(auto)]
 
 mod escape;
 mod line;
 mod row;
 
-use line::MemoryLine;
-use mc_server::{Sizes, StillClock, serve_one};
+use line::{Cutting, MemoryLine};
+use mc_server::{Gathered, Line, Served, Sizes, StillClock, gathering_room, serve_one};
 use row::{Row, split_at_tab};
 use std::alloc::{AllocError, Global};
 use std::random::RandomSource;
 use std::sync::Wait;
 use std::{fs, io};
 
-/// The input comes in pieces of at most so many bytes.
-const PIECES: [usize; 5] = [65_536, 1, 2, 3, 7];
+/// So many bytes that nothing of a row's small parts is cut.
+const WHOLE: usize = 65_536;
 
-/// What the server answers to the row's input, given in such pieces; none where it refuses or the line fails.
-fn answer<R: Wait + RandomSource>(
+/// No read or write fails.
+const NEVER: usize = usize::MAX;
+
+/// At most so many bytes are read, and so many written, at once.
+const CUTTINGS: [(usize, usize); 7] = [
+    (WHOLE, WHOLE),
+    (1, WHOLE),
+    (2, WHOLE),
+    (3, WHOLE),
+    (7, WHOLE),
+    (WHOLE, 1),
+    (1, 1),
+];
+
+/// So many of the first reads and writes of a line fail in turn.
+const FAILURES: usize = 200;
+
+/// What became of a line that new shards served at the row's moment; none where the server refuses.
+fn served<R: Wait + RandomSource, L: Line>(
     rt: &R,
     alloc: Global,
     row: &Row,
-    piece: usize,
-) -> Result<Option<Vec<u8>>, AllocError> {
-    let mut line = MemoryLine {
-        input: row.input.clone()?,
-        given: 0,
-        piece,
-        output: Vec::new(alloc),
-        failed: false,
-        ended: false,
-    };
+    line: &mut L,
+) -> Option<Served> {
     if row.items == 0 {
-        return Ok(None);
+        return None;
     }
     let sizes = Sizes {
         shards: 2,
         items: row.items,
     };
-    match serve_one(rt, alloc, &mut line, sizes, &StillClock(row.moment)) {
-        Ok(served) if !served.broke => Ok(Some(line.output)),
-        _ => Ok(None),
-    }
+    serve_one(rt, alloc, line, sizes, &StillClock(row.moment)).ok()
 }
 
-/// How many of the cuttings give the row's output.
-fn count_right<R: Wait + RandomSource>(
+/// Whether a line that is cut so, and doesn't fail, takes this output to the input.
+fn takes<R: Wait + RandomSource>(
     rt: &R,
     alloc: Global,
     row: &Row,
-) -> Result<usize, AllocError> {
-    let mut right = 0usize;
-    for piece in PIECES {
-        if let Some(output) = answer(rt, alloc, row, piece)? {
-            if output.as_slice() == row.output.as_slice() {
-                right = right.saturating_add(1);
-            }
+    input: &[u8],
+    cutting: Cutting,
+    output: &[u8],
+) -> bool {
+    let mut line = MemoryLine::new(alloc, input, cutting);
+    match served(rt, alloc, row, &mut line) {
+        Some(served) => !served.broke && line.output() == output,
+        None => false,
+    }
+}
+
+/// Whether the row's output comes however its input and output are cut.
+fn is_right_cut<R: Wait + RandomSource>(rt: &R, alloc: Global, row: &Row) -> bool {
+    for (piece, portion) in CUTTINGS {
+        let cutting = Cutting {
+            piece,
+            portion,
+            fails_at: NEVER,
+        };
+        if !takes(
+            rt,
+            alloc,
+            row,
+            row.input.as_slice(),
+            cutting,
+            row.output.as_slice(),
+        ) {
+            return false;
         }
     }
-    Ok(right)
+    true
+}
+
+/// Whether the row's output comes where it is gathered; a short one in a single write.
+fn is_right_gathered<R: Wait + RandomSource>(
+    rt: &R,
+    alloc: Global,
+    row: &Row,
+) -> Result<bool, AllocError> {
+    let cutting = Cutting {
+        piece: WHOLE,
+        portion: WHOLE,
+        fails_at: NEVER,
+    };
+    let line = MemoryLine::new(alloc, row.input.as_slice(), cutting);
+    let mut gathered = Gathered::new(line, gathering_room(alloc)?);
+    let Some(served) = served(rt, alloc, row, &mut gathered) else {
+        return Ok(false);
+    };
+    let (line, _room) = gathered.into_parts();
+    // One read of the input, one of its end, and one write.
+    let is_short = row.input.len() <= WHOLE && row.output.len() <= 16_384;
+    let few = !is_short || line.calls() <= 3;
+    Ok(!served.broke && few && line.output() == row.output.as_slice())
+}
+
+/// Whether a line that failed at one of its calls was told to have failed, and took a beginning of the row's
+/// output: where a read failed, the whole replies to what was read.
+fn is_right_failed<R: Wait + RandomSource>(
+    rt: &R,
+    alloc: Global,
+    row: &Row,
+    served: Served,
+    line: &MemoryLine<'_>,
+) -> bool {
+    if !served.broke || !row.output.as_slice().starts_with(line.output()) {
+        return false;
+    }
+    let whole = Cutting {
+        piece: WHOLE,
+        portion: WHOLE,
+        fails_at: NEVER,
+    };
+    !line.has_failed_reading() || takes(rt, alloc, row, line.given(), whole, line.output())
+}
+
+/// Whether the row is right with each of its first reads and writes failing in turn.
+fn is_right_failing<R: Wait + RandomSource>(rt: &R, alloc: Global, row: &Row) -> bool {
+    for fails_at in 0..FAILURES {
+        let cutting = Cutting {
+            piece: 5,
+            portion: 3,
+            fails_at,
+        };
+        let mut line = MemoryLine::new(alloc, row.input.as_slice(), cutting);
+        let Some(served) = served(rt, alloc, row, &mut line) else {
+            return false;
+        };
+        if !line.has_failed() {
+            return !served.broke && line.output() == row.output.as_slice();
+        }
+        if !is_right_failed(rt, alloc, row, served, &line) {
+            return false;
+        }
+    }
+    true
+}
+
+/// What is wrong with a row, if anything is.
+fn fault_of<R: Wait + RandomSource>(
+    rt: &R,
+    alloc: Global,
+    row: &Row,
+) -> Result<Option<&'static str>, AllocError> {
+    if !is_right_cut(rt, alloc, row) {
+        return Ok(Some("wrong"));
+    }
+    if !is_right_gathered(rt, alloc, row)? {
+        return Ok(Some("wrong where it is gathered"));
+    }
+    if !is_right_failing(rt, alloc, row) {
+        return Ok(Some("wrong where the line fails"));
+    }
+    Ok(None)
 }
 
 fn main(rt: HostRuntime) -> io::Result<()> {
@@ -72,14 +183,9 @@ fn main(rt: HostRuntime) -> io::Result<()> {
             continue;
         };
         rows = rows.saturating_add(1);
-        let right = count_right(&rt, rt.alloc(), &row)?;
-        if right < PIECES.len() {
+        if let Some(fault) = fault_of(&rt, rt.alloc(), &row)? {
             failed = failed.saturating_add(1);
-            println!(rt;
-                "wrong in {} of {} cuttings: {line}",
-                PIECES.len() - right,
-                PIECES.len()
-            )?;
+            println!(rt; "{fault}: {line}")?;
         }
     }
     println!(rt; "{rows} rows, {failed} wrong")

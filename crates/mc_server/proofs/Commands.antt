@@ -1,7 +1,10 @@
 -- What became of one command.
-use Rattle.std.proofs.Common.{◌≡◌, ℕ, Bool, true, false, List, [], ◌∷◌, length, Option, Result, Ok, Err, OnOk, OnErr, IsTrue, refl, sym, ap, ◌∙◌, arith}
+use Rattle.std.proofs.Common.{◌≡◌, ℕ, ◌+◌, Bool, true, false, inl, inr, List, [], ◌∷◌, length, drop, Option, Result, Ok, Err, OnOk, OnErr, IsTrue, refl, sym, ap, ◌∙◌, arith, append-nil}
 use Rattle.mc_wire.specs.Outlet.{with_bytes, TookFront}
-use Rattle.mc_wire.specs.declared.fault.OutFault.{OutFault}
+use Rattle.mc_join.specs.declared.joiner.Gone.{Gone}
+use Rattle.mc_join.specs.Held.{Held, due_text}
+use Rattle.mc_join.specs.Replies.{answers_of, complete, form_text, is_answered}
+use Rattle.mc_split.specs.Slots.{missing_in}
 use Rattle.mc_command.specs.declared.command.Command.{Command}
 use Rattle.mc_command.specs.declared.command.Command.TheVariants as command
 use Rattle.mc_command.specs.declared.refusal.Refusal.{Refusal}
@@ -12,26 +15,41 @@ use Rattle.mc_reader.specs.Spelling.{Given}
 use Rattle.mc_reader.specs.Reader.{IsGiven}
 use Rattle.mc_split.specs.declared.form.Form.{Form}
 use Rattle.mc_split.specs.declared.plan.Piece.{Piece}
+use Rattle.mc_split.specs.declared.plan.Plan.{Plan}
 use Rattle.mc_split.specs.declared.plan.Ticket.{Ticket}
 use Rattle.mc_split.specs.Pieces.{pieces_of}
 use Rattle.mc_split.specs.Plan.{parts_from}
 use Rattle.mc_split.specs.Shape.{shape_of}
-use Rattle.mc_split.specs.Text.{memory_line, refusal_line, shape_text}
+use Rattle.mc_split.specs.Text.{refusal_line, shape_text}
 use Rattle.mc_store.specs.declared.shard.Shard.{Shard}
 use Rattle.mc_server.specs.History.{Done, text_done}
 use Rattle.mc_server.specs.Log.{ran_by}
-use Rattle.mc_server.specs.Backs.{DoesCommand, WriteSays}
-use Rattle.mc_server.proofs.Logs.{Does-none}
-use Rattle.mc_server.proofs.Pieces.{PiecesRan, answered, length-parts_from}
+use Rattle.mc_server.specs.Backs.{Does, DoesCommand, WriteSays}
+use Rattle.mc_server.specs.Plans.{MayPlan, PlansFor, idle}
+use Rattle.mc_join.proofs.Answered.{answers_of-filled}
+use Rattle.mc_server.proofs.Pieces.{answered, length-parts_from, with_form}
 
-pub write_says : (result : Result Unit OutFault) (old new : Option (List ℕ)) (text : List ℕ) → OnOk result (new ≡ with_bytes old text) → OnErr result (TookFront old new text) → WriteSays result old new text
+pub write_says : (result : Result Unit Gone) (old new : Option (List ℕ)) (text : List ℕ) → OnOk result (new ≡ with_bytes old text) → OnErr result (TookFront old new text) → WriteSays result old new text
 write_says (Ok done) old new text ok err = ok
-write_says (Err fault) old new text ok err = err
+write_says (Err gone) old new text ok err = err
 
--- the text of a reply whose parts are all answered was written
-pub reply_says : (result : Result Unit OutFault) (old new : Option (List ℕ)) (form : Form) (answers : List Answer) → form.slots ≡ answered answers → OnOk result ((all : List Answer) → form.slots ≡ answered all → new ≡ with_bytes old (shape_text form.shape all)) → OnErr result ((all : List Answer) → form.slots ≡ answered all → TookFront old new (shape_text form.shape all)) → WriteSays result old new (shape_text form.shape answers)
-reply_says (Ok done) old new form answers slots ok err = ok answers slots
-reply_says (Err fault) old new form answers slots ok err = err answers slots
+none_missing : (answers : List Answer) → missing_in (answered answers) ≡ 0
+none_missing [] = refl
+none_missing (answer ∷ answers) = none_missing answers
+
+-- The form that alone is open has all its answers.
+record IsComplete (closed held : Held) (form : Form) (answers : List Answer) : Type 0 where
+  all : complete held.forms ≡ form ∷ []
+  text : due_text held ≡ shape_text form.shape answers
+
+complete_one : (closed held : Held) (form : Form) (answers : List Answer) → held ≡ with_form closed form → closed.gone ≡ false → form.slots ≡ answered answers → IsComplete closed held form answers
+complete_one closed held form answers held_is open_is slots =
+    let filled : is_answered form ≡ true = rw (slots, none_missing answers) refl in
+    let text : form_text form ≡ shape_text form.shape answers = ap (λ xs. shape_text form.shape xs) (ap answers_of slots ∙ answers_of-filled answers) in
+    record {
+      all = rw (held_is, filled) refl;
+      text = rw (held_is, open_is, filled) (append-nil (form_text form) ∙ text);
+    }
 
 -- Only a command that is no refusal for want of memory finds none for its plan: it was spelled as it is shown.
 record IsRefused (shown : Command) (one : Given) : Type 0 where
@@ -52,29 +70,11 @@ ran_by-none : (pieces : List (ℕ × Piece)) → ran_by pieces [] ≡ []
 ran_by-none [] = refl
 ran_by-none (piece ∷ pieces) = refl
 
-pub record GivenUp (shards ticket moment : ℕ) (one : Given) (all : List Shard) (text : List ℕ) : Type 0 where
-  pub done : Done
-  pub does : DoesCommand shards ticket moment one all all done
-  pub text_is : text_done done ≡ text
-
--- one for whose plan there was no memory
-pub gives_up : (shards ticket moment : ℕ) (shown : Command) (one : Given) (all : List Shard) → IsGiven shown one → IsTrue (can_give_up shown) → GivenUp shards ticket moment one all memory_line
-gives_up shards ticket moment shown one all given may = record {
-  done = record { entry = one.entry; moment = moment; given_up = true; answers = [] };
-  does = record {
-    entry_is = refl;
-    moment_is = refl;
-    answered = ((refused shown one given may).may, refl);
-    does = rw (ran_by-none (parts_from 0 (record { 0 = ticket }) moment (pieces_of shards one.entry))) (Does-none all);
-  };
-  text_is = refl;
-}
-
-pub record Served (shards ticket moment : ℕ) (one : Given) (old new : List Shard) (form : Form) : Type 0 where
+-- a command whose plan was run, and the form of its reply
+record Served (shards ticket moment : ℕ) (one : Given) (old new : List Shard) (form : Form) (answers : List Answer) : Type 0 where
   pub done : Done
   pub does : DoesCommand shards ticket moment one old new done
-  pub slots : form.slots ≡ answered done.answers
-  pub text_is : text_done done ≡ shape_text form.shape done.answers
+  pub text_is : text_done done ≡ shape_text form.shape answers
 
 no_pieces : (shards : ℕ) (refusal : Refusal) → pieces_of shards (command.Refused refusal) ≡ []
 unfolding pieces_of
@@ -88,50 +88,99 @@ none : (answers : List Answer) → length answers ≡ 0 → answers ≡ []
 none [] e = refl
 none (answer ∷ answers) e = absurd (omega arith)
 
--- one that the reader gave up, and that is planned as the refusal for want of memory
-serves_refusal : (shards : ℕ) (shown : Command) (ticket : Ticket) (moment : ℕ) (one : Given) (old new : List Shard) (blank form : Form) (pieces : List (ℕ × Piece)) → IsGiven shown one → one.given_up ≡ true → blank.shape ≡ shape_of shown → pieces ≡ parts_from 0 ticket moment (pieces_of shards shown) → PiecesRan old blank pieces new form → Served shards ticket.0 moment one old new form
-serves_refusal shards shown ticket moment one old new blank form pieces given up shape_is pieces_are ran =
-    let is : shown ≡ command.Refused Memory = rw up at given.shown_is in
-    let may : can_give_up one.entry ≡ true = rw up at given.may in
-    let parts : pieces ≡ [] = pieces_are ∙ rw (is, no_pieces shards Memory) refl in
-    let all_same = ran.same in
-    let answers : ran.answers ≡ [] = none ran.answers (all_same ∙ ap length parts) in
-    let form_is = ran.form_is in
-    let shape : form.shape ≡ shape_of (command.Refused Memory) = ap (λ (f : Form). f.shape) form_is ∙ (rw is at shape_is) in
+-- what was run of a plan
+record RanPlan (shards : ℕ) (ticket : Ticket) (moment : ℕ) (planned : Command) (old new : List Shard) (form : Form) (answers : List Answer) : Type 0 where
+  pub pieces : List (ℕ × Piece)
+  pub pieces_are : pieces ≡ parts_from 0 ticket moment (pieces_of shards planned)
+  pub shape_is : form.shape ≡ shape_of planned
+  pub same : length answers ≡ length pieces
+  pub does : Does old new (ran_by pieces answers)
+
+-- one that was given up, and planned as the refusal for want of memory
+serves_refusal : (shards : ℕ) (planned : Command) (ticket : Ticket) (moment : ℕ) (one : Given) (old new : List Shard) (form : Form) (answers : List Answer) → IsTrue (can_give_up one.entry) → planned ≡ command.Refused Memory → RanPlan shards ticket moment planned old new form answers → Served shards ticket.0 moment one old new form answers
+serves_refusal shards planned ticket moment one old new form answers may is ran =
+    let pieces_are = ran.pieces_are in
+    let shape_is = ran.shape_is in
+    let same = ran.same in
+    let does = ran.does in
+    let parts : ran.pieces ≡ [] = pieces_are ∙ rw (is, no_pieces shards Memory) refl in
+    let answers_are : answers ≡ [] = none answers (same ∙ ap length parts) in
     record {
       done = record { entry = one.entry; moment = moment; given_up = true; answers = [] };
       does = record {
         entry_is = refl;
         moment_is = refl;
         answered = (may, refl);
-        does = rw (ran_by-none (parts_from 0 ticket moment (pieces_of shards one.entry))) (rw parts at ran.does);
+        does = rw (ran_by-none (parts_from 0 ticket moment (pieces_of shards one.entry))) (rw parts at does);
       };
-      slots = ap (λ (f : Form). f.slots) form_is ∙ ap answered answers;
-      text_is = sym (ap (λ s. shape_text s []) shape ∙ refusal_text Memory);
+      text_is = sym (ap (λ s. shape_text s answers) (rw is at shape_is) ∙ (ap (λ xs. shape_text (shape_of (command.Refused Memory)) xs) answers_are ∙ refusal_text Memory));
     }
 
--- one that is planned as it was spelled
-serves_spelled : (shards : ℕ) (shown : Command) (ticket : Ticket) (moment : ℕ) (one : Given) (old new : List Shard) (blank form : Form) (pieces : List (ℕ × Piece)) → IsGiven shown one → one.given_up ≡ false → blank.shape ≡ shape_of shown → pieces ≡ parts_from 0 ticket moment (pieces_of shards shown) → PiecesRan old blank pieces new form → Served shards ticket.0 moment one old new form
-serves_spelled shards shown ticket moment one old new blank form pieces given kept shape_is pieces_are ran =
-    let entry_is : shown ≡ one.entry = rw kept at given.shown_is in
-    let parts : pieces ≡ parts_from 0 ticket moment (pieces_of shards one.entry) = rw entry_is at pieces_are in
-    let form_is = ran.form_is in
-    let shape : form.shape ≡ shape_of one.entry = ap (λ (f : Form). f.shape) form_is ∙ (rw entry_is at shape_is) in
+-- one that was planned as it was spelled
+serves_spelled : (shards : ℕ) (planned : Command) (ticket : Ticket) (moment : ℕ) (one : Given) (old new : List Shard) (form : Form) (answers : List Answer) → planned ≡ one.entry → RanPlan shards ticket moment planned old new form answers → Served shards ticket.0 moment one old new form answers
+serves_spelled shards planned ticket moment one old new form answers is ran =
+    let pieces_are = ran.pieces_are in
+    let shape_is = ran.shape_is in
+    let does = ran.does in
+    let parts : ran.pieces ≡ parts_from 0 ticket moment (pieces_of shards one.entry) = rw is at pieces_are in
+    let shape : form.shape ≡ shape_of one.entry = rw is at shape_is in
     record {
-      done = record { entry = one.entry; moment = moment; given_up = false; answers = ran.answers };
+      done = record { entry = one.entry; moment = moment; given_up = false; answers = answers };
       does = record {
         entry_is = refl;
         moment_is = refl;
         answered = ran.same ∙ (ap length parts ∙ length-parts_from 0 ticket moment (pieces_of shards one.entry));
-        does = rw parts at ran.does;
+        does = rw parts at does;
       };
-      slots = ap (λ (f : Form). f.slots) form_is;
-      text_is = ap (λ s. shape_text s ran.answers) (sym shape);
+      text_is = ap (λ s. shape_text s answers) (sym shape);
     }
 
--- one whose pieces were run
-pub serves : (shards : ℕ) (shown : Command) (ticket : Ticket) (moment : ℕ) (one : Given) (old new : List Shard) (blank form : Form) (pieces : List (ℕ × Piece)) → IsGiven shown one → blank.shape ≡ shape_of shown → pieces ≡ parts_from 0 ticket moment (pieces_of shards shown) → PiecesRan old blank pieces new form → Served shards ticket.0 moment one old new form
-serves shards shown ticket moment one old new blank form pieces given shape_is pieces_are ran = go one.given_up refl where
-  go : (up : Bool) → one.given_up ≡ up → Served shards ticket.0 moment one old new form
-  go true e = serves_refusal shards shown ticket moment one old new blank form pieces given e shape_is pieces_are ran
-  go false e = serves_spelled shards shown ticket moment one old new blank form pieces given e shape_is pieces_are ran
+-- one whose plan was run
+serves : (shards : ℕ) (shown planned : Command) (ticket : Ticket) (moment : ℕ) (one : Given) (old new : List Shard) (form : Form) (answers : List Answer) → IsGiven shown one → MayPlan shown planned → RanPlan shards ticket moment planned old new form answers → Served shards ticket.0 moment one old new form answers
+serves shards shown planned ticket moment one old new form answers given may ran = elim may [
+  | inl same ↦ go one.given_up refl same
+  | inr up ↦ serves_refusal shards planned ticket moment one old new form answers (refused shown one given up.1).may up.0 ran
+] where
+  go : (up : Bool) → one.given_up ≡ up → planned ≡ shown → Served shards ticket.0 moment one old new form answers
+  go true e same = serves_refusal shards planned ticket moment one old new form answers (rw e at given.may) (same ∙ (rw e at given.shown_is)) ran
+  go false e same = serves_spelled shards planned ticket moment one old new form answers (same ∙ (rw e at given.shown_is)) ran
+
+-- what was run of a plan, and the joiner that has taken in all answers
+pub record RanAll (shards : ℕ) (ticket : Ticket) (moment : ℕ) (shown : Command) (old new : List Shard) (held : Held) : Type 0 where
+  pub closed : Held
+  pub plan : Plan
+  pub plans : PlansFor shards ticket moment shown plan
+  pub closed_is : closed ≡ idle ticket.0
+  pub answers : List Answer
+  pub same : length answers ≡ length plan.pieces.items
+  pub held_is : held ≡ with_form closed (record plan.form { slots = answered answers })
+  pub does : Does old new (ran_by plan.pieces.items answers)
+
+-- the command was done, and its reply is due
+pub record IsServed (shards : ℕ) (ticket : Ticket) (moment : ℕ) (one : Given) (old new : List Shard) (held : Held) : Type 0 where
+  pub done : Done
+  pub does : DoesCommand shards ticket.0 moment one old new done
+  pub due : due_text held ≡ text_done done
+
+pub serves_all : (shards : ℕ) (ticket : Ticket) (moment : ℕ) (shown : Command) (one : Given) (old new : List Shard) (held : Held) → RanAll shards ticket moment shown old new held → IsGiven shown one → IsServed shards ticket moment one old new held
+serves_all shards ticket moment shown one old new held ran given =
+    let plans = ran.plans in
+    let planned = plans.0 in
+    let is_plan = plans.2 in
+    let form : Form = record ran.plan.form { slots = answered ran.answers } in
+    let served = serves shards shown planned ticket moment one old new form ran.answers given plans.1
+    (record { pieces = ran.plan.pieces.items; pieces_are = is_plan.pieces_are; shape_is = is_plan.shape_is; same = ran.same; does = ran.does }) in
+    let all = complete_one ran.closed held form ran.answers ran.held_is (ap (λ (h : Held). h.gone) ran.closed_is) refl in
+    record { done = served.done; does = served.does; due = all.text ∙ sym served.text_is }
+
+-- and once it is handed out, no ticket is open
+pub passes : (shards : ℕ) (ticket : Ticket) (moment : ℕ) (shown : Command) (old new : List Shard) (held after : Held) (count : ℕ) → RanAll shards ticket moment shown old new held → (held.gone ≡ false → count ≡ length (complete held.forms)) → after ≡ record held { handed = held.handed + count; forms = drop count held.forms } → after ≡ idle (ticket.0 + 1)
+passes shards ticket moment shown old new held after count ran count_is after_is =
+    let form : Form = record ran.plan.form { slots = answered ran.answers } in
+    let held_is = ran.held_is in
+    let closed_is = ran.closed_is in
+    let gone : ran.closed.gone ≡ false = ap (λ (h : Held). h.gone) closed_is in
+    let all = complete_one ran.closed held form ran.answers held_is gone refl in
+    let whole : complete held.forms ≡ form ∷ [] = all.all in
+    let one : count ≡ 1 = count_is (ap (λ (h : Held). h.gone) held_is ∙ gone) ∙ ap length whole in
+    after_is ∙ rw (one, held_is, closed_is) refl

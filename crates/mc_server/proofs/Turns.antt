@@ -1,11 +1,12 @@
 -- The steps of a service, over plain data.
-use Rattle.std.proofs.Common.{◌≡◌, ℕ, ◌+◌, ◌-◌, ◌^◌, ◌<◌, min, Bool, true, false, ◌⊎◌, inl, inr, List, [], ◌∷◌, ◌++◌, length, take, drop, Option, Result, Ok, Err, IsTrue, refl, sym, ap, subst, ◌∙◌, arith, append_assoc, append-nil, length-append, ◌==◌}
+use Rattle.std.proofs.Common.{◌≡◌, ℕ, ◌+◌, ◌-◌, ◌^◌, ◌<◌, min, Bool, true, false, ◌⊎◌, inl, inr, List, [], ◌∷◌, ◌++◌, length, take, drop, Option, Result, Ok, Err, OnOk, IsTrue, refl, sym, ap, subst, ◌∙◌, arith, append_assoc, append-nil, length-append, ◌==◌}
 use Rattle.std.proofs.lemmas.List.{take-append-drop}
 use Rattle.std.proofs.lemmas.Bool.{eqb-true}
 use Rattle.mc_wire.specs.Outlet.{Input, with_bytes, TookFront}
-use Rattle.mc_wire.specs.declared.fault.OutFault.{OutFault}
 use Rattle.mc_wire.proofs.Outlets.{with_bytes-append, with_bytes-nil}
 use Rattle.mc_command.specs.declared.command.Command.{Command}
+use Rattle.mc_join.specs.declared.joiner.Gone.{Gone}
+use Rattle.mc_join.specs.Held.{Held}
 use Rattle.mc_reader.specs.declared.reader.Reader.{Reader}
 use Rattle.mc_reader.specs.declared.reader.Next.TheVariants as next
 use Rattle.mc_reader.specs.Spelling.{Given, BeginCommands, AreCommands, is_closed}
@@ -18,6 +19,7 @@ use Rattle.mc_server.specs.History.{Done, entries_of, text_done, texts_of, IsAns
 use Rattle.mc_server.specs.Log.{Ran, log_of, ran_done}
 use Rattle.mc_server.specs.Explains.{IsExplained}
 use Rattle.mc_server.specs.Backs.{Backs, DoesCommand, WriteSays}
+use Rattle.mc_server.specs.Plans.{idle}
 use Rattle.mc_server.specs.Stands.{Story, Stands, HasMoments}
 use Rattle.mc_split.proofs.Shards.{pieces_within}
 use Rattle.mc_server.proofs.Alone.{texts_alone}
@@ -65,9 +67,10 @@ took_part begin before now texts text before_is front = record {
 }
 
 -- what taking a command did
-pub record Took (shown : Command) (result : Result Unit OutFault) (moment : ℕ) (old : Service) (given : Reader) (new : Service) (before now : Sight) : Type 0 where
+pub record Took (shown : Command) (result : Result Unit Gone) (moment : ℕ) (old : Service) (given : Reader) (new : Service) (before now : Sight) : Type 0 where
   pub kept : (new.reader ≡ given) × (new.unread ≡ old.unread)
   pub counted : new.commands ≡ min (old.commands + 1) (2 ^ 64 - 1)
+  pub handed_out : OnOk result (new.joiner ≡ idle (old.commands + 1))
   pub len : length new.shards.items ≡ length old.shards.items
   pub input : now.input ≡ before.input
   pub served : (one : Given) → IsGiven shown one →
@@ -82,16 +85,21 @@ backs_moved count items shards log done n t k same_count same_ticket backs =
 answered_moved : (n count : ℕ) (done : Done) → n ≡ count → IsAnswered n done → IsAnswered count done
 answered_moved n count done same answered = rw (← same) answered
 
--- what the service stands for then, had the line taken the whole text
-pub record TakesOne (count items : ℕ) (begin : Sight) (new : Service) (before now : Sight) (result : Result Unit OutFault) (moment : ℕ) (story : Story) : Type 0 where
+-- what the service stands for then, had the line taken the whole text, and the joiner handed it out
+pub record TakesOne (count items : ℕ) (begin : Sight) (new : Service) (before now : Sight) (result : Result Unit Gone) (moment : ℕ) (story : Story) : Type 0 where
   pub after : Story
   pub done : Done
   pub history_is : after.history ≡ story.history ++ done ∷ []
   pub moment_is : done.moment ≡ moment
-  pub stands : Stands count items begin new (record { input = now.input; taken = with_bytes begin.taken (texts_of after.history) }) after
+  pub stands : Stands count items begin (record new { joiner = idle new.commands }) (record { input = now.input; taken = with_bytes begin.taken (texts_of after.history) }) after
+  pub handed_out : OnOk result (new.joiner ≡ idle new.commands)
   pub wrote : WriteSays result before.taken now.taken (text_done done)
 
-pub takes_one : (count items : ℕ) (begin : Sight) (old new : Service) (given : Reader) (before now : Sight) (story : Story) (shown : Command) (result : Result Unit OutFault) (moment : ℕ) → Stands count items begin old before story → NextSays old.reader (next.Command shown) given → Took shown result moment old given new before now → TakesOne count items begin new before now result moment story
+handed_at : (result : Result Unit Gone) (joiner : Held) (old new : ℕ) → old ≡ new → OnOk result (joiner ≡ idle old) → OnOk result (joiner ≡ idle new)
+handed_at (Ok done) joiner old new same handed = handed ∙ ap idle same
+handed_at (Err gone) joiner old new same handed = tt
+
+pub takes_one : (count items : ℕ) (begin : Sight) (old new : Service) (given : Reader) (before now : Sight) (story : Story) (shown : Command) (result : Result Unit Gone) (moment : ℕ) → Stands count items begin old before story → NextSays old.reader (next.Command shown) given → Took shown result moment old given new before now → TakesOne count items begin new before now result moment story
 takes_one count items begin old new given before now story shown result moment stands says took =
     let said = says story.fed story.ended story.given stands.reader_is in
     let one = said.0 in
@@ -122,7 +130,9 @@ takes_one count items begin old new given before now story shown result moment s
         backs = rw (log_of-push count story.history done) (backs_moved count items new.shards.items (log_of count story.history) done (length old.shards.items) old.commands (length story.history) len counted (does.does count items (log_of count story.history) stands.backs));
         answered = AllByRecursion-push (IsAnswered count) story.history done stands.answered (answered_moved (length old.shards.items) count done len does.answered);
         counted = omega (arith, took.counted, length-append story.history (done ∷ []), length-entries_of history);
+        joiner_is = refl;
       };
+      handed_out = handed_at result new.joiner (old.commands + 1) new.commands (omega (arith, took.counted, length-append story.history (done ∷ []), length-entries_of history)) took.handed_out;
       wrote = served.2;
     }
 
@@ -131,13 +141,14 @@ pub goes_on : (count items : ℕ) (may_answer : ℕ → Type 0) (begin : Sight) 
 goes_on count items may_answer begin new before now moment story taken moments may one =
     let all : now.taken ≡ with_bytes begin.taken (texts_of one.after.history) =
     one.wrote ∙ (ap (λ t. with_bytes t (text_done one.done)) taken ∙ (with_bytes-append begin.taken (texts_of story.history) (text_done one.done) ∙ rw (one.history_is, texts_of-push))) in
-    let P : Option (List ℕ) → Type 0 = λ t. Stands count items begin new (record { input = now.input; taken = t }) one.after in
-    (one.after, subst P (sym all) one.stands, rw one.history_is (AllByRecursion-push (λ done. may_answer done.moment) story.history one.done moments (rw one.moment_is may)))
+    let P : Option (List ℕ) → Held → Type 0 = λ t joiner. Stands count items begin (record new { joiner = joiner }) (record { input = now.input; taken = t }) one.after in
+    let stands : P now.taken (idle new.commands) = subst (λ (t : Option (List ℕ)). P t (idle new.commands)) (sym all) one.stands in
+    (one.after, subst (λ (joiner : Held). P now.taken joiner) (sym one.handed_out) stands, rw one.history_is (AllByRecursion-push (λ done. may_answer done.moment) story.history one.done moments (rw one.moment_is may)))
 
 -- the reply was not written whole
-pub breaks : (count items : ℕ) (may_answer : ℕ → Type 0) (begin : Sight) (new : Service) (before now : Sight) (moment : ℕ) (story : Story) (fault : OutFault) → before.taken ≡ with_bytes begin.taken (texts_of story.history) → HasMoments may_answer story.history → may_answer moment → TakesOne count items begin new before now (Err fault) moment story → IsExplained count items may_answer begin now new.commands true
-breaks count items may_answer begin new before now moment story fault taken moments may one =
-    explains_broke count items may_answer begin new (record { input = now.input; taken = with_bytes begin.taken (texts_of one.after.history) }) now one.after one.stands
+pub breaks : (count items : ℕ) (may_answer : ℕ → Type 0) (begin : Sight) (new : Service) (before now : Sight) (moment : ℕ) (story : Story) (gone : Gone) → before.taken ≡ with_bytes begin.taken (texts_of story.history) → HasMoments may_answer story.history → may_answer moment → TakesOne count items begin new before now (Err gone) moment story → IsExplained count items may_answer begin now new.commands true
+breaks count items may_answer begin new before now moment story gone taken moments may one =
+    explains_broke count items may_answer begin (record new { joiner = idle new.commands }) (record { input = now.input; taken = with_bytes begin.taken (texts_of one.after.history) }) now one.after one.stands
     (rw one.history_is (AllByRecursion-push (λ done. may_answer done.moment) story.history one.done moments (rw one.moment_is may))) refl
     (rw (one.history_is, texts_of-push) (took_part begin.taken before.taken now.taken (texts_of story.history) (text_done one.done) taken one.wrote))
 
@@ -157,6 +168,7 @@ needs_more count items begin old given now story stands says =
         backs = stands.backs;
         answered = stands.answered;
         counted = stands.counted;
+        joiner_is = stands.joiner_is;
       },
     )
 
@@ -217,6 +229,7 @@ feeds count items begin old given taken now story stands open_is fed =
         backs = stands.backs;
         answered = stands.answered;
         counted = stands.counted;
+        joiner_is = stands.joiner_is;
       },
     )
 
@@ -235,6 +248,7 @@ refills count items begin old more before now story stands open_is none gave tak
       backs = stands.backs;
       answered = stands.answered;
       counted = stands.counted;
+      joiner_is = stands.joiner_is;
     }
 
 -- the read failed
@@ -260,6 +274,7 @@ ends count items begin old given now story stands none at_end end = (
     backs = stands.backs;
     answered = stands.answered;
     counted = stands.counted;
+    joiner_is = stands.joiner_is;
   },
 )
 
@@ -274,8 +289,8 @@ empty_is (x ∷ xs) e = let bad = eqb-true (length (x ∷ xs)) 0 e in absurd (om
 abbrev pub no_story : Story
 no_story = record { fed = []; ended = false; given = []; history = [] }
 
-pub starts : (count items : ℕ) (service : Service) (now : Sight) → IsReader service.reader [] false [] → service.unread ≡ [] → length service.shards.items ≡ count → Backs count items service.shards.items [] → service.commands ≡ 0 → Stands count items now service now no_story
-starts count items service now reader none all backs zero_commands = record {
+pub starts : (count items : ℕ) (service : Service) (now : Sight) → IsReader service.reader [] false [] → service.unread ≡ [] → length service.shards.items ≡ count → Backs count items service.shards.items [] → service.commands ≡ 0 → service.joiner ≡ idle service.commands → Stands count items now service now no_story
+starts count items service now reader none all backs zero_commands joiner_is = record {
   read_is = rw none (sym (with_bytes-nil now.input.given));
   ended_is = λ e. absurd cc;
   taken_is = sym (with_bytes-nil now.taken);
@@ -286,4 +301,5 @@ starts count items service now reader none all backs zero_commands = record {
   backs = backs;
   answered = tt;
   counted = zero_commands;
+  joiner_is = joiner_is;
 }

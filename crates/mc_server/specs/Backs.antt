@@ -1,20 +1,14 @@
 -- What the shards have done, as the steps of one command are stated.
-use Rattle.std.specs.Prelude.{ℕ, ◌≡◌, ◌+◌, ◌<◌, List, [], ◌∷◌, ◌++◌, Option, Some, Result, Ok, Err}
+use Rattle.std.specs.Prelude.{ℕ, ◌≡◌, List, ◌++◌, Option, Some, Result, Ok, Err}
 use Rattle.std.specs.List.{slice_get}
 use Rattle.mc_wire.specs.Outlet.{with_bytes, TookFront}
-use Rattle.mc_wire.specs.declared.fault.OutFault.{OutFault}
+use Rattle.mc_join.specs.declared.joiner.Gone.{Gone}
 use Rattle.mc_reader.specs.Spelling.{Given}
-use Rattle.mc_split.specs.declared.plan.Piece.{Piece}
 use Rattle.mc_store.specs.declared.shard.Shard.{Shard}
 use Rattle.mc_store.specs.State.{State, empty_state}
 use Rattle.mc_store.specs.Shard.{IsShard}
 use Rattle.mc_server.specs.History.{Done, IsAnswered}
 use Rattle.mc_server.specs.Log.{Ran, Run, on_shard, ran_done}
-
--- The pieces are numbered from this part on, and each is for one of so many shards.
-abbrev pub ArePlanned : ℕ → ℕ → List (ℕ × Piece) → Type 0
-ArePlanned shards part [] = Unit {0}
-ArePlanned shards part (piece ∷ pieces) = (piece.0 < shards) × (piece.1.part ≡ part) × ArePlanned shards (part + 1) pieces
 
 -- Each shard is what its part of the log leads to, from the empty state.
 abbrev pub Backs : ℕ → ℕ → List Shard → List Ran → Type 0
@@ -27,7 +21,7 @@ abbrev pub Does : List Shard → List Shard → List Ran → Type 0
 Does old new more = (count items : ℕ) (log : List Ran) → Backs count items old log → Backs count items new (log ++ more)
 
 -- The text was written, or of an outlet that failed a beginning of it.
-abbrev pub WriteSays : Result Unit OutFault → Option (List ℕ) → Option (List ℕ) → List ℕ → Type 0
+abbrev pub WriteSays : Result Unit Gone → Option (List ℕ) → Option (List ℕ) → List ℕ → Type 0
 WriteSays (Ok done) old new text = new ≡ with_bytes old text
 WriteSays (Err fault) old new text = TookFront old new text
 

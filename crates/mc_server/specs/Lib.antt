@@ -3,6 +3,7 @@ pub mod Options
 pub mod History
 pub mod Log
 pub mod Explains
+pub mod Plans
 pub mod Backs
 pub mod Stands
 pub mod Alone

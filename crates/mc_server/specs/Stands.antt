@@ -12,6 +12,7 @@ use Rattle.mc_server.specs.Lines.{Sight}
 use Rattle.mc_server.specs.History.{Done, entries_of, texts_of, IsAnswered}
 use Rattle.mc_server.specs.Log.{log_of}
 use Rattle.mc_server.specs.Backs.{Backs}
+use Rattle.mc_server.specs.Plans.{idle}
 use Rattle.mc_server.specs.Explains.{IsExplained}
 
 -- what happened so far
@@ -33,6 +34,7 @@ pub record Stands (count items : ℕ) (begin : Sight) (service : Service) (now :
   pub backs : Backs count items service.shards.items (log_of count story.history)
   pub answered : AllByRecursion (IsAnswered count) story.history
   pub counted : service.commands ≡ length story.history
+  pub joiner_is : service.joiner ≡ idle service.commands
 
 -- What was read was fed to the reader, as far as it took it.
 abbrev pub FeedSays : Service → Service → Type 0

@@ -1,21 +1,21 @@
 //! Serves one line.
-ghost use Rattle.std.specs.Prelude.{◌≡◌, ◌<◌, ◌+◌, ◌-◌, ◌^◌, ℕ, List, [], true, false, IfOk, OnErr, IsTrue, length, min};
-ghost use Rattle.mc_wire.specs.declared.fault.OutFault.{OutFault};
+ghost use Rattle.std.specs.Prelude.{◌≡◌, ◌<◌, ◌+◌, ◌-◌, ◌^◌, ℕ, List, [], true, false, IfOk, OnOk, OnErr, IsTrue, length, min};
 ghost use Rattle.mc_reader.specs.Spelling.{Given};
 ghost use Rattle.mc_reader.specs.Reader.{IsGiven};
 ghost use Rattle.mc_server.specs.History.{Done, text_done};
 ghost use Rattle.mc_server.specs.Explains.{IsExplained};
 ghost use Rattle.mc_server.specs.Backs.{Backs, DoesCommand, WriteSays};
+ghost use Rattle.mc_server.specs.Plans.{idle};
 ghost use Rattle.mc_server.specs.Stands.{FeedSays, ReadSays, TurnSays};
 
 use crate::answer::serve_command;
 use crate::lines::{Clock, Line, LineFault};
 use crate::unread::Unread;
 use mc_command::Command;
+use mc_join::{Gone, Joiner};
 use mc_reader::{Next, Reader};
 use mc_split::Ticket;
 use mc_store::Shard;
-use mc_wire::OutFault;
 use std::alloc::{AllocError, Global};
 use std::hash::RandomState;
 use std::random::RandomSource;
@@ -60,6 +60,7 @@ pub(crate) enum Turn {
 pub(crate) struct Service {
     pub(crate) reader: Reader,
     pub(crate) shards: Vec<Shard>,
+    pub(crate) joiner: Joiner,
     pub(crate) unread: Unread,
     /// How many commands were taken.
     pub(crate) commands: u64,
@@ -91,7 +92,8 @@ fn make_shards<R: RandomSource>(
 impl Service {
     /// Does what comes next: a command, or a read, or the end.
     fn turn<L: Line, K: Clock>(&mut self, alloc: Global, line: &mut L, clock: &K) -> Turn
-        requires { 0 < length self.old.shards.items }
+        requires some { 0 < length self.old.shards.items }
+        requires idle { self.old.joiner ≡ idle self.old.commands }
         ensures len { length self.new.shards.items ≡ length self.old.shards.items }
         ensures says { TurnSays result (K.may_answer clock.now) self.old (record { input = L.input line.old; taken = L.taken line.old })
             self.new (record { input = L.input line.new; taken = L.taken line.new }) }
@@ -121,11 +123,13 @@ impl Service {
         line: &mut L,
         command: Command,
         moment: u64,
-    ) -> Result<(), OutFault>
-        requires { 0 < length self.old.shards.items }
+    ) -> Result<(), Gone>
+        requires some { 0 < length self.old.shards.items }
+        requires idle { self.old.joiner ≡ idle self.old.commands }
         ensures len { length self.new.shards.items ≡ length self.old.shards.items }
         ensures kept { (self.new.reader ≡ self.old.reader) × (self.new.unread ≡ self.old.unread) }
         ensures counted { self.new.commands ≡ min (self.old.commands + 1) (2 ^ 64 - 1) }
+        ensures idle { OnOk result (self.new.joiner ≡ idle (self.old.commands + 1)) }
         ensures input { L.input line.new ≡ L.input line.old }
         ensures failed { OnErr result (IsTrue (L.has_failed line.new)) }
         ensures served { (one : Given) → IsGiven command one →
@@ -134,7 +138,15 @@ impl Service {
     {
         let ticket = Ticket(self.commands);
         self.commands = self.commands.saturating_add(1);
-        serve_command(alloc, &mut self.shards, line, command, ticket, moment)
+        serve_command(
+            alloc,
+            &mut self.shards,
+            &mut self.joiner,
+            line,
+            command,
+            ticket,
+            moment,
+        )
     }
 
     /// Feeds what was read to the reader, as far as it takes it.
@@ -185,9 +197,10 @@ pub fn serve_one<R: Wait + RandomSource, L: Line, K: Clock>(
     ensures sent { IfOk result (λ served. served.broke ≡ false → L.held_back line.new ≡ []) }
     ensures refused { OnErr result ((L.input line.new ≡ L.input line.old) × (L.taken line.new ≡ L.taken line.old)) }
 {
-    let (Ok(shards), Ok(reader), Ok(unread)) = (
+    let (Ok(shards), Ok(reader), Ok(joiner), Ok(unread)) = (
         make_shards(rt, alloc, sizes),
         Reader::new(alloc),
+        Joiner::new(alloc, 1),
         Unread::new(alloc),
     ) else {
         return Err(ServeRefusal::Memory);
@@ -195,6 +208,7 @@ pub fn serve_one<R: Wait + RandomSource, L: Line, K: Clock>(
     let mut service = Service {
         reader,
         shards,
+        joiner,
         unread,
         commands: 0,
     };

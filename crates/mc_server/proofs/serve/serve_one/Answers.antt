@@ -6,15 +6,15 @@ use Rattle.mc_server.proofs.serve.serve_one.Goals as goal
 pub loop-init : goal.loop-init
 loop-init g c =
     let now : Sight = record { input = g.L.Outlet.input c.args.line.now; taken = g.L.Outlet.taken c.args.line.now } in
-    let made = c.in-Ok-Ok-Ok.ensures in
-    let some : 0 < length c.in-Ok-Ok-Ok.shards.items = rw made.len c.requires.shards in (
+    let made = c.in-Ok-Ok-Ok-Ok.ensures in
+    let some : 0 < length c.in-Ok-Ok-Ok-Ok.shards.items = rw made.len c.requires.shards in (
       tt,
       tt,
       some,
       (
         no_story,
-        starts c.args.sizes.shards c.args.sizes.items (record { reader = c.in-Ok-Ok-Ok.reader; shards = c.in-Ok-Ok-Ok.shards; unread = c.in-Ok-Ok-Ok.unread; commands = 0 }) now
-            c.in-Ok-Ok-Ok.ensures' c.in-Ok-Ok-Ok.ensures'' made.len made.empty refl,
+        starts c.args.sizes.shards c.args.sizes.items (record { reader = c.in-Ok-Ok-Ok-Ok.reader; shards = c.in-Ok-Ok-Ok-Ok.shards; joiner = c.in-Ok-Ok-Ok-Ok.joiner; unread = c.in-Ok-Ok-Ok-Ok.unread; commands = 0 }) now
+            c.in-Ok-Ok-Ok-Ok.ensures' c.in-Ok-Ok-Ok-Ok.ensures''' made.len made.empty refl c.in-Ok-Ok-Ok-Ok.ensures''.held,
         tt,
       ),
     )
