@@ -1,4 +1,5 @@
 pub mod Answered
 pub mod Joins
+pub mod Lengths
 pub mod Queues
 pub mod Texts

@@ -5,9 +5,10 @@ ghost use Rattle.mc_split.specs.declared.form.Form.{Form};
 ghost use Rattle.mc_wire.specs.Outlet.{with_bytes, TookFront};
 ghost use Rattle.mc_join.specs.Held.{AreNumbered, AwaitsAt, IsAwaited, TakesIn, due_text, nothing_held, opened_count};
 ghost use Rattle.mc_join.specs.Joined.{IsJoiner, unhanded};
+ghost use Rattle.mc_join.specs.Length.{capped};
 ghost use Rattle.mc_join.specs.Replies.{complete, replies};
 
-use crate::queue::{add, awaits, count_complete, fill, put_first};
+use crate::queue::{add, awaits, count_complete, fill, put_first, texts_len};
 use crate::room::Room;
 use circular_buffer::HeapCircularBuffer;
 use mc_ring::Reply;
@@ -127,6 +128,16 @@ impl Joiner {
         };
         fill(&mut self.forms, place, reply.part, reply.answer);
         Ok(())
+    }
+
+    /// How many bytes `hand` would write; a number that stays at its greatest value.
+    pub fn ready(&self) -> u64
+        ensures { result ≡ capped (length (due_text self.now)) }
+    {
+        if self.gone {
+            return 0;
+        }
+        texts_len(&self.forms, count_complete(&self.forms))
     }
 
     /// How many tickets are open.

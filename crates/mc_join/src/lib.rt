@@ -4,6 +4,7 @@
 mod classic;
 mod fixed;
 mod joiner;
+mod length;
 mod meta;
 mod queue;
 mod room;
