@@ -20,8 +20,8 @@ use Rattle.mc_store.specs.Step.{IsStep}
 use Rattle.mc_store.specs.Shard.{IsShard, held_of}
 use Rattle.mc_store.specs.Laws.{StaysUnless, IsKept, is_sent}
 use Rattle.mc_store.specs.Runs.{Asked, Runs, last_of, uniques_of, times_of}
-use Rattle.mc_store.specs.RunLaws.{RunsAreOrderly, RunsShareNoUnique, RunsLeaveOthers, IsGiven, SameUniqueSameItem, one_if, is_telling, is_asked, told, cleared, ToldAlone}
-use Rattle.mc_store.proofs.Lists.{same_is}
+use Rattle.mc_store.specs.RunLaws.{RunsAreOrderly, RunsShareNoUnique, RunsLeaveOthers, IsGiven, NewIsGiven, SameUniqueSameItem, one_if, is_telling, is_asked, told, cleared, ToldAlone}
+use Rattle.mc_store.proofs.Lists.{same_is, get_nothing}
 use Rattle.mc_store.proofs.StepLaws.{Shown, SamePlace, same_place, shown_after, answers_are_lawful, others_stay, uniques_rise, uniques_differ, uniques_tell, time_rises, winners_are_first}
 
 -- Of every run: what holds of no operation, and of one more where it holds of those after it.
@@ -176,6 +176,9 @@ runs_leave_others = of_runs (λ old asked answers states. (key : List ℕ) → A
     joined_stays (get old.items key) (get new.items key) (get (last_of new states).items key) (stays_or_goes _ old.items new.items key (others_stay old new ask.0 ask.1 answer step key (All-head (λ (a : Asked). ¬ (key_of a.0 ≡ Some key)) ask rest apart))) (after key (All-tail (λ (a : Asked). ¬ (key_of a.0 ≡ Some key)) ask rest apart)))
 
 -- What cas rests on
+
+pub new_is_given : NewIsGiven
+new_is_given index shards capacity given key used is = absurd (let h' = rw (get_nothing key) at is in cc)
 
 -- what a run keeps of the items, and those that it changed
 record Traces (old new : State) : Type 0 where

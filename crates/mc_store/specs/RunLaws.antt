@@ -6,7 +6,7 @@ use Rattle.mc_item.specs.declared.answer.Answer.{Answer}
 use Rattle.mc_item.specs.declared.answer.Answer.TheVariants.{MetaHit}
 use Rattle.mc_item.specs.Kind.{key_of}
 use Rattle.mc_store.specs.declared.shard.Shard.{Shard}
-use Rattle.mc_store.specs.State.{Used, State, settle, next_unique}
+use Rattle.mc_store.specs.State.{Used, State, empty_state, settle, next_unique}
 use Rattle.mc_store.specs.Shard.{IsShard}
 use Rattle.mc_store.specs.Runs.{Asked, Runs, last_of, uniques_of, IsOrderly}
 use Rattle.mc_store.specs.Laws.{is_sent}
@@ -28,9 +28,13 @@ abbrev pub RunsLeaveOthers : Type 0
 RunsLeaveOthers = (old : State) (asked : List Asked) (answers : List Answer) (states : List State) → Runs old asked answers states →
     (key : List ℕ) → All (λ (ask : Asked). ¬ (key_of ask.0 ≡ Some key)) asked → (get (last_of old states).items key ≡ get old.items key) ⊎ (get (last_of old states).items key ≡ None)
 
--- Each item has a unique below the next one; of the empty state this is so.
+-- Each item has a unique below the next one.
 abbrev pub IsGiven : State → Type 0
 IsGiven state = (key : List ℕ) (used : Used) → get state.items key ≡ Some used → used.item.unique < next_unique state
+
+-- A new shard has no item.
+abbrev pub NewIsGiven : Type 0
+NewIsGiven = (index shards capacity given : ℕ) → IsGiven (empty_state index shards capacity given)
 
 -- What cas rests on: an item that has its unique again, or still, has its value and its flags.
 abbrev pub SameUniqueSameItem : Type 0

@@ -1,6 +1,6 @@
 //! The laws of the step, for whoever reasons about runs of one shard or of several.
 ghost use Rattle.mc_store.specs.Laws.{AnswersAreLawful, StepsAgree, OthersStay, UniquesRise, UniquesDiffer, UniquesTell, TimeRises, WinnersAreFirst, SentStays};
-ghost use Rattle.mc_store.specs.RunLaws.{RunsAreOrderly, RunsShareNoUnique, RunsLeaveOthers, SameUniqueSameItem, ToldAlone};
+ghost use Rattle.mc_store.specs.RunLaws.{RunsAreOrderly, RunsShareNoUnique, RunsLeaveOthers, NewIsGiven, SameUniqueSameItem, ToldAlone};
 
 /// Does nothing: its contract states what follows from the step, whatever the operations and their moments.
 pub fn every_step()
@@ -20,6 +20,7 @@ pub fn every_run()
     ensures orderly { RunsAreOrderly }
     ensures share_no_unique { RunsShareNoUnique }
     ensures leave_others { RunsLeaveOthers }
+    ensures new_is_given { NewIsGiven }
     ensures same_unique_same_item { SameUniqueSameItem }
     ensures told_alone { ToldAlone }
 {}

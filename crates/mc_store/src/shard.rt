@@ -154,7 +154,8 @@ impl Shard {
 
     /// How many items it holds.
     pub fn len(&self) -> usize
-        ensures { (state : State) → IsShard self.now state → result ≡ FinMap.len state.items }
+        ensures count { (state : State) → IsShard self.now state → result ≡ FinMap.len state.items }
+        ensures room { (state : State) → IsShard self.now state → result ≤ state.capacity }
     {
         self.items.len()
     }

@@ -1,11 +1,13 @@
 //! A shard that is asked one operation after another, with what the protocol's worked rows have it answer.
+ghost use Rattle.std.specs.Prelude.{◌<◌};
+
 mod asked;
 mod shown;
 
 use crate::Shard;
 use asked::{Ask, Row, op_of};
 use mc_command::{Direction, MetaMode, StoreMode};
-use mc_item::{Op, Vivify};
+use mc_item::{Answer, Op, Vivify};
 use mc_wire::WireFault;
 use shown::shown;
 use std::alloc::{AllocError, Global};
@@ -485,46 +487,110 @@ fn meta_arithmetic(rt: HostRuntime) -> Result<(), Fail> {
     ask_all(&rt, a, &mut shard, &META_NUMBERS)
 }
 
-// Rows that want memory in their turn: with allocations refused one after another each answer is still lawful.
-static SHORT: [Row; 8] = [
-    (1000, "a", Ask::Set("x"), "stored"),
-    (1000, "a", Ask::Get, "0 1 x"),
-    (1000, "a", Ask::Put(StoreMode::Append, "y"), "stored"),
+// Rows for refused allocations, and whether the operation takes no memory once it was made: it deletes, touches,
+// marks stale, flushes, or stores under a key that is there.
+static SHORT: [(Row, bool); 16] = [
+    ((1000, "a", Ask::Set("x"), "stored"), false),
+    ((1000, "a", Ask::Get, "0 1 x"), false),
+    ((1000, "a", Ask::Set("7"), "stored"), true),
     (
-        1000,
-        "a",
-        Ask::Count(Direction::Increment, 1),
-        "non-numeric",
+        (1000, "a", Ask::Put(StoreMode::Append, "0"), "stored"),
+        false,
     ),
-    (1000, "c", Ask::Ms(MetaMode::Set, None, "5"), "c5 s1 t99 0"),
     (
-        1000,
-        "c",
-        Ask::Mg(None, Some(30), None),
-        "f9 c5 h0 l0 t99 5",
+        (1000, "a", Ask::Count(Direction::Increment, 1), "71"),
+        false,
     ),
-    (1000, "c", Ask::Ma(None, 2, None), "c7 s1 t99 7"),
-    (1000, "c", Ask::Md(None, true), "done"),
+    (
+        (1000, "c", Ask::Ms(MetaMode::Set, None, "5"), "c9 s1 t99 0"),
+        false,
+    ),
+    (
+        (
+            1000,
+            "c",
+            Ask::Mg(None, Some(30), None),
+            "f9 c9 h0 l0 t99 5",
+        ),
+        false,
+    ),
+    (
+        (
+            1000,
+            "e",
+            Ask::Mg(None, Some(30), None),
+            "f0 c11 h0 l0 t30 W ",
+        ),
+        false,
+    ),
+    ((1000, "a", Ask::Get, "miss"), true),
+    ((1000, "c", Ask::Ma(None, 2, None), "c13 s1 t99 7"), false),
+    ((1000, "c", Ask::Md(None, true), "done"), true),
+    (
+        (1000, "c", Ask::Put(StoreMode::Cas(15), "6"), "stored"),
+        true,
+    ),
+    ((1000, "e", Ask::Touch(60), "touched"), true),
+    ((1000, "c", Ask::Delete, "deleted"), true),
+    (
+        (1000, "e", Ask::Mg(None, None, None), "f0 c11 h0 l0 t60 Z "),
+        false,
+    ),
+    ((1000, "e", Ask::Flush(0), "done"), true),
 ];
 
-/// Asks each row, until no operation can be made; an answer may be that memory was wanting.
-fn ask_lawfully(rt: &impl Abort, alloc: Global, shard: &mut Shard) -> Result<(), WireFault> {
-    for (at, key, ask, _) in &SHORT {
-        let op = op_of(alloc, *key, *ask)?;
-        let kind = op.kind();
-        let answer = shard.run(alloc, op, *at);
-        assert!(rt; answer.is_lawful(kind));
+/// Makes the operation, in a second try where no memory was left for the first.
+fn op_in_the_end(alloc: Global, row: Row) -> Result<Op, WireFault> {
+    match op_of(alloc, row.1, row.2) {
+        Ok(op) => Ok(op),
+        Err(_) => op_of(alloc, row.1, row.2),
     }
-    Ok(())
 }
 
-#[test]
-fn memory_may_be_refused(rt: HostRuntime) -> Result<(), Fail> {
-    let alloc = rt.alloc();
-    let hasher = RandomState::new(&rt)?;
-    if let Ok(mut shard) = Shard::new(alloc, hasher, 0, 2, 2, 0) {
-        let _asked = ask_lawfully(&rt, alloc, &mut shard);
-        assert!(rt; shard.len() <= 2);
+/// Asks it, and once more where the answer is that memory was wanting, as far as the operation may want any.
+fn answer_in_the_end(
+    alloc: Global,
+    shard: &mut Shard,
+    row: Row,
+    is_free: bool,
+) -> Result<Answer, WireFault> {
+    let op = op_in_the_end(alloc, row)?;
+    match shard.run(alloc, op, row.0) {
+        Answer::NoMemory if !is_free => {
+            let op = op_in_the_end(alloc, row)?;
+            Ok(shard.run(alloc, op, row.0))
+        }
+        answer => Ok(answer),
     }
+}
+
+fn shown_in_the_end(alloc: Global, answer: &Answer) -> Result<String, AllocError> {
+    match shown(alloc, answer) {
+        Ok(shown) => Ok(shown),
+        Err(_) => shown(alloc, answer),
+    }
+}
+
+fn shard_in_the_end(rt: &HostRuntime, alloc: Global, capacity: usize) -> Result<Shard, Fail>
+    requires { 0 < capacity }
+{
+    match Shard::new(alloc, RandomState::new(rt)?, 0, 2, capacity, 0) {
+        Ok(shard) => Ok(shard),
+        Err(_) => Ok(Shard::new(alloc, RandomState::new(rt)?, 0, 2, capacity, 0)?),
+    }
+}
+
+/// A refused allocation changes nothing: the same operation, asked again, has the answer that it would have had, and
+/// so have all after it. Run with each allocation refused in turn, this one test alone shows it of each.
+#[test]
+fn memory_may_be_refused_once(rt: HostRuntime) -> Result<(), Fail> {
+    let a = rt.alloc();
+    let mut shard = shard_in_the_end(&rt, a, 2)?;
+    for (place, (row, is_free)) in SHORT.iter().enumerate() {
+        let answer = answer_in_the_end(a, &mut shard, *row, *is_free)?;
+        let shown = shown_in_the_end(a, &answer)?;
+        assert_eq!(rt; shown.as_str(), row.3, "row {place}");
+    }
+    assert_eq!(rt; shard.len(), 0);
     Ok(())
 }
