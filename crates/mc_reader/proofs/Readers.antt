@@ -6,14 +6,16 @@ use Rattle.mc_command.specs.declared.command.Command.{Command}
 use Rattle.mc_command.specs.declared.command.Command.TheVariants as command
 use Rattle.mc_command.specs.declared.refusal.Refusal.{Refusal}
 use Rattle.mc_command.specs.declared.refusal.Refusal.TheVariants.{Unknown, BadFormat, BadKey, InvalidFlag, DuplicateFlag, OpaqueTooLong, TooLarge, BadChunk, LineTooLong, Memory}
+use Rattle.mc_command.specs.declared.line.Line.TheVariants.{Data, Skip}
 use Rattle.mc_command.specs.Command.{can_give_up, refusal_takes_memory}
 use Rattle.mc_reader.specs.declared.reader.Reader.{Reader}
 use Rattle.mc_reader.specs.declared.state.State.{State}
 use Rattle.mc_reader.specs.declared.state.State.TheVariants as state
-use Rattle.mc_reader.specs.Spelling.{AreCommands, BeginCommands, Given, IsGiven, SpellsFront, SpellsNothing, closes, is_closed, is_closed_after, is_last, most_commands, refusal_closes}
-use Rattle.mc_reader.specs.State.{Holds, IsWhole, SpellsSomething, Waits}
-use Rattle.mc_reader.specs.Reader.{HasGiven, IsClosedLine, IsGivenWhole, IsNotAllGiven, IsUsedUp, entries_of}
+use Rattle.mc_reader.specs.Spelling.{AreCommands, BeginCommands, Given, HasNoEnd, IsGiven, SpellsFront, SpellsNothing, closes, is_closed, is_closed_after, is_last, line_says, most_commands, refusal_closes}
+use Rattle.mc_reader.specs.State.{Holds, IsWhole, SpellsSomething, Waits, held_in}
+use Rattle.mc_reader.specs.Reader.{HasGiven, IsAmidSkipped, IsClosedLine, IsGivenWhole, IsNotAllGiven, IsUsedUp, entries_of}
 use Rattle.mc_reader.proofs.Fronts.{front_last, front_more, last_of, same_rest}
+use Rattle.mc_reader.proofs.Texts.{one_line}
 
 -- More bytes come.
 pub fed_more : (old new : Reader) (fed more : List ℕ) (ended : Bool) (given : List Given) → new.ended ≡ old.ended → new.commands_left ≡ old.commands_left →
@@ -203,3 +205,19 @@ whole_is reader fed ended given test says shut h = (forth, back) where
       let last = last_of (entries_of given) 0 fed more.0 more.1.0 more.1.1 in
       let at = still_open reader fed ended given h last.goes_on in
       (says at.0 at.2).1 (last.text, more.1.0, more.0, same_rest (entries_of given) 0 fed at.0 (last.text ++ more.1.0) at.1 last.front, last.spelled)
+
+-- Amid a line's skipped bytes no block is open.
+no_block : (at : State) (buffer unread line skipped : List ℕ) (refusal : Refusal) (count : ℕ) → Holds at buffer unread → unread ≡ line ++ 10 ∷ skipped → HasNoEnd line → line_says line ≡ Skip refusal count → held_in at ≡ 0
+no_block (state.Line long) buffer unread line skipped refusal count h is none says = refl
+no_block (state.Block block) buffer unread line skipped refusal count h is none says =
+    let lines = one_line h.line line (block.bytes.items ++ buffer) skipped h.no_end none (sym h.unread_are ∙ is) in
+    let same : Data block.command block.count ≡ Skip refusal count = sym h.says ∙ (ap line_says lines.0 ∙ says) in
+    absurd cc
+no_block (state.Skip at) buffer unread line skipped refusal count h is none says = refl
+no_block state.Closed buffer unread line skipped refusal count h is none says = refl
+
+pub nothing_in_blocks : (reader : Reader) (fed : List ℕ) (ended : Bool) (given : List Given) → HasGiven reader fed ended given → IsAmidSkipped fed given → held_in reader.state ≡ 0
+nothing_in_blocks reader fed ended given h amid =
+    let at = still_open reader fed ended given h amid.goes_on in
+    no_block reader.state reader.buffer at.0 amid.line amid.skipped amid.refusal amid.count at.2
+    (same_rest (entries_of given) 0 fed at.0 (amid.line ++ 10 ∷ amid.skipped) at.1 amid.front) amid.no_end amid.says

@@ -1,12 +1,14 @@
 -- What a reader is, by what it was fed and what it gave.
 use Rattle.std.specs.Prelude.{ℕ, ◌≡◌, ◌+◌, ◌<◌, ◌++◌, Bool, false, ◌⊎◌, List, [], ◌∷◌, length, map, IsTrue, MatchBool}
 use Rattle.mc_command.specs.declared.command.Command.{Command}
+use Rattle.mc_command.specs.declared.refusal.Refusal.{Refusal}
+use Rattle.mc_command.specs.declared.line.Line.TheVariants.{Skip}
 use Rattle.mc_reader.specs.declared.block.Skipped.{Skipped}
 use Rattle.mc_reader.specs.declared.reader.Reader.{Reader}
 use Rattle.mc_reader.specs.declared.reader.Next.{Next}
 use Rattle.mc_reader.specs.declared.reader.Next.TheVariants as next
 use Rattle.mc_reader.specs.declared.state.State.TheVariants as state
-use Rattle.mc_reader.specs.Spelling.{Given, SpellsFront, AreCommands, BeginCommands, is_closed, most_commands}
+use Rattle.mc_reader.specs.Spelling.{Given, HasNoEnd, SpellsFront, AreCommands, BeginCommands, is_closed, line_says, most_commands}
 pub use Rattle.mc_reader.specs.Spelling.{IsGiven}
 use Rattle.mc_reader.specs.State.{Holds, Waits, held_in}
 
@@ -37,6 +39,18 @@ held_bytes reader = length reader.buffer + held_in reader.state
 -- The reader is amid bytes that it skips.
 unfoldable pub IsSkipping : Reader → Type 0
 IsSkipping reader = (skipped : Skipped) × (reader.state ≡ state.Skip skipped)
+
+-- Behind the commands given stand a line that is refused and not all of the bytes that are skipped with it.
+pub record IsAmidSkipped (fed : List ℕ) (given : List Given) : Type 0 where
+  pub line : List ℕ
+  pub skipped : List ℕ
+  pub refusal : Refusal
+  pub count : ℕ
+  pub front : SpellsFront 0 fed (entries_of given) (line ++ 10 ∷ skipped)
+  pub goes_on : is_closed (entries_of given) ≡ false
+  pub no_end : HasNoEnd line
+  pub says : line_says line ≡ Skip refusal count
+  pub behind : length skipped < count
 
 -- All commands of the bytes fed were given, and more may come.
 abbrev pub IsGivenWhole : List ℕ → List Given → Type 0

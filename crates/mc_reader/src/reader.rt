@@ -45,7 +45,7 @@ pub struct Reader {
 }
 
 impl Reader {
-    ghost use Rattle.mc_reader.specs.Reader.{IsReader, IsWaiting, IsSkipping, held_bytes, NextSays, IsGivenWhole, IsUsedUp, IsClosedLine, IsNotAllGiven};
+    ghost use Rattle.mc_reader.specs.Reader.{IsReader, IsWaiting, IsSkipping, IsAmidSkipped, held_bytes, NextSays, IsGivenWhole, IsUsedUp, IsClosedLine, IsNotAllGiven};
 
     /// A reader of a new stream, with all its fixed room.
     #[tactic(auto, unfolding(crate::specs::Reader::IsReader))]
@@ -132,6 +132,8 @@ impl Reader {
         ensures value { result ≡ held_bytes self.now }
         ensures most { result ≤ 65536 + 1048578 }
         ensures skipping { IsSkipping self.now → result ≤ 65536 }
+        ensures skipped { (fed : List ℕ) (ended : Bool) (given : List Given) → IsReader self.now fed ended given →
+            IsAmidSkipped fed given → result ≤ 65536 }
     {
         self.buffer.unread().len() + self.state.held()
     }
