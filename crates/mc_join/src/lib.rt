@@ -8,6 +8,8 @@ mod length;
 mod meta;
 mod queue;
 mod room;
+#[cfg(test)]
+mod tests;
 mod text;
 
 pub use joiner::{Full, Gone, Joiner, Stranger};

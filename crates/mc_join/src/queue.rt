@@ -1,5 +1,5 @@
 //! The forms of the open tickets, in order.
-ghost use Rattle.std.specs.Prelude.{◌≡◌, ◌<◌, ◌≤◌, ℕ, List, [], ◌∷◌, ◌++◌, IsTrue, false, IfOk, OnOk, OnErr, Some, None, length, map, take, slice_get, IfSome, ◌↔◌};
+ghost use Rattle.std.specs.Prelude.{◌≡◌, ◌<◌, ◌≤◌, ℕ, List, [], ◌∷◌, ◌++◌, IsTrue, false, IfOk, OnOk, OnErr, Some, None, drop, length, map, take, slice_get, IfSome, ◌↔◌};
 ghost use Rattle.std.specs.List.{concat, prefix_len};
 ghost use Rattle.mc_ring.specs.Reply.{shown};
 ghost use Rattle.mc_split.specs.declared.form.Form.{Form};
@@ -68,6 +68,16 @@ pub(crate) fn put_first<O: Outlet>(
         room.gather(out, form)?;
     }
     room.send(out)
+}
+
+/// Lets the first forms go.
+pub(crate) fn drop_first(forms: &mut HeapCircularBuffer<Form>, count: usize)
+    requires { count ≤ length forms.old.items }
+    ensures items { forms.new.items ≡ drop count forms.old.items }
+    ensures capacity { forms.new.capacity ≡ forms.old.capacity }
+{
+    let left = forms.len() - count;
+    forms.truncate_front(left);
 }
 
 /// How long the replies of the first forms are together.
