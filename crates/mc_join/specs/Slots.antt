@@ -2,9 +2,15 @@
 use Rattle.std.specs.Prelude.{ℕ, Bool, false, List, [], ◌∷◌, ◌++◌, codes, Option, Some, None, if◌then◌else◌}
 use Rattle.std.specs.List.{list_any}
 use Rattle.mc_item.specs.declared.answer.Answer.{Answer}
+use Rattle.mc_item.specs.declared.answer.Answer.TheVariants.{Number}
 use Rattle.mc_split.specs.declared.form.Shape.{Shape}
 use Rattle.mc_split.specs.declared.form.Shape.TheVariants as shape
 use Rattle.mc_split.specs.Text.{memory_line, fixed_text, answer_line, is_no_memory, item_text, meta_text}
+
+-- the line of an answer that is the same in every reply; a number's is not
+abbrev pub fixed_line : Answer → List ℕ
+fixed_line (Number number) = []
+fixed_line answer = answer_line answer
 
 -- the text of an answer that is there
 abbrev pub slot_text : (Answer → List ℕ) → Option Answer → List ℕ

@@ -3,9 +3,9 @@ ghost use Rattle.std.specs.Prelude.{◌≡◌, ◌∷◌, [], ◌++◌, IsTrue, 
 ghost use Rattle.std.specs.List.{concat, list_any};
 ghost use Rattle.mc_wire.specs.Outlet.{with_bytes, TookFront};
 ghost use Rattle.mc_split.specs.Text.{answer_line, item_text, plain_item, unique_item};
-ghost use Rattle.mc_join.specs.Slots.{slot_text, first_text, items_text, lacks_memory};
+ghost use Rattle.mc_join.specs.Slots.{fixed_line, slot_text, first_text, items_text, lacks_memory};
 
-use crate::fixed::put_memory_line;
+use crate::fixed::MEMORY_LINE;
 use itoa::Buffer;
 use mc_command::Keys;
 use mc_item::Answer;
@@ -47,24 +47,32 @@ pub fn put_line<O: Outlet>(out: &mut O, answer: &Answer) -> Result<(), OutFault>
     ensures err { OnErr result (TookFront (O.taken out.old) (O.taken out.new) (answer_line answer.now)) }
 {
     match answer {
-        Answer::Stored => put_all(out, b"STORED\r\n"),
-        Answer::NotStored => put_all(out, b"NOT_STORED\r\n"),
-        Answer::Exists => put_all(out, b"EXISTS\r\n"),
-        Answer::NotFound => put_all(out, b"NOT_FOUND\r\n"),
-        Answer::TooLarge => put_all(out, b"SERVER_ERROR object too large for cache\r\n"),
-        Answer::NoCas => put_all(out, b"SERVER_ERROR out of cas uniques\r\n"),
-        Answer::NoMemory => put_memory_line(out),
         Answer::Number(number) => put_number_line(out, *number),
-        Answer::NonNumeric => put_all(
-            out,
-            b"CLIENT_ERROR cannot increment or decrement non-numeric value\r\n",
-        ),
-        Answer::Deleted => put_all(out, b"DELETED\r\n"),
-        Answer::Touched => put_all(out, b"TOUCHED\r\n"),
-        Answer::Done => put_all(out, b"OK\r\n"),
-        Answer::Hit { .. } | Answer::Miss | Answer::MetaHit(_) | Answer::MetaDone(_) => {
-            put_all(out, b"")
-        }
+        answer => put_all(out, line_of(answer)),
+    }
+}
+
+/// The line of an answer; nothing for an answer that has none, and for a number, whose line is not fixed.
+pub fn line_of(answer: &Answer) -> &'static [u8]
+    ensures { result.now ≡ fixed_line answer.now }
+{
+    match answer {
+        Answer::Stored => b"STORED\r\n",
+        Answer::NotStored => b"NOT_STORED\r\n",
+        Answer::Exists => b"EXISTS\r\n",
+        Answer::NotFound => b"NOT_FOUND\r\n",
+        Answer::TooLarge => b"SERVER_ERROR object too large for cache\r\n",
+        Answer::NoCas => b"SERVER_ERROR out of cas uniques\r\n",
+        Answer::NoMemory => MEMORY_LINE,
+        Answer::NonNumeric => b"CLIENT_ERROR cannot increment or decrement non-numeric value\r\n",
+        Answer::Deleted => b"DELETED\r\n",
+        Answer::Touched => b"TOUCHED\r\n",
+        Answer::Done => b"OK\r\n",
+        Answer::Hit { .. }
+        | Answer::Miss
+        | Answer::Number(_)
+        | Answer::MetaHit(_)
+        | Answer::MetaDone(_) => b"",
     }
 }
 

@@ -5,9 +5,10 @@ ghost use Rattle.mc_split.specs.declared.form.Form.{Form};
 ghost use Rattle.mc_wire.specs.Outlet.{with_bytes, TookFront};
 ghost use Rattle.mc_join.specs.Held.{AreNumbered, AwaitsAt, IsAwaited, TakesIn, due_text, nothing_held, opened_count};
 ghost use Rattle.mc_join.specs.Joined.{IsJoiner, unhanded};
+ghost use Rattle.mc_join.specs.Length.{capped};
 ghost use Rattle.mc_join.specs.Replies.{complete, replies};
 
-use crate::queue::{add, awaits, count_complete, fill, put_first};
+use crate::queue::{add, awaits, count_complete, drop_first, fill, put_first, texts_len};
 use crate::room::Room;
 use circular_buffer::HeapCircularBuffer;
 use mc_ring::Reply;
@@ -72,6 +73,7 @@ impl Joiner {
     pub fn open(&mut self, form: Form) -> Result<(), Full>
         requires { form.ticket.0 ≡ opened_count self.old }
         ensures ok { OnOk result (self.new ≡ record self.old { forms = self.old.forms ++ form ∷ [] }) }
+        ensures opened { OnOk result (opened_count self.new ≡ opened_count self.old + 1) }
         ensures room { length self.old.forms < self.old.window → IsOk result }
         ensures full { OnErr result (length self.old.forms ≡ self.old.window) }
         ensures err { OnErr result (self.new ≡ self.old) }
@@ -92,7 +94,7 @@ impl Joiner {
         ensures none { IfNone result ((place : ℕ) → place < length self.now.forms → ticket.0 ≢ self.now.handed + place) }
     {
         let ticket = u128::from(ticket.0);
-        if ticket < self.handed || ticket - self.handed >= self.forms.len() as u128 {
+        if ticket < self.handed || ticket - self.handed >= self.waiting() as u128 {
             return None;
         }
         Some((ticket - self.handed) as usize)
@@ -116,6 +118,7 @@ impl Joiner {
     pub fn accept(&mut self, reply: Reply) -> Result<(), Stranger>
         ensures awaited { OnOk result (IsAwaited self.old (shown reply)) }
         ensures takes_in { OnOk result (TakesIn self.old self.new (shown reply)) }
+        ensures opened { opened_count self.new ≡ opened_count self.old }
         ensures stranger { IfErr result (λ stranger. shown stranger.reply ≡ shown reply) }
         ensures unawaited { OnErr result (¬ IsAwaited self.old (shown reply)) }
         ensures unchanged { OnErr result (self.new ≡ self.old) }
@@ -127,6 +130,16 @@ impl Joiner {
         };
         fill(&mut self.forms, place, reply.part, reply.answer);
         Ok(())
+    }
+
+    /// How many bytes `hand` would write; a number that stays at its greatest value.
+    pub fn ready(&self) -> u64
+        ensures { result ≡ capped (length (due_text self.now)) }
+    {
+        if self.gone {
+            return 0;
+        }
+        texts_len(&self.forms, count_complete(&self.forms))
     }
 
     /// How many tickets are open.
@@ -147,6 +160,7 @@ impl Joiner {
         // Until then.
         ensures count { self.old.gone ≡ false → IfOk result (λ count. count ≡ length (complete self.old.forms)) }
         ensures left { IfOk result (λ count. self.new ≡ record self.old { handed = self.old.handed + count; forms = drop count self.old.forms }) }
+        ensures opened { opened_count self.new ≡ opened_count self.old }
         ensures none_left { self.old.gone ≡ false → OnOk result (complete self.new.forms ≡ []) }
         ensures written { OnOk result (O.taken out.new ≡ with_bytes (O.taken out.old) (due_text self.old)) }
         ensures gone { OnErr result (self.new ≡ record self.old { gone = true }) }
@@ -168,7 +182,7 @@ impl Joiner {
             self.gone = true;
             return Err(Gone);
         }
-        self.forms.truncate_front(self.forms.len() - count);
+        drop_first(&mut self.forms, count);
         self.handed += count as u128;
         Ok(count as u64)
     }

@@ -4,9 +4,12 @@
 mod classic;
 mod fixed;
 mod joiner;
+mod length;
 mod meta;
 mod queue;
 mod room;
+#[cfg(test)]
+mod tests;
 mod text;
 
 pub use joiner::{Full, Gone, Joiner, Stranger};

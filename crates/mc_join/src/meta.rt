@@ -36,7 +36,7 @@ pub fn put_meta<O: Outlet>(
 }
 
 /// Whether `q` hides the reply (protocol.txt, "noreply semantics for return codes").
-fn is_hidden(kind: MetaKind, value: bool, answer: &Answer) -> bool
+pub fn is_hidden(kind: MetaKind, value: bool, answer: &Answer) -> bool
     ensures { result ≡ spec.is_hidden kind value answer.now }
 {
     match kind {
@@ -174,7 +174,7 @@ fn put_value<O: Outlet>(
 }
 
 /// The marks of a hit, in their order.
-fn marks_text(marks: Marks) -> &'static [u8]
+pub fn marks_text(marks: Marks) -> &'static [u8]
     ensures { result.now ≡ spec.marks_text marks }
 {
     match (marks.won, marks.stale, marks.sent) {

@@ -1,12 +1,14 @@
 //! The forms of the open tickets, in order.
-ghost use Rattle.std.specs.Prelude.{◌≡◌, ◌<◌, ◌≤◌, ℕ, List, [], ◌∷◌, ◌++◌, IsTrue, false, IfOk, OnOk, OnErr, Some, None, length, map, take, slice_get, IfSome, ◌↔◌};
+ghost use Rattle.std.specs.Prelude.{◌≡◌, ◌<◌, ◌≤◌, ℕ, List, [], ◌∷◌, ◌++◌, IsTrue, false, IfOk, OnOk, OnErr, Some, None, drop, length, map, take, slice_get, IfSome, ◌↔◌};
 ghost use Rattle.std.specs.List.{concat, prefix_len};
 ghost use Rattle.mc_ring.specs.Reply.{shown};
 ghost use Rattle.mc_split.specs.declared.form.Form.{Form};
 ghost use Rattle.mc_wire.specs.Outlet.{with_bytes, TookFront};
 ghost use Rattle.mc_join.specs.Held.{Awaits, Fills, HasPart};
+ghost use Rattle.mc_join.specs.Length.{capped};
 ghost use Rattle.mc_join.specs.Replies.{complete, form_text, is_answered};
 
+use crate::length::reply_len;
 use crate::room::Room;
 use circular_buffer::HeapCircularBuffer;
 use mc_item::Answer;
@@ -66,6 +68,31 @@ pub(crate) fn put_first<O: Outlet>(
         room.gather(out, form)?;
     }
     room.send(out)
+}
+
+/// Lets the first forms go.
+pub(crate) fn drop_first(forms: &mut HeapCircularBuffer<Form>, count: usize)
+    requires { count ≤ length forms.old.items }
+    ensures items { forms.new.items ≡ drop count forms.old.items }
+    ensures capacity { forms.new.capacity ≡ forms.old.capacity }
+{
+    let left = forms.len() - count;
+    forms.truncate_front(left);
+}
+
+/// How long the replies of the first forms are together.
+pub(crate) fn texts_len(forms: &HeapCircularBuffer<Form>, count: usize) -> u64
+    requires { count ≡ prefix_len is_answered forms.now.items }
+    ensures { result ≡ capped (length (concat (map form_text (complete forms.now.items)))) }
+{
+    let mut len = 0u64;
+    for index in 0..count {
+        let Some(form) = forms.get(index) else {
+            unreachable!()
+        };
+        len = len.saturating_add(reply_len(form));
+    }
+    len
 }
 
 /// Whether a form awaits a reply: it has such a part, which has no answer yet, and it is of the reply's kind.

@@ -17,7 +17,7 @@ invariant_of-self-2 g c =
     let items = c.self.inside.forms.items in
     let count = c.count_complete-count.result in
     let within = c.count_complete-count.ensures.within in
-    let left : c.truncate_front.new.self.items ≡ drop count items = ap (λ b. b.items) c.truncate_front.ensures ∙ (ap (λ n. drop (length items - (n - count)) items) c.len.ensures.len ∙ left_forms items count within) in
+    let left = c.drop_first.ensures.items in
     let P : List Form → Type 0 = λ fs. AreNumbered (c.self.inside.handed + count) fs in
     let fits = c.self.invariant.1 in
     (subst P (sym left) (numbered_drop c.self.inside.handed count items c.self.invariant.0 within), omega (arith, ap length left, length-drop count items, within, fits))
@@ -27,7 +27,7 @@ returns-clause-none_left g c =
     let items = c.self.inside.forms.items in
     let count = c.count_complete-count.result in
     let within = c.count_complete-count.ensures.within in
-    let left : c.truncate_front.new.self.items ≡ drop count items = ap (λ b. b.items) c.truncate_front.ensures ∙ (ap (λ n. drop (length items - (n - count)) items) c.len.ensures.len ∙ left_forms items count within) in
+    let left = c.drop_first.ensures.items in
     λ _. ap (λ fs. complete fs) left ∙ none_complete items count c.count_complete-count.ensures.count
 
 pub returns-clause-joined : goal.returns-clause-joined
@@ -35,5 +35,5 @@ returns-clause-joined g c =
     let items = c.self.inside.forms.items in
     let count = c.count_complete-count.result in
     let within = c.count_complete-count.ensures.within in
-    let left : c.truncate_front.new.self.items ≡ drop count items = ap (λ b. b.items) c.truncate_front.ensures ∙ (ap (λ n. drop (length items - (n - count)) items) c.len.ensures.len ∙ left_forms items count within) in
+    let left = c.drop_first.ensures.items in
     rw (← c.self.view_is) (λ _. join_hand _ _ count c.count_complete-count.ensures.count refl left)

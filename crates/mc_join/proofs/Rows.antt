@@ -1,0 +1,44 @@
+-- A worked row, computed: a get of two keys whose second answer comes first.
+use Rattle.std.proofs.Common.{◌≡◌, ℕ, ◌++◌, false, List, [], ◌∷◌, Option, Some, None, length, refl}
+use Rattle.std.specs.Prelude.{codes}
+use Rattle.std.specs.Fmt.{digits}
+use Rattle.mc_item.specs.declared.answer.Answer.TheVariants as answer
+use Rattle.mc_item.specs.declared.answer.Kind.TheVariants as kind
+use Rattle.mc_ring.specs.Reply.{Shown}
+use Rattle.mc_split.specs.declared.form.Form.{Form}
+use Rattle.mc_split.specs.declared.form.Shape.TheVariants as shape
+use Rattle.mc_split.specs.Text.{shape_text}
+use Rattle.mc_join.specs.Replies.{replies}
+
+-- the form of `get a b`
+abbrev two_keys : Form
+two_keys = record { ticket = record { 0 = 0 }; kind = kind.Fetch; shape = shape.Values (codes "a" ∷ codes "b" ∷ []) false; slots = None ∷ None ∷ [] }
+
+abbrev second : Shown
+second = record { ticket = record { 0 = 0 }; part = 1; kind = kind.Fetch; answer = answer.Miss }
+
+abbrev first : Shown
+first = record { ticket = record { 0 = 0 }; part = 0; kind = kind.Fetch; answer = answer.Hit 0 1 (codes "x") }
+
+-- while an answer is missing there is no reply
+none_yet : replies (two_keys ∷ []) (second ∷ []) ≡ []
+unfolding shape_text digits
+none_yet = refl
+
+then_both : replies (two_keys ∷ []) (second ∷ first ∷ []) ≡ codes "VALUE a 0 1\r\nx\r\nEND\r\n" ∷ []
+unfolding shape_text digits
+then_both = refl
+
+-- in whichever order the answers come
+either_order : replies (two_keys ∷ []) (first ∷ second ∷ []) ≡ replies (two_keys ∷ []) (second ∷ first ∷ [])
+unfolding shape_text digits
+either_order = refl
+
+-- the text has this length
+row_length : length (codes "VALUE a 0 1\r\nx\r\nEND\r\n") ≡ 21
+row_length = refl
+
+-- a complete reply waits for the one before it
+waits : replies (two_keys ∷ record two_keys { ticket = record { 0 = 1 } } ∷ []) (record second { ticket = record { 0 = 1 } } ∷ record first { ticket = record { 0 = 1 } } ∷ []) ≡ []
+unfolding shape_text digits
+waits = refl
