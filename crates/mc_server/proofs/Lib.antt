@@ -7,3 +7,4 @@ pub mod Fronts
 pub mod Turns
 pub mod Gathering
 pub mod Alone
+pub mod Calls

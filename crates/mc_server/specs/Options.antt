@@ -1,9 +1,11 @@
 -- What the words of the command line give.
-use Rattle.std.specs.Prelude.{ℕ, ◌≡◌, ◌^◌, ◌&&◌, List, Option, Some, None, MatchOption, nat_le, if◌then◌else◌}
-use Rattle.clap.specs.Words.{kind_of}
+use Rattle.std.specs.Prelude.{ℕ, ◌≡◌, ◌^◌, ◌&&◌, true, List, Option, Some, None, codes, nat_le, option_and_then, option_map, if◌then◌else◌}
+use Rattle.clap.specs.Words.{App, Row, Rule, first_of, kind_of, matches_of, new_app, new_rule, takes, with_rule}
+use Rattle.clap.specs.declared.builder.ArgAction.TheVariants.{Set, SetTrue}
 use Rattle.clap.specs.declared.error.kind.ErrorKind.{ErrorKind}
 use Rattle.clap.specs.declared.error.kind.ErrorKind.TheVariants.{DisplayHelp, OutOfMemory}
 use Rattle.mc_wire.specs.Number.{number_of}
+use Rattle.mc_server.specs.declared.options.Options.{Options}
 use Rattle.mc_server.specs.declared.options.OptionFault.{OptionFault}
 use Rattle.mc_server.specs.declared.options.OptionFault.TheVariants.{Call}
 use Rattle.mc_server.specs.declared.options.OptionFault.TheVariants as fault
@@ -17,13 +19,51 @@ in_range least most (Some number) = if nat_le least number && nat_le number most
 abbrev pub number_within : ℕ → ℕ → List ℕ → Option ℕ
 number_within least most text = in_range least most (number_of (2 ^ 64) text)
 
--- The count is the one that is given, from 1 to the most, or where none is given this one.
-abbrev pub IsCount : ℕ → ℕ → Option (List ℕ) → ℕ → Type 0
-IsCount default most given count = MatchOption given (count ≡ default) (λ text. number_within 1 most text ≡ Some count)
+-- the count that is given, from 1 to the most, or where none is given this one; none where it is out of that range
+abbrev pub count_of : ℕ → ℕ → Option (List ℕ) → Option ℕ
+count_of default most None = Some default
+count_of default most (Some text) = number_within 1 most text
 
--- The moment is the one that is given, if one is.
-abbrev pub IsMoment : Option (List ℕ) → Option ℕ → Type 0
-IsMoment given at = MatchOption given (at ≡ None) (λ text. at ≡ number_of (2 ^ 64) text)
+-- the moment that is given, if one is; none where it is no number of 64 bits
+abbrev pub moment_of : Option (List ℕ) → Option (Option ℕ)
+moment_of None = Some None
+moment_of (Some text) = option_map (λ number. Some number) (number_of (2 ^ 64) text)
+
+-- the options, by what is given under a name; none where a value is no number in its range
+abbrev pub options_by : (List ℕ → Option (List ℕ)) → Option Options
+options_by given =
+    option_and_then
+    (λ at. option_and_then
+    (λ shards. option_map (λ items. record { at = at; sizes = record { shards = shards; items = items } }) (count_of 65536 16777216 (given (codes "items"))))
+    (count_of 2 16 (given (codes "shards"))))
+    (moment_of (given (codes "at")))
+
+-- the flag that every call has
+abbrev pub stdio_rule : Rule
+stdio_rule = record (new_rule (codes "stdio")) { long = Some (codes "stdio"); action = Some SetTrue; required = true }
+
+-- an option with a value, given by its name behind two dashes
+abbrev pub option_rule : List ℕ → Rule
+option_rule name = record (new_rule name) { long = Some name; action = Some Set }
+
+-- the call of the program that serves standard input and output
+abbrev pub program : App
+program =
+    with_rule
+    (with_rule (with_rule (with_rule (new_app (codes "mcd")) stdio_rule) (option_rule (codes "at"))) (option_rule (codes "shards")))
+    (option_rule (codes "items"))
+
+-- The words are a call of the program.
+unfoldable pub IsCall : List (List ℕ) → Type 0
+IsCall words = takes program words ≡ true
+
+-- the values that the words of a call give
+unfoldable pub rows_in : List (List ℕ) → List Row
+rows_in words = matches_of program words
+
+-- the options of a call; none where a value is no number in its range
+unfoldable pub options_of : List (List ℕ) → Option Options
+options_of words = options_by (λ name. first_of name (rows_in words))
 
 -- the exit status after a fault of the command line: 0 where help was asked for, 1 without memory
 abbrev pub call_status : ErrorKind → ℕ

@@ -1,13 +1,13 @@
 //! The command line of the program.
-ghost use Rattle.std.specs.Prelude.{◌≡◌, ◌<◌, ◌≤◌, IfOk, codes, option_map};
-ghost use Rattle.clap.specs.Words.{first_value, found_of};
-ghost use Rattle.mc_server.specs.Options.{IsCount, IsMoment, status_of};
+ghost use Rattle.std.specs.Prelude.{◌≡◌, ◌<◌, ◌≤◌, ◌⊎◌, false, IfOk, IfErr, OnErr, Some, None, map, option_map, string_bytes};
+ghost use Rattle.clap.specs.Words.{app_of, first_value, found_of, kind_of, rows_of, rule_of};
+ghost use Rattle.mc_server.specs.Options.{IsCall, count_of, moment_of, option_rule, options_by, options_of, program, rows_in, status_of, stdio_rule};
 
 use crate::serve::Sizes;
 use clap::error::ErrorKind;
 use clap::{Arg, ArgAction, ArgMatches, Command};
 use mc_wire::number_u64;
-use std::alloc::Global;
+use std::alloc::{AllocError, Global};
 use std::io;
 use std::io::{Eprint, Print};
 use thiserror::Error;
@@ -70,45 +70,78 @@ impl OptionFault {
 
 /// Reads the words of the command line, the program's name among them.
 pub fn read_options(alloc: Global, words: &[String]) -> Result<Options, OptionFault>
-    ensures { IfOk result (λ options. (0 < options.sizes.shards) × (options.sizes.shards ≤ 16)
-        × (0 < options.sizes.items) × (options.sizes.items ≤ 16777216)) }
+    ensures given { IfOk result (λ options. options_of (map string_bytes words.now) ≡ Some options) }
+    ensures shards { IfOk result (λ options. (0 < options.sizes.shards) × (options.sizes.shards ≤ 16)) }
+    ensures items { IfOk result (λ options. (0 < options.sizes.items) × (options.sizes.items ≤ 16777216)) }
+
+    // Words that are a call of the program are refused for a number alone, or for want of memory.
+    ensures refused { IfErr result (λ fault. IsCall (map string_bytes words.now) →
+        (options_of (map string_bytes words.now) ≡ None) ⊎ (status_of fault ≡ 1)) }
 {
-    let matches = parse(alloc, words)?;
-    options_in(&matches)
+    match parse(alloc, words) {
+        Ok(matches) => options_in(&matches),
+        Err(error) => Err(OptionFault::Call(error)),
+    }
 }
 
-/// What was given, by a call of the program.
-fn parse<'a>(alloc: Global, words: &'a [String]) -> Result<ArgMatches<'a>, clap::Error> {
-    let stdio = Arg::new(alloc, "stdio")
+/// The flag that every call has.
+fn stdio_flag<'a>(alloc: Global) -> Arg<'a>
+    ensures rule { rule_of result ≡ stdio_rule }
+    ensures local { result.global ≡ false }
+{
+    Arg::new(alloc, "stdio")
         .long("stdio")
         .required(true)
         .action(ArgAction::SetTrue)
-        .help("Serves one line over standard input and output");
-    let at = Arg::new(alloc, "at")
-        .long("at")
+        .help("Serves one line over standard input and output")
+}
+
+/// An option with a value.
+fn valued_option<'a>(alloc: Global, name: &'a str, help: &'a str) -> Arg<'a>
+    ensures rule { rule_of result ≡ option_rule name.entry.now }
+    ensures local { result.global ≡ false }
+{
+    Arg::new(alloc, name)
+        .long(name)
         .action(ArgAction::Set)
-        .help("Every moment, in seconds since 1970");
-    let shards = Arg::new(alloc, "shards")
-        .long("shards")
-        .action(ArgAction::Set)
-        .help("How many shards there are, from 1 to 16 [default: 2]");
-    let items = Arg::new(alloc, "items")
-        .long("items")
-        .action(ArgAction::Set)
-        .help("How many items a shard holds, from 1 to 16777216 [default: 65536]");
-    let command = Command::new(alloc, "mcd")
-        .arg(stdio)?
+        .help(help)
+}
+
+/// The calls of the program.
+fn program_calls<'a>(alloc: Global) -> Result<Command<'a>, AllocError>
+    ensures { IfOk result (λ command. app_of command ≡ program) }
+{
+    let at = valued_option(alloc, "at", "Every moment, in seconds since 1970");
+    let shards = valued_option(
+        alloc,
+        "shards",
+        "How many shards there are, from 1 to 16 [default: 2]",
+    );
+    let items = valued_option(
+        alloc,
+        "items",
+        "How many items a shard holds, from 1 to 16777216 [default: 65536]",
+    );
+    Command::new(alloc, "mcd")
+        .arg(stdio_flag(alloc))?
         .arg(at)?
         .arg(shards)?
-        .arg(items)?;
-    command.try_get_matches_from(words)
+        .arg(items)
+}
+
+/// What was given, by a call of the program.
+fn parse<'a>(alloc: Global, words: &'a [String]) -> Result<ArgMatches<'a>, clap::Error>
+    ensures matches { IfOk result (λ matches. rows_of (found_of matches) ≡ rows_in (map string_bytes words.entry.now)) }
+    ensures refused { IfErr result (λ error. IsCall (map string_bytes words.entry.now) → kind_of error ≡ ErrorKind.OutOfMemory) }
+{
+    let calls = program_calls(alloc)?;
+    calls.try_get_matches_from(words)
 }
 
 /// The options of a call.
 fn options_in(matches: &ArgMatches<'_>) -> Result<Options, OptionFault>
-    ensures at { IfOk result (λ options. IsMoment (first_value (found_of matches.now) (codes "at")) options.at) }
-    ensures shards { IfOk result (λ options. IsCount 2 16 (first_value (found_of matches.now) (codes "shards")) options.sizes.shards) }
-    ensures items { IfOk result (λ options. IsCount 65536 16777216 (first_value (found_of matches.now) (codes "items")) options.sizes.items) }
+    ensures given { IfOk result (λ options. options_by (first_value (found_of matches.now)) ≡ Some options) }
+    ensures refused { OnErr result (options_by (first_value (found_of matches.now)) ≡ None) }
 {
     let at = moment_in(matches.get_str("at"))?;
     let shards = count_in("--shards", matches.get_str("shards"), 2, MOST_SHARDS)?;
@@ -122,7 +155,8 @@ fn options_in(matches: &ArgMatches<'_>) -> Result<Options, OptionFault>
 
 /// The moment that is given, if one is.
 fn moment_in(given: Option<&str>) -> Result<Option<u64>, OptionFault>
-    ensures { IfOk result (λ at. IsMoment (option_map (λ text. text.now) given.entry) at) }
+    ensures given { IfOk result (λ at. moment_of (option_map (λ text. text.now) given.entry) ≡ Some at) }
+    ensures refused { OnErr result (moment_of (option_map (λ text. text.now) given.entry) ≡ None) }
 {
     let Some(text) = given else {
         return Ok(None);
@@ -144,7 +178,8 @@ fn count_in(
     default: u64,
     most: u64,
 ) -> Result<u64, OptionFault>
-    ensures { IfOk result (λ count. IsCount default most (option_map (λ text. text.now) given.entry) count) }
+    ensures given { IfOk result (λ count. count_of default most (option_map (λ text. text.now) given.entry) ≡ Some count) }
+    ensures refused { OnErr result (count_of default most (option_map (λ text. text.now) given.entry) ≡ None) }
 {
     let Some(text) = given else {
         return Ok(default);

@@ -1,0 +1,15 @@
+use Rattle.std.proofs.Common.{inl, sym, map, ◌∙◌}
+use Rattle.std.specs.Prelude.{string_bytes}
+use Rattle.std.proofs.lemmas.Result.{IfOk-weaker}
+use Rattle.mc_server.proofs.Calls.{options_found, refused_for}
+use Rattle.mc_server.proofs.options.read_options.Goals as goal
+
+pub returns-in-Ok-clause-given : goal.returns-in-Ok-clause-given
+returns-in-Ok-clause-given c =
+    let found = options_found c.in-Ok.matches (map string_bytes c.args.words.now) c.in-Ok.ensures.matches in
+    IfOk-weaker c.options_in.result _ _ (λ options given. sym found ∙ given) c.options_in.ensures.given
+
+pub returns-in-Ok-clause-refused : goal.returns-in-Ok-clause-refused
+returns-in-Ok-clause-refused c =
+    let found = options_found c.in-Ok.matches (map string_bytes c.args.words.now) c.in-Ok.ensures.matches in
+    refused_for c.options_in.result _ _ (λ none fault call. inl (sym found ∙ none)) c.options_in.ensures.refused
