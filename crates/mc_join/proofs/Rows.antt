@@ -1,5 +1,5 @@
 -- A worked row, computed: a get of two keys whose second answer comes first.
-use Rattle.std.proofs.Common.{◌≡◌, ℕ, ◌++◌, false, List, [], ◌∷◌, Option, Some, None, length, refl}
+use Rattle.std.proofs.Common.{◌≡◌, false, [], ◌∷◌, None, length, refl}
 use Rattle.std.specs.Prelude.{codes}
 use Rattle.std.specs.Fmt.{digits}
 use Rattle.mc_item.specs.declared.answer.Answer.TheVariants as answer

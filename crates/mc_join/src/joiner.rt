@@ -80,6 +80,7 @@ impl Joiner {
         ensures joined { OnOk result ((opened : List Form) (accepted : List Shown) (handed : List (List ℕ)) →
             IsJoiner self.old opened accepted handed → IsJoiner self.new (opened ++ form ∷ []) accepted handed) }
     {
+        // The number is read so that it is known to fit 64 bits.
         let _number = form.ticket.0;
         if !add(&mut self.forms, form) {
             return Err(Full);

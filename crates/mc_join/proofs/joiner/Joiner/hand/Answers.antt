@@ -1,9 +1,9 @@
-use Rattle.std.proofs.Common.{◌≡◌, ◌+◌, ◌-◌, List, refl, sym, ap, subst, ◌∙◌, drop, length, length-drop, arith}
+use Rattle.std.proofs.Common.{◌+◌, List, refl, sym, ap, subst, ◌∙◌, length, length-drop, arith}
 use Rattle.mc_split.specs.declared.form.Form.{Form}
 use Rattle.mc_join.specs.Held.{AreNumbered}
 use Rattle.mc_join.specs.Replies.{complete}
 use Rattle.mc_join.proofs.Joins.{due_unhanded, join_hand, none_complete}
-use Rattle.mc_join.proofs.Queues.{left_forms, numbered_drop}
+use Rattle.mc_join.proofs.Queues.{numbered_drop}
 use Rattle.mc_join.proofs.joiner.Joiner.hand.Goals as goal
 
 pub returns-in-Err-clause-turn : goal.returns-in-Err-clause-turn
