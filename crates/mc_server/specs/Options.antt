@@ -1,6 +1,6 @@
 -- What the words of the command line give.
-use Rattle.std.specs.Prelude.{ℕ, ◌≡◌, ◌^◌, ◌&&◌, true, List, Option, Some, None, codes, nat_le, option_and_then, option_map, if◌then◌else◌}
-use Rattle.clap.specs.Words.{App, Row, Rule, first_of, kind_of, matches_of, new_app, new_rule, takes, with_rule}
+use Rattle.std.specs.Prelude.{ℕ, ◌≡◌, ◌^◌, ◌&&◌, true, List, [], Option, Some, None, codes, nat_le, option_and_then, option_map, if◌then◌else◌}
+use Rattle.clap.specs.Words.{App, HasKind, Kinds, Row, Rule, fault_of, first_of, kind_of, matches_of, new_app, new_rule, with_rule}
 use Rattle.clap.specs.declared.builder.ArgAction.TheVariants.{Set, SetTrue}
 use Rattle.clap.specs.declared.error.kind.ErrorKind.{ErrorKind}
 use Rattle.clap.specs.declared.error.kind.ErrorKind.TheVariants.{DisplayHelp, OutOfMemory}
@@ -53,9 +53,9 @@ program =
     (with_rule (with_rule (with_rule (new_app (codes "mcd")) stdio_rule) (option_rule (codes "at"))) (option_rule (codes "shards")))
     (option_rule (codes "items"))
 
--- The words are a call of the program.
-unfoldable pub IsCall : List (List ℕ) → Type 0
-IsCall words = takes program words ≡ true
+-- what may be wrong with the words as a call of the program; nothing where they are one
+unfoldable pub call_faults : List (List ℕ) → Kinds
+call_faults words = fault_of program words
 
 -- the values that the words of a call give
 unfoldable pub rows_in : List (List ℕ) → List Row
@@ -74,3 +74,14 @@ call_status kind = 2
 abbrev pub status_of : OptionFault → ℕ
 status_of (Call error) = call_status (kind_of error)
 status_of (fault.Number option least most) = 2
+
+-- The fault is that of a value.
+abbrev pub IsNumberFault : OptionFault → Type 0
+IsNumberFault (Call error) = ⊥
+IsNumberFault (fault.Number option least most) = Unit {0}
+
+-- What is told of the words is so: they are no call of the program, or memory is wanting; or they are one, and a value
+-- is no number in its range.
+abbrev pub IsFaultOf : List (List ℕ) → OptionFault → Type 0
+IsFaultOf words (Call error) = HasKind (call_faults words) error
+IsFaultOf words (fault.Number option least most) = (call_faults words ≡ []) × (options_of words ≡ None)

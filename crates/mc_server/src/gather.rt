@@ -1,5 +1,5 @@
 //! Replies are gathered and written in few writes.
-ghost use Rattle.std.specs.Prelude.{◌≡◌, ◌++◌, ◌≤◌, [], IsTrue, OnOk, OnErr, drop, length};
+ghost use Rattle.std.specs.Prelude.{◌≡◌, ◌++◌, ◌≤◌, [], IsTrue, IfOk, OnOk, OnErr, drop, length, vec_capacity};
 ghost use Rattle.mc_wire.specs.Outlet.{with_bytes};
 
 use crate::lines::{Line, LineFault};
@@ -10,7 +10,9 @@ use std::alloc::{AllocError, Global};
 const ROOM: usize = 16_384;
 
 /// The room for what a line gathers.
-pub fn gathering_room(alloc: Global) -> Result<Vec<u8>, AllocError> {
+pub fn gathering_room(alloc: Global) -> Result<Vec<u8>, AllocError>
+    ensures { IfOk result (λ room. ROOM ≤ vec_capacity room) }
+{
     Vec::with_capacity(alloc, ROOM)
 }
 

@@ -1,7 +1,7 @@
 //! The command line of the program.
-ghost use Rattle.std.specs.Prelude.{◌≡◌, ◌<◌, ◌≤◌, ◌⊎◌, false, IfOk, IfErr, OnErr, Some, None, map, option_map, string_bytes};
-ghost use Rattle.clap.specs.Words.{app_of, first_value, found_of, kind_of, rows_of, rule_of};
-ghost use Rattle.mc_server.specs.Options.{IsCall, count_of, moment_of, option_rule, options_by, options_of, program, rows_in, status_of, stdio_rule};
+ghost use Rattle.std.specs.Prelude.{◌≡◌, ◌<◌, ◌≤◌, false, [], IfOk, IfErr, OnOk, Some, None, map, option_map, string_bytes};
+ghost use Rattle.clap.specs.Words.{FailsBy, app_of, first_value, found_of, rows_of, rule_of};
+ghost use Rattle.mc_server.specs.Options.{IsFaultOf, IsNumberFault, call_faults, count_of, moment_of, option_rule, options_by, options_of, program, rows_in, status_of, stdio_rule};
 
 use crate::serve::Sizes;
 use clap::error::ErrorKind;
@@ -70,13 +70,11 @@ impl OptionFault {
 
 /// Reads the words of the command line, the program's name among them.
 pub fn read_options(alloc: Global, words: &[String]) -> Result<Options, OptionFault>
+    ensures call { OnOk result (call_faults (map string_bytes words.now) ≡ []) }
     ensures given { IfOk result (λ options. options_of (map string_bytes words.now) ≡ Some options) }
     ensures shards { IfOk result (λ options. (0 < options.sizes.shards) × (options.sizes.shards ≤ 16)) }
     ensures items { IfOk result (λ options. (0 < options.sizes.items) × (options.sizes.items ≤ 16777216)) }
-
-    // Words that are a call of the program are refused for a number alone, or for want of memory.
-    ensures refused { IfErr result (λ fault. IsCall (map string_bytes words.now) →
-        (options_of (map string_bytes words.now) ≡ None) ⊎ (status_of fault ≡ 1)) }
+    ensures refused { IfErr result (IsFaultOf (map string_bytes words.now)) }
 {
     match parse(alloc, words) {
         Ok(matches) => options_in(&matches),
@@ -132,7 +130,7 @@ fn program_calls<'a>(alloc: Global) -> Result<Command<'a>, AllocError>
 /// What was given, by a call of the program.
 fn parse<'a>(alloc: Global, words: &'a [String]) -> Result<ArgMatches<'a>, clap::Error>
     ensures matches { IfOk result (λ matches. rows_of (found_of matches) ≡ rows_in (map string_bytes words.entry.now)) }
-    ensures refused { IfErr result (λ error. IsCall (map string_bytes words.entry.now) → kind_of error ≡ ErrorKind.OutOfMemory) }
+    ensures call { FailsBy (call_faults (map string_bytes words.entry.now)) result }
 {
     let calls = program_calls(alloc)?;
     calls.try_get_matches_from(words)
@@ -141,7 +139,7 @@ fn parse<'a>(alloc: Global, words: &'a [String]) -> Result<ArgMatches<'a>, clap:
 /// The options of a call.
 fn options_in(matches: &ArgMatches<'_>) -> Result<Options, OptionFault>
     ensures given { IfOk result (λ options. options_by (first_value (found_of matches.now)) ≡ Some options) }
-    ensures refused { OnErr result (options_by (first_value (found_of matches.now)) ≡ None) }
+    ensures refused { IfErr result (λ fault. IsNumberFault fault × (options_by (first_value (found_of matches.now)) ≡ None)) }
 {
     let at = moment_in(matches.get_str("at"))?;
     let shards = count_in("--shards", matches.get_str("shards"), 2, MOST_SHARDS)?;
@@ -156,7 +154,7 @@ fn options_in(matches: &ArgMatches<'_>) -> Result<Options, OptionFault>
 /// The moment that is given, if one is.
 fn moment_in(given: Option<&str>) -> Result<Option<u64>, OptionFault>
     ensures given { IfOk result (λ at. moment_of (option_map (λ text. text.now) given.entry) ≡ Some at) }
-    ensures refused { OnErr result (moment_of (option_map (λ text. text.now) given.entry) ≡ None) }
+    ensures refused { IfErr result (λ fault. IsNumberFault fault × (moment_of (option_map (λ text. text.now) given.entry) ≡ None)) }
 {
     let Some(text) = given else {
         return Ok(None);
@@ -179,7 +177,7 @@ fn count_in(
     most: u64,
 ) -> Result<u64, OptionFault>
     ensures given { IfOk result (λ count. count_of default most (option_map (λ text. text.now) given.entry) ≡ Some count) }
-    ensures refused { OnErr result (count_of default most (option_map (λ text. text.now) given.entry) ≡ None) }
+    ensures refused { IfErr result (λ fault. IsNumberFault fault × (count_of default most (option_map (λ text. text.now) given.entry) ≡ None)) }
 {
     let Some(text) = given else {
         return Ok(default);
