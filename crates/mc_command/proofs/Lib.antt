@@ -1,6 +1,7 @@
 pub mod Behind
 pub mod Blocks
 pub mod Fields
+pub mod FlagOrder
 pub mod GivingUp
 pub mod KeyLists
 pub mod Lines
@@ -8,7 +9,9 @@ pub mod MetaCounts
 pub mod MetaLaws
 pub mod MetaLookups
 pub mod MetaWalks
+pub mod Permuted
 pub mod RowsClassic
+pub mod RowsFlagOrder
 pub mod RowsMeta
 pub mod Sizes
 pub mod StorageLines

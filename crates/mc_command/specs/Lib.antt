@@ -8,3 +8,4 @@ pub mod MetaReading
 pub mod Name
 pub mod Table
 pub mod Laws
+pub mod FlagOrder

@@ -1,4 +1,5 @@
 //! Laws of the command table, for whoever stands on it.
+ghost use Rattle.mc_command.specs.FlagOrder.{FlagsInAnyOrder};
 ghost use Rattle.mc_command.specs.Laws.{NeverWantsMemory, DataCanBeGivenUp};
 
 /// Want of memory is never what the table says of a line: it is the reader's answer alone.
@@ -11,4 +12,12 @@ pub fn table_never_wants_memory()
 #[tactic(auto, using(crate::proofs::Blocks::data_stores))]
 pub fn data_can_be_given_up()
     ensures { DataCanBeGivenUp }
+{}
+
+/// The order of a meta line's flags is the order in which they are given back, and nothing else: with its
+/// flags in another order the line is the same command but for that, or it is refused as well, with as many
+/// bytes skipped behind it.
+#[tactic(auto, using(crate::proofs::FlagOrder::flags_reordered))]
+pub fn flags_in_any_order()
+    ensures { FlagsInAnyOrder }
 {}

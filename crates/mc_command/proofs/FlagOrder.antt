@@ -1,0 +1,207 @@
+-- Flags in another order are lawful if they were, and each look-up in them finds the same.
+use Rattle.std.proofs.Common.{◌≡◌, ℕ, ◌+◌, ◌^◌, ◌==◌, Bool, true, false, cond, List, [], ◌∷◌, ◌++◌, Option, Some, None, nat_lt, refl, sym, ap, ap₂, ◌∙◌, Result, Ok, Err, IsPermutation}
+use Rattle.std.specs.Prelude.{find}
+use Rattle.std.specs.List.{filter_map}
+use Rattle.std.specs.Option.{option_or}
+use Rattle.std.proofs.lemmas.Bool.{eqb-true}
+use Rattle.std.proofs.lemmas.List.Sorted.{list_any-IsPermutation, IsPermutation-sym}
+use Rattle.mc_wire.specs.Number.{number_of}
+use Rattle.mc_command.specs.declared.command.Command.{Command}
+use Rattle.mc_command.specs.declared.command.Command.TheVariants as command
+use Rattle.mc_command.specs.declared.line.Line.TheVariants.{Data, Skip}
+use Rattle.mc_command.specs.declared.meta_line.MetaName.{MetaName}
+use Rattle.mc_command.specs.declared.meta_line.MetaName.TheVariants.{Get, Set, Delete, Arithmetic}
+use Rattle.mc_command.specs.declared.refusal.Refusal.{Refusal}
+use Rattle.mc_command.specs.declared.refusal.Refusal.TheVariants.{InvalidFlag, DuplicateFlag, TooLarge}
+use Rattle.mc_command.specs.Blocks.{whole_line, block_line}
+use Rattle.mc_command.specs.Field.{then_of}
+use Rattle.mc_command.specs.FlagOrder.{with_returned, IsReordered, SameButOrder, before_flags}
+use Rattle.mc_command.specs.Meta.{has_letter, has_flag, shown_flag, flag_refusal, flags_refusal, unless, meta_key_of, compare_refusal, get_of, set_of, delete_of, arithmetic_of, command_of, meta_command_of, meta_line_of}
+use Rattle.mc_command.specs.Name.{name_of}
+use Rattle.mc_command.specs.Table.{line_of}
+use Rattle.mc_command.proofs.MetaCounts.{eq_comm}
+use Rattle.mc_command.proofs.MetaLookups.{has_flag-append}
+use Rattle.mc_command.proofs.Permuted.{along_permutation, IsPermutation-filter_map}
+
+-- One flag after another is lawful: what that says of the two.
+
+both_none : (first second : Option Refusal) → option_or first second ≡ None → (first ≡ None) × (second ≡ None)
+both_none None second passes = (refl, passes)
+both_none (Some refusal) second passes = absurd cc
+
+-- a flag that passes did not stand before
+fresh : (unknown stands : Bool) (rest : Option Refusal) → cond unknown (Some InvalidFlag) (cond stands (Some DuplicateFlag) rest) ≡ None → stands ≡ false
+fresh true stands rest passes = absurd cc
+fresh false true rest passes = absurd cc
+fresh false false rest passes = refl
+
+-- it passes as well behind other flags than these, if it is not among them
+passes_again : (unknown stands again : Bool) (rest : Option Refusal) → cond unknown (Some InvalidFlag) (cond stands (Some DuplicateFlag) rest) ≡ None → again ≡ false →
+    cond unknown (Some InvalidFlag) (cond again (Some DuplicateFlag) rest) ≡ None
+passes_again true stands again rest passes absent = absurd cc
+passes_again false true again rest passes absent = absurd cc
+passes_again false false again rest passes absent = rw absent passes
+
+neither : (a b : Bool) → cond a true b ≡ false → (a ≡ false) × (b ≡ false)
+neither true b h = absurd cc
+neither false b h = (refl, h)
+
+either : (a b c : Bool) → cond a true (cond b true c) ≡ cond b true (cond a true c)
+either true true c = refl
+either true false c = refl
+either false b c = refl
+
+one_of : (a b : Bool) (first second : List ℕ) (rest : Option (List ℕ)) → (a ≡ true → b ≡ true → ⊥) → cond a (Some first) (cond b (Some second) rest) ≡ cond b (Some second) (cond a (Some first) rest)
+one_of true true first second rest apart = absurd (apart refl refl)
+one_of true false first second rest apart = refl
+one_of false b first second rest apart = refl
+
+two_letters : (a b letter : ℕ) → (a == b) ≡ false → (a == letter) ≡ true → (b == letter) ≡ true → ⊥
+two_letters a b letter apart is also =
+    let same : b ≡ letter = eqb-true b letter also in
+    let clash : (a == b) ≡ true = rw same is in
+    absurd cc
+
+-- Flags are refused alike behind flags of the same letters.
+same_before : (name : MetaName) (before other words : List (List ℕ)) → ((letter : ℕ) → has_flag letter before ≡ has_flag letter other) → flags_refusal name before words ≡ flags_refusal name other words
+same_before name before other [] same = refl
+same_before name before other ([] ∷ words) same = refl
+same_before name before other ((first ∷ token) ∷ words) same =
+    let one : flag_refusal name before (first ∷ token) ≡ flag_refusal name other (first ∷ token) = rw (same first) refl in
+    ap₂ option_or one (same_before name (before ++ (first ∷ token) ∷ []) (other ++ (first ∷ token) ∷ []) words (λ letter.
+    has_flag-append letter before first token ∙ (ap (λ stands. cond (first == letter) true stands) (same letter) ∙ sym (has_flag-append letter other first token))))
+
+-- If these flags are lawful behind some, so are those, and each look-up finds the same in both.
+abbrev Keeps : MetaName → List (List ℕ) → List (List ℕ) → Type 0
+Keeps name words others = (before : List (List ℕ)) → flags_refusal name before words ≡ None →
+    (flags_refusal name before others ≡ None) × ((letter : ℕ) → find (has_letter letter) words ≡ find (has_letter letter) others)
+
+keeps_skip : (name : MetaName) (word : List ℕ) (words others : List (List ℕ)) → Keeps name words others → Keeps name (word ∷ words) (word ∷ others)
+keeps_skip name word words others keeps before passes =
+    let parts = both_none (flag_refusal name before word) (flags_refusal name (before ++ word ∷ []) words) passes in
+    let rest = keeps (before ++ word ∷ []) parts.1 in
+    (ap₂ option_or parts.0 rest.0, λ letter. ap (λ later. cond (has_letter letter word) (Some word) later) (rest.1 letter))
+
+keeps_turn : (name : MetaName) (one two : List ℕ) (words : List (List ℕ)) → Keeps name (one ∷ two ∷ words) (two ∷ one ∷ words)
+keeps_turn name [] two words before passes = absurd cc
+keeps_turn name (a ∷ token) [] words before passes =
+    let parts = both_none (flag_refusal name before (a ∷ token)) (Some InvalidFlag) passes in
+    absurd (let bad : Some InvalidFlag ≡ None = parts.1 in cc)
+keeps_turn name (a ∷ token) (b ∷ other) words before passes =
+    let one : List ℕ = a ∷ token in
+    let two : List ℕ = b ∷ other in
+    let first = both_none (flag_refusal name before one) (flags_refusal name (before ++ one ∷ []) (two ∷ words)) passes in
+    let second = both_none (flag_refusal name (before ++ one ∷ []) two) (flags_refusal name ((before ++ one ∷ []) ++ two ∷ []) words) first.1 in
+    let new_a : has_flag a before ≡ false = fresh _ (has_flag a before) _ first.0 in
+    let new_b : has_flag b (before ++ one ∷ []) ≡ false = fresh _ (has_flag b (before ++ one ∷ [])) _ second.0 in
+    let apart = neither (a == b) (has_flag b before) (sym (has_flag-append b before a token) ∙ new_b) in
+    let a_behind : has_flag a (before ++ two ∷ []) ≡ false = has_flag-append a before b other ∙ rw (eq_comm b a, apart.0) new_a in
+    let two_passes : flag_refusal name before two ≡ None = passes_again _ (has_flag b (before ++ one ∷ [])) (has_flag b before) _ second.0 apart.1 in
+    let one_passes : flag_refusal name (before ++ two ∷ []) one ≡ None = passes_again _ (has_flag a before) (has_flag a (before ++ two ∷ [])) _ first.0 a_behind in
+    let rest : flags_refusal name ((before ++ two ∷ []) ++ one ∷ []) words ≡ None =
+    same_before name ((before ++ two ∷ []) ++ one ∷ []) ((before ++ one ∷ []) ++ two ∷ []) words (λ letter.
+    rw (has_flag-append letter (before ++ two ∷ []) a token, has_flag-append letter before b other, has_flag-append letter (before ++ one ∷ []) b other, has_flag-append letter before a token) (either (a == letter) (b == letter) (has_flag letter before))) ∙ second.1 in
+    (ap₂ option_or two_passes (ap₂ option_or one_passes rest), λ letter. one_of (a == letter) (b == letter) one two (find (has_letter letter) words) (two_letters a b letter apart.0))
+
+keeps : (name : MetaName) (words others : List (List ℕ)) → IsPermutation words others → Keeps name words others
+keeps name = along_permutation (Keeps name)
+    (λ words before passes. (passes, λ letter. refl))
+    (keeps_skip name)
+    (keeps_turn name)
+    (λ words others third h k before passes.
+    let one = h before passes in
+    let two = k before one.0 in
+    (two.0, λ letter. one.1 letter ∙ two.1 letter))
+
+-- Commands.
+
+-- what is read is the same command but for the order, or both times nothing
+abbrev SameAsked : Result Command Refusal → Result Command Refusal → Type 0
+SameAsked (Ok asked) (Ok other) = IsReordered asked other
+SameAsked (Err refusal) (Err other) = Unit {0}
+SameAsked asked other = ⊥
+
+same_unless : (refusal other : Option Refusal) (asked said : Result Command Refusal) → (refusal ≡ None → (other ≡ None) × SameAsked asked said) → (other ≡ None → refusal ≡ None) → SameAsked (unless refusal asked) (unless other said)
+same_unless None None asked said there back = (there refl).1
+same_unless None (Some other) asked said there back = let bad : Some other ≡ None = (there refl).0 in absurd cc
+same_unless (Some refusal) None asked said there back = let bad : Some refusal ≡ None = back refl in absurd cc
+same_unless (Some refusal) (Some other) asked said there back = tt
+
+same_then : (read : Result (List ℕ) Refusal) (one two : List ℕ → Result Command Refusal) → ((key : List ℕ) → SameAsked (one key) (two key)) → SameAsked (then_of read one) (then_of read two)
+same_then (Ok key) one two same = same key
+same_then (Err refusal) one two same = tt
+
+module _ (words others : List (List ℕ)) (moved : IsPermutation words others) (found : (letter : ℕ) → find (has_letter letter) words ≡ find (has_letter letter) others) where
+  stands : (letter : ℕ) → has_flag letter words ≡ has_flag letter others
+  stands letter = list_any-IsPermutation (has_letter letter) words others moved
+
+  shown : IsPermutation (filter_map shown_flag words) (filter_map shown_flag others)
+  shown = IsPermutation-filter_map shown_flag words others moved
+
+  get_is : (key : List ℕ) → command.MetaGet (get_of key others) ≡ with_returned (command.MetaGet (get_of key words)) (filter_map shown_flag others)
+  get_is key = rw (stands 98, stands 113, found 79, stands 118, found 84, found 78, found 82) refl
+
+  set_is : (key : List ℕ) → command.MetaSet (set_of key others) ≡ with_returned (command.MetaSet (set_of key words)) (filter_map shown_flag others)
+  set_is key = rw (stands 98, stands 113, found 79, found 77, found 67, found 70, found 84) refl
+
+  delete_is : (key : List ℕ) → command.MetaDelete (delete_of key others) ≡ with_returned (command.MetaDelete (delete_of key words)) (filter_map shown_flag others)
+  delete_is key = rw (stands 98, stands 113, found 79, found 67, stands 73, found 84) refl
+
+  arithmetic_is : (key : List ℕ) → command.MetaArithmetic (arithmetic_of key others) ≡ with_returned (command.MetaArithmetic (arithmetic_of key words)) (filter_map shown_flag others)
+  arithmetic_is key = rw (stands 98, stands 113, found 79, stands 118, found 67, found 77, found 68, found 74, found 78, found 84) refl
+
+  compare_is : (key : List ℕ) → compare_refusal (set_of key words) ≡ compare_refusal (set_of key others)
+  compare_is key = rw (found 67, found 77) refl
+
+  pub same_command : (name : MetaName) (key : List ℕ) → SameAsked (command_of name key words) (command_of name key others)
+  same_command Get key = record { same = get_is key; moved = shown }
+  same_command Set key =
+      same_unless (compare_refusal (set_of key words)) (compare_refusal (set_of key others)) _ _
+      (λ none. (sym (compare_is key) ∙ none, record { same = set_is key; moved = shown }))
+      (λ none. compare_is key ∙ none)
+  same_command Delete key = record { same = delete_is key; moved = shown }
+  same_command Arithmetic key = record { same = arithmetic_is key; moved = shown }
+
+  pub same_keyed : (name : MetaName) (word : List ℕ) →
+      SameAsked (then_of (meta_key_of (has_flag 98 words) word) (λ key. command_of name key words)) (then_of (meta_key_of (has_flag 98 others) word) (λ key. command_of name key others))
+  same_keyed name word = rw (stands 98) (same_then (meta_key_of (has_flag 98 others) word) (λ key. command_of name key words) (λ key. command_of name key others) (same_command name))
+
+same_asked : (name : MetaName) (word : List ℕ) (words others : List (List ℕ)) → IsPermutation words others → SameAsked (meta_command_of name word words) (meta_command_of name word others)
+same_asked name word words others moved =
+    same_unless (flags_refusal name [] words) (flags_refusal name [] others) _ _
+    (λ none.
+    let kept = keeps name words others moved [] none in
+    (kept.0, same_keyed words others moved kept.1 name word))
+    (λ none. (keeps name others words (IsPermutation-sym words others moved) [] none).0)
+
+-- Lines.
+
+same_whole : (asked other : Result Command Refusal) → SameAsked asked other → SameButOrder (whole_line asked) (whole_line other)
+same_whole (Ok asked) (Ok other) same = same
+same_whole (Ok asked) (Err other) same = absurd same
+same_whole (Err refusal) (Ok other) same = absurd same
+same_whole (Err refusal) (Err other) same = tt
+
+same_sized : (large : Bool) (asked other : Command) (count : ℕ) → IsReordered asked other →
+    SameButOrder (cond large (Skip TooLarge (count + 2)) (Data asked count)) (cond large (Skip TooLarge (count + 2)) (Data other count))
+same_sized true asked other count same = refl
+same_sized false asked other count same = (same, refl)
+
+same_block : (count : Option ℕ) (asked other : Result Command Refusal) → SameAsked asked other → SameButOrder (block_line count asked) (block_line count other)
+same_block (Some count) (Ok asked) (Ok other) same = same_sized (nat_lt 1048576 count) asked other count same
+same_block (Some count) (Ok asked) (Err other) same = absurd same
+same_block (Some count) (Err refusal) (Ok other) same = absurd same
+same_block (Some count) (Err refusal) (Err other) same = refl
+same_block None (Ok asked) (Ok other) same = tt
+same_block None (Ok asked) (Err other) same = absurd same
+same_block None (Err refusal) (Ok other) same = absurd same
+same_block None (Err refusal) (Err other) same = tt
+
+-- a meta line with its flags in another order
+pub flags_reordered : (name : MetaName) (key count : List ℕ) (flags others : List (List ℕ)) → IsPermutation flags others →
+    SameButOrder (line_of (before_flags name key count ++ flags)) (line_of (before_flags name key count ++ others))
+unfolding line_of name_of meta_line_of
+flags_reordered Get key count flags others moved = same_whole _ _ (same_asked Get key flags others moved)
+flags_reordered Set key count flags others moved = same_block (number_of (2 ^ 32) count) _ _ (same_asked Set key flags others moved)
+flags_reordered Delete key count flags others moved = same_whole _ _ (same_asked Delete key flags others moved)
+flags_reordered Arithmetic key count flags others moved = same_whole _ _ (same_asked Arithmetic key flags others moved)
