@@ -3,7 +3,7 @@
 //! `a_line_without_memory_is_given_up` passes at every N.
 use crate::{
     Block, Command, Direction, Keys, Line, Refusal, StoreMode, announced_bytes,
-    data_can_be_given_up, read_line, table_never_wants_memory,
+    data_can_be_given_up, flags_in_any_order, read_line, table_never_wants_memory,
 };
 use mc_wire::{Key, WireFault};
 use std::test::Fail;
@@ -97,6 +97,7 @@ fn the_other_classic_lines(rt: HostRuntime) {
     }
     assert_eq!(rt; Refusal::from(WireFault::NotBase64), Refusal::BadKey);
     table_never_wants_memory();
+    flags_in_any_order();
     data_can_be_given_up();
 }
 
