@@ -17,7 +17,8 @@ use Rattle.mc_split.specs.declared.form.Shape.TheVariants as shape
 use Rattle.mc_split.specs.Pieces.{pieces_of}
 use Rattle.mc_split.specs.Shape.{is_key_flag, shape_of, shown_key}
 use Rattle.mc_split.specs.Text.{answer_line, coded_text, flag_text, is_hidden, is_no_memory, marks_text, memory_line, shape_text, text_of}
-use Rattle.mc_split.specs.TextLaws.{DiffersInOrder, returned_in, with_flags, with_returned}
+use Rattle.mc_command.specs.FlagOrder.{returned_in, with_flags, with_returned}
+use Rattle.mc_split.specs.TextLaws.{DiffersInOrder}
 
 none_of : (flags : List ReturnFlag) → flat_map {X = ReturnFlag} {A = ℕ} (λ _. []) flags ≡ []
 none_of [] = refl

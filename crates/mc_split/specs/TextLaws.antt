@@ -6,6 +6,7 @@ use Rattle.mc_command.specs.declared.command.Command.{Command}
 use Rattle.mc_command.specs.declared.command.Command.TheVariants as command
 use Rattle.mc_command.specs.declared.meta.MetaFlags.{MetaFlags}
 use Rattle.mc_command.specs.declared.meta.ReturnFlag.{ReturnFlag}
+use Rattle.mc_command.specs.FlagOrder.{returned_in, with_returned}
 use Rattle.mc_item.specs.declared.answer.Answer.{Answer}
 use Rattle.mc_item.specs.Kind.{is_lawful, kind_of}
 use Rattle.mc_split.specs.declared.form.MetaKind.{MetaKind}
@@ -78,25 +79,6 @@ IsEmptyOrLoud = (command : Command) (answers : List Answer) → (text_of command
 -- And it asks the same of the same shards.
 abbrev pub AsksAsLoud : Type 0
 AsksAsLoud = (shards : ℕ) (command : Command) → pieces_of shards command ≡ pieces_of shards (loud command)
-
-abbrev pub with_flags : MetaFlags → List ReturnFlag → MetaFlags
-with_flags flags returned = record flags { returned = returned }
-
--- the flags that the reply returns, in the order of the request
-abbrev pub returned_in : Command → List ReturnFlag
-returned_in (command.MetaGet get) = get.flags.returned
-returned_in (command.MetaSet set) = set.flags.returned
-returned_in (command.MetaDelete delete) = delete.flags.returned
-returned_in (command.MetaArithmetic arithmetic) = arithmetic.flags.returned
-returned_in command = []
-
--- the meta command with these in their place
-abbrev pub with_returned : Command → List ReturnFlag → Command
-with_returned (command.MetaGet get) returned = command.MetaGet (record get { flags = with_flags get.flags returned })
-with_returned (command.MetaSet set) returned = command.MetaSet (record set { flags = with_flags set.flags returned })
-with_returned (command.MetaDelete delete) returned = command.MetaDelete (record delete { flags = with_flags delete.flags returned })
-with_returned (command.MetaArithmetic arithmetic) returned = command.MetaArithmetic (record arithmetic { flags = with_flags arithmetic.flags returned })
-with_returned command returned = command
 
 -- Two texts are the same, but that the texts of some flags stand in the order of these and of those.
 pub record DiffersInOrder (flags others : List ReturnFlag) (text other : List ℕ) : Type 0 where
