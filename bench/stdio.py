@@ -1,8 +1,13 @@
 #!/usr/bin/env python3
-"""Measures `mcd --stdio` on pipelined commands, on one core, beside `wc -l` on the same bytes.
+"""Measures `mcd --stdio` on pipelined commands, on one core.
 
-    bench/stdio.py [PROGRAM]            commands and megabytes a second
-    bench/stdio.py --profile [PROGRAM]  instructions a command by function (valgrind's callgrind)
+    bench/stdio.py [PROGRAM]             commands and megabytes a second, beside `wc -l` on the same bytes
+    bench/stdio.py --count [PROGRAM]     instructions a command of each mix, and bytes of memory an item
+    bench/stdio.py --profile [PROGRAM]   instructions a command by function, for half gets and half sets
+
+Instructions are those outside system calls, counted by valgrind's callgrind as the difference of two runs, so that
+the start and the filling of the cache are left out: all keys are stored before anything is counted. With --count the
+same is measured of memcached (one worker thread, over a socket), where it is installed.
 
 PROGRAM is the built program, crates/mcd/out/mcd where none is given (`rt run` in crates/mcd builds it).
 """
@@ -10,26 +15,54 @@ import argparse
 import pathlib
 import re
 import shutil
+import signal
+import socket
 import subprocess
 import tempfile
+import threading
 import time
 
 TOP = pathlib.Path(__file__).resolve().parent.parent
-KEYS = 50_000
+KEYS = 5_000
 RUNS = 3
+VALUE = b"v" * 100
 
 
 def key(number):
-    return b"key:%028d" % number
+    """A key of 32 bytes; the numbers are spread over all keys."""
+    return b"key:%028d" % (number * 7919 % KEYS)
+
+
+def filled():
+    return [b"set %s 0 0 100\r\n%s\r\n" % (key(i), VALUE) for i in range(KEYS)]
+
+
+def set_of(i):
+    return b"set %s 0 0 100\r\n%s\r\n" % (key(i), VALUE)
+
+
+def get_of(i):
+    return b"get %s\r\n" % key(i)
+
+
+# The mixes: a name, and the ith command.
+MIXES = [
+    ("mn", lambda i: b"mn\r\n"),
+    ("get hit", get_of),
+    ("get miss", lambda i: b"get none%s\r\n" % key(i)),
+    ("set", set_of),
+    ("half gets, half sets", lambda i: set_of(i) if i % 2 else get_of(i)),
+    ("mg v", lambda i: b"mg %s v\r\n" % key(i)),
+    ("ms", lambda i: b"ms %s 100\r\n%s\r\n" % (key(i), VALUE)),
+    ("get of 100 keys", lambda i: b"get " + b" ".join(key(100 * i + k) for k in range(100)) + b"\r\n"),
+]
 
 
 def small_commands(count):
     """Half sets and half gets, of keys of 32 bytes and values of 100."""
-    value = b"v" * 100
-    for i in range(count // 2):
-        name = key(i * 7919 % KEYS)
-        yield b"set %s 0 0 100\r\n%s\r\n" % (name, value)
-        yield b"get %s\r\n" % key(i * 104729 % KEYS)
+    yield from filled()
+    for i in range(count):
+        yield set_of(i) if i % 2 else get_of(i)
 
 
 def large_commands(count):
@@ -68,16 +101,98 @@ def measure(program, folder):
         print(f"  wc -l        {theirs:6.3f} s  {'':12}             {size / 1e6 / theirs:8.1f} MB/s")
 
 
-def instructions(program, folder, count):
-    path = folder / "input"
-    with open(path, "wb") as out:
-        out.writelines(small_commands(count))
-    data = folder / f"callgrind.{count}"
+def callgrind(data, command, **how):
+    # With at most 1,024 open files: of these valgrind keeps 12, and memcached must be asked for just the rest.
+    limited = ["sh", "-c", 'ulimit -n 1024; exec "$@"', ""]
+    whole = [*limited, "valgrind", "--tool=callgrind", f"--callgrind-out-file={data}", *command]
+    return subprocess.Popen(whole, stderr=subprocess.DEVNULL, **how)
+
+
+def mcd_run(program, folder, commands):
+    """Runs the program on the commands, and gives callgrind's file."""
+    path, data = folder / "input", folder / "callgrind"
+    path.write_bytes(b"".join(filled() + commands))
     with open(path, "rb") as stdin:
-        subprocess.run(
-            ["valgrind", "--tool=callgrind", f"--callgrind-out-file={data}", program, "--stdio", "--at", "1000"],
-            stdin=stdin, stdout=subprocess.DEVNULL, stderr=subprocess.DEVNULL, check=True,
-        )
+        if callgrind(data, [program, "--stdio", "--at", "1000"], stdin=stdin, stdout=subprocess.DEVNULL).wait() != 0:
+            raise SystemExit("the program failed under valgrind")
+    return data
+
+
+def memcached_run(program, folder, commands):
+    """Runs memcached on the commands, over a socket, and gives callgrind's file."""
+    data, place = folder / "callgrind", folder / "socket"
+    place.unlink(missing_ok=True)
+    server = callgrind(data, [program, "-t", "1", "-m", "256", "-c", "1012", "-u", "root", "-s", str(place)], stdout=subprocess.DEVNULL)
+    line = socket.socket(socket.AF_UNIX)
+    for _ in range(200):
+        try:
+            line.connect(str(place))
+            break
+        except OSError:
+            time.sleep(0.1)
+    sender = threading.Thread(target=lambda: line.sendall(b"".join(filled() + commands) + b"quit\r\n"))
+    sender.start()
+    while line.recv(1 << 16):
+        pass
+    sender.join()
+    server.send_signal(signal.SIGTERM)
+    server.wait()
+    return data
+
+
+def total(data):
+    """All instructions that callgrind counted."""
+    found = re.search(r"^(?:totals|summary): (\d+)", data.read_text(errors="replace"), re.M)
+    return int(found[1])
+
+
+def instructions(run, program, folder, command):
+    """Instructions a command of a mix, as the difference of two runs."""
+    few, many = 200, 2_200
+    before = total(run(program, folder, [command(i) for i in range(few)]))
+    after = total(run(program, folder, [command(i) for i in range(many)]))
+    return (after - before) / (many - few)
+
+
+def memory_of(process):
+    found = re.search(r"^VmRSS:\s+(\d+)", pathlib.Path(f"/proc/{process.pid}/status").read_text(), re.M)
+    return int(found[1]) * 1024
+
+
+def bytes_an_item(program):
+    """How the process grows for 500,000 items with keys of 16 bytes and values of 100."""
+    items = 500_000
+    server = subprocess.Popen(
+        [program, "--stdio", "--bytes", "1073741824"], stdin=subprocess.PIPE, stdout=subprocess.PIPE, bufsize=0,
+    )
+
+    def asked(commands):
+        server.stdin.write(commands + b"mn\r\n")
+        text = b""
+        while not text.endswith(b"MN\r\n"):
+            text = (text + server.stdout.read(1 << 16))[-16:]
+
+    asked(b"")
+    before = memory_of(server)
+    for first in range(0, items, 1000):
+        asked(b"".join(b"set k%015d 0 0 100 noreply\r\n%s\r\n" % (i, VALUE) for i in range(first, first + 1000)))
+    after = memory_of(server)
+    server.stdin.close()
+    server.wait()
+    return (after - before) / items
+
+
+def count(program, folder):
+    other = shutil.which("memcached")
+    print(f"{'instructions a command':24}{'mcd':>12}{'memcached' if other else '':>12}")
+    for name, command in MIXES:
+        ours = instructions(mcd_run, program, folder, command)
+        theirs = f"{instructions(memcached_run, other, folder, command):12,.0f}" if other else ""
+        print(f"{name:24}{ours:12,.0f}{theirs}", flush=True)
+    print(f"{'bytes an item':24}{bytes_an_item(program):12,.0f}")
+
+
+def by_function(data):
     listed = subprocess.run(["callgrind_annotate", data], capture_output=True, text=True, check=True).stdout
     table = {}
     for line in listed.splitlines():
@@ -88,21 +203,24 @@ def instructions(program, folder, count):
 
 
 def profile(program, folder):
-    """Instructions a command, as the difference of two runs, so that the start is left out."""
-    small, large = 20_000, 120_000
-    before, after = instructions(program, folder, small), instructions(program, folder, large)
-    rows = sorted(((after[name] - before.get(name, 0)) / (large - small), name) for name in after)
-    for per_command, name in reversed(rows[-25:]):
+    few, many = 2_000, 42_000
+    command = dict(MIXES)["half gets, half sets"]
+    before = by_function(mcd_run(program, folder, [command(i) for i in range(few)]))
+    after = by_function(mcd_run(program, folder, [command(i) for i in range(many)]))
+    rows = sorted(((after[name] - before.get(name, 0)) / (many - few), name) for name in after)
+    for per_command, name in reversed(rows[-40:]):
         print(f"{per_command:9.1f}  {name}")
 
 
 def main():
     parser = argparse.ArgumentParser(description=__doc__.splitlines()[0])
+    parser.add_argument("--count", action="store_true")
     parser.add_argument("--profile", action="store_true")
     parser.add_argument("program", nargs="?", default=str(TOP / "crates/mcd/out/mcd"))
     given = parser.parse_args()
     with tempfile.TemporaryDirectory() as folder:
-        (profile if given.profile else measure)(given.program, pathlib.Path(folder))
+        work = profile if given.profile else count if given.count else measure
+        work(given.program, pathlib.Path(folder))
 
 
 if __name__ == "__main__":

@@ -9,17 +9,17 @@ use Rattle.mc_command.specs.Table.{line_named, count_named}
 use Rattle.mc_command.proofs.MetaLaws.{meta_bytes_behind}
 use Rattle.mc_command.proofs.Told.{behind_block, behind_whole}
 
-pub behind_named : (name : CommandName) (words : List (List ℕ)) → bytes_behind (line_named name words) ≡ bytes_with (count_named name words)
-behind_named (name.Store mode) words = behind_block (count_in words) (storage_words mode words)
-behind_named name.CompareAndSwap words = behind_block (count_in words) (cas_words words)
-behind_named (name.Get with_unique) words = behind_whole (get_words with_unique words)
-behind_named (name.GetAndTouch with_unique) words = behind_whole (gat_words with_unique words)
-behind_named name.Delete words = behind_whole (delete_words words)
-behind_named (name.Count direction) words = behind_whole (count_words direction words)
-behind_named name.Touch words = behind_whole (touch_words words)
-behind_named name.FlushAll words = behind_whole (flush_words words)
-behind_named name.Version words = refl
-behind_named name.Verbosity words = behind_whole (verbosity_words words)
-behind_named name.Quit words = refl
-behind_named name.MetaNoop words = refl
-behind_named (name.Meta meta) words = meta_bytes_behind meta words
+pub behind_named : (limit : ℕ) (name : CommandName) (words : List (List ℕ)) → bytes_behind (line_named limit name words) ≡ bytes_with (count_named name words)
+behind_named limit (name.Store mode) words = behind_block limit (count_in words) (storage_words mode words)
+behind_named limit name.CompareAndSwap words = behind_block limit (count_in words) (cas_words words)
+behind_named limit (name.Get with_unique) words = behind_whole (get_words with_unique words)
+behind_named limit (name.GetAndTouch with_unique) words = behind_whole (gat_words with_unique words)
+behind_named limit name.Delete words = behind_whole (delete_words words)
+behind_named limit (name.Count direction) words = behind_whole (count_words direction words)
+behind_named limit name.Touch words = behind_whole (touch_words words)
+behind_named limit name.FlushAll words = behind_whole (flush_words words)
+behind_named limit name.Version words = refl
+behind_named limit name.Verbosity words = behind_whole (verbosity_words words)
+behind_named limit name.Quit words = refl
+behind_named limit name.MetaNoop words = refl
+behind_named limit (name.Meta meta) words = meta_bytes_behind limit meta words

@@ -1,5 +1,5 @@
 -- Flags in another order are lawful if they were, and each look-up in them finds the same.
-use Rattle.std.proofs.Common.{◌≡◌, ℕ, ◌+◌, ◌^◌, ◌==◌, Bool, true, false, cond, List, [], ◌∷◌, ◌++◌, Option, Some, None, nat_lt, refl, sym, ap, ap₂, ◌∙◌, Result, Ok, Err, IsPermutation}
+use Rattle.std.proofs.Common.{◌≡◌, ℕ, ◌+◌, ◌^◌, ◌==◌, Bool, true, false, cond, List, [], ◌∷◌, ◌++◌, Option, Some, None, nat_lt, refl, sym, subst, ap, ap₂, ◌∙◌, Result, Ok, Err, IsPermutation}
 use Rattle.std.specs.Prelude.{find}
 use Rattle.std.specs.List.{filter_map}
 use Rattle.std.specs.Option.{option_or}
@@ -7,16 +7,17 @@ use Rattle.std.proofs.lemmas.Bool.{eqb-true}
 use Rattle.std.proofs.lemmas.List.Sorted.{list_any-IsPermutation, IsPermutation-sym}
 use Rattle.mc_wire.specs.Number.{number_of}
 use Rattle.mc_command.specs.declared.command.Command.{Command}
-use Rattle.mc_command.specs.declared.command.Command.TheVariants as command
 use Rattle.mc_command.specs.declared.line.Line.TheVariants.{Data, Skip}
-use Rattle.mc_command.specs.declared.meta_line.MetaName.{MetaName}
-use Rattle.mc_command.specs.declared.meta_line.MetaName.TheVariants.{Get, Set, Delete, Arithmetic}
+use Rattle.mc_command.specs.declared.meta.ReturnFlag.{ReturnFlag}
+use Rattle.mc_command.specs.declared.meta_flags.Asked.{Asked}
+use Rattle.mc_command.specs.declared.meta.MetaKind.{MetaKind}
+use Rattle.mc_command.specs.declared.meta.MetaKind.TheVariants.{Get, Set, Delete, Arithmetic}
 use Rattle.mc_command.specs.declared.refusal.Refusal.{Refusal}
 use Rattle.mc_command.specs.declared.refusal.Refusal.TheVariants.{InvalidFlag, DuplicateFlag, TooLarge}
 use Rattle.mc_command.specs.Blocks.{whole_line, block_line}
 use Rattle.mc_command.specs.Field.{then_of}
-use Rattle.mc_command.specs.FlagOrder.{with_returned, IsReordered, SameButOrder, before_flags}
-use Rattle.mc_command.specs.Meta.{has_letter, has_flag, shown_flag, flag_refusal, flags_refusal, unless, meta_key_of, compare_refusal, get_of, set_of, delete_of, arithmetic_of, command_of, meta_command_of, meta_line_of}
+use Rattle.mc_command.specs.FlagOrder.{with_flags, IsReordered, SameButOrder, before_flags}
+use Rattle.mc_command.specs.Meta.{has_letter, has_flag, shown_flag, flags_of, flag_refusal, flags_refusal, unless, meta_key_of, compare_refusal, set_by, asked_of, command_by, meta_command_of, meta_line_of}
 use Rattle.mc_command.specs.Name.{name_of}
 use Rattle.mc_command.specs.Table.{line_of}
 use Rattle.mc_command.proofs.MetaCounts.{eq_comm}
@@ -63,7 +64,7 @@ two_letters a b letter apart is also =
     absurd cc
 
 -- Flags are refused alike behind flags of the same letters.
-same_before : (name : MetaName) (before other words : List (List ℕ)) → ((letter : ℕ) → has_flag letter before ≡ has_flag letter other) → flags_refusal name before words ≡ flags_refusal name other words
+same_before : (name : MetaKind) (before other words : List (List ℕ)) → ((letter : ℕ) → has_flag letter before ≡ has_flag letter other) → flags_refusal name before words ≡ flags_refusal name other words
 same_before name before other [] same = refl
 same_before name before other ([] ∷ words) same = refl
 same_before name before other ((first ∷ token) ∷ words) same =
@@ -72,17 +73,17 @@ same_before name before other ((first ∷ token) ∷ words) same =
     has_flag-append letter before first token ∙ (ap (λ stands. cond (first == letter) true stands) (same letter) ∙ sym (has_flag-append letter other first token))))
 
 -- If these flags are lawful behind some, so are those, and each look-up finds the same in both.
-abbrev Keeps : MetaName → List (List ℕ) → List (List ℕ) → Type 0
+abbrev Keeps : MetaKind → List (List ℕ) → List (List ℕ) → Type 0
 Keeps name words others = (before : List (List ℕ)) → flags_refusal name before words ≡ None →
     (flags_refusal name before others ≡ None) × ((letter : ℕ) → find (has_letter letter) words ≡ find (has_letter letter) others)
 
-keeps_skip : (name : MetaName) (word : List ℕ) (words others : List (List ℕ)) → Keeps name words others → Keeps name (word ∷ words) (word ∷ others)
+keeps_skip : (name : MetaKind) (word : List ℕ) (words others : List (List ℕ)) → Keeps name words others → Keeps name (word ∷ words) (word ∷ others)
 keeps_skip name word words others keeps before passes =
     let parts = both_none (flag_refusal name before word) (flags_refusal name (before ++ word ∷ []) words) passes in
     let rest = keeps (before ++ word ∷ []) parts.1 in
     (ap₂ option_or parts.0 rest.0, λ letter. ap (λ later. cond (has_letter letter word) (Some word) later) (rest.1 letter))
 
-keeps_turn : (name : MetaName) (one two : List ℕ) (words : List (List ℕ)) → Keeps name (one ∷ two ∷ words) (two ∷ one ∷ words)
+keeps_turn : (name : MetaKind) (one two : List ℕ) (words : List (List ℕ)) → Keeps name (one ∷ two ∷ words) (two ∷ one ∷ words)
 keeps_turn name [] two words before passes = absurd cc
 keeps_turn name (a ∷ token) [] words before passes =
     let parts = both_none (flag_refusal name before (a ∷ token)) (Some InvalidFlag) passes in
@@ -103,7 +104,7 @@ keeps_turn name (a ∷ token) (b ∷ other) words before passes =
     rw (has_flag-append letter (before ++ two ∷ []) a token, has_flag-append letter before b other, has_flag-append letter (before ++ one ∷ []) b other, has_flag-append letter before a token) (either (a == letter) (b == letter) (has_flag letter before))) ∙ second.1 in
     (ap₂ option_or two_passes (ap₂ option_or one_passes rest), λ letter. one_of (a == letter) (b == letter) one two (find (has_letter letter) words) (two_letters a b letter apart.0))
 
-keeps : (name : MetaName) (words others : List (List ℕ)) → IsPermutation words others → Keeps name words others
+keeps : (name : MetaKind) (words others : List (List ℕ)) → IsPermutation words others → Keeps name words others
 keeps name = along_permutation (Keeps name)
     (λ words before passes. (passes, λ letter. refl))
     (keeps_skip name)
@@ -138,35 +139,26 @@ module _ (words others : List (List ℕ)) (moved : IsPermutation words others) (
   shown : IsPermutation (filter_map shown_flag words) (filter_map shown_flag others)
   shown = IsPermutation-filter_map shown_flag words others moved
 
-  get_is : (key : List ℕ) → command.MetaGet (get_of key others) ≡ with_returned (command.MetaGet (get_of key words)) (filter_map shown_flag others)
-  get_is key = rw (stands 98, stands 113, found 79, stands 118, found 84, found 78, found 82) refl
+  asked_is : (name : MetaKind) → asked_of name others ≡ record (asked_of name words) { flags = with_flags (flags_of words) (filter_map shown_flag others) }
+  asked_is name = rw (stands 98, stands 113, found 79, stands 118, stands 73, found 84, found 78, found 82, found 67, found 69, found 68, found 74, found 70, found 77) refl
 
-  set_is : (key : List ℕ) → command.MetaSet (set_of key others) ≡ with_returned (command.MetaSet (set_of key words)) (filter_map shown_flag others)
-  set_is key = rw (stands 98, stands 113, found 79, found 77, found 67, found 70, found 84) refl
+  with_others : (name : MetaKind) (key : List ℕ) (asked : Asked) (returned : List ReturnFlag) → IsPermutation asked.flags.returned returned →
+      SameAsked (command_by name key asked) (command_by name key (record asked { flags = with_flags asked.flags returned }))
+  with_others Get key asked returned moved = record { same = refl; moved = moved }
+  with_others Set key asked returned moved = same_unless (compare_refusal (set_by key asked)) (compare_refusal (set_by key asked)) _ _ (λ none. (none, record { same = refl; moved = moved })) (λ none. none)
+  with_others Delete key asked returned moved = record { same = refl; moved = moved }
+  with_others Arithmetic key asked returned moved = record { same = refl; moved = moved }
 
-  delete_is : (key : List ℕ) → command.MetaDelete (delete_of key others) ≡ with_returned (command.MetaDelete (delete_of key words)) (filter_map shown_flag others)
-  delete_is key = rw (stands 98, stands 113, found 79, found 67, stands 73, found 84) refl
+  pub same_command : (name : MetaKind) (key : List ℕ) → SameAsked (command_by name key (asked_of name words)) (command_by name key (asked_of name others))
+  same_command name key = rw (asked_is name) (with_others name key (asked_of name words) (filter_map shown_flag others) shown)
 
-  arithmetic_is : (key : List ℕ) → command.MetaArithmetic (arithmetic_of key others) ≡ with_returned (command.MetaArithmetic (arithmetic_of key words)) (filter_map shown_flag others)
-  arithmetic_is key = rw (stands 98, stands 113, found 79, stands 118, found 67, found 77, found 68, found 74, found 78, found 84) refl
+  pub same_keyed : (name : MetaKind) (word : List ℕ) →
+      SameAsked (then_of (meta_key_of (has_flag 98 words) word) (λ key. command_by name key (asked_of name words))) (then_of (meta_key_of (has_flag 98 others) word) (λ key. command_by name key (asked_of name others)))
+  same_keyed name word =
+      let P : Bool → Type 0 = λ base64. SameAsked (then_of (meta_key_of (has_flag 98 words) word) (λ key. command_by name key (asked_of name words))) (then_of (meta_key_of base64 word) (λ key. command_by name key (asked_of name others))) in
+      subst P (stands 98) (same_then (meta_key_of (has_flag 98 words) word) (λ key. command_by name key (asked_of name words)) (λ key. command_by name key (asked_of name others)) (same_command name))
 
-  compare_is : (key : List ℕ) → compare_refusal (set_of key words) ≡ compare_refusal (set_of key others)
-  compare_is key = rw (found 67, found 77) refl
-
-  pub same_command : (name : MetaName) (key : List ℕ) → SameAsked (command_of name key words) (command_of name key others)
-  same_command Get key = record { same = get_is key; moved = shown }
-  same_command Set key =
-      same_unless (compare_refusal (set_of key words)) (compare_refusal (set_of key others)) _ _
-      (λ none. (sym (compare_is key) ∙ none, record { same = set_is key; moved = shown }))
-      (λ none. compare_is key ∙ none)
-  same_command Delete key = record { same = delete_is key; moved = shown }
-  same_command Arithmetic key = record { same = arithmetic_is key; moved = shown }
-
-  pub same_keyed : (name : MetaName) (word : List ℕ) →
-      SameAsked (then_of (meta_key_of (has_flag 98 words) word) (λ key. command_of name key words)) (then_of (meta_key_of (has_flag 98 others) word) (λ key. command_of name key others))
-  same_keyed name word = rw (stands 98) (same_then (meta_key_of (has_flag 98 others) word) (λ key. command_of name key words) (λ key. command_of name key others) (same_command name))
-
-same_asked : (name : MetaName) (word : List ℕ) (words others : List (List ℕ)) → IsPermutation words others → SameAsked (meta_command_of name word words) (meta_command_of name word others)
+same_asked : (name : MetaKind) (word : List ℕ) (words others : List (List ℕ)) → IsPermutation words others → SameAsked (meta_command_of name word words) (meta_command_of name word others)
 same_asked name word words others moved =
     same_unless (flags_refusal name [] words) (flags_refusal name [] others) _ _
     (λ none.
@@ -187,21 +179,21 @@ same_sized : (large : Bool) (asked other : Command) (count : ℕ) → IsReordere
 same_sized true asked other count same = refl
 same_sized false asked other count same = (same, refl)
 
-same_block : (count : Option ℕ) (asked other : Result Command Refusal) → SameAsked asked other → SameButOrder (block_line count asked) (block_line count other)
-same_block (Some count) (Ok asked) (Ok other) same = same_sized (nat_lt 1048576 count) asked other count same
-same_block (Some count) (Ok asked) (Err other) same = absurd same
-same_block (Some count) (Err refusal) (Ok other) same = absurd same
-same_block (Some count) (Err refusal) (Err other) same = refl
-same_block None (Ok asked) (Ok other) same = tt
-same_block None (Ok asked) (Err other) same = absurd same
-same_block None (Err refusal) (Ok other) same = absurd same
-same_block None (Err refusal) (Err other) same = tt
+same_block : (limit : ℕ) (count : Option ℕ) (asked other : Result Command Refusal) → SameAsked asked other → SameButOrder (block_line limit count asked) (block_line limit count other)
+same_block limit (Some count) (Ok asked) (Ok other) same = same_sized (nat_lt limit count) asked other count same
+same_block limit (Some count) (Ok asked) (Err other) same = absurd same
+same_block limit (Some count) (Err refusal) (Ok other) same = absurd same
+same_block limit (Some count) (Err refusal) (Err other) same = refl
+same_block limit None (Ok asked) (Ok other) same = tt
+same_block limit None (Ok asked) (Err other) same = absurd same
+same_block limit None (Err refusal) (Ok other) same = absurd same
+same_block limit None (Err refusal) (Err other) same = tt
 
 -- a meta line with its flags in another order
-pub flags_reordered : (name : MetaName) (key count : List ℕ) (flags others : List (List ℕ)) → IsPermutation flags others →
-    SameButOrder (line_of (before_flags name key count ++ flags)) (line_of (before_flags name key count ++ others))
+pub flags_reordered : (limit : ℕ) (name : MetaKind) (key count : List ℕ) (flags others : List (List ℕ)) → IsPermutation flags others →
+    SameButOrder (line_of limit (before_flags name key count ++ flags)) (line_of limit (before_flags name key count ++ others))
 unfolding line_of name_of meta_line_of
-flags_reordered Get key count flags others moved = same_whole _ _ (same_asked Get key flags others moved)
-flags_reordered Set key count flags others moved = same_block (number_of (2 ^ 32) count) _ _ (same_asked Set key flags others moved)
-flags_reordered Delete key count flags others moved = same_whole _ _ (same_asked Delete key flags others moved)
-flags_reordered Arithmetic key count flags others moved = same_whole _ _ (same_asked Arithmetic key flags others moved)
+flags_reordered limit Get key count flags others moved = same_whole _ _ (same_asked Get key flags others moved)
+flags_reordered limit Set key count flags others moved = same_block limit (number_of (2 ^ 32) count) _ _ (same_asked Set key flags others moved)
+flags_reordered limit Delete key count flags others moved = same_whole _ _ (same_asked Delete key flags others moved)
+flags_reordered limit Arithmetic key count flags others moved = same_whole _ _ (same_asked Arithmetic key flags others moved)

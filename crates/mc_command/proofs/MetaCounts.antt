@@ -9,7 +9,7 @@ use Rattle.mc_command.specs.declared.meta_flags.Flag.{Flag}
 use Rattle.mc_command.specs.declared.meta_flags.Flag.TheVariants as flag
 use Rattle.mc_command.specs.declared.meta_flags.FlagReader.{FlagReader}
 use Rattle.mc_command.specs.Meta.{is_among, return_flag}
-use Rattle.mc_command.specs.MetaReading.{IsCounted, seen_count, shown_count, with_flag, with_shown, unseen, nothing_asked}
+use Rattle.mc_command.specs.internal.FlagReading.{IsCounted, seen_count, shown_count, with_flag, with_shown, unseen, nothing_asked}
 
 pub true_or_false : (b : Bool) → (b ≡ true) ⊎ (b ≡ false)
 true_or_false true = inl refl
@@ -106,20 +106,7 @@ shown_among letter =
 
 with_flag-returned : (asked : Asked) (said : Flag) → (with_flag asked said).flags.returned ≡ asked.flags.returned
 with_flag-returned asked flag.Base64 = refl
-with_flag-returned asked flag.Quiet = refl
-with_flag-returned asked flag.Value = refl
-with_flag-returned asked flag.Invalidate = refl
-with_flag-returned asked (flag.Opaque token) = refl
-with_flag-returned asked (flag.Mode mode) = refl
-with_flag-returned asked (flag.Direction direction) = refl
-with_flag-returned asked (flag.Exptime exptime) = refl
-with_flag-returned asked (flag.Vivify exptime) = refl
-with_flag-returned asked (flag.Recache seconds) = refl
-with_flag-returned asked (flag.Compare unique) = refl
-with_flag-returned asked (flag.Amount amount) = refl
-with_flag-returned asked (flag.Initial number) = refl
-with_flag-returned asked (flag.ClientFlags flags) = refl
-with_flag-returned asked flag.Bare = refl
+with_flag-returned asked any = refl
 
 -- there is room for the flag of a letter that was not seen
 pub room : (reader : FlagReader) (letter : ℕ) (said : Flag) (shown : ReturnFlag) → IsCounted reader → get_or reader.seen letter false ≡ false → return_flag letter ≡ Some shown → length (with_flag reader.asked said).flags.returned < 8

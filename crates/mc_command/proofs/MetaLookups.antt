@@ -5,9 +5,10 @@ use Rattle.std.specs.List.{filter_map, cons_option}
 use Rattle.mc_wire.specs.Number.{number_of, integer_of}
 use Rattle.mc_command.specs.declared.meta.ReturnFlag.{ReturnFlag}
 use Rattle.mc_command.specs.declared.meta_flags.Asked.{Asked}
-use Rattle.mc_command.specs.declared.meta_line.MetaName.{MetaName}
+use Rattle.mc_command.specs.declared.meta.MetaKind.{MetaKind}
 use Rattle.mc_command.specs.Meta.{has_letter, has_flag, token_of, signed_token, unsigned_token, shown_flag, return_flag}
-use Rattle.mc_command.specs.MetaReading.{asked_of, mode_in, direction_in, with_shown}
+use Rattle.mc_command.specs.Meta.{asked_of, mode_in, direction_in}
+use Rattle.mc_command.specs.internal.FlagReading.{with_shown}
 use Rattle.mc_command.proofs.MetaCounts.{same_letter, same, other}
 
 or_last : (b : Bool) → (b || false) ≡ cond b true false
@@ -92,7 +93,7 @@ returned-append (word ∷ before) first token =
     rw (returned-append before first token) (cons_shown (shown_flag word) (return_flag first) (filter_map shown_flag before))
 
 -- what a flag more makes of what was asked
-abbrev pub asked_next : MetaName → Asked → ℕ → List ℕ → Option ReturnFlag → Asked
+abbrev pub asked_next : MetaKind → Asked → ℕ → List ℕ → Option ReturnFlag → Asked
 asked_next name asked first token shown = record {
   flags = record {
     base64 = cond (first == 98) true asked.flags.base64;
@@ -106,6 +107,7 @@ asked_next name asked first token shown = record {
   vivify = cond (first == 78) (integer_of token) asked.vivify;
   recache = cond (first == 82) (integer_of token) asked.recache;
   compare = cond (first == 67) (number_of (2 ^ 64) token) asked.compare;
+  unique = cond (first == 69) (number_of (2 ^ 64) token) asked.unique;
   amount = cond (first == 68) (number_of (2 ^ 64) token) asked.amount;
   initial = cond (first == 74) (number_of (2 ^ 64) token) asked.initial;
   client_flags = cond (first == 70) (number_of (2 ^ 32) token) asked.client_flags;
@@ -117,15 +119,15 @@ cond_or : (b : Bool) (token : List ℕ) (rest : Option (List ℕ)) → unwrap_or
 cond_or true token rest = refl
 cond_or false token rest = refl
 
-mode_in-cond : (name : MetaName) (b : Bool) (token : List ℕ) (rest : Option (List ℕ)) → mode_in name (cond b (Some token) rest) ≡ cond b (mode_in name (Some token)) (mode_in name rest)
+mode_in-cond : (name : MetaKind) (b : Bool) (token : List ℕ) (rest : Option (List ℕ)) → mode_in name (cond b (Some token) rest) ≡ cond b (mode_in name (Some token)) (mode_in name rest)
 mode_in-cond name true token rest = refl
 mode_in-cond name false token rest = refl
 
-direction_in-cond : (name : MetaName) (b : Bool) (token : List ℕ) (rest : Option (List ℕ)) → direction_in name (cond b (Some token) rest) ≡ cond b (direction_in name (Some token)) (direction_in name rest)
+direction_in-cond : (name : MetaKind) (b : Bool) (token : List ℕ) (rest : Option (List ℕ)) → direction_in name (cond b (Some token) rest) ≡ cond b (direction_in name (Some token)) (direction_in name rest)
 direction_in-cond name true token rest = refl
 direction_in-cond name false token rest = refl
 
-pub asked_of-append : (name : MetaName) (before : List (List ℕ)) (first : ℕ) (token : List ℕ) → has_flag first before ≡ false →
+pub asked_of-append : (name : MetaKind) (before : List (List ℕ)) (first : ℕ) (token : List ℕ) → has_flag first before ≡ false →
     asked_of name (before ++ (first ∷ token) ∷ []) ≡ asked_next name (asked_of name before) first token (return_flag first)
 asked_of-append name before first token fresh =
     let base64 = has_flag-append 98 before first token in
@@ -138,12 +140,13 @@ asked_of-append name before first token fresh =
     let vivify = signed_token-append 78 before first token fresh in
     let recache = signed_token-append 82 before first token fresh in
     let compare = unsigned_token-append (2 ^ 64) 67 before first token fresh in
+    let unique = unsigned_token-append (2 ^ 64) 69 before first token fresh in
     let amount = unsigned_token-append (2 ^ 64) 68 before first token fresh in
     let initial = unsigned_token-append (2 ^ 64) 74 before first token fresh in
     let client_flags = unsigned_token-append (2 ^ 32) 70 before first token fresh in
     let mode = ap (mode_in name) (token_of-append 77 before first token fresh) ∙ mode_in-cond name (first == 77) token (token_of 77 before) in
     let direction = ap (direction_in name) (token_of-append 77 before first token fresh) ∙ direction_in-cond name (first == 77) token (token_of 77 before) in
-    rw (base64, quiet, returned, opaque, value, invalidate, exptime, vivify, recache, compare, amount, initial, client_flags, mode, direction) refl
+    rw (base64, quiet, returned, opaque, value, invalidate, exptime, vivify, recache, compare, unique, amount, initial, client_flags, mode, direction) refl
 
 pub with_shown_is : (asked : Asked) (shown : Option ReturnFlag) → with_shown asked shown ≡ record asked { flags = record asked.flags { returned = more_shown asked.flags.returned shown } }
 with_shown_is asked None = refl

@@ -6,168 +6,141 @@ use Rattle.std.proofs.lemmas.Bool.{ltb-true}
 use Rattle.std.specs.List.{list_all}
 use Rattle.std.specs.Option.{ok_or, option_map}
 use Rattle.mc_wire.specs.Number.{number_of, integer_of}
+use Rattle.mc_wire.specs.declared.TheConstants.{OPAQUE_LIMIT}
 use Rattle.mc_command.specs.declared.meta_flags.Asked.{Asked}
 use Rattle.mc_command.specs.declared.meta_flags.Flag.{Flag}
 use Rattle.mc_command.specs.declared.meta_flags.Flag.TheVariants as flag
 use Rattle.mc_command.specs.declared.meta_flags.FlagReader.{FlagReader}
-use Rattle.mc_command.specs.declared.meta_line.MetaName.{MetaName}
-use Rattle.mc_command.specs.declared.meta_line.MetaName.TheVariants.{Get, Set, Delete, Arithmetic}
+use Rattle.mc_command.specs.declared.meta.MetaKind.{MetaKind}
+use Rattle.mc_command.specs.declared.meta.MetaKind.TheVariants.{Get, Set, Delete, Arithmetic}
 use Rattle.mc_command.specs.declared.refusal.Refusal.{Refusal}
 use Rattle.mc_command.specs.declared.refusal.Refusal.TheVariants.{BadFormat, InvalidFlag, DuplicateFlag, OpaqueTooLong}
 use Rattle.mc_command.specs.Field.{then_of}
 use Rattle.mc_command.specs.Meta.{letters_of, is_among, has_flag, is_token, mode_of, direction_of, return_flag, flags_refusal, flag_refusal, unless}
-use Rattle.mc_command.specs.MetaReading.{asked_of, nothing_asked, flag_of, with_flag, with_shown, with_word, unseen}
+use Rattle.mc_command.specs.Meta.{asked_of}
+use Rattle.mc_command.specs.internal.FlagReading.{nothing_asked, flag_of, with_flag, with_shown, with_word, unseen}
 use Rattle.mc_command.proofs.MetaCounts.{same_letter, same, other, true_or_false, eq_comm}
 use Rattle.mc_command.proofs.MetaLookups.{asked_next, asked_of-append, has_flag-append, with_shown_is}
 
 -- what is read from here on
-abbrev pub read_from : MetaName → FlagReader → List (List ℕ) → Result Asked Refusal
+abbrev pub read_from : MetaKind → FlagReader → List (List ℕ) → Result Asked Refusal
 read_from name reader [] = Ok reader.asked
 read_from name reader (word ∷ words) = then_of (with_word name reader word) (λ more. read_from name more words)
 
 -- what refuses a flag for its token
-token_refusal : MetaName → ℕ → List ℕ → Option Refusal
+token_refusal : MetaKind → ℕ → List ℕ → Option Refusal
 token_refusal name letter token =
-    cond (letter == 79 && nat_lt 32 (length token)) (Some OpaqueTooLong) (cond (is_token name letter token) None (Some BadFormat))
+    cond (letter == 79 && nat_lt OPAQUE_LIMIT (length token)) (Some OpaqueTooLong) (cond (is_token name letter token) None (Some BadFormat))
 
 -- what a flag that stands for the first time says
-data Tells (name : MetaName) (letter : ℕ) (token : List ℕ) (before : List (List ℕ)) : Type 0 where
+data Tells (name : MetaKind) (letter : ℕ) (token : List ℕ) (before : List (List ℕ)) : Type 0 where
   refused : (refusal : Refusal) → token_refusal name letter token ≡ Some refusal → flag_of name letter token ≡ Err refusal → Tells name letter token before
   said : (flag : Flag) → token_refusal name letter token ≡ None → flag_of name letter token ≡ Ok flag →
       with_shown (with_flag (asked_of name before) flag) (return_flag letter) ≡ asked_of name (before ++ (letter ∷ token) ∷ []) → Tells name letter token before
 
 -- A flag says what the look-ups give.
-IsSaid : MetaName → ℕ → Type 0
+IsSaid : MetaKind → ℕ → Type 0
 IsSaid name letter = (token : List ℕ) (before : List (List ℕ)) → has_flag letter before ≡ false → Tells name letter token before
 
-said_base64 : (name : MetaName) → IsSaid name 98
+said_base64 : (name : MetaKind) → IsSaid name 98
 unfolding IsSaid token_refusal
 said_base64 name token before fresh = said flag.Base64 refl refl (sym (asked_of-append name before 98 token fresh))
 
-said_quiet : (name : MetaName) → IsSaid name 113
+said_quiet : (name : MetaKind) → IsSaid name 113
 unfolding IsSaid token_refusal
 said_quiet name token before fresh = said flag.Quiet refl refl (sym (asked_of-append name before 113 token fresh))
 
-said_value : (name : MetaName) → IsSaid name 118
+said_value : (name : MetaKind) → IsSaid name 118
 unfolding IsSaid token_refusal
 said_value name token before fresh = said flag.Value refl refl (sym (asked_of-append name before 118 token fresh))
 
-said_invalidate : (name : MetaName) → IsSaid name 73
+said_invalidate : (name : MetaKind) → IsSaid name 73
 unfolding IsSaid token_refusal
 said_invalidate name token before fresh = said flag.Invalidate refl refl (sym (asked_of-append name before 73 token fresh))
 
-said_opaque : (name : MetaName) → IsSaid name 79
+said_opaque : (name : MetaKind) → IsSaid name 79
 unfolding IsSaid token_refusal
-said_opaque name token before fresh = elim (true_or_false (nat_lt 32 (length token))) [
+said_opaque name token before fresh = elim (true_or_false (nat_lt OPAQUE_LIMIT (length token))) [
   | inl t ↦ refused OpaqueTooLong (rw t) (rw t)
   | inr t ↦ said (flag.Opaque token) (rw t) (rw t) (sym (asked_of-append name before 79 token fresh))
 ]
 
 -- a flag whose token is read, or refused
-said_read : {A : Type 0} (name : MetaName) (letter : ℕ) (token : List ℕ) (before : List (List ℕ)) (read : Option A) (make : A → Flag) → has_flag letter before ≡ false →
+said_read : {A : Type 0} (name : MetaKind) (letter : ℕ) (token : List ℕ) (before : List (List ℕ)) (read : Option A) (make : A → Flag) → has_flag letter before ≡ false →
     token_refusal name letter token ≡ cond (is_some read) None (Some BadFormat) → flag_of name letter token ≡ ok_or (option_map make read) BadFormat →
     ((value : A) → read ≡ Some value → with_shown (with_flag (asked_of name before) (make value)) (return_flag letter) ≡ asked_next name (asked_of name before) letter token (return_flag letter)) → Tells name letter token before
 said_read name letter token before None make fresh refusal flag agrees = refused BadFormat refusal flag
 said_read name letter token before (Some value) make fresh refusal flag agrees = said (make value) refusal flag (agrees value refl ∙ sym (asked_of-append name before letter token fresh))
 
-said_exptime : (name : MetaName) → IsSaid name 84
+said_exptime : (name : MetaKind) → IsSaid name 84
 unfolding IsSaid token_refusal
 said_exptime name token before fresh = said_read name 84 token before (integer_of token) flag.Exptime fresh refl refl (λ value is. rw is refl)
 
-said_vivify : (name : MetaName) → IsSaid name 78
+said_vivify : (name : MetaKind) → IsSaid name 78
 unfolding IsSaid token_refusal
 said_vivify name token before fresh = said_read name 78 token before (integer_of token) flag.Vivify fresh refl refl (λ value is. rw is refl)
 
-said_recache : (name : MetaName) → IsSaid name 82
+said_recache : (name : MetaKind) → IsSaid name 82
 unfolding IsSaid token_refusal
 said_recache name token before fresh = said_read name 82 token before (integer_of token) flag.Recache fresh refl refl (λ value is. rw is refl)
 
-said_compare : (name : MetaName) → IsSaid name 67
+said_compare : (name : MetaKind) → IsSaid name 67
 unfolding IsSaid token_refusal
 said_compare name token before fresh = said_read name 67 token before (number_of (2 ^ 64) token) flag.Compare fresh refl refl (λ value is. rw is refl)
 
-said_amount : (name : MetaName) → IsSaid name 68
+said_unique : (name : MetaKind) → IsSaid name 69
+unfolding IsSaid token_refusal
+said_unique name token before fresh = said_read name 69 token before (number_of (2 ^ 64) token) flag.Unique fresh refl refl (λ value is. rw is refl)
+
+said_amount : (name : MetaKind) → IsSaid name 68
 unfolding IsSaid token_refusal
 said_amount name token before fresh = said_read name 68 token before (number_of (2 ^ 64) token) flag.Amount fresh refl refl (λ value is. rw is refl)
 
-said_initial : (name : MetaName) → IsSaid name 74
+said_initial : (name : MetaKind) → IsSaid name 74
 unfolding IsSaid token_refusal
 said_initial name token before fresh = said_read name 74 token before (number_of (2 ^ 64) token) flag.Initial fresh refl refl (λ value is. rw is refl)
 
-said_client_flags : (name : MetaName) → IsSaid name 70
+said_client_flags : (name : MetaKind) → IsSaid name 70
 unfolding IsSaid token_refusal
 said_client_flags name token before fresh = said_read name 70 token before (number_of (2 ^ 32) token) flag.ClientFlags fresh refl refl (λ value is. rw is refl)
 
-said_mode : (name : MetaName) → IsSaid name 77
+said_mode : (name : MetaKind) → IsSaid name 77
 unfolding IsSaid token_refusal
 said_mode Get token before fresh = refused BadFormat refl refl
 said_mode Delete token before fresh = refused BadFormat refl refl
 said_mode Set token before fresh = said_read Set 77 token before (mode_of token) flag.Mode fresh refl refl (λ value is. rw is refl)
 said_mode Arithmetic token before fresh = said_read Arithmetic 77 token before (direction_of token) flag.Direction fresh refl refl (λ value is. rw is refl)
 
-said_bare : (name : MetaName) (letter : ℕ) → (letter == 98) ≡ false → (letter == 113) ≡ false → (letter == 118) ≡ false → (letter == 73) ≡ false → (letter == 79) ≡ false → (letter == 77) ≡ false → (letter == 84) ≡ false → (letter == 78) ≡ false → (letter == 82) ≡ false → (letter == 67) ≡ false → (letter == 68) ≡ false → (letter == 74) ≡ false → (letter == 70) ≡ false → IsSaid name letter
+said_bare : (name : MetaKind) (letter : ℕ) → (letter == 98) ≡ false → (letter == 113) ≡ false → (letter == 118) ≡ false → (letter == 73) ≡ false → (letter == 79) ≡ false → (letter == 77) ≡ false → (letter == 84) ≡ false → (letter == 78) ≡ false → (letter == 82) ≡ false → (letter == 67) ≡ false → (letter == 69) ≡ false → (letter == 68) ≡ false → (letter == 74) ≡ false → (letter == 70) ≡ false → IsSaid name letter
 unfolding IsSaid token_refusal
-said_bare name letter t98 t113 t118 t73 t79 t77 t84 t78 t82 t67 t68 t74 t70 token before fresh =
+said_bare name letter t98 t113 t118 t73 t79 t77 t84 t78 t82 t67 t69 t68 t74 t70 token before fresh =
     said flag.Bare
-    (rw (eq_comm 84 letter, eq_comm 78 letter, eq_comm 82 letter, eq_comm 67 letter, eq_comm 68 letter, eq_comm 74 letter, t79, t84, t78, t82, t67, t68, t74, t70, t77) refl)
-    (rw (t98, t113, t118, t73, t79, t77, t84, t78, t82, t67, t68, t74, t70) refl)
-    (with_shown_is (asked_of name before) (return_flag letter) ∙ sym (asked_of-append name before letter token fresh ∙ rw (t98, t113, t118, t73, t79, t77, t84, t78, t82, t67, t68, t74, t70) refl))
+    (rw (eq_comm 84 letter, eq_comm 78 letter, eq_comm 82 letter, eq_comm 67 letter, eq_comm 69 letter, eq_comm 68 letter, eq_comm 74 letter, t79, t84, t78, t82, t67, t69, t68, t74, t70, t77) refl)
+    (rw (t98, t113, t118, t73, t79, t77, t84, t78, t82, t67, t69, t68, t74, t70) refl)
+    (with_shown_is (asked_of name before) (return_flag letter) ∙ sym (asked_of-append name before letter token fresh ∙ rw (t98, t113, t118, t73, t79, t77, t84, t78, t82, t67, t69, t68, t74, t70) refl))
 
-every_letter : (name : MetaName) (letter : ℕ) → IsSaid name letter
+-- what holds of one letter, and of all others, holds of every letter
+by_letter : (P : ℕ → Type 0) (one letter : ℕ) → P one → ((letter == one) ≡ false → P letter) → P letter
+by_letter P one letter here others = elim (same_letter letter one) [ same t e ↦ subst P (sym e) here | other t ne ↦ others t ]
+
+every_letter : (name : MetaKind) (letter : ℕ) → IsSaid name letter
 every_letter name letter =
-    elim (same_letter letter 98) [
-      | same t98 e ↦ subst (IsSaid name) (sym e) (said_base64 name)
-      | other t98 ne98 ↦
-          elim (same_letter letter 113) [
-            | same t113 e ↦ subst (IsSaid name) (sym e) (said_quiet name)
-            | other t113 ne113 ↦
-                elim (same_letter letter 118) [
-                  | same t118 e ↦ subst (IsSaid name) (sym e) (said_value name)
-                  | other t118 ne118 ↦
-                      elim (same_letter letter 73) [
-                        | same t73 e ↦ subst (IsSaid name) (sym e) (said_invalidate name)
-                        | other t73 ne73 ↦
-                            elim (same_letter letter 79) [
-                              | same t79 e ↦ subst (IsSaid name) (sym e) (said_opaque name)
-                              | other t79 ne79 ↦
-                                  elim (same_letter letter 77) [
-                                    | same t77 e ↦ subst (IsSaid name) (sym e) (said_mode name)
-                                    | other t77 ne77 ↦
-                                        elim (same_letter letter 84) [
-                                          | same t84 e ↦ subst (IsSaid name) (sym e) (said_exptime name)
-                                          | other t84 ne84 ↦
-                                              elim (same_letter letter 78) [
-                                                | same t78 e ↦ subst (IsSaid name) (sym e) (said_vivify name)
-                                                | other t78 ne78 ↦
-                                                    elim (same_letter letter 82) [
-                                                      | same t82 e ↦ subst (IsSaid name) (sym e) (said_recache name)
-                                                      | other t82 ne82 ↦
-                                                          elim (same_letter letter 67) [
-                                                            | same t67 e ↦ subst (IsSaid name) (sym e) (said_compare name)
-                                                            | other t67 ne67 ↦
-                                                                elim (same_letter letter 68) [
-                                                                  | same t68 e ↦ subst (IsSaid name) (sym e) (said_amount name)
-                                                                  | other t68 ne68 ↦
-                                                                      elim (same_letter letter 74) [
-                                                                        | same t74 e ↦ subst (IsSaid name) (sym e) (said_initial name)
-                                                                        | other t74 ne74 ↦
-                                                                            elim (same_letter letter 70) [
-                                                                              | same t70 e ↦ subst (IsSaid name) (sym e) (said_client_flags name)
-                                                                              | other t70 ne70 ↦
-                                                                                  said_bare name letter t98 t113 t118 t73 t79 t77 t84 t78 t82 t67 t68 t74 t70
-                                                                            ]
-                                                                      ]
-                                                                ]
-                                                          ]
-                                                    ]
-                                              ]
-                                        ]
-                                  ]
-                            ]
-                      ]
-                ]
-          ]
-    ]
+    let P = IsSaid name in
+    by_letter P 98 letter (said_base64 name) (λ t98.
+    by_letter P 113 letter (said_quiet name) (λ t113.
+    by_letter P 118 letter (said_value name) (λ t118.
+    by_letter P 73 letter (said_invalidate name) (λ t73.
+    by_letter P 79 letter (said_opaque name) (λ t79.
+    by_letter P 77 letter (said_mode name) (λ t77.
+    by_letter P 84 letter (said_exptime name) (λ t84.
+    by_letter P 78 letter (said_vivify name) (λ t78.
+    by_letter P 82 letter (said_recache name) (λ t82.
+    by_letter P 67 letter (said_compare name) (λ t67.
+    by_letter P 69 letter (said_unique name) (λ t69.
+    by_letter P 68 letter (said_amount name) (λ t68.
+    by_letter P 74 letter (said_initial name) (λ t74.
+    by_letter P 70 letter (said_client_flags name) (λ t70.
+    said_bare name letter t98 t113 t118 t73 t79 t77 t84 t78 t82 t67 t69 t68 t74 t70))))))))))))))
 
 small_among : (letter : ℕ) (letters : List ℕ) → list_all (λ other. nat_lt other 256) letters ≡ true → is_among letters letter ≡ true → letter < 256
 small_among letter [] small among = absurd cc
@@ -180,24 +153,24 @@ small_among letter (first ∷ letters) small among =
       ]
     ]
 
-small_letter : (name : MetaName) (letter : ℕ) → is_among (letters_of name) letter ≡ true → letter < 256
+small_letter : (name : MetaKind) (letter : ℕ) → is_among (letters_of name) letter ≡ true → letter < 256
 small_letter Get letter among = small_among letter (letters_of Get) refl among
 small_letter Set letter among = small_among letter (letters_of Set) refl among
 small_letter Delete letter among = small_among letter (letters_of Delete) refl among
 small_letter Arithmetic letter among = small_among letter (letters_of Arithmetic) refl among
 
 -- The reader has read these flags.
-record HasRead (name : MetaName) (reader : FlagReader) (before : List (List ℕ)) : Type 0 where
+record HasRead (name : MetaKind) (reader : FlagReader) (before : List (List ℕ)) : Type 0 where
   wide : length reader.seen ≡ 256
   seen : (letter : ℕ) → letter < 256 → get_or reader.seen letter false ≡ has_flag letter before
   asked : reader.asked ≡ asked_of name before
 
 -- what one flag more gives
-data Step (name : MetaName) (reader : FlagReader) (before : List (List ℕ)) (word : List ℕ) : Type 0 where
+data Step (name : MetaKind) (reader : FlagReader) (before : List (List ℕ)) (word : List ℕ) : Type 0 where
   stops : (refusal : Refusal) → flag_refusal name before word ≡ Some refusal → with_word name reader word ≡ Err refusal → Step name reader before word
   goes : (more : FlagReader) → flag_refusal name before word ≡ None → with_word name reader word ≡ Ok more → HasRead name more (before ++ word ∷ []) → Step name reader before word
 
-has_read_more : (name : MetaName) (reader : FlagReader) (before : List (List ℕ)) (letter : ℕ) (token : List ℕ) (flag : Flag) → HasRead name reader before → letter < 256 →
+has_read_more : (name : MetaKind) (reader : FlagReader) (before : List (List ℕ)) (letter : ℕ) (token : List ℕ) (flag : Flag) → HasRead name reader before → letter < 256 →
     with_shown (with_flag (asked_of name before) flag) (return_flag letter) ≡ asked_of name (before ++ (letter ∷ token) ∷ []) →
     HasRead name (record { seen = set reader.seen letter true; asked = with_shown (with_flag reader.asked flag) (return_flag letter) }) (before ++ (letter ∷ token) ∷ [])
 has_read_more name reader before letter token flag read small agrees =
@@ -214,7 +187,7 @@ has_read_more name reader before letter token flag read small agrees =
       asked = rw read.asked agrees;
     }
 
-step : (name : MetaName) (reader : FlagReader) (before : List (List ℕ)) (word : List ℕ) → HasRead name reader before → Step name reader before word
+step : (name : MetaKind) (reader : FlagReader) (before : List (List ℕ)) (word : List ℕ) → HasRead name reader before → Step name reader before word
 unfolding IsSaid token_refusal
 step name reader before [] read = stops InvalidFlag refl refl
 step name reader before (letter ∷ token) read =
@@ -236,7 +209,7 @@ step name reader before (letter ∷ token) read =
       ]
     ]
 
-read_on : (name : MetaName) (reader : FlagReader) (before words : List (List ℕ)) → HasRead name reader before →
+read_on : (name : MetaKind) (reader : FlagReader) (before words : List (List ℕ)) → HasRead name reader before →
     read_from name reader words ≡ unless (flags_refusal name before words) (Ok (asked_of name (before ++ words)))
 read_on name reader before [] read = ap Ok (read.asked ∙ ap (asked_of name) (sym (append-nil before)))
 read_on name reader before (word ∷ words) read =
@@ -248,13 +221,13 @@ read_on name reader before (word ∷ words) read =
           ap (λ ws. unless (flags_refusal name (before ++ word ∷ []) words) (Ok (asked_of name ws))) (append_assoc before (word ∷ []) words))
     ]
 
-nothing_is : (name : MetaName) → nothing_asked ≡ asked_of name []
+nothing_is : (name : MetaKind) → nothing_asked ≡ asked_of name []
 nothing_is Get = refl
 nothing_is Set = refl
 nothing_is Delete = refl
 nothing_is Arithmetic = refl
 
-pub read_from_is : (name : MetaName) (reader : FlagReader) (words : List (List ℕ)) → reader.seen ≡ unseen → reader.asked ≡ nothing_asked → read_from name reader words ≡ unless (flags_refusal name [] words) (Ok (asked_of name words))
+pub read_from_is : (name : MetaKind) (reader : FlagReader) (words : List (List ℕ)) → reader.seen ≡ unseen → reader.asked ≡ nothing_asked → read_from name reader words ≡ unless (flags_refusal name [] words) (Ok (asked_of name words))
 read_from_is name reader words seen asked = read_on name reader [] words (record {
   wide = rw seen (length-replicate 256 false);
   seen = λ letter below. rw seen (get_or-replicate 256 letter false false below);
@@ -262,14 +235,14 @@ read_from_is name reader words seen asked = read_on name reader [] words (record
 })
 
 -- no word is left
-pub read_whole : (name : MetaName) (reader first : FlagReader) (left words : List (List ℕ)) → first.seen ≡ unseen → first.asked ≡ nothing_asked →
+pub read_whole : (name : MetaKind) (reader first : FlagReader) (left words : List (List ℕ)) → first.seen ≡ unseen → first.asked ≡ nothing_asked →
     read_from name reader left ≡ read_from name first words → left ≡ [] → Ok reader.asked ≡ unless (flags_refusal name [] words) (Ok (asked_of name words))
 read_whole name reader first left words seen asked same_rest ended =
     let e : read_from name reader [] ≡ read_from name first words = rw ended at same_rest in
     e ∙ read_from_is name first words seen asked
 
 -- the next word is refused
-pub read_refused : (name : MetaName) (reader first : FlagReader) (left words : List (List ℕ)) (word : List ℕ) (later : List (List ℕ)) (refusal : Refusal) → first.seen ≡ unseen → first.asked ≡ nothing_asked →
+pub read_refused : (name : MetaKind) (reader first : FlagReader) (left words : List (List ℕ)) (word : List ℕ) (later : List (List ℕ)) (refusal : Refusal) → first.seen ≡ unseen → first.asked ≡ nothing_asked →
     read_from name reader left ≡ read_from name first words → left ≡ word ∷ later → with_word name reader word ≡ Err refusal → Err refusal ≡ unless (flags_refusal name [] words) (Ok (asked_of name words))
 read_refused name reader first left words word later refusal seen asked same_rest next stops_there =
     let e : read_from name reader (word ∷ later) ≡ read_from name first words = rw next at same_rest in

@@ -3,6 +3,7 @@ use Rattle.std.proofs.Common.{◌≡◌, ℕ, Bool, true, false, List, [], ◌�
 use Rattle.std.specs.Prelude.{map}
 use Rattle.mc_wire.specs.Words.{words_of}
 use Rattle.mc_wire.specs.Number.{number_of}
+use Rattle.mc_wire.specs.declared.TheConstants.{DEFAULT_VALUE_LIMIT}
 use Rattle.mc_command.specs.declared.command.Command.{Command}
 use Rattle.mc_command.specs.declared.command.Command.TheVariants as command
 use Rattle.mc_command.specs.declared.command.StoreMode.{StoreMode}
@@ -23,7 +24,7 @@ Rows = List (List ℕ × Line)
 
 -- each line of the rows is what stands beside it
 abbrev AreSo : Rows → Type 0
-AreSo rows = map (λ row. line_of (words_of row.0)) rows ≡ map (λ row. row.1) rows
+AreSo rows = map (λ row. line_of DEFAULT_VALUE_LIMIT (words_of row.0)) rows ≡ map (λ row. row.1) rows
 
 abbrev stored : List ℕ → StoreMode → ℕ → ℤ → Bool → Command
 stored key mode flags exptime noreply = command.Store (record { key = key; mode = mode; flags = flags; exptime = exptime; noreply = noreply; block = [] })

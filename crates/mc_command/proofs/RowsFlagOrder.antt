@@ -2,12 +2,13 @@
 use Rattle.std.proofs.Common.{◌≡◌, ◌++◌, ℕ, true, false, List, [], ◌∷◌, map, None, codes, refl}
 use Rattle.mc_wire.specs.Number.{number_of}
 use Rattle.mc_wire.specs.Words.{words_of}
+use Rattle.mc_wire.specs.declared.TheConstants.{DEFAULT_VALUE_LIMIT}
 use Rattle.mc_command.specs.declared.command.Command.TheVariants.{MetaGet}
 use Rattle.mc_command.specs.declared.line.Line.{Line}
 use Rattle.mc_command.specs.declared.line.Line.TheVariants.{Whole, Refused, Skip}
 use Rattle.mc_command.specs.declared.meta.ReturnFlag.{ReturnFlag}
 use Rattle.mc_command.specs.declared.meta.ReturnFlag.TheVariants.{Key, Opaque, TimeLeft}
-use Rattle.mc_command.specs.declared.meta_line.MetaName.TheVariants.{Get, Set}
+use Rattle.mc_command.specs.declared.meta.MetaKind.TheVariants.{Get, Set}
 use Rattle.mc_command.specs.declared.refusal.Refusal.TheVariants.{InvalidFlag, DuplicateFlag}
 use Rattle.mc_command.specs.Field.{is_key}
 use Rattle.mc_command.specs.FlagOrder.{before_flags}
@@ -16,7 +17,7 @@ use Rattle.mc_command.specs.Name.{name_of}
 use Rattle.mc_command.specs.Table.{line_of}
 
 abbrev line : List ℕ → Line
-line text = line_of (words_of text)
+line text = line_of DEFAULT_VALUE_LIMIT (words_of text)
 
 -- what stands before the flags
 heads : map words_of (codes "mg a k t" ∷ codes "ms a 2 k t" ∷ [])

@@ -1,34 +1,38 @@
 -- Worked rows of the table of meta lines (protocol.txt, "Meta Commands"), by computation.
-use Rattle.std.proofs.Common.{◌≡◌, ◌++◌, ℕ, true, false, List, [], ◌∷◌, map, replicate, Some, None, pos, negsuc, codes, refl}
+use Rattle.std.proofs.Common.{◌≡◌, ◌++◌, ◌+◌, ◌-◌, ℕ, true, false, List, [], ◌∷◌, map, replicate, Some, None, pos, negsuc, codes, refl, Ok}
 use Rattle.base64.proofs.OnLiterals.{base64_on_literals}
 use Rattle.mc_wire.specs.Base64Key.{base64_bytes}
 use Rattle.mc_wire.specs.Number.{number_of}
 use Rattle.mc_wire.specs.Words.{words_of}
-use Rattle.mc_command.specs.declared.command.Command.TheVariants.{MetaGet, MetaSet, MetaDelete, MetaArithmetic}
+use Rattle.mc_wire.specs.declared.TheConstants.{DEFAULT_VALUE_LIMIT, GREATEST_VALUE_LIMIT, LEAST_VALUE_LIMIT}
+use Rattle.mc_command.specs.declared.command.Command.TheVariants.{MetaNoop, MetaGet, MetaSet, MetaDelete, MetaArithmetic}
 use Rattle.mc_command.specs.declared.command.Direction.TheVariants.{Increment, Decrement}
 use Rattle.mc_command.specs.declared.line.Line.{Line}
 use Rattle.mc_command.specs.declared.line.Line.TheVariants.{Whole, Data, Refused, Skip}
 use Rattle.mc_command.specs.declared.meta.MetaFlags.{MetaFlags}
 use Rattle.mc_command.specs.declared.meta.MetaMode.TheVariants as mode
 use Rattle.mc_command.specs.declared.meta.ReturnFlag.TheVariants.{Unique, ClientFlags, Fetched, Key, LastAccess, Opaque, Size, TimeLeft}
-use Rattle.mc_command.specs.declared.meta_line.MetaName.TheVariants.{Get, Set, Delete, Arithmetic}
+use Rattle.mc_command.specs.declared.meta.MetaKind.TheVariants.{Get, Set, Delete, Arithmetic}
 use Rattle.mc_command.specs.declared.refusal.Refusal.TheVariants.{BadFormat, BadKey, InvalidFlag, DuplicateFlag, OpaqueTooLong, TooLarge}
+use Rattle.mc_command.specs.Blocks.{block_line}
 use Rattle.mc_command.specs.Field.{is_key}
 use Rattle.mc_command.specs.Meta.{decoded_key, mode_of, direction_of, meta_line_of}
+use Rattle.mc_command.specs.Name.{name_of}
+use Rattle.mc_command.specs.Table.{line_of}
 
 -- lines of the four commands, by the text behind the name
 
 abbrev mg : List ℕ → Line
-mg text = meta_line_of Get (words_of text)
+mg text = meta_line_of DEFAULT_VALUE_LIMIT Get (words_of text)
 
 abbrev ms : List ℕ → Line
-ms text = meta_line_of Set (words_of text)
+ms text = meta_line_of DEFAULT_VALUE_LIMIT Set (words_of text)
 
 abbrev md : List ℕ → Line
-md text = meta_line_of Delete (words_of text)
+md text = meta_line_of DEFAULT_VALUE_LIMIT Delete (words_of text)
 
 abbrev ma : List ℕ → Line
-ma text = meta_line_of Arithmetic (words_of text)
+ma text = meta_line_of DEFAULT_VALUE_LIMIT Arithmetic (words_of text)
 
 abbrev no_flags : MetaFlags
 no_flags = record { base64 = false; quiet = false; returned = []; opaque = [] }
@@ -48,8 +52,8 @@ foreign_letters :
 unfolding meta_line_of words_of
 foreign_letters = refl
 
-foreign_letters_of_ms : map ms (codes "a 0 v" ∷ codes "a 0 t" ∷ codes "a 0 I" ∷ codes "a 0 N1" ∷ codes "a 0 R1" ∷ codes "a 0 D1" ∷ codes "a 0 J1" ∷ codes "a 0 E1" ∷ [])
-    ≡ replicate 8 (Skip InvalidFlag 2)
+foreign_letters_of_ms : map ms (codes "a 0 v" ∷ codes "a 0 t" ∷ codes "a 0 I" ∷ codes "a 0 N1" ∷ codes "a 0 R1" ∷ codes "a 0 D1" ∷ codes "a 0 J1" ∷ [])
+    ≡ replicate 7 (Skip InvalidFlag 2)
 unfolding meta_line_of words_of number_of
 foreign_letters_of_ms = refl
 
@@ -72,14 +76,14 @@ faults_in_order = refl
 -- flags that need a token and have none, or one out of range
 bad_tokens :
     map mg (codes "a T" ∷ codes "a N" ∷ codes "a R" ∷ codes "a Tx" ∷ codes "a T9223372036854775808" ∷ codes "a N-9223372036854775809" ∷ codes "a R1.5" ∷ [])
-    ++ map md (codes "a C" ∷ codes "a C-1" ∷ codes "a C18446744073709551616" ∷ codes "a Tx" ∷ [])
-    ++ map ma (codes "a D" ∷ codes "a J" ∷ codes "a D-1" ∷ codes "a M" ∷ codes "a MX" ∷ codes "a MII" ∷ codes "a MS" ∷ [])
-    ≡ replicate 18 (Refused BadFormat)
+    ++ map md (codes "a C" ∷ codes "a C-1" ∷ codes "a C18446744073709551616" ∷ codes "a Tx" ∷ codes "a E" ∷ codes "a E18446744073709551616" ∷ codes "a I E+1" ∷ [])
+    ++ map ma (codes "a D" ∷ codes "a J" ∷ codes "a D-1" ∷ codes "a M" ∷ codes "a MX" ∷ codes "a MII" ∷ codes "a MS" ∷ codes "a E" ∷ codes "a E-1" ∷ [])
+    ≡ replicate 23 (Refused BadFormat)
 unfolding meta_line_of words_of number_of
 bad_tokens = refl
 
-bad_tokens_of_ms : map ms (codes "a 1 F" ∷ codes "a 1 F4294967296" ∷ codes "a 1 F-1" ∷ codes "a 1 C" ∷ codes "a 1 T" ∷ codes "a 1 M" ∷ codes "a 1 MX" ∷ codes "a 1 MI" ∷ codes "a 1 MSS" ∷ [])
-    ≡ replicate 9 (Skip BadFormat 3)
+bad_tokens_of_ms : map ms (codes "a 1 F" ∷ codes "a 1 F4294967296" ∷ codes "a 1 F-1" ∷ codes "a 1 C" ∷ codes "a 1 T" ∷ codes "a 1 M" ∷ codes "a 1 MX" ∷ codes "a 1 MI" ∷ codes "a 1 MSS" ∷ codes "a 1 E" ∷ codes "a 1 Ex" ∷ codes "a 1 E000000000000000000001" ∷ [])
+    ≡ replicate 12 (Skip BadFormat 3)
 unfolding meta_line_of words_of number_of
 bad_tokens_of_ms = refl
 
@@ -89,7 +93,25 @@ counts : map ms (codes "a 4294967296" ∷ codes "a -1" ∷ codes "a 000000000000
 unfolding meta_line_of words_of number_of is_key
 counts = refl
 
-largest_value : ms (codes "a 1048576") ≡ Data (MetaSet (record { key = codes "a"; flags = no_flags; mode = mode.Set; compare = None; client_flags = 0; exptime = pos 0; block = [] })) 1048576
+-- the limit is the most that a value may have, whatever limit is chosen
+limits : map (λ limit. map (λ count. block_line limit (Some count) (Ok MetaNoop)) ((limit - 1) ∷ limit ∷ (limit + 1) ∷ [])) (LEAST_VALUE_LIMIT ∷ DEFAULT_VALUE_LIMIT ∷ GREATEST_VALUE_LIMIT ∷ [])
+    ≡ (Data MetaNoop 1023 ∷ Data MetaNoop 1024 ∷ Skip TooLarge 1027 ∷ [])
+    ∷ (Data MetaNoop 1048575 ∷ Data MetaNoop 1048576 ∷ Skip TooLarge 1048579 ∷ [])
+    ∷ (Data MetaNoop 8388607 ∷ Data MetaNoop 8388608 ∷ Skip TooLarge 8388611 ∷ [])
+    ∷ []
+limits = refl
+
+least_limit : map (λ text. line_of LEAST_VALUE_LIMIT (words_of text)) (codes "ms a 1025" ∷ codes "set a 0 0 1025" ∷ codes "cas a 0 0 1025 1" ∷ [])
+    ≡ replicate 3 (Skip TooLarge 1027)
+unfolding line_of name_of meta_line_of words_of number_of is_key
+least_limit = refl
+
+greatest_limit : map (λ text. line_of GREATEST_VALUE_LIMIT (words_of text)) (codes "ms a 8388609" ∷ codes "set a 0 0 8388609" ∷ codes "cas a 0 0 8388609 1" ∷ [])
+    ≡ replicate 3 (Skip TooLarge 8388611)
+unfolding line_of name_of meta_line_of words_of number_of is_key
+greatest_limit = refl
+
+largest_value : ms (codes "a 1048576") ≡ Data (MetaSet (record { key = codes "a"; flags = no_flags; mode = mode.Set; compare = None; unique = None; client_flags = 0; exptime = pos 0; block = [] })) 1048576
 unfolding meta_line_of words_of number_of is_key
 largest_value = refl
 
@@ -151,16 +173,17 @@ unfolding meta_line_of words_of number_of decoded_key base64_bytes base64_on_lit
 base64_refused = refl
 
 -- without `b` the word itself is the key
-plain_key : md (codes "YQ==") ≡ Whole (MetaDelete (record { key = codes "YQ=="; flags = no_flags; compare = None; invalidate = false; exptime = None }))
+plain_key : md (codes "YQ==") ≡ Whole (MetaDelete (record { key = codes "YQ=="; flags = no_flags; compare = None; unique = None; invalidate = false; exptime = None }))
 unfolding meta_line_of words_of is_key
 plain_key = refl
 
-whole_set : ms (codes "a 5 T30 s F7 C9 c q Oxy MS")
+whole_set : ms (codes "a 5 T30 s F7 C9 E77 c q Oxy MS")
     ≡ Data (MetaSet (record {
       key = codes "a";
       flags = record { base64 = false; quiet = true; returned = Size ∷ Unique ∷ Opaque ∷ []; opaque = codes "xy" };
       mode = mode.Set;
       compare = Some 9;
+      unique = Some 77;
       client_flags = 7;
       exptime = pos 30;
       block = [];
@@ -168,24 +191,25 @@ whole_set : ms (codes "a 5 T30 s F7 C9 c q Oxy MS")
 unfolding meta_line_of words_of number_of is_key
 whole_set = refl
 
-whole_delete : md (codes "a T30 I C5 q k")
-    ≡ Whole (MetaDelete (record { key = codes "a"; flags = record { base64 = false; quiet = true; returned = Key ∷ []; opaque = [] }; compare = Some 5; invalidate = true; exptime = Some (pos 30) }))
+whole_delete : md (codes "a T30 E0 I C5 q k")
+    ≡ Whole (MetaDelete (record { key = codes "a"; flags = record { base64 = false; quiet = true; returned = Key ∷ []; opaque = [] }; compare = Some 5; unique = Some 0; invalidate = true; exptime = Some (pos 30) }))
 unfolding meta_line_of words_of number_of is_key
 whole_delete = refl
 
-whole_arithmetic : map ma (codes "a N60 J007 D3 Md T-1 v t c C18446744073709551615" ∷ codes "a" ∷ [])
+whole_arithmetic : map ma (codes "a N60 J007 D3 Md T-1 v t c C18446744073709551615 E18446744073709551615" ∷ codes "a" ∷ [])
     ≡ Whole (MetaArithmetic (record {
       key = codes "a";
       flags = record { base64 = false; quiet = false; returned = TimeLeft ∷ Unique ∷ []; opaque = [] };
       value = true;
       compare = Some 18446744073709551615;
+      unique = Some 18446744073709551615;
       direction = Decrement;
       amount = 3;
       initial = 7;
       vivify = Some (pos 60);
       exptime = Some (negsuc 0);
     }))
-    ∷ Whole (MetaArithmetic (record { key = codes "a"; flags = no_flags; value = false; compare = None; direction = Increment; amount = 1; initial = 0; vivify = None; exptime = None }))
+    ∷ Whole (MetaArithmetic (record { key = codes "a"; flags = no_flags; value = false; compare = None; unique = None; direction = Increment; amount = 1; initial = 0; vivify = None; exptime = None }))
     ∷ []
 unfolding meta_line_of words_of number_of is_key
 whole_arithmetic = refl
@@ -201,7 +225,7 @@ flags_before_keys = refl
 
 -- the ends of the ranges of tokens, signs, and the most digits
 widest_tokens : map ma (codes "a D18446744073709551615 J00000000000000000007 N-9223372036854775808 T-0" ∷ [])
-    ≡ Whole (MetaArithmetic (record { key = codes "a"; flags = no_flags; value = false; compare = None; direction = Increment; amount = 18446744073709551615; initial = 7; vivify = Some (negsuc 9223372036854775807); exptime = Some (pos 0) })) ∷ []
+    ≡ Whole (MetaArithmetic (record { key = codes "a"; flags = no_flags; value = false; compare = None; unique = None; direction = Increment; amount = 18446744073709551615; initial = 7; vivify = Some (negsuc 9223372036854775807); exptime = Some (pos 0) })) ∷ []
 unfolding meta_line_of words_of number_of is_key
 widest_tokens = refl
 
@@ -212,6 +236,6 @@ too_wide_tokens = refl
 
 -- 186 bytes are the most that a word of base64 gives
 longest_base64 : md (replicate 248 65 ++ codes " b")
-    ≡ Whole (MetaDelete (record { key = replicate 186 0; flags = record { base64 = true; quiet = false; returned = []; opaque = [] }; compare = None; invalidate = false; exptime = None }))
+    ≡ Whole (MetaDelete (record { key = replicate 186 0; flags = record { base64 = true; quiet = false; returned = []; opaque = [] }; compare = None; unique = None; invalidate = false; exptime = None }))
 unfolding meta_line_of words_of decoded_key base64_bytes base64_on_literals
 longest_base64 = refl

@@ -4,8 +4,8 @@ use Rattle.std.proofs.lemmas.Bool.Decides.{nat_tests}
 use Rattle.mc_command.specs.declared.command.Command.{Command}
 use Rattle.mc_command.specs.declared.name.CommandName.{CommandName}
 use Rattle.mc_command.specs.declared.name.CommandName.TheVariants as name
-use Rattle.mc_command.specs.declared.meta_line.MetaName.{MetaName}
-use Rattle.mc_command.specs.declared.meta_line.MetaName.TheVariants.{Get, Set, Delete, Arithmetic}
+use Rattle.mc_command.specs.declared.meta.MetaKind.{MetaKind}
+use Rattle.mc_command.specs.declared.meta.MetaKind.TheVariants.{Get, Set, Delete, Arithmetic}
 use Rattle.mc_command.specs.declared.refusal.Refusal.{Refusal}
 use Rattle.mc_command.specs.declared.refusal.Refusal.TheVariants.{TooLarge}
 use Rattle.mc_command.specs.declared.line.Line.TheVariants.{Data, Skip}
@@ -16,57 +16,57 @@ use Rattle.mc_command.specs.Name.{name_of}
 use Rattle.mc_command.specs.Table.{line_of, line_named, line_if_named}
 use Rattle.mc_wire.specs.Number.{number_of}
 
-small_sized : (large : Bool) (command asked : Command) (size count : ℕ) → nat_lt 1048576 size ≡ large → cond large (Skip TooLarge (size + 2)) (Data command size) ≡ Data asked count → count ≤ 1048576
-small_sized true command asked size count test is = absurd cc
-small_sized false command asked size count test is = let same : size ≡ count = cc in grind (arith, nat_tests)
+small_sized : (limit : ℕ) (large : Bool) (command asked : Command) (size count : ℕ) → nat_lt limit size ≡ large → cond large (Skip TooLarge (size + 2)) (Data command size) ≡ Data asked count → count ≤ limit
+small_sized limit true command asked size count test is = absurd cc
+small_sized limit false command asked size count test is = let same : size ≡ count = cc in grind (arith, nat_tests)
 
-small_block : (found : Option ℕ) (read : Result Command Refusal) (asked : Command) (count : ℕ) → block_line found read ≡ Data asked count → count ≤ 1048576
-small_block (Some size) (Ok command) asked count is = small_sized (nat_lt 1048576 size) command asked size count refl is
-small_block (Some size) (Err refusal) asked count is = absurd cc
-small_block None (Ok command) asked count is = absurd cc
-small_block None (Err refusal) asked count is = absurd cc
+small_block : (limit : ℕ) (found : Option ℕ) (read : Result Command Refusal) (asked : Command) (count : ℕ) → block_line limit found read ≡ Data asked count → count ≤ limit
+small_block limit (Some size) (Ok command) asked count is = small_sized limit (nat_lt limit size) command asked size count refl is
+small_block limit (Some size) (Err refusal) asked count is = absurd cc
+small_block limit None (Ok command) asked count is = absurd cc
+small_block limit None (Err refusal) asked count is = absurd cc
 
-small_whole : (read : Result Command Refusal) (asked : Command) (count : ℕ) → whole_line read ≡ Data asked count → count ≤ 1048576
-small_whole (Ok command) asked count is = absurd cc
-small_whole (Err refusal) asked count is = absurd cc
+small_whole : (limit : ℕ) (read : Result Command Refusal) (asked : Command) (count : ℕ) → whole_line read ≡ Data asked count → count ≤ limit
+small_whole limit (Ok command) asked count is = absurd cc
+small_whole limit (Err refusal) asked count is = absurd cc
 
-small_without : (meta : MetaName) (words : List (List ℕ)) (asked : Command) (count : ℕ) → line_without_block meta words ≡ Data asked count → count ≤ 1048576
-small_without meta [] asked count is = absurd cc
-small_without meta (word ∷ words) asked count is = small_whole (meta_command_of meta word words) asked count is
+small_without : (limit : ℕ) (meta : MetaKind) (words : List (List ℕ)) (asked : Command) (count : ℕ) → line_without_block meta words ≡ Data asked count → count ≤ limit
+small_without limit meta [] asked count is = absurd cc
+small_without limit meta (word ∷ words) asked count is = small_whole limit (meta_command_of meta word words) asked count is
 
-small_with : (words : List (List ℕ)) (asked : Command) (count : ℕ) → line_with_block words ≡ Data asked count → count ≤ 1048576
-small_with [] asked count is = absurd cc
-small_with (word ∷ []) asked count is = absurd cc
-small_with (word ∷ counted ∷ words) asked count is = small_block (number_of (2 ^ 32) counted) (meta_command_of Set word words) asked count is
+small_with : (limit : ℕ) (words : List (List ℕ)) (asked : Command) (count : ℕ) → line_with_block limit words ≡ Data asked count → count ≤ limit
+small_with limit [] asked count is = absurd cc
+small_with limit (word ∷ []) asked count is = absurd cc
+small_with limit (word ∷ counted ∷ words) asked count is = small_block limit (number_of (2 ^ 32) counted) (meta_command_of Set word words) asked count is
 
-small_meta : (meta : MetaName) (words : List (List ℕ)) (asked : Command) (count : ℕ) → meta_line_of meta words ≡ Data asked count → count ≤ 1048576
+small_meta : (limit : ℕ) (meta : MetaKind) (words : List (List ℕ)) (asked : Command) (count : ℕ) → meta_line_of limit meta words ≡ Data asked count → count ≤ limit
 unfolding meta_line_of
-small_meta Get words asked count is = small_without Get words asked count is
-small_meta Set words asked count is = small_with words asked count is
-small_meta Delete words asked count is = small_without Delete words asked count is
-small_meta Arithmetic words asked count is = small_without Arithmetic words asked count is
+small_meta limit Get words asked count is = small_without limit Get words asked count is
+small_meta limit Set words asked count is = small_with limit words asked count is
+small_meta limit Delete words asked count is = small_without limit Delete words asked count is
+small_meta limit Arithmetic words asked count is = small_without limit Arithmetic words asked count is
 
-small_named : (name : CommandName) (words : List (List ℕ)) (asked : Command) (count : ℕ) → line_named name words ≡ Data asked count → count ≤ 1048576
-small_named (name.Store mode) words asked count is = small_block (count_in words) (storage_words mode words) asked count is
-small_named name.CompareAndSwap words asked count is = small_block (count_in words) (cas_words words) asked count is
-small_named (name.Get with_unique) words asked count is = small_whole (get_words with_unique words) asked count is
-small_named (name.GetAndTouch with_unique) words asked count is = small_whole (gat_words with_unique words) asked count is
-small_named name.Delete words asked count is = small_whole (delete_words words) asked count is
-small_named (name.Count direction) words asked count is = small_whole (count_words direction words) asked count is
-small_named name.Touch words asked count is = small_whole (touch_words words) asked count is
-small_named name.FlushAll words asked count is = small_whole (flush_words words) asked count is
-small_named name.Version words asked count is = absurd cc
-small_named name.Verbosity words asked count is = small_whole (verbosity_words words) asked count is
-small_named name.Quit words asked count is = absurd cc
-small_named name.MetaNoop words asked count is = absurd cc
-small_named (name.Meta meta) words asked count is = small_meta meta words asked count is
+small_named : (limit : ℕ) (name : CommandName) (words : List (List ℕ)) (asked : Command) (count : ℕ) → line_named limit name words ≡ Data asked count → count ≤ limit
+small_named limit (name.Store mode) words asked count is = small_block limit (count_in words) (storage_words mode words) asked count is
+small_named limit name.CompareAndSwap words asked count is = small_block limit (count_in words) (cas_words words) asked count is
+small_named limit (name.Get with_unique) words asked count is = small_whole limit (get_words with_unique words) asked count is
+small_named limit (name.GetAndTouch with_unique) words asked count is = small_whole limit (gat_words with_unique words) asked count is
+small_named limit name.Delete words asked count is = small_whole limit (delete_words words) asked count is
+small_named limit (name.Count direction) words asked count is = small_whole limit (count_words direction words) asked count is
+small_named limit name.Touch words asked count is = small_whole limit (touch_words words) asked count is
+small_named limit name.FlushAll words asked count is = small_whole limit (flush_words words) asked count is
+small_named limit name.Version words asked count is = absurd cc
+small_named limit name.Verbosity words asked count is = small_whole limit (verbosity_words words) asked count is
+small_named limit name.Quit words asked count is = absurd cc
+small_named limit name.MetaNoop words asked count is = absurd cc
+small_named limit (name.Meta meta) words asked count is = small_meta limit meta words asked count is
 
-small_if_named : (name : Option CommandName) (words : List (List ℕ)) (asked : Command) (count : ℕ) → line_if_named name words ≡ Data asked count → count ≤ 1048576
-small_if_named None words asked count is = absurd cc
-small_if_named (Some name) words asked count is = small_named name words asked count is
+small_if_named : (limit : ℕ) (name : Option CommandName) (words : List (List ℕ)) (asked : Command) (count : ℕ) → line_if_named limit name words ≡ Data asked count → count ≤ limit
+small_if_named limit None words asked count is = absurd cc
+small_if_named limit (Some name) words asked count is = small_named limit name words asked count is
 
 -- the block that a line announces is no longer than a value may be
-pub data_small : (words : List (List ℕ)) (asked : Command) (count : ℕ) → line_of words ≡ Data asked count → count ≤ 1048576
+pub data_small : (limit : ℕ) (words : List (List ℕ)) (asked : Command) (count : ℕ) → line_of limit words ≡ Data asked count → count ≤ limit
 unfolding line_of
-data_small [] asked count is = absurd cc
-data_small (name ∷ words) asked count is = small_if_named (name_of name) words asked count is
+data_small limit [] asked count is = absurd cc
+data_small limit (name ∷ words) asked count is = small_if_named limit (name_of name) words asked count is

@@ -1,8 +1,8 @@
--- The command table by itself: it never says that memory is wanting, and tells what stands behind a line.
+-- The command table by itself: it never says that memory ran out, and tells what stands behind a line.
 use Rattle.std.proofs.Common.{◌≡◌, ℕ, ◌+◌, ◌^◌, Bool, true, false, cond, List, [], ◌∷◌, Option, Some, None, nat_lt, refl, Result, Ok, Err, IsTrue}
 use Rattle.mc_command.specs.declared.command.Command.{Command}
 use Rattle.mc_command.specs.declared.refusal.Refusal.{Refusal}
-use Rattle.mc_command.specs.declared.refusal.Refusal.TheVariants.{Unknown, BadFormat, BadKey, InvalidFlag, DuplicateFlag, OpaqueTooLong, TooLarge, BadChunk, LineTooLong, Memory}
+use Rattle.mc_command.specs.declared.refusal.Refusal.TheVariants.{TooLarge, Memory}
 use Rattle.mc_command.specs.declared.line.Line.{Line}
 use Rattle.mc_command.specs.declared.line.Line.TheVariants.{Whole, Data, Refused, Skip}
 use Rattle.mc_command.specs.declared.command.Command.TheVariants as command
@@ -13,41 +13,20 @@ use Rattle.mc_command.specs.Blocks.{whole_line, block_line, bytes_with, MayBeGiv
 use Rattle.mc_command.specs.Classic.{verbosity_of, verbosity_words}
 use Rattle.mc_command.proofs.Lines.{Yields, yields_number, yields_noreply}
 
--- no want of memory
+-- no refusal for memory that ran out
 abbrev pub Told : Result Command Refusal → Type 0
 Told (Ok command) = is_memory_refusal command ≡ false
 Told (Err refusal) = is_memory refusal ≡ false
 
 no_memory : (refusal : Refusal) → IsTrue (refusal_takes_memory refusal) → is_memory refusal ≡ false
 no_memory Memory takes = absurd cc
-no_memory Unknown takes = refl
-no_memory BadFormat takes = refl
-no_memory BadKey takes = refl
-no_memory InvalidFlag takes = refl
-no_memory DuplicateFlag takes = refl
-no_memory OpaqueTooLong takes = refl
-no_memory TooLarge takes = refl
-no_memory BadChunk takes = refl
-no_memory LineTooLong takes = refl
+no_memory other takes = refl
 
 no_memory_command : (asked : Command) → IsTrue (can_give_up asked) → is_memory_refusal asked ≡ false
 no_memory_command (command.Refused refusal) may = no_memory refusal may
-no_memory_command (command.Store storage) may = refl
-no_memory_command (command.Get retrieval) may = refl
-no_memory_command (command.Delete key noreply) may = refl
-no_memory_command (command.Count key direction amount noreply) may = refl
-no_memory_command (command.Touch key exptime noreply) may = refl
-no_memory_command (command.FlushAll delay noreply) may = refl
-no_memory_command command.Version may = refl
-no_memory_command (command.Verbosity noreply) may = refl
-no_memory_command command.Quit may = refl
-no_memory_command command.MetaNoop may = refl
-no_memory_command (command.MetaGet get) may = refl
-no_memory_command (command.MetaSet set) may = refl
-no_memory_command (command.MetaDelete delete) may = refl
-no_memory_command (command.MetaArithmetic arithmetic) may = refl
+no_memory_command other may = refl
 
--- what may be given up is no want of memory itself
+-- what may be given up is itself no such refusal
 pub told_may : (asked : Result Command Refusal) → MayBeGivenUp asked → Told asked
 told_may (Ok command) may = no_memory_command command may
 told_may (Err refusal) may = no_memory refusal may
@@ -64,11 +43,11 @@ told_sized : (large : Bool) (command : Command) (count : ℕ) → is_memory_refu
 told_sized true command count told = refl
 told_sized false command count told = told
 
-pub told_block : (count : Option ℕ) (asked : Result Command Refusal) → Told asked → is_given_up (block_line count asked) ≡ false
-told_block (Some count) (Ok command) told = told_sized (nat_lt 1048576 count) command count told
-told_block (Some count) (Err refusal) told = told
-told_block None (Ok command) told = refl
-told_block None (Err refusal) told = told
+pub told_block : (limit : ℕ) (count : Option ℕ) (asked : Result Command Refusal) → Told asked → is_given_up (block_line limit count asked) ≡ false
+told_block limit (Some count) (Ok command) told = told_sized (nat_lt limit count) command count told
+told_block limit (Some count) (Err refusal) told = told
+told_block limit None (Ok command) told = refl
+told_block limit None (Err refusal) told = told
 
 verbosity_of_told : (level : List ℕ) (noreply : Option (List ℕ)) → Told (verbosity_of level noreply)
 verbosity_of_told level noreply = told_then _ _ (yields_number (2 ^ 64) level) (λ l. told_then _ _ (yields_noreply noreply) (λ n. refl))
@@ -100,11 +79,11 @@ behind_sized true command count = refl
 behind_sized false command count = refl
 
 -- what stands behind a line with a block is told by the count alone
-pub behind_block : (count : Option ℕ) (asked : Result Command Refusal) → bytes_behind (block_line count asked) ≡ bytes_with count
-behind_block (Some count) (Ok command) = behind_sized (nat_lt 1048576 count) command count
-behind_block (Some count) (Err refusal) = refl
-behind_block None (Ok command) = refl
-behind_block None (Err refusal) = refl
+pub behind_block : (limit : ℕ) (count : Option ℕ) (asked : Result Command Refusal) → bytes_behind (block_line limit count asked) ≡ bytes_with count
+behind_block limit (Some count) (Ok command) = behind_sized (nat_lt limit count) command count
+behind_block limit (Some count) (Err refusal) = refl
+behind_block limit None (Ok command) = refl
+behind_block limit None (Err refusal) = refl
 
 pub behind_whole : (asked : Result Command Refusal) → bytes_behind (whole_line asked) ≡ 0
 behind_whole (Ok command) = refl

@@ -13,15 +13,15 @@ whole_line (Ok command) = Whole command
 whole_line (Err refusal) = Refused refusal
 
 -- A line that a block follows, with the count of its bytes where the word in that place is readable. A
--- readable count tells what is skipped, whatever else is wrong; a value of more than 1,048,576 bytes is
+-- readable count tells what is skipped, whatever else is wrong; a value of more bytes than the limit is
 -- refused last.
-abbrev pub block_line : Option ℕ → Result Command Refusal → Line
-block_line (Some count) (Ok command) = if nat_lt 1048576 count then Skip TooLarge (count + 2) else Data command count
-block_line (Some count) (Err refusal) = Skip refusal (count + 2)
-block_line None (Ok command) = Refused BadFormat
-block_line None (Err refusal) = Refused refusal
+abbrev pub block_line : ℕ → Option ℕ → Result Command Refusal → Line
+block_line limit (Some count) (Ok command) = if nat_lt limit count then Skip TooLarge (count + 2) else Data command count
+block_line limit (Some count) (Err refusal) = Skip refusal (count + 2)
+block_line limit None (Ok command) = Refused BadFormat
+block_line limit None (Err refusal) = Refused refusal
 
--- A line that asks this may be given up for want of memory.
+-- A line that asks this may be given up where memory runs out.
 abbrev pub MayBeGivenUp : Result Command Refusal → Type 0
 MayBeGivenUp (Ok command) = IsTrue (can_give_up command)
 MayBeGivenUp (Err refusal) = IsTrue (refusal_takes_memory refusal)

@@ -43,6 +43,6 @@ abbrev pub then_of : {A B : Type 0} → Result A Refusal → (A → Result B Ref
 then_of (Ok value) rest = rest value
 then_of (Err refusal) rest = Err refusal
 
--- What was read is what was asked, unless it was given up for want of memory.
+-- What was read is what was asked, unless it was given up because memory ran out.
 abbrev pub Reads : {A : Type 0} → Result A Refusal → Result A Refusal → Type 0
 Reads asked read = MatchResult read (λ value. asked ≡ Ok value) (λ refusal. refusal ≢ Memory → asked ≡ Err refusal)

@@ -7,8 +7,8 @@ use Rattle.mc_command.specs.declared.line.Line.{Line}
 use Rattle.mc_command.specs.declared.line.Line.TheVariants.{Whole, Data, Refused, Skip}
 use Rattle.mc_command.specs.declared.meta.MetaFlags.{MetaFlags}
 use Rattle.mc_command.specs.declared.meta.ReturnFlag.{ReturnFlag}
-use Rattle.mc_command.specs.declared.meta_line.MetaName.{MetaName}
-use Rattle.mc_command.specs.declared.meta_line.MetaName.TheVariants.{Get, Set, Delete, Arithmetic}
+use Rattle.mc_command.specs.declared.meta.MetaKind.{MetaKind}
+use Rattle.mc_command.specs.declared.meta.MetaKind.TheVariants.{Get, Set, Delete, Arithmetic}
 use Rattle.mc_command.specs.Table.{line_of}
 
 abbrev pub with_flags : MetaFlags → List ReturnFlag → MetaFlags
@@ -45,7 +45,7 @@ SameButOrder (Skip refusal count) (Skip other counted) = count ≡ counted
 SameButOrder line other = ⊥
 
 -- the words of a meta line before its flags: the name, the key and in `ms` the length of the block
-abbrev pub before_flags : MetaName → List ℕ → List ℕ → List (List ℕ)
+abbrev pub before_flags : MetaKind → List ℕ → List ℕ → List (List ℕ)
 before_flags Get key count = codes "mg" ∷ key ∷ []
 before_flags Set key count = codes "ms" ∷ key ∷ count ∷ []
 before_flags Delete key count = codes "md" ∷ key ∷ []
@@ -53,5 +53,5 @@ before_flags Arithmetic key count = codes "ma" ∷ key ∷ []
 
 -- A meta line with its flags in another order is the same but for the order in which flags are given back.
 abbrev pub FlagsInAnyOrder : Type 0
-FlagsInAnyOrder = (name : MetaName) (key count : List ℕ) (flags others : List (List ℕ)) → IsPermutation flags others →
-    SameButOrder (line_of (before_flags name key count ++ flags)) (line_of (before_flags name key count ++ others))
+FlagsInAnyOrder = (limit : ℕ) (name : MetaKind) (key count : List ℕ) (flags others : List (List ℕ)) → IsPermutation flags others →
+    SameButOrder (line_of limit (before_flags name key count ++ flags)) (line_of limit (before_flags name key count ++ others))

@@ -6,10 +6,10 @@ use Rattle.mc_command.specs.Command.{can_give_up}
 use Rattle.mc_command.specs.Line.{is_given_up}
 use Rattle.mc_command.specs.Table.{line_of}
 
--- No line is the refusal for want of memory: neither as a whole command, nor as a command with a block, nor
+-- No line is the refusal "out of memory": neither as a whole command, nor as a command with a block, nor
 -- as a refusal, nor as a refusal with a block to skip.
-abbrev pub NeverWantsMemory : Type 0
-NeverWantsMemory = (words : List (List ℕ)) → is_given_up (line_of words) ≡ false
+abbrev pub IsNeverOutOfMemory : Type 0
+IsNeverOutOfMemory = (limit : ℕ) (words : List (List ℕ)) → is_given_up (line_of limit words) ≡ false
 
 abbrev pub DataCanBeGivenUp : Type 0
-DataCanBeGivenUp = (words : List (List ℕ)) (asked : Command) (count : ℕ) → line_of words ≡ Data asked count → IsTrue (can_give_up asked)
+DataCanBeGivenUp = (limit : ℕ) (words : List (List ℕ)) (asked : Command) (count : ℕ) → line_of limit words ≡ Data asked count → IsTrue (can_give_up asked)

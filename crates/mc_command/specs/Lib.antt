@@ -4,8 +4,8 @@ pub mod Line
 pub mod Blocks
 pub mod Classic
 pub mod Meta
-pub mod MetaReading
 pub mod Name
 pub mod Table
 pub mod Laws
 pub mod FlagOrder
+pub mod internal

@@ -1,4 +1,4 @@
--- What reading a line gives: what the command table says of it, or a refusal for want of memory.
+-- What reading a line gives: what the command table says of it, or the refusal "out of memory".
 use Rattle.std.specs.Prelude.{ℕ, ◌≡◌, ◌+◌, Bool, IsTrue, MatchBool}
 use Rattle.mc_command.specs.declared.line.Line.{Line}
 use Rattle.mc_command.specs.declared.line.Line.TheVariants.{Whole, Data, Refused, Skip}
@@ -18,7 +18,7 @@ CanGiveUpBlock (Skip refusal count) skipped = (skipped ≡ count) × IsTrue (ref
 CanGiveUpBlock (Whole command) skipped = ⊥
 CanGiveUpBlock (Refused refusal) skipped = ⊥
 
--- What was read is what the line says, or the refusal for want of memory, with the same bytes skipped.
+-- What was read is what the line says, or the refusal "out of memory", with the same bytes skipped.
 abbrev pub Says : Line → Line → Type 0
 Says line (Whole command) = line ≡ Whole command
 Says line (Data command count) = line ≡ Data command count
@@ -32,7 +32,7 @@ bytes_behind (Data command count) = count + 2
 bytes_behind (Refused refusal) = 0
 bytes_behind (Skip refusal count) = count
 
--- whether a line is the refusal for want of memory, in any of its forms
+-- whether a line is the refusal "out of memory", in any of its forms
 abbrev pub is_given_up : Line → Bool
 is_given_up (Whole command) = is_memory_refusal command
 is_given_up (Data command count) = is_memory_refusal command

@@ -7,6 +7,7 @@ use Rattle.std.specs.Option.{ok_or, option_map, option_or}
 use Rattle.std.specs.Str.{byte}
 use Rattle.mc_wire.specs.Base64Key.{base64_key}
 use Rattle.mc_wire.specs.Number.{number_of, integer_of}
+use Rattle.mc_wire.specs.declared.TheConstants.{OPAQUE_LIMIT}
 use Rattle.mc_command.specs.declared.command.Command.{Command}
 use Rattle.mc_command.specs.declared.command.Command.TheVariants as command
 use Rattle.mc_command.specs.declared.command.Direction.{Direction}
@@ -22,19 +23,20 @@ use Rattle.mc_command.specs.declared.meta.MetaMode.TheVariants as mode
 use Rattle.mc_command.specs.declared.meta.MetaSet.{MetaSet}
 use Rattle.mc_command.specs.declared.meta.ReturnFlag.{ReturnFlag}
 use Rattle.mc_command.specs.declared.meta.ReturnFlag.TheVariants as shows
-use Rattle.mc_command.specs.declared.meta_line.MetaName.{MetaName}
-use Rattle.mc_command.specs.declared.meta_line.MetaName.TheVariants.{Get, Set, Delete, Arithmetic}
+use Rattle.mc_command.specs.declared.meta_flags.Asked.{Asked}
+use Rattle.mc_command.specs.declared.meta.MetaKind.{MetaKind}
+use Rattle.mc_command.specs.declared.meta.MetaKind.TheVariants.{Get, Set, Delete, Arithmetic}
 use Rattle.mc_command.specs.declared.refusal.Refusal.{Refusal}
 use Rattle.mc_command.specs.declared.refusal.Refusal.TheVariants.{BadFormat, BadKey, InvalidFlag, DuplicateFlag, OpaqueTooLong}
 use Rattle.mc_command.specs.Blocks.{whole_line, block_line}
 use Rattle.mc_command.specs.Field.{key_of, then_of}
 
 -- the letters of the flags that each command has
-abbrev pub letters_of : MetaName → List ℕ
+abbrev pub letters_of : MetaKind → List ℕ
 letters_of Get = codes "bcfhklOqstvNRT"
-letters_of Set = codes "bkOqcsCFTM"
-letters_of Delete = codes "bkOqCIT"
-letters_of Arithmetic = codes "bkOqctvCDJMNT"
+letters_of Set = codes "bkOqcsCEFTM"
+letters_of Delete = codes "bkOqCEIT"
+letters_of Arithmetic = codes "bkOqctvCDEJMNT"
 
 abbrev pub is_among : List ℕ → ℕ → Bool
 is_among letters letter = list_any (λ other. other == letter) letters
@@ -79,34 +81,33 @@ direction_of (letter ∷ []) =
 direction_of token = None
 
 -- whether a token is one of the flag `M`
-abbrev pub has_mode : MetaName → List ℕ → Bool
+abbrev pub has_mode : MetaKind → List ℕ → Bool
 has_mode Set token = is_some (mode_of token)
 has_mode Arithmetic token = is_some (direction_of token)
-has_mode Get token = false
-has_mode Delete token = false
+has_mode other token = false
 
--- whether a token is one of its flag: T, N and R are signed, C, D and J have 64 bits, F has 32; the other
+-- whether a token is one of its flag: T, N and R are signed, C, D, E and J have 64 bits, F has 32; the other
 -- flags take none and ignore what is joined to them
-abbrev pub is_token : MetaName → ℕ → List ℕ → Bool
+abbrev pub is_token : MetaKind → ℕ → List ℕ → Bool
 is_token name letter token =
     if is_among (codes "TNR") letter then is_some (integer_of token)
-    else (if is_among (codes "CDJ") letter then is_some (number_of (2 ^ 64) token)
+    else (if is_among (codes "CDEJ") letter then is_some (number_of (2 ^ 64) token)
     else (if letter == byte "F" then is_some (number_of (2 ^ 32) token)
     else (if letter == byte "M" then has_mode name token else true)))
 
 -- Faults.
 
 -- what refuses a flag that stands behind others
-abbrev pub flag_refusal : MetaName → List (List ℕ) → List ℕ → Option Refusal
+abbrev pub flag_refusal : MetaKind → List (List ℕ) → List ℕ → Option Refusal
 flag_refusal name before [] = Some InvalidFlag
 flag_refusal name before (letter ∷ token) =
     if not (is_among (letters_of name) letter) then Some InvalidFlag
     else (if has_flag letter before then Some DuplicateFlag
-    else (if letter == byte "O" && nat_lt 32 (length token) then Some OpaqueTooLong
+    else (if letter == byte "O" && nat_lt OPAQUE_LIMIT (length token) then Some OpaqueTooLong
     else (if is_token name letter token then None else Some BadFormat)))
 
 -- what refuses the first of some flags that is refused; they stand behind others
-abbrev pub flags_refusal : MetaName → List (List ℕ) → List (List ℕ) → Option Refusal
+abbrev pub flags_refusal : MetaKind → List (List ℕ) → List (List ℕ) → Option Refusal
 flags_refusal name before [] = None
 flags_refusal name before (word ∷ words) =
     option_or (flag_refusal name before word) (flags_refusal name (before ++ word ∷ []) words)
@@ -127,10 +128,7 @@ meta_key_of base64 word = if base64 then decoded_key word else key_of word
 -- `ms` compares in its mode S alone
 abbrev pub is_set : MetaMode → Bool
 is_set mode.Set = true
-is_set mode.Add = false
-is_set mode.Replace = false
-is_set mode.Append = false
-is_set mode.Prepend = false
+is_set other = false
 
 abbrev pub compare_refusal : MetaSet → Option Refusal
 compare_refusal set = if is_some set.compare && not (is_set set.mode) then Some BadFormat else None
@@ -162,82 +160,111 @@ flags_of words = record {
   opaque = unwrap_or (token_of (byte "O") words) [];
 }
 
-abbrev pub get_of : List ℕ → List (List ℕ) → MetaGet
-get_of key words = record {
-  key = key;
+-- the mode that a token gives in `ms`
+abbrev pub mode_in : MetaKind → Option (List ℕ) → Option MetaMode
+mode_in Set token = option_and_then mode_of token
+mode_in other token = None
+
+-- the mode that a token gives in `ma`
+abbrev pub direction_in : MetaKind → Option (List ℕ) → Option Direction
+direction_in Arithmetic token = option_and_then direction_of token
+direction_in other token = None
+
+-- all that the flags of a line may ask, each by a look-up
+abbrev pub asked_of : MetaKind → List (List ℕ) → Asked
+asked_of name words = record {
   flags = flags_of words;
   value = has_flag (byte "v") words;
-  touch = signed_token (byte "T") words;
+  invalidate = has_flag (byte "I") words;
+  exptime = signed_token (byte "T") words;
   vivify = signed_token (byte "N") words;
   recache = signed_token (byte "R") words;
+  compare = unsigned_token (2 ^ 64) (byte "C") words;
+  unique = unsigned_token (2 ^ 64) (byte "E") words;
+  amount = unsigned_token (2 ^ 64) (byte "D") words;
+  initial = unsigned_token (2 ^ 64) (byte "J") words;
+  client_flags = unsigned_token (2 ^ 32) (byte "F") words;
+  mode = mode_in name (token_of (byte "M") words);
+  direction = direction_in name (token_of (byte "M") words);
 }
 
-abbrev pub set_of : List ℕ → List (List ℕ) → MetaSet
-set_of key words = record {
+-- what each command makes of them, with the defaults of flags that do not stand there
+
+abbrev pub get_by : List ℕ → Asked → MetaGet
+get_by key asked = record {
   key = key;
-  flags = flags_of words;
-  mode = unwrap_or (option_and_then mode_of (token_of (byte "M") words)) mode.Set;
-  compare = unsigned_token (2 ^ 64) (byte "C") words;
-  client_flags = unwrap_or (unsigned_token (2 ^ 32) (byte "F") words) 0;
-  exptime = unwrap_or (signed_token (byte "T") words) (pos 0);
+  flags = asked.flags;
+  value = asked.value;
+  touch = asked.exptime;
+  vivify = asked.vivify;
+  recache = asked.recache;
+}
+
+abbrev pub set_by : List ℕ → Asked → MetaSet
+set_by key asked = record {
+  key = key;
+  flags = asked.flags;
+  mode = unwrap_or asked.mode mode.Set;
+  compare = asked.compare;
+  unique = asked.unique;
+  client_flags = unwrap_or asked.client_flags 0;
+  exptime = unwrap_or asked.exptime (pos 0);
   block = [];
 }
 
-abbrev pub delete_of : List ℕ → List (List ℕ) → MetaDelete
-delete_of key words = record {
+abbrev pub delete_by : List ℕ → Asked → MetaDelete
+delete_by key asked = record {
   key = key;
-  flags = flags_of words;
-  compare = unsigned_token (2 ^ 64) (byte "C") words;
-  invalidate = has_flag (byte "I") words;
-  exptime = signed_token (byte "T") words;
+  flags = asked.flags;
+  compare = asked.compare;
+  unique = asked.unique;
+  invalidate = asked.invalidate;
+  exptime = asked.exptime;
 }
 
-abbrev pub arithmetic_of : List ℕ → List (List ℕ) → MetaArithmetic
-arithmetic_of key words = record {
+abbrev pub arithmetic_by : List ℕ → Asked → MetaArithmetic
+arithmetic_by key asked = record {
   key = key;
-  flags = flags_of words;
-  value = has_flag (byte "v") words;
-  compare = unsigned_token (2 ^ 64) (byte "C") words;
-  direction = unwrap_or (option_and_then direction_of (token_of (byte "M") words)) Increment;
-  amount = unwrap_or (unsigned_token (2 ^ 64) (byte "D") words) 1;
-  initial = unwrap_or (unsigned_token (2 ^ 64) (byte "J") words) 0;
-  vivify = signed_token (byte "N") words;
-  exptime = signed_token (byte "T") words;
+  flags = asked.flags;
+  value = asked.value;
+  compare = asked.compare;
+  unique = asked.unique;
+  direction = unwrap_or asked.direction Increment;
+  amount = unwrap_or asked.amount 1;
+  initial = unwrap_or asked.initial 0;
+  vivify = asked.vivify;
+  exptime = asked.exptime;
 }
 
 -- the command of this key and these flags
-abbrev pub command_of : MetaName → List ℕ → List (List ℕ) → Result Command Refusal
-command_of Get key words = Ok (command.MetaGet (get_of key words))
-command_of Set key words = unless (compare_refusal (set_of key words)) (Ok (command.MetaSet (set_of key words)))
-command_of Delete key words = Ok (command.MetaDelete (delete_of key words))
-command_of Arithmetic key words = Ok (command.MetaArithmetic (arithmetic_of key words))
+abbrev pub command_by : MetaKind → List ℕ → Asked → Result Command Refusal
+command_by Get key asked = Ok (command.MetaGet (get_by key asked))
+command_by Set key asked = unless (compare_refusal (set_by key asked)) (Ok (command.MetaSet (set_by key asked)))
+command_by Delete key asked = Ok (command.MetaDelete (delete_by key asked))
+command_by Arithmetic key asked = Ok (command.MetaArithmetic (arithmetic_by key asked))
 
 -- what a key word and the flags behind it ask: the flags are judged first
-abbrev pub meta_command_of : MetaName → List ℕ → List (List ℕ) → Result Command Refusal
+abbrev pub meta_command_of : MetaKind → List ℕ → List (List ℕ) → Result Command Refusal
 meta_command_of name word words =
     unless (flags_refusal name [] words)
-    (then_of (meta_key_of (has_flag (byte "b") words) word) (λ key. command_of name key words))
+    (then_of (meta_key_of (has_flag (byte "b") words) word) (λ key. command_by name key (asked_of name words)))
 
-abbrev pub line_without_block : MetaName → List (List ℕ) → Line
+abbrev pub line_without_block : MetaKind → List (List ℕ) → Line
 line_without_block name [] = Refused BadFormat
 line_without_block name (word ∷ words) = whole_line (meta_command_of name word words)
 
 -- a line of `ms`, whose second word counts the bytes of its block
-abbrev pub line_with_block : List (List ℕ) → Line
-line_with_block [] = Refused BadFormat
-line_with_block (word ∷ []) = Refused BadFormat
-line_with_block (word ∷ count ∷ words) = block_line (number_of (2 ^ 32) count) (meta_command_of Set word words)
+abbrev pub line_with_block : ℕ → List (List ℕ) → Line
+line_with_block limit [] = Refused BadFormat
+line_with_block limit (word ∷ []) = Refused BadFormat
+line_with_block limit (word ∷ count ∷ words) = block_line limit (number_of (2 ^ 32) count) (meta_command_of Set word words)
 
 -- what a line of this name is, by the words behind the name
-unfoldable pub meta_line_of : MetaName → List (List ℕ) → Line
-meta_line_of Get words = line_without_block Get words
-meta_line_of Set words = line_with_block words
-meta_line_of Delete words = line_without_block Delete words
-meta_line_of Arithmetic words = line_without_block Arithmetic words
+unfoldable pub meta_line_of : ℕ → MetaKind → List (List ℕ) → Line
+meta_line_of limit Set words = line_with_block limit words
+meta_line_of limit name words = line_without_block name words
 
 -- the count of the bytes that a block behind such a line has, where the line has one and it is readable
-abbrev pub meta_count_in : MetaName → List (List ℕ) → Option ℕ
+abbrev pub meta_count_in : MetaKind → List (List ℕ) → Option ℕ
 meta_count_in Set words = option_and_then (number_of (2 ^ 32)) (slice_get words 1)
-meta_count_in Get words = None
-meta_count_in Delete words = None
-meta_count_in Arithmetic words = None
+meta_count_in other words = None

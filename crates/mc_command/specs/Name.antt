@@ -4,7 +4,7 @@ use Rattle.std.specs.Option.{option_or}
 use Rattle.std.specs.Str.{bytes_eq}
 use Rattle.mc_command.specs.declared.command.StoreMode.TheVariants as mode
 use Rattle.mc_command.specs.declared.command.Direction.TheVariants.{Increment, Decrement}
-use Rattle.mc_command.specs.declared.meta_line.MetaName.TheVariants as meta
+use Rattle.mc_command.specs.declared.meta.MetaKind.TheVariants as meta
 use Rattle.mc_command.specs.declared.name.CommandName.{CommandName}
 use Rattle.mc_command.specs.declared.name.CommandName.TheVariants as name
 

@@ -1,11 +1,12 @@
 //! What a command carries from the stream: the data block of a storage command, and the keys of a get.
-ghost use Rattle.std.specs.Prelude.{◌≡◌, ◌∷◌, [], ◌++◌, OnOk, OnErr};
+ghost use Rattle.std.specs.Prelude.{◌≡◌, ◌≤◌, ◌∷◌, [], ◌++◌, length, OnOk, OnErr, vec_len};
 
-use mc_wire::Key;
+use mc_wire::{GREATEST_VALUE_LIMIT, Key};
 use std::alloc::{AllocError, Global};
 use std::marker::Model;
 
-/// The data block of a storage command (protocol.txt, "Storage commands").
+/// The data block of a storage command (protocol.txt, "Storage commands"): at most
+/// `GREATEST_VALUE_LIMIT` bytes. Contracts see the list of its bytes.
 #[derive(Drop)]
 pub struct Block {
     bytes: Vec<u8>,
@@ -13,15 +14,20 @@ pub struct Block {
 
 impl Model for Block {
     ghost use Rattle.std.specs.Prelude.{ℕ, List};
+    ghost use Rattle.std.specs.Prelude.{◌≤◌, length};
+    ghost use Rattle.mc_wire.specs.declared.TheConstants.{GREATEST_VALUE_LIMIT};
 
     ghost Value = { List ℕ };
 
     ghost view = { λ block. block.bytes.items };
+
+    ghost invariant = { λ block. length block.bytes.items ≤ GREATEST_VALUE_LIMIT };
 }
 
 impl Block {
     /// The block with these bytes.
     pub fn new(bytes: Vec<u8>) -> Block
+        requires { vec_len bytes ≤ GREATEST_VALUE_LIMIT }
         ensures { result ≡ bytes.items }
     {
         Block { bytes }
@@ -38,14 +44,16 @@ impl Block {
 
     /// The bytes of the block.
     pub fn bytes(&self) -> &[u8]
-        ensures { result.now ≡ self.now }
+        ensures value { result.now ≡ self.now }
+        ensures short { length result.now ≤ GREATEST_VALUE_LIMIT }
     {
         self.bytes.as_slice()
     }
 
     /// The bytes of the block, without a copy.
     pub fn into_bytes(self) -> Vec<u8>
-        ensures { result.items ≡ self }
+        ensures value { result.items ≡ self }
+        ensures short { vec_len result ≤ GREATEST_VALUE_LIMIT }
     {
         self.bytes
     }

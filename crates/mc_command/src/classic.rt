@@ -1,7 +1,7 @@
 //! The classic lines that no block follows: retrieval, deletion, arithmetic, touch, flush and verbosity.
 ghost use Rattle.std.specs.Prelude.{◌≡◌, ◌∷◌};
 ghost use Rattle.std.specs.Option.{option_copied};
-ghost use Rattle.mc_wire.specs.Words.{words_of};
+ghost use Rattle.mc_wire.specs.Words.{words_left};
 ghost use Rattle.mc_command.specs.Field.{Reads};
 ghost use Rattle.mc_command.specs.Classic as spec;
 
@@ -18,7 +18,7 @@ pub(crate) fn read_get(
     with_unique: bool,
     mut walk: WordWalk<'_>,
 ) -> Result<Command, Refusal>
-    ensures { Reads (spec.get_words with_unique (words_of walk.entry.rest.now)) result }
+    ensures { Reads (spec.get_words with_unique (words_left walk.entry)) result }
 {
     let Some(first) = walk.next() else {
         return Err(Refusal::BadFormat);
@@ -37,7 +37,7 @@ pub(crate) fn read_gat(
     with_unique: bool,
     mut walk: WordWalk<'_>,
 ) -> Result<Command, Refusal>
-    ensures { Reads (spec.gat_words with_unique (words_of walk.entry.rest.now)) result }
+    ensures { Reads (spec.gat_words with_unique (words_left walk.entry)) result }
 {
     let (Some(exptime), Some(first)) = (walk.next(), walk.next()) else {
         return Err(Refusal::BadFormat);
@@ -53,7 +53,7 @@ pub(crate) fn read_gat(
 
 /// The keys of a get: this word and those behind it.
 fn read_keys(alloc: Global, first: &[u8], walk: WordWalk<'_>) -> Result<Keys, Refusal>
-    ensures { Reads (spec.keys_of (first.now ∷ words_of walk.entry.rest.now)) result }
+    ensures { Reads (spec.keys_of (first.now ∷ words_left walk.entry)) result }
 {
     let mut keys = Keys::one(alloc, read_key(alloc, first)?);
     for word in walk {
@@ -65,7 +65,7 @@ fn read_keys(alloc: Global, first: &[u8], walk: WordWalk<'_>) -> Result<Keys, Re
 
 /// `delete`: KEY [noreply], KEY 0 [noreply]
 pub(crate) fn read_delete(alloc: Global, mut walk: WordWalk<'_>) -> Result<Command, Refusal>
-    ensures { Reads (spec.delete_words (words_of walk.entry.rest.now)) result }
+    ensures { Reads (spec.delete_words (words_left walk.entry)) result }
 {
     let (Some(key), second, third, None) = (walk.next(), walk.next(), walk.next(), walk.next())
     else {
@@ -85,7 +85,7 @@ pub(crate) fn read_count(
     direction: Direction,
     mut walk: WordWalk<'_>,
 ) -> Result<Command, Refusal>
-    ensures { Reads (spec.count_words direction (words_of walk.entry.rest.now)) result }
+    ensures { Reads (spec.count_words direction (words_left walk.entry)) result }
 {
     let (Some(key), Some(amount), noreply, None) = (
         walk.next(),
@@ -108,7 +108,7 @@ pub(crate) fn read_count(
 
 /// `touch`: KEY E [noreply]
 pub(crate) fn read_touch(alloc: Global, mut walk: WordWalk<'_>) -> Result<Command, Refusal>
-    ensures { Reads (spec.touch_words (words_of walk.entry.rest.now)) result }
+    ensures { Reads (spec.touch_words (words_left walk.entry)) result }
 {
     let (Some(key), Some(exptime), noreply, None) = (
         walk.next(),
@@ -130,7 +130,7 @@ pub(crate) fn read_touch(alloc: Global, mut walk: WordWalk<'_>) -> Result<Comman
 
 /// `flush_all`: [E] [noreply]
 pub(crate) fn read_flush_all(mut walk: WordWalk<'_>) -> Result<Command, Refusal>
-    ensures { result ≡ spec.flush_words (words_of walk.entry.rest.now) }
+    ensures { result ≡ spec.flush_words (words_left walk.entry) }
 {
     let (first, second, None) = (walk.next(), walk.next(), walk.next()) else {
         return Err(Refusal::BadFormat);
@@ -153,7 +153,7 @@ pub(crate) fn read_flush_all(mut walk: WordWalk<'_>) -> Result<Command, Refusal>
 
 /// `verbosity`: U [noreply]
 pub(crate) fn read_verbosity(mut walk: WordWalk<'_>) -> Result<Command, Refusal>
-    ensures { result ≡ spec.verbosity_words (words_of walk.entry.rest.now) }
+    ensures { result ≡ spec.verbosity_words (words_left walk.entry) }
 {
     let (Some(level), noreply, None) = (walk.next(), walk.next(), walk.next()) else {
         return Err(Refusal::BadFormat);

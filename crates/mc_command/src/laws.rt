@@ -1,14 +1,14 @@
 //! Laws of the command table, for whoever stands on it.
 ghost use Rattle.mc_command.specs.FlagOrder.{FlagsInAnyOrder};
-ghost use Rattle.mc_command.specs.Laws.{NeverWantsMemory, DataCanBeGivenUp};
+ghost use Rattle.mc_command.specs.Laws.{IsNeverOutOfMemory, DataCanBeGivenUp};
 
-/// Want of memory is never what the table says of a line: it is the reader's answer alone.
+/// The table says of no line that memory ran out: that is the reader's answer alone.
 #[tactic(auto, using(crate::proofs::Blocks::never_given_up))]
-pub fn table_never_wants_memory()
-    ensures { NeverWantsMemory }
+pub fn table_is_never_out_of_memory()
+    ensures { IsNeverOutOfMemory }
 {}
 
-/// A line with a data block is a command that may be given up for want of memory.
+/// A line with a data block is a command that may be given up where memory runs out.
 #[tactic(auto, using(crate::proofs::Blocks::data_stores))]
 pub fn data_can_be_given_up()
     ensures { DataCanBeGivenUp }

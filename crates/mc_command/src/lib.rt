@@ -20,9 +20,10 @@ mod tests;
 pub use announced::announced_bytes;
 pub use block::{Block, Keys};
 pub use command::{Command, Direction, Retrieval, Storage, StoreMode};
-pub use laws::{data_can_be_given_up, flags_in_any_order, table_never_wants_memory};
+pub use laws::{data_can_be_given_up, flags_in_any_order, table_is_never_out_of_memory};
 pub use line::{Line, read_line};
 pub use meta::{
-    MetaArithmetic, MetaDelete, MetaFlags, MetaGet, MetaMode, MetaSet, Opaque, ReturnFlag, Returned,
+    MetaArithmetic, MetaDelete, MetaFlags, MetaGet, MetaKind, MetaMode, MetaSet, Opaque,
+    RETURN_FLAGS, ReturnFlag, Returned,
 };
 pub use refusal::Refusal;

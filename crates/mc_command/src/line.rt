@@ -1,8 +1,8 @@
 //! From a line to the command that it is.
-ghost use Rattle.mc_wire.specs.Words.{words_of};
+ghost use Rattle.mc_wire.specs.Words.{words_of, words_left};
 ghost use Rattle.mc_command.specs.Line.{Says};
-ghost use Rattle.mc_command.specs.Table.{line_of, line_named};
-ghost use Rattle.std.specs.Prelude.{◌≡◌};
+ghost use Rattle.mc_command.specs.Table.{line_of, line_named, may_take_memory, takes_memory};
+ghost use Rattle.std.specs.Prelude.{◌≡◌, false};
 ghost use Rattle.mc_command.specs.Blocks as spec;
 
 use crate::classic::{
@@ -13,7 +13,7 @@ use crate::meta_line::read_meta;
 use crate::name::{CommandName, read_name};
 use crate::refusal::Refusal;
 use crate::storage::{read_cas, read_storage};
-use mc_wire::{VALUE_LIMIT, WordWalk, words};
+use mc_wire::{WordWalk, words};
 use std::alloc::Global;
 
 /// What a line is.
@@ -29,26 +29,29 @@ pub enum Line {
     Skip(Refusal, u64),
 }
 
-/// Reads a line, without its end.
+/// Reads a line, without its end. A value has at most so many bytes as the limit says.
 #[tactic(auto, unfolding(crate::specs::Table::line_of))]
-pub fn read_line(alloc: Global, line: &[u8]) -> Line
-    ensures { Says (line_of (words_of line.now)) result }
+pub fn read_line(alloc: Global, line: &[u8], limit: usize) -> Line
+    ensures says { Says (line_of limit (words_of line.now)) result }
+    // A line without keys is never given up.
+    ensures told { may_take_memory (words_of line.now) ≡ false → result ≡ line_of limit (words_of line.now) }
 {
     let mut walk = words(line);
     match walk.next().and_then(read_name) {
-        Some(name) => read_named(alloc, name, walk),
+        Some(name) => read_named(alloc, name, walk, limit),
         None => Line::Refused(Refusal::Unknown),
     }
 }
 
 /// Reads the words behind a name.
 #[tactic(auto, using(crate::proofs::GivingUp::says_whole, crate::proofs::Lines::get_may, crate::proofs::Lines::gat_may, crate::proofs::Lines::delete_may, crate::proofs::Lines::count_may, crate::proofs::Lines::touch_may, crate::proofs::Lines::flush_may, crate::proofs::Told::verbosity_told, crate::proofs::Told::says_told))]
-fn read_named(alloc: Global, name: CommandName, walk: WordWalk<'_>) -> Line
-    ensures { Says (line_named name (words_of walk.entry.rest.now)) result }
+fn read_named(alloc: Global, name: CommandName, walk: WordWalk<'_>, limit: usize) -> Line
+    ensures says { Says (line_named limit name (words_left walk.entry)) result }
+    ensures told { takes_memory name ≡ false → result ≡ line_named limit name (words_left walk.entry) }
 {
     match name {
-        CommandName::Store(mode) => read_storage(alloc, mode, walk),
-        CommandName::CompareAndSwap => read_cas(alloc, walk),
+        CommandName::Store(mode) => read_storage(alloc, mode, walk, limit),
+        CommandName::CompareAndSwap => read_cas(alloc, walk, limit),
         CommandName::Get { with_unique } => whole_line(read_get(alloc, with_unique, walk)),
         CommandName::GetAndTouch { with_unique } => whole_line(read_gat(alloc, with_unique, walk)),
         CommandName::Delete => whole_line(read_delete(alloc, walk)),
@@ -59,7 +62,7 @@ fn read_named(alloc: Global, name: CommandName, walk: WordWalk<'_>) -> Line
         CommandName::Verbosity => whole_line(read_verbosity(walk)),
         CommandName::Quit => Line::Whole(Command::Quit),
         CommandName::MetaNoop => Line::Whole(Command::MetaNoop),
-        CommandName::Meta(name) => read_meta(alloc, name, walk),
+        CommandName::Meta(name) => read_meta(alloc, name, walk, limit),
     }
 }
 
@@ -77,11 +80,11 @@ pub(crate) fn whole_line(read: Result<Command, Refusal>) -> Line
 /// A line that a block follows, with the count of its bytes where that is readable: what is skipped then
 /// is the block and its line end, whatever else is wrong with the line.
 #[inline(always)]
-pub(crate) fn block_line(count: Option<u32>, read: Result<Command, Refusal>) -> Line
-    ensures { result ≡ spec.block_line count read }
+pub(crate) fn block_line(limit: usize, count: Option<u32>, read: Result<Command, Refusal>) -> Line
+    ensures { result ≡ spec.block_line limit count read }
 {
     match (count, read) {
-        (Some(count), Ok(_)) if count as usize > VALUE_LIMIT => {
+        (Some(count), Ok(_)) if count as usize > limit => {
             Line::Skip(Refusal::TooLarge, u64::from(count) + 2)
         }
         (Some(count), Ok(command)) => Line::Data(command, count),

@@ -8,6 +8,9 @@ use arrayvec::ArrayVec;
 use mc_wire::{Key, OPAQUE_LIMIT};
 use std::marker::Model;
 
+/// So many flags are given back in a reply.
+pub const RETURN_FLAGS: usize = 8;
+
 /// A flag that is given back in the reply.
 #[derive(Clone, Copy, Debug, Default, PartialEq, Eq)]
 pub enum ReturnFlag {
@@ -31,7 +34,7 @@ pub enum ReturnFlag {
 }
 
 /// The token of the flag `O` (protocol.txt, "Meta Commands": "opaque value, consumes a token and
-/// copies back with response"): at most 32 bytes. It takes no memory of its own.
+/// copies back with response"): at most `OPAQUE_LIMIT` bytes. It takes no memory of its own.
 #[derive(Drop)]
 pub struct Opaque {
     bytes: ArrayVec<u8, OPAQUE_LIMIT>,
@@ -39,10 +42,14 @@ pub struct Opaque {
 
 impl Model for Opaque {
     ghost use Rattle.std.specs.Prelude.{ℕ, List};
+    ghost use Rattle.std.specs.Prelude.{◌≤◌, length};
+    ghost use Rattle.mc_wire.specs.declared.TheConstants.{OPAQUE_LIMIT};
 
     ghost Value = { List ℕ };
 
     ghost view = { λ opaque. opaque.bytes.items };
+
+    ghost invariant = { λ opaque. length opaque.bytes.items ≤ OPAQUE_LIMIT };
 }
 
 impl Opaque {
@@ -55,9 +62,9 @@ impl Opaque {
         }
     }
 
-    /// The token of these bytes, or `None` where they are more than 32.
+    /// The token of these bytes, or `None` where they are more than `OPAQUE_LIMIT`.
     pub fn from_token(token: &[u8]) -> Option<Opaque>
-        ensures { SomeIff result (length token.now ≤ 32) token.now }
+        ensures { SomeIff result (length token.now ≤ OPAQUE_LIMIT) token.now }
     {
         let mut bytes = ArrayVec::new();
         match bytes.try_extend_from_slice(token) {
@@ -68,26 +75,31 @@ impl Opaque {
 
     /// The bytes of the token.
     pub fn bytes(&self) -> &[u8]
-        ensures { result.now ≡ self.now }
+        ensures value { result.now ≡ self.now }
+        ensures short { length result.now ≤ OPAQUE_LIMIT }
     {
         self.bytes.as_slice()
     }
 }
 
-/// The flags that are given back, in the order of the request: at most one of each of the eight.
+/// The flags that are given back, in the order of the request: at most one of each of the `RETURN_FLAGS`.
 /// They take no memory of their own.
 #[derive(Drop)]
 pub struct Returned {
-    flags: ArrayVec<ReturnFlag, 8>,
+    flags: ArrayVec<ReturnFlag, RETURN_FLAGS>,
 }
 
 impl Model for Returned {
     ghost use Rattle.std.specs.Prelude.{List};
     ghost use Rattle.mc_command.specs.declared.meta.ReturnFlag.{ReturnFlag};
+    ghost use Rattle.std.specs.Prelude.{◌≤◌, length};
+    ghost use Rattle.mc_command.specs.declared.meta.TheConstants.{RETURN_FLAGS};
 
     ghost Value = { List ReturnFlag };
 
     ghost view = { λ returned. returned.flags.items };
+
+    ghost invariant = { λ returned. length returned.flags.items ≤ RETURN_FLAGS };
 }
 
 impl Returned {
@@ -102,7 +114,7 @@ impl Returned {
 
     /// Adds a flag behind the others.
     pub fn push(&mut self, flag: ReturnFlag)
-        requires { length self.old < 8 }
+        requires { length self.old < RETURN_FLAGS }
         ensures { self.new ≡ self.old ++ flag ∷ [] }
     {
         self.flags.push(flag);
@@ -110,9 +122,46 @@ impl Returned {
 
     /// The flags, in the order of the request.
     pub fn flags(&self) -> &[ReturnFlag]
-        ensures { result.now ≡ self.now }
+        ensures value { result.now ≡ self.now }
+        ensures short { length result.now ≤ RETURN_FLAGS }
     {
         self.flags.as_slice()
+    }
+}
+
+/// A meta command that takes a key.
+#[derive(Clone, Copy, Debug, PartialEq, Eq)]
+pub enum MetaKind {
+    /// `mg`.
+    Get,
+    /// `ms`.
+    Set,
+    /// `md`.
+    Delete,
+    /// `ma`.
+    Arithmetic,
+}
+
+impl MetaKind {
+    ghost use Rattle.mc_command.specs.Meta.{is_among, letters_of};
+
+    /// Whether the command has a flag of this letter.
+    pub(crate) fn has_flag(self, letter: u8) -> bool
+        ensures { result ≡ is_among (letters_of self) letter }
+    {
+        self.letters().contains(&letter)
+    }
+
+    /// The letters of its flags.
+    fn letters(self) -> &'static [u8]
+        ensures { result.now ≡ letters_of self }
+    {
+        match self {
+            MetaKind::Get => b"bcfhklOqstvNRT",
+            MetaKind::Set => b"bkOqcsCEFTM",
+            MetaKind::Delete => b"bkOqCEIT",
+            MetaKind::Arithmetic => b"bkOqctvCDEJMNT",
+        }
     }
 }
 
@@ -152,6 +201,8 @@ pub struct MetaSet {
     pub mode: MetaMode,
     /// `C`: the unique that the item must have.
     pub compare: Option<u64>,
+    /// `E`: the unique that the item is given.
+    pub unique: Option<u64>,
     /// `F`: the client flags, 0 where none are given.
     pub client_flags: u32,
     /// `T`: the exptime, 0 where none is given.
@@ -181,6 +232,8 @@ pub struct MetaDelete {
     pub flags: MetaFlags,
     /// `C`: the unique that the item must have.
     pub compare: Option<u64>,
+    /// `E`: the unique that an item marked stale is given.
+    pub unique: Option<u64>,
     /// `I`: the item is marked stale in place of going.
     pub invalidate: bool,
     /// `T`: the exptime that an item marked stale is given.
@@ -196,6 +249,8 @@ pub struct MetaArithmetic {
     pub value: bool,
     /// `C`: the unique that the item must have.
     pub compare: Option<u64>,
+    /// `E`: the unique that the item is given.
+    pub unique: Option<u64>,
     pub direction: Direction,
     /// `D`: the amount, 1 where none is given.
     pub amount: u64,

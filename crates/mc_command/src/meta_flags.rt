@@ -1,15 +1,15 @@
 //! The flags of a meta line (protocol.txt, "Meta Commands"): each is one letter, with its token joined to it.
 ghost use Rattle.std.specs.Prelude.{◌≡◌, [], OnOk, IfErr};
-ghost use Rattle.mc_wire.specs.Words.{words_of};
+ghost use Rattle.mc_wire.specs.Words.{words_left};
 ghost use Rattle.mc_command.specs.Meta.{flags_refusal, unless};
 ghost use Rattle.mc_command.specs.Meta as table;
-ghost use Rattle.mc_command.specs.MetaReading.{IsCounted, asked_of, nothing_asked, unseen, with_flag, with_word};
-ghost use Rattle.mc_command.specs.MetaReading as spec;
+ghost use Rattle.mc_command.specs.Meta.{asked_of};
+ghost use Rattle.mc_command.specs.internal.FlagReading.{IsCounted, nothing_asked, unseen, with_flag, with_word};
+ghost use Rattle.mc_command.specs.internal.FlagReading as spec;
 
 use crate::command::Direction;
 use crate::field::{read_i64, read_u32, read_u64};
-use crate::meta::{MetaFlags, MetaMode, Opaque, ReturnFlag, Returned};
-use crate::meta_line::MetaName;
+use crate::meta::{MetaFlags, MetaKind, MetaMode, Opaque, ReturnFlag, Returned};
 use crate::refusal::Refusal;
 use mc_wire::WordWalk;
 
@@ -29,6 +29,8 @@ pub(crate) struct Asked {
     pub(crate) recache: Option<i64>,
     /// `C`.
     pub(crate) compare: Option<u64>,
+    /// `E`.
+    pub(crate) unique: Option<u64>,
     /// `D`.
     pub(crate) amount: Option<u64>,
     /// `J`.
@@ -66,6 +68,8 @@ enum Flag {
     Recache(i64),
     /// `C`.
     Compare(u64),
+    /// `E`.
+    Unique(u64),
     /// `D`.
     Amount(u64),
     /// `J`.
@@ -78,8 +82,8 @@ enum Flag {
 
 /// Reads the flags of a line, its words behind the key and the count. The first flag that is refused
 /// decides.
-pub(crate) fn read_flags(name: MetaName, walk: WordWalk<'_>) -> Result<Asked, Refusal>
-    ensures { result ≡ unless (flags_refusal name [] (words_of walk.entry.rest.now)) (Ok (asked_of name (words_of walk.entry.rest.now))) }
+pub(crate) fn read_flags(name: MetaKind, walk: WordWalk<'_>) -> Result<Asked, Refusal>
+    ensures { result ≡ unless (flags_refusal name [] (words_left walk.entry)) (Ok (asked_of name (words_left walk.entry))) }
 {
     let mut reader = FlagReader::new();
     for word in walk {
@@ -108,7 +112,7 @@ impl FlagReader {
     }
 
     /// Reads one flag more. Where it is refused nothing is changed.
-    fn read(&mut self, name: MetaName, word: &[u8]) -> Result<(), Refusal>
+    fn read(&mut self, name: MetaKind, word: &[u8]) -> Result<(), Refusal>
         requires { IsCounted self.old }
         ensures counted { OnOk result (IsCounted self.new) }
         ensures ok { OnOk result (with_word name self.old word.now ≡ Ok self.new) }
@@ -152,6 +156,7 @@ impl Asked {
             vivify: None,
             recache: None,
             compare: None,
+            unique: None,
             amount: None,
             initial: None,
             client_flags: None,
@@ -176,6 +181,7 @@ impl Asked {
             Flag::Vivify(exptime) => self.vivify = Some(exptime),
             Flag::Recache(seconds) => self.recache = Some(seconds),
             Flag::Compare(unique) => self.compare = Some(unique),
+            Flag::Unique(unique) => self.unique = Some(unique),
             Flag::Amount(amount) => self.amount = Some(amount),
             Flag::Initial(number) => self.initial = Some(number),
             Flag::ClientFlags(flags) => self.client_flags = Some(flags),
@@ -185,7 +191,7 @@ impl Asked {
 }
 
 /// What a flag says, by its letter.
-fn flag_of(name: MetaName, letter: u8, token: &[u8]) -> Result<Flag, Refusal>
+fn flag_of(name: MetaKind, letter: u8, token: &[u8]) -> Result<Flag, Refusal>
     ensures { result ≡ spec.flag_of name letter token.now }
 {
     match letter {
@@ -199,6 +205,7 @@ fn flag_of(name: MetaName, letter: u8, token: &[u8]) -> Result<Flag, Refusal>
         b'N' => Ok(Flag::Vivify(read_i64(token)?)),
         b'R' => Ok(Flag::Recache(read_i64(token)?)),
         b'C' => Ok(Flag::Compare(read_u64(token)?)),
+        b'E' => Ok(Flag::Unique(read_u64(token)?)),
         b'D' => Ok(Flag::Amount(read_u64(token)?)),
         b'J' => Ok(Flag::Initial(read_u64(token)?)),
         b'F' => Ok(Flag::ClientFlags(read_u32(token)?)),
@@ -215,19 +222,19 @@ fn opaque_flag(token: &[u8]) -> Result<Flag, Refusal>
     }
 }
 
-fn mode_flag(name: MetaName, token: &[u8]) -> Result<Flag, Refusal>
+fn mode_flag(name: MetaKind, token: &[u8]) -> Result<Flag, Refusal>
     ensures { result ≡ spec.mode_flag name token.now }
 {
     match name {
-        MetaName::Set => match mode_of(token) {
+        MetaKind::Set => match mode_of(token) {
             Some(mode) => Ok(Flag::Mode(mode)),
             None => Err(Refusal::BadFormat),
         },
-        MetaName::Arithmetic => match direction_of(token) {
+        MetaKind::Arithmetic => match direction_of(token) {
             Some(direction) => Ok(Flag::Direction(direction)),
             None => Err(Refusal::BadFormat),
         },
-        MetaName::Get | MetaName::Delete => Err(Refusal::BadFormat),
+        MetaKind::Get | MetaKind::Delete => Err(Refusal::BadFormat),
     }
 }
 

@@ -1,16 +1,16 @@
 //! From the words behind the name of a meta command to the line that they are (protocol.txt, "Meta Commands").
 ghost use Rattle.std.specs.Prelude.{◌≡◌};
-ghost use Rattle.mc_wire.specs.Words.{words_of};
+ghost use Rattle.mc_wire.specs.Words.{words_left};
 ghost use Rattle.mc_command.specs.Line.{Says};
 ghost use Rattle.mc_command.specs.Field.{Reads};
-ghost use Rattle.mc_command.specs.Meta.{decoded_key, is_among, letters_of, line_with_block, line_without_block, meta_command_of, meta_key_of, meta_line_of};
-ghost use Rattle.mc_command.specs.MetaReading.{arithmetic_by, command_by, delete_by, get_by, set_by};
+ghost use Rattle.mc_command.specs.Meta.{decoded_key, line_with_block, line_without_block, meta_command_of, meta_key_of, meta_line_of};
+ghost use Rattle.mc_command.specs.Meta.{arithmetic_by, command_by, delete_by, get_by, set_by};
 
 use crate::block::Block;
 use crate::command::{Command, Direction};
 use crate::field::{read_key, read_u32};
 use crate::line::{Line, block_line, whole_line};
-use crate::meta::{MetaArithmetic, MetaDelete, MetaGet, MetaMode, MetaSet};
+use crate::meta::{MetaArithmetic, MetaDelete, MetaGet, MetaKind, MetaMode, MetaSet};
 use crate::meta_flags::{Asked, read_flags};
 use crate::refusal::Refusal;
 use mc_wire::{Key, WordWalk};
@@ -19,55 +19,21 @@ use std::alloc::Global;
 #[cfg(test)]
 mod tests;
 
-/// A meta command that takes a key.
-#[derive(Clone, Copy, Debug, PartialEq, Eq)]
-pub(crate) enum MetaName {
-    /// `mg`.
-    Get,
-    /// `ms`.
-    Set,
-    /// `md`.
-    Delete,
-    /// `ma`.
-    Arithmetic,
-}
-
-impl MetaName {
-    /// Whether the command has a flag of this letter.
-    pub(crate) fn has_flag(self, letter: u8) -> bool
-        ensures { result ≡ is_among (letters_of self) letter }
-    {
-        self.letters().contains(&letter)
-    }
-
-    /// The letters of its flags.
-    fn letters(self) -> &'static [u8]
-        ensures { result.now ≡ letters_of self }
-    {
-        match self {
-            MetaName::Get => b"bcfhklOqstvNRT",
-            MetaName::Set => b"bkOqcsCFTM",
-            MetaName::Delete => b"bkOqCIT",
-            MetaName::Arithmetic => b"bkOqctvCDJMNT",
-        }
-    }
-}
-
-/// Reads a meta line by its words behind the name.
+/// Reads a meta line by its words behind the name, under a value limit.
 #[tactic(auto, unfolding(crate::specs::Meta::meta_line_of))]
-pub(crate) fn read_meta(alloc: Global, name: MetaName, walk: WordWalk<'_>) -> Line
-    ensures { Says (meta_line_of name (words_of walk.entry.rest.now)) result }
+pub(crate) fn read_meta(alloc: Global, name: MetaKind, walk: WordWalk<'_>, limit: usize) -> Line
+    ensures { Says (meta_line_of limit name (words_left walk.entry)) result }
 {
     match name {
-        MetaName::Set => read_with_block(alloc, walk),
-        MetaName::Get | MetaName::Delete | MetaName::Arithmetic => {
+        MetaKind::Set => read_with_block(alloc, walk, limit),
+        MetaKind::Get | MetaKind::Delete | MetaKind::Arithmetic => {
             read_without_block(alloc, name, walk)
         }
     }
 }
 
-fn read_without_block(alloc: Global, name: MetaName, mut walk: WordWalk<'_>) -> Line
-    ensures { Says (line_without_block name (words_of walk.entry.rest.now)) result }
+fn read_without_block(alloc: Global, name: MetaKind, mut walk: WordWalk<'_>) -> Line
+    ensures { Says (line_without_block name (words_left walk.entry)) result }
 {
     let Some(word) = walk.next() else {
         return Line::Refused(Refusal::BadFormat);
@@ -75,24 +41,24 @@ fn read_without_block(alloc: Global, name: MetaName, mut walk: WordWalk<'_>) -> 
     whole_line(read_command(alloc, name, word, walk))
 }
 
-fn read_with_block(alloc: Global, mut walk: WordWalk<'_>) -> Line
-    ensures { Says (line_with_block (words_of walk.entry.rest.now)) result }
+fn read_with_block(alloc: Global, mut walk: WordWalk<'_>, limit: usize) -> Line
+    ensures { Says (line_with_block limit (words_left walk.entry)) result }
 {
     let (Some(word), Some(count)) = (walk.next(), walk.next()) else {
         return Line::Refused(Refusal::BadFormat);
     };
     let count = read_u32(count).ok();
-    block_line(count, read_command(alloc, MetaName::Set, word, walk))
+    block_line(limit, count, read_command(alloc, MetaKind::Set, word, walk))
 }
 
 /// Reads what a key word and the flags behind it ask.
 fn read_command(
     alloc: Global,
-    name: MetaName,
+    name: MetaKind,
     word: &[u8],
     walk: WordWalk<'_>,
 ) -> Result<Command, Refusal>
-    ensures { Reads (meta_command_of name word.now (words_of walk.entry.rest.now)) result }
+    ensures { Reads (meta_command_of name word.now (words_left walk.entry)) result }
 {
     let asked = read_flags(name, walk)?;
     let key = read_meta_key(alloc, asked.flags.base64, word)?;
@@ -121,20 +87,20 @@ fn read_base64_key(alloc: Global, word: &[u8]) -> Result<Key, Refusal>
 
 impl Asked {
     /// The command of this name and key, with the defaults of flags that are not there.
-    fn into_command(self, alloc: Global, name: MetaName, key: Key) -> Result<Command, Refusal>
+    fn into_command(self, alloc: Global, name: MetaKind, key: Key) -> Result<Command, Refusal>
         ensures { result ≡ command_by name key self }
     {
         match name {
-            MetaName::Get => Ok(Command::MetaGet(self.into_get(key))),
-            MetaName::Set => {
+            MetaKind::Get => Ok(Command::MetaGet(self.into_get(key))),
+            MetaKind::Set => {
                 let set = self.into_set(alloc, key);
                 if set.compare.is_some() && set.mode != MetaMode::Set {
                     return Err(Refusal::BadFormat);
                 }
                 Ok(Command::MetaSet(set))
             }
-            MetaName::Delete => Ok(Command::MetaDelete(self.into_delete(key))),
-            MetaName::Arithmetic => Ok(Command::MetaArithmetic(self.into_arithmetic(key))),
+            MetaKind::Delete => Ok(Command::MetaDelete(self.into_delete(key))),
+            MetaKind::Arithmetic => Ok(Command::MetaArithmetic(self.into_arithmetic(key))),
         }
     }
 
@@ -159,6 +125,7 @@ impl Asked {
             flags: self.flags,
             mode: self.mode.unwrap_or(MetaMode::Set),
             compare: self.compare,
+            unique: self.unique,
             client_flags: self.client_flags.unwrap_or(0),
             exptime: self.exptime.unwrap_or(0),
             block: Block::empty(alloc),
@@ -172,6 +139,7 @@ impl Asked {
             key,
             flags: self.flags,
             compare: self.compare,
+            unique: self.unique,
             invalidate: self.invalidate,
             exptime: self.exptime,
         }
@@ -185,6 +153,7 @@ impl Asked {
             flags: self.flags,
             value: self.value,
             compare: self.compare,
+            unique: self.unique,
             direction: self.direction.unwrap_or(Direction::Increment),
             amount: self.amount.unwrap_or(1),
             initial: self.initial.unwrap_or(0),

@@ -4,7 +4,7 @@ ghost use Rattle.mc_command.specs.Name.{name_of};
 ghost use Rattle.mc_command.specs.Name as spec;
 
 use crate::command::{Direction, StoreMode};
-use crate::meta_line::MetaName;
+use crate::meta::MetaKind;
 
 /// The command that a line's first word names.
 #[derive(Clone, Copy, Debug, PartialEq, Eq)]
@@ -34,7 +34,7 @@ pub(crate) enum CommandName {
     /// `mn`.
     MetaNoop,
     /// `mg`, `ms`, `md` and `ma`.
-    Meta(MetaName),
+    Meta(MetaKind),
 }
 
 /// The command of that name. Names are lower case.
@@ -79,10 +79,10 @@ fn meta_name(word: &[u8]) -> Option<CommandName>
     ensures { result ≡ spec.meta_name word.now }
 {
     match word {
-        b"mg" => Some(CommandName::Meta(MetaName::Get)),
-        b"ms" => Some(CommandName::Meta(MetaName::Set)),
-        b"md" => Some(CommandName::Meta(MetaName::Delete)),
-        b"ma" => Some(CommandName::Meta(MetaName::Arithmetic)),
+        b"mg" => Some(CommandName::Meta(MetaKind::Get)),
+        b"ms" => Some(CommandName::Meta(MetaKind::Set)),
+        b"md" => Some(CommandName::Meta(MetaKind::Delete)),
+        b"ma" => Some(CommandName::Meta(MetaKind::Arithmetic)),
         b"mn" => Some(CommandName::MetaNoop),
         _ => None,
     }

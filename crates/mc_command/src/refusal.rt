@@ -26,7 +26,7 @@ pub enum Refusal {
     BadChunk,
     /// A line has no end within 65,536 bytes. Nothing is read after it.
     LineTooLong,
-    /// A command was given up for want of memory.
+    /// A command was given up because memory ran out.
     Memory,
 }
 

@@ -1,7 +1,7 @@
 //! The classic storage lines, each with the count of the block behind it.
 ghost use Rattle.std.specs.Prelude.{◌≡◌, ◌^◌};
 ghost use Rattle.std.specs.Option.{option_copied, option_and_then};
-ghost use Rattle.mc_wire.specs.Words.{words_of};
+ghost use Rattle.mc_wire.specs.Words.{words_left};
 ghost use Rattle.mc_wire.specs.Number.{number_of};
 ghost use Rattle.mc_command.specs.Field.{Reads};
 ghost use Rattle.mc_command.specs.Line.{Says};
@@ -17,32 +17,45 @@ use mc_wire::WordWalk;
 use std::alloc::Global;
 
 /// `set`, `add`, `replace`, `append` and `prepend`: KEY flags E N [noreply]
-pub(crate) fn read_storage(alloc: Global, mode: StoreMode, mut walk: WordWalk<'_>) -> Line
-    ensures { Says (spec.storage_line mode (words_of walk.entry.rest.now)) result }
+pub(crate) fn read_storage(
+    alloc: Global,
+    mode: StoreMode,
+    mut walk: WordWalk<'_>,
+    limit: usize,
+) -> Line
+    ensures { Says (spec.storage_line limit mode (words_left walk.entry)) result }
 {
     let (key, flags, exptime, count) = (walk.next(), walk.next(), walk.next(), walk.next());
     let (noreply, more) = (walk.next(), walk.next());
     let block = announced(count);
     match (key, flags, exptime, count, more) {
         (Some(key), Some(flags), Some(exptime), Some(_), None) => {
-            block_line(block, storage(alloc, mode, key, flags, exptime, noreply))
+            block_line(
+                limit,
+                block,
+                storage(alloc, mode, key, flags, exptime, noreply),
+            )
         }
-        _ => block_line(block, Err(Refusal::BadFormat)),
+        _ => block_line(limit, block, Err(Refusal::BadFormat)),
     }
 }
 
 /// `cas`: KEY flags E N U [noreply]
-pub(crate) fn read_cas(alloc: Global, mut walk: WordWalk<'_>) -> Line
-    ensures { Says (spec.cas_line (words_of walk.entry.rest.now)) result }
+pub(crate) fn read_cas(alloc: Global, mut walk: WordWalk<'_>, limit: usize) -> Line
+    ensures { Says (spec.cas_line limit (words_left walk.entry)) result }
 {
     let (key, flags, exptime, count) = (walk.next(), walk.next(), walk.next(), walk.next());
     let (unique, noreply, more) = (walk.next(), walk.next(), walk.next());
     let block = announced(count);
     match (key, flags, exptime, count, unique, more) {
         (Some(key), Some(flags), Some(exptime), Some(_), Some(unique), None) => {
-            block_line(block, guarded(alloc, key, flags, exptime, unique, noreply))
+            block_line(
+                limit,
+                block,
+                guarded(alloc, key, flags, exptime, unique, noreply),
+            )
         }
-        _ => block_line(block, Err(Refusal::BadFormat)),
+        _ => block_line(limit, block, Err(Refusal::BadFormat)),
     }
 }
 

@@ -1,11 +1,11 @@
 //! What no clause says: that each public call succeeds where memory is ample, and what a line becomes
-//! where it is wanting. `rt try --test --fail-alloc N` refuses the Nth allocation of each test:
+//! when it runs out. `rt try --test --fail-alloc N` refuses the Nth allocation of each test:
 //! `a_line_without_memory_is_given_up` passes at every N.
 use crate::{
     Block, Command, Direction, Keys, Line, Refusal, StoreMode, announced_bytes,
-    data_can_be_given_up, flags_in_any_order, read_line, table_never_wants_memory,
+    data_can_be_given_up, flags_in_any_order, read_line, table_is_never_out_of_memory,
 };
-use mc_wire::{Key, WireFault};
+use mc_wire::{DEFAULT_VALUE_LIMIT, Key, WireFault};
 use std::test::Fail;
 
 #[test]
@@ -20,7 +20,7 @@ fn a_storage_line_takes_its_block(rt: HostRuntime) -> Result<(), Fail> {
     ];
     for (line, mode) in modes {
         assert_eq!(rt; announced_bytes(line), 5, "{mode:?}");
-        let Line::Data(command, count) = read_line(rt.alloc(), line) else {
+        let Line::Data(command, count) = read_line(rt.alloc(), line, DEFAULT_VALUE_LIMIT) else {
             assert!(rt; false, "no block: {mode:?}");
             return Ok(());
         };
@@ -46,7 +46,7 @@ fn a_storage_line_takes_its_block(rt: HostRuntime) -> Result<(), Fail> {
 #[test]
 fn keys_stand_in_the_order_of_the_request(rt: HostRuntime) -> Result<(), Fail> {
     let line = b"gats 10 a b c".as_slice();
-    let Line::Whole(Command::Get(asked)) = read_line(rt.alloc(), line) else {
+    let Line::Whole(Command::Get(asked)) = read_line(rt.alloc(), line, DEFAULT_VALUE_LIMIT) else {
         assert!(rt; false, "no get");
         return Ok(());
     };
@@ -67,13 +67,17 @@ fn keys_stand_in_the_order_of_the_request(rt: HostRuntime) -> Result<(), Fail> {
 
 #[test]
 fn the_other_classic_lines(rt: HostRuntime) {
-    match &read_line(rt.alloc(), b"delete a 0 noreply") {
+    match &read_line(rt.alloc(), b"delete a 0 noreply", DEFAULT_VALUE_LIMIT) {
         Line::Whole(Command::Delete { key, noreply }) => {
             assert_eq!(rt; (key.bytes(), *noreply), (b"a".as_slice(), true));
         }
         _ => assert!(rt; false, "no delete"),
     }
-    match &read_line(rt.alloc(), b"decr a 18446744073709551615") {
+    match &read_line(
+        rt.alloc(),
+        b"decr a 18446744073709551615",
+        DEFAULT_VALUE_LIMIT,
+    ) {
         Line::Whole(
             Command::Count {
                 direction,
@@ -85,24 +89,28 @@ fn the_other_classic_lines(rt: HostRuntime) {
         }
         _ => assert!(rt; false, "no decr"),
     }
-    match &read_line(rt.alloc(), b"touch a -9223372036854775808") {
+    match &read_line(
+        rt.alloc(),
+        b"touch a -9223372036854775808",
+        DEFAULT_VALUE_LIMIT,
+    ) {
         Line::Whole(Command::Touch { exptime, .. }) => assert_eq!(rt; *exptime, i64::MIN),
         _ => assert!(rt; false, "no touch"),
     }
-    match &read_line(rt.alloc(), b"flush_all 10 noreply") {
+    match &read_line(rt.alloc(), b"flush_all 10 noreply", DEFAULT_VALUE_LIMIT) {
         Line::Whole(Command::FlushAll { delay, noreply }) => {
             assert_eq!(rt; (*delay, *noreply), (10, true));
         }
         _ => assert!(rt; false, "no flush_all"),
     }
     assert_eq!(rt; Refusal::from(WireFault::NotBase64), Refusal::BadKey);
-    table_never_wants_memory();
+    table_is_never_out_of_memory();
     flags_in_any_order();
     data_can_be_given_up();
 }
 
 /// Each line with the bytes that stand behind it and its fault, if it has one. Where an allocation is
-/// refused, the line is the refusal for want of memory, and as many bytes are skipped.
+/// refused, the line is refused as out of memory, and as many bytes are skipped.
 #[test]
 fn a_line_without_memory_is_given_up(rt: HostRuntime) {
     let lines = [
@@ -131,7 +139,7 @@ fn a_line_without_memory_is_given_up(rt: HostRuntime) {
     ];
     for (line, behind, fault) in lines {
         assert_eq!(rt; announced_bytes(line), behind, "{line:?}");
-        let (refusal, skipped) = match read_line(rt.alloc(), line) {
+        let (refusal, skipped) = match read_line(rt.alloc(), line, DEFAULT_VALUE_LIMIT) {
             Line::Whole(_) => (None, 0),
             Line::Data(_, count) => (None, u64::from(count) + 2),
             Line::Refused(refusal) => (Some(refusal), 0),

@@ -14,10 +14,10 @@ kind_of (op.Count key direction amount) = Count
 kind_of (op.Delete key) = Delete
 kind_of (op.Touch key exptime) = Touch
 kind_of (op.Flush delay) = Flush
-kind_of (op.MetaGet key touch vivify recache) = MetaGet
-kind_of (op.MetaStore key mode compare flags exptime value) = MetaStore
-kind_of (op.MetaDelete key compare invalidate exptime) = MetaDelete
-kind_of (op.MetaCount key compare direction amount exptime vivify) = MetaCount
+kind_of (op.MetaGet get) = MetaGet
+kind_of (op.MetaStore store) = MetaStore
+kind_of (op.MetaDelete delete) = MetaDelete
+kind_of (op.MetaCount count) = MetaCount
 
 -- the key whose item is asked for; flush_all has none
 unfoldable pub key_of : Op → Option (List ℕ)
@@ -27,10 +27,10 @@ key_of (op.Count key direction amount) = Some key
 key_of (op.Delete key) = Some key
 key_of (op.Touch key exptime) = Some key
 key_of (op.Flush delay) = None
-key_of (op.MetaGet key touch vivify recache) = Some key
-key_of (op.MetaStore key mode compare flags exptime value) = Some key
-key_of (op.MetaDelete key compare invalidate exptime) = Some key
-key_of (op.MetaCount key compare direction amount exptime vivify) = Some key
+key_of (op.MetaGet get) = Some get.key
+key_of (op.MetaStore store) = Some store.key
+key_of (op.MetaDelete delete) = Some delete.key
+key_of (op.MetaCount count) = Some count.key
 
 -- the table of kinds and their answers
 unfoldable pub is_lawful : Kind → Answer → Bool

@@ -43,38 +43,67 @@ pub enum Op {
     Flush {
         delay: i64,
     },
-    /// `mg`.
-    MetaGet {
-        key: Key,
-        touch: Option<i64>,
-        vivify: Option<i64>,
-        recache: Option<i64>,
-    },
-    /// `ms`.
-    MetaStore {
-        key: Key,
-        mode: MetaMode,
-        compare: Option<u64>,
-        flags: u32,
-        exptime: i64,
-        value: Value,
-    },
-    /// `md`.
-    MetaDelete {
-        key: Key,
-        compare: Option<u64>,
-        invalidate: bool,
-        exptime: Option<i64>,
-    },
-    /// `ma`.
-    MetaCount {
-        key: Key,
-        compare: Option<u64>,
-        direction: Direction,
-        amount: u64,
-        exptime: Option<i64>,
-        vivify: Option<Vivify>,
-    },
+    MetaGet(MetaGet),
+    MetaStore(MetaStore),
+    MetaDelete(MetaDelete),
+    MetaCount(MetaCount),
+}
+
+/// `mg`: what its flags ask.
+#[derive(Drop)]
+pub struct MetaGet {
+    pub key: Key,
+    /// `T`: the exptime that it sets.
+    pub touch: Option<i64>,
+    /// `N`: the exptime of the empty item that it makes of a miss.
+    pub vivify: Option<i64>,
+    /// `R`: with fewer seconds left, this client is told to recompute the item.
+    pub recache: Option<i64>,
+}
+
+/// `ms`: what is stored, and what its flags ask.
+#[derive(Drop)]
+pub struct MetaStore {
+    pub key: Key,
+    pub mode: MetaMode,
+    /// `C`: the unique that the item must have.
+    pub compare: Option<u64>,
+    /// `E`: the unique that the item gets; without it the shard gives its next one.
+    pub unique: Option<u64>,
+    /// The client's flags.
+    pub flags: u32,
+    pub exptime: i64,
+    pub value: Value,
+}
+
+/// `md`: what its flags ask.
+#[derive(Drop)]
+pub struct MetaDelete {
+    pub key: Key,
+    /// `C`: the unique that the item must have.
+    pub compare: Option<u64>,
+    /// `E`: the unique that an item gets that is marked stale; without it the shard gives its next one.
+    pub unique: Option<u64>,
+    /// `I`: the item is marked stale in place of going.
+    pub invalidate: bool,
+    /// `T`: the exptime that an item gets that is marked stale.
+    pub exptime: Option<i64>,
+}
+
+/// `ma`: what is added or taken away, and what its flags ask.
+#[derive(Drop)]
+pub struct MetaCount {
+    pub key: Key,
+    /// `C`: the unique that the item must have.
+    pub compare: Option<u64>,
+    /// `E`: the unique that the item gets; without it the shard gives its next one.
+    pub unique: Option<u64>,
+    pub direction: Direction,
+    pub amount: u64,
+    /// `T`: the exptime that it sets.
+    pub exptime: Option<i64>,
+    /// `N` and `J`: the item that it makes of a miss.
+    pub vivify: Option<Vivify>,
 }
 
 /// The item that `ma` makes of a miss, by its flags `N` and `J`.
@@ -97,10 +126,10 @@ impl Op {
             Op::Delete { .. } => Kind::Delete,
             Op::Touch { .. } => Kind::Touch,
             Op::Flush { .. } => Kind::Flush,
-            Op::MetaGet { .. } => Kind::MetaGet,
-            Op::MetaStore { .. } => Kind::MetaStore,
-            Op::MetaDelete { .. } => Kind::MetaDelete,
-            Op::MetaCount { .. } => Kind::MetaCount,
+            Op::MetaGet(_) => Kind::MetaGet,
+            Op::MetaStore(_) => Kind::MetaStore,
+            Op::MetaDelete(_) => Kind::MetaDelete,
+            Op::MetaCount(_) => Kind::MetaCount,
         }
     }
 
@@ -114,11 +143,11 @@ impl Op {
             | Op::Fetch { key, .. }
             | Op::Count { key, .. }
             | Op::Delete { key }
-            | Op::Touch { key, .. }
-            | Op::MetaGet { key, .. }
-            | Op::MetaStore { key, .. }
-            | Op::MetaDelete { key, .. }
-            | Op::MetaCount { key, .. } => Some(key),
+            | Op::Touch { key, .. } => Some(key),
+            Op::MetaGet(get) => Some(&get.key),
+            Op::MetaStore(store) => Some(&store.key),
+            Op::MetaDelete(delete) => Some(&delete.key),
+            Op::MetaCount(count) => Some(&count.key),
             Op::Flush { .. } => None,
         }
     }

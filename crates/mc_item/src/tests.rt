@@ -38,7 +38,7 @@ fn value_of(alloc: Global, text: &[u8]) -> Result<Value, NoMemory>
     requires { length text.now ≤ 100 }
 {
     let bytes = Vec::from_slice(alloc, text)?;
-    Ok(Value::new(bytes))
+    Value::new(bytes)
 }
 
 #[test]

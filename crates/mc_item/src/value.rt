@@ -1,19 +1,20 @@
 //! The value of an item.
-ghost use Rattle.std.specs.Prelude.{◌≡◌, ◌+◌, ◌≤◌, ◌==◌, length, IfOk};
+ghost use Rattle.std.specs.Prelude.{◌≡◌, ◌+◌, ◌≤◌, ◌==◌, [], length, IfOk};
 ghost use Rattle.std.specs.List.{list_all, position};
 ghost use Rattle.mc_item.specs.Value.{number_in, number_text, joined};
 ghost use Rattle.mc_wire.specs.Words.{is_space};
 
 use crate::memory::NoMemory;
+use bytes::Bytes;
 use itoa::Buffer;
-use mc_wire::number_u64;
+use mc_wire::{DIGIT_LIMIT, number_u64};
 use std::alloc::{AllocError, Global};
 use std::marker::Model;
 
 /// The bytes that a client stored: at most 8,388,608.
 #[derive(Drop)]
 pub struct Value {
-    bytes: Vec<u8>,
+    bytes: Bytes,
 }
 
 impl Model for Value {
@@ -21,26 +22,39 @@ impl Model for Value {
 
     ghost Value = { List ℕ };
 
-    ghost view = { λ value. value.bytes.items };
+    ghost view = { λ value. value.bytes };
 
-    ghost invariant = { λ value. length value.bytes.items ≤ 8388608 };
+    ghost invariant = { λ value. length value.bytes ≤ 8388608 };
 }
 
 impl Value {
-    /// The value with these bytes, without a copy.
-    pub fn new(bytes: Vec<u8>) -> Value
+    /// The value with these bytes, without a copy. It takes memory for the count of its owners.
+    pub fn new(bytes: Vec<u8>) -> Result<Value, NoMemory>
         requires { length bytes.items ≤ 8388608 }
-        ensures { result ≡ bytes.items }
+        ensures { IfOk result (λ value. value ≡ bytes.items) }
     {
-        Self { bytes }
+        match Bytes::from_vec(bytes) {
+            Ok(bytes) => Ok(Value { bytes }),
+            Err(_) => Err(NoMemory),
+        }
+    }
+
+    /// The value with no bytes. It takes no memory.
+    pub fn empty() -> Value
+        ensures { result ≡ [] }
+    {
+        Value {
+            bytes: Bytes::new(),
+        }
     }
 
     /// The text of a number: its decimal digits, without padding.
     pub fn of_number(alloc: Global, number: u64) -> Result<Value, NoMemory>
-        ensures { IfOk result (λ value. value ≡ number_text number) }
+        ensures text { IfOk result (λ value. value ≡ number_text number) }
+        ensures short { IfOk result (λ value. length value ≤ DIGIT_LIMIT) }
     {
         let mut buffer = Buffer::new();
-        let bytes = Vec::from_slice(alloc, buffer.format(number).as_bytes())?;
+        let bytes = Bytes::copy_from_slice(alloc, buffer.format(number).as_bytes())?;
         Ok(Value { bytes })
     }
 
@@ -92,7 +106,7 @@ impl Value {
         let mut bytes = Vec::with_capacity(alloc, front.len() + back.len())?;
         bytes.extend_from_slice(front.bytes())?;
         bytes.extend_from_slice(back.bytes())?;
-        Ok(Value { bytes })
+        Value::new(bytes)
     }
 }
 

@@ -30,17 +30,17 @@ pub answers_of-filled : (answers : List Answer) → answers_of (map (λ answer. 
 answers_of-filled [] = refl
 answers_of-filled (answer ∷ answers) = ap (λ xs. answer ∷ xs) (answers_of-filled answers)
 
-is_to-same : (ticket : Ticket) (part : ℕ) (reply : Shown) → reply.ticket.0 ≡ ticket.0 → reply.part ≡ part → is_to ticket part reply ≡ true
+pub is_to-same : (ticket : Ticket) (part : ℕ) (reply : Shown) → reply.ticket.0 ≡ ticket.0 → reply.part ≡ part → is_to ticket part reply ≡ true
 is_to-same ticket part reply tickets parts = rw (eq-eqb reply.ticket.0 ticket.0 tickets, eq-eqb reply.part part parts)
 
-is_to-other_ticket : (ticket : Ticket) (part : ℕ) (reply : Shown) → reply.ticket.0 ≢ ticket.0 → is_to ticket part reply ≡ false
+pub is_to-other_ticket : (ticket : Ticket) (part : ℕ) (reply : Shown) → reply.ticket.0 ≢ ticket.0 → is_to ticket part reply ≡ false
 is_to-other_ticket ticket part reply tickets = rw (ne_eqb reply.ticket.0 ticket.0 tickets)
 
 and-false : (b : Bool) → (b && false) ≡ false
 and-false true = refl
 and-false false = refl
 
-is_to-other_part : (ticket : Ticket) (part : ℕ) (reply : Shown) → reply.part ≢ part → is_to ticket part reply ≡ false
+pub is_to-other_part : (ticket : Ticket) (part : ℕ) (reply : Shown) → reply.part ≢ part → is_to ticket part reply ≡ false
 is_to-other_part ticket part reply parts = rw (ne_eqb reply.part part parts, and-false (eqb reply.ticket.0 ticket.0))
 
 -- one reply more
@@ -58,13 +58,13 @@ slot_after-None None = refl
 slot_after-None (Some answer) = refl
 
 -- a reply to another part changes nothing
-answer_to-other : (accepted : List Shown) (reply : Shown) (ticket : Ticket) (part : ℕ) → is_to ticket part reply ≡ false → answer_to (accepted ++ reply ∷ []) ticket part ≡ answer_to accepted ticket part
+pub answer_to-other : (accepted : List Shown) (reply : Shown) (ticket : Ticket) (part : ℕ) → is_to ticket part reply ≡ false → answer_to (accepted ++ reply ∷ []) ticket part ≡ answer_to accepted ticket part
 answer_to-other accepted reply ticket part other =
     answer_to-push accepted reply ticket part
     ∙ (ap (λ b. slot_after (answer_to accepted ticket part) (cond b (Some reply.answer) None)) other ∙ slot_after-None (answer_to accepted ticket part))
 
 -- a reply to a part that had none yet is its answer
-answer_to-fresh : (accepted : List Shown) (reply : Shown) (ticket : Ticket) (part : ℕ) → is_to ticket part reply ≡ true → answer_to accepted ticket part ≡ None → answer_to (accepted ++ reply ∷ []) ticket part ≡ Some reply.answer
+pub answer_to-fresh : (accepted : List Shown) (reply : Shown) (ticket : Ticket) (part : ℕ) → is_to ticket part reply ≡ true → answer_to accepted ticket part ≡ None → answer_to (accepted ++ reply ∷ []) ticket part ≡ Some reply.answer
 answer_to-fresh accepted reply ticket part same fresh =
     answer_to-push accepted reply ticket part
     ∙ (ap (λ b. slot_after (answer_to accepted ticket part) (cond b (Some reply.answer) None)) same
@@ -139,7 +139,7 @@ forms-filled accepted reply n (suc place) (first ∷ forms) form numbered at her
     ∙ ap (λ fs. answered accepted first ∷ fs) (forms-filled accepted reply (n + 1) place forms form numbered.1 (omega (arith, at)) here fresh)
 
 -- a part of a ticket to which no reply was accepted
-answer_to-none : (accepted : List Shown) (ticket : Ticket) (part n : ℕ) → AllByRecursion (λ reply. reply.ticket.0 < n) accepted → ticket.0 ≡ n → answer_to accepted ticket part ≡ None
+pub answer_to-none : (accepted : List Shown) (ticket : Ticket) (part n : ℕ) → AllByRecursion (λ reply. reply.ticket.0 < n) accepted → ticket.0 ≡ n → answer_to accepted ticket part ≡ None
 answer_to-none [] ticket part n asked at = refl
 answer_to-none (reply ∷ accepted) ticket part n asked at =
     let below = asked.0 in

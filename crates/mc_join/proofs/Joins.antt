@@ -187,3 +187,12 @@ none_complete forms count passed =
     let behind = prefix_len-drop is_answered count forms (omega (arith, passed)) in
     let none : prefix_len is_answered (drop count forms) ≡ 0 = omega (arith, behind, passed) in
     ap (λ k. take k (drop count forms)) none
+
+-- so many more replies have their turn as held forms have all their answers
+pub passed_count : (held : Held) (opened : List Form) (accepted : List Shown) (handed : List (List ℕ)) → IsJoiner held opened accepted handed → length handed + prefix_len is_answered held.forms ≡ length (replies opened accepted)
+passed_count held opened accepted handed j =
+    let forms = all_answered opened accepted in
+    let behind = prefix_len-drop is_answered (length handed) forms (handed_within forms handed j.beginning) in
+    let held_ones = ap (λ fs. prefix_len is_answered fs) j.rest in
+    let size : length (replies opened accepted) ≡ prefix_len is_answered forms = length-map (complete forms) form_text ∙ length-prefix_len is_answered forms in
+    omega (arith, behind, held_ones, size)

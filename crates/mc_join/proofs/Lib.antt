@@ -1,6 +1,6 @@
 pub mod Answered
 pub mod Joins
-pub mod Lengths
 pub mod Queues
 mod Rows
 pub mod Texts
+pub mod Expecting

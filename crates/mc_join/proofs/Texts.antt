@@ -1,44 +1,51 @@
 -- Texts written one part after another, and texts over slots that are all filled.
 use Rattle.std.proofs.Common.{◌≡◌, ℕ, Bool, true, false, List, [], ◌∷◌, ◌++◌, length, take, map, Option, Some, refl, sym, ap, ◌∙◌, append_assoc, append-nil, arith, ◌<◌, ◌+◌, drop, get_or}
-use Rattle.std.specs.Prelude.{codes, ◌||◌, Result, Ok, Err, OnOk, OnErr}
+use Rattle.std.specs.Prelude.{codes, ◌||◌, Result, Ok, Err}
 use Rattle.std.specs.List.{concat, list_any, slice_get, zip, flat_map}
 use Rattle.std.proofs.lemmas.List.{at_drop_more, take_at, take-take, take-append-drop}
 use Rattle.std.proofs.lemmas.Option.{same_Some}
-use Rattle.std.proofs.Common.{subst, zero, suc}
-use Rattle.mc_wire.specs.Outlet.{with_bytes, TookFront}
-use Rattle.mc_wire.proofs.Outlets.{with_bytes-append, with_bytes-nil, took_after}
+use Rattle.std.proofs.Common.{zero, suc}
+use Rattle.mc_wire.specs.Outlet.{BreaksOff, Counted, Listed, Sight, Trace, Untold, Writes, sight_out, took}
+use Rattle.mc_wire.proofs.Outlets.{breaks_first, breaks_later, took-nil, writes_on}
 use Rattle.mc_item.specs.declared.answer.Answer.{Answer}
 use Rattle.mc_split.specs.declared.form.Shape.{Shape}
 use Rattle.mc_split.specs.declared.form.Shape.TheVariants as shape
 use Rattle.mc_split.specs.Text.{shape_text, item_text, is_no_memory, of_first, unless_no_memory}
-use Rattle.mc_join.specs.Written.{WroteBut}
-use Rattle.mc_join.specs.Slots.{slots_text, items_text, lacks_memory, first_text, slot_text, unless_lacking}
+use Rattle.std.proofs.Common.{IsTrue, ◌-◌, ◌^◌}
+use Rattle.std.proofs.lemmas.List.{length-take}
+use Rattle.mc_join.specs.Length.{capped}
+use Rattle.mc_join.specs.internal.Written.{WritesBut, WroteBut}
+use Rattle.mc_join.specs.internal.Slots.{slots_text, items_text, lacks_memory, first_text, slot_text, unless_lacking}
 
-pub wrote_none : (old : Option (List ℕ)) (whole : List ℕ) → WroteBut old old whole whole
-wrote_none old whole = record { front = []; taken = sym (with_bytes-nil old); parts = refl }
+pub wrote_none : (whole : List ℕ) (old : Sight) → WroteBut whole whole old old
+wrote_none whole old = record { front = []; sight = sym (took-nil old); parts = refl }
 
-pub wrote_more : {old mid new : Option (List ℕ)} {whole : List ℕ} (bytes rest : List ℕ) → WroteBut old mid whole (bytes ++ rest) → new ≡ with_bytes mid bytes → WroteBut old new whole rest
+pub wrote_more : {whole : List ℕ} {old mid new : Sight} (bytes rest : List ℕ) → WroteBut whole (bytes ++ rest) old mid → new ≡ took bytes mid → WroteBut whole rest old new
 wrote_more {old} bytes rest so_far more =
     record {
       front = so_far.front ++ bytes;
-      taken = more ∙ (ap (λ t. with_bytes t bytes) so_far.taken ∙ with_bytes-append old so_far.front bytes);
+      sight = writes_on _ _ _ so_far.front bytes so_far.sight more;
       parts = so_far.parts ∙ sym (append_assoc so_far.front bytes rest);
     }
 
-pub wrote_all : {old now : Option (List ℕ)} {whole : List ℕ} → WroteBut old now whole [] → now ≡ with_bytes old whole
-wrote_all {old} all = all.taken ∙ ap (λ xs. with_bytes old xs) (sym (all.parts ∙ append-nil all.front))
+pub wrote_all : {whole : List ℕ} {old now : Sight} → WroteBut whole [] old now → now ≡ took whole old
+wrote_all {old} all = all.sight ∙ ap (λ xs. took xs old) (sym (all.parts ∙ append-nil all.front))
 
-pub wrote_last : {old mid new : Option (List ℕ)} {whole : List ℕ} (bytes : List ℕ) → WroteBut old mid whole bytes → new ≡ with_bytes mid bytes → new ≡ with_bytes old whole
+pub wrote_last : {whole : List ℕ} {old mid new : Sight} (bytes : List ℕ) → WroteBut whole bytes old mid → new ≡ took bytes mid → new ≡ took whole old
 wrote_last {old} bytes so_far more =
-    more ∙ (ap (λ t. with_bytes t bytes) so_far.taken ∙ (with_bytes-append old so_far.front bytes ∙ ap (λ xs. with_bytes old xs) (sym so_far.parts)))
+    writes_on _ _ _ so_far.front bytes so_far.sight more ∙ ap (λ xs. took xs old) (sym so_far.parts)
 
-pub took_part : {old mid new : Option (List ℕ)} {whole : List ℕ} (bytes rest : List ℕ) → WroteBut old mid whole (bytes ++ rest) → TookFront mid new bytes → TookFront old new whole
-took_part {old} {mid} {new} {whole} bytes rest so_far front =
-    rw so_far.parts (took_after old mid new so_far.front bytes rest so_far.taken front)
+pub part_breaks : {whole : List ℕ} {old mid new : Sight} (bytes rest : List ℕ) → WroteBut whole (bytes ++ rest) old mid → BreaksOff bytes mid new → BreaksOff whole old new
+part_breaks bytes rest so_far off =
+    rw so_far.parts (breaks_later _ _ _ so_far.front (bytes ++ rest) so_far.sight (breaks_first _ _ bytes rest off))
 
-pub took_last : {old mid new : Option (List ℕ)} {whole : List ℕ} (bytes : List ℕ) → WroteBut old mid whole bytes → TookFront mid new bytes → TookFront old new whole
-took_last {old} {mid} {new} {whole} bytes so_far front =
-    took_part bytes [] (record { front = so_far.front; taken = so_far.taken; parts = so_far.parts ∙ ap (λ xs. so_far.front ++ xs) (sym (append-nil bytes)) }) front
+pub last_breaks : {whole : List ℕ} {old mid new : Sight} (bytes : List ℕ) → WroteBut whole bytes old mid → BreaksOff bytes mid new → BreaksOff whole old new
+last_breaks bytes so_far off = rw so_far.parts (breaks_later _ _ _ so_far.front bytes so_far.sight off)
+
+-- what was left, however that went
+pub writes_last : {X E : Type 0} {whole : List ℕ} {old mid : Sight} (bytes : List ℕ) (result : Result X E) (new : Sight) → WroteBut whole bytes old mid → Writes bytes result mid new → Writes whole result old new
+writes_last bytes (Ok done) new so_far wrote = wrote_last bytes so_far wrote
+writes_last bytes (Err fault) new so_far off = last_breaks bytes so_far off
 
 abbrev pub filled : List Answer → List (Option Answer)
 filled answers = map (λ answer. Some answer) answers
@@ -83,21 +90,13 @@ items-next with_unique keys more key slots i slot keys_are below slot_is =
     ∙ (at_drop_more (λ xs. items_text with_unique (key ∷ more) xs) slots i slot below
     ∙ ap (λ s. slot_text (item_text with_unique key) s ++ items_text with_unique more (drop (i + 1) slots)) (sym slot_is))
 
-pub on_err : {T E : Type 0} {P Q : Type 0} (r : Result T E) → (P → Q) → OnErr r P → OnErr r Q
-on_err (Ok x) more held = tt
-on_err (Err e) more held = more held
+-- three texts one after another, the last however it went
+pub second_breaks : (whole a b c : List ℕ) {old one two : Sight} → whole ≡ a ++ (b ++ c) → one ≡ took a old → BreaksOff b one two → BreaksOff whole old two
+second_breaks whole a b c {old} parts first off = rw parts (part_breaks b c (wrote_more a (b ++ c) (wrote_none (a ++ (b ++ c)) old) first) off)
 
-pub on_ok : {T E : Type 0} {P Q : Type 0} (r : Result T E) → (P → Q) → OnOk r P → OnOk r Q
-on_ok (Ok x) more held = more held
-on_ok (Err e) more held = tt
-
--- three texts one after another: the second, or the third, was cut
-pub took_second : (old one two : Option (List ℕ)) (whole a b c : List ℕ) → whole ≡ a ++ (b ++ c) → one ≡ with_bytes old a → TookFront one two b → TookFront old two whole
-took_second old one two whole a b c parts first front = rw parts (took_part b c (wrote_more a (b ++ c) (wrote_none old (a ++ (b ++ c))) first) front)
-
-pub took_third : (old one two three : Option (List ℕ)) (whole a b c : List ℕ) → whole ≡ a ++ (b ++ c) → one ≡ with_bytes old a → two ≡ with_bytes one b → TookFront two three c → TookFront old three whole
-took_third old one two three whole a b c parts first second front =
-    rw parts (took_last c (wrote_more b c (wrote_more a (b ++ c) (wrote_none old (a ++ (b ++ c))) first) second) front)
+pub third_writes : {X E : Type 0} (whole a b c : List ℕ) (result : Result X E) (old one two three : Sight) → whole ≡ a ++ (b ++ c) → one ≡ took a old → two ≡ took b one → Writes c result two three → Writes whole result old three
+third_writes whole a b c result old one two three parts first second third =
+    rw parts (writes_last c result three (wrote_more b c (wrote_more a (b ++ c) (wrote_none (a ++ (b ++ c)) old) first) second) third)
 
 pub values-parts : (with_unique : Bool) (keys others : List (List ℕ)) (key : List ℕ) (slots more : List (Option Answer)) (slot : Option Answer) (end : List ℕ) → keys ≡ key ∷ others → slots ≡ slot ∷ more →
     items_text with_unique keys slots ++ end ≡ slot_text (item_text with_unique key) slot ++ (items_text with_unique others more ++ end)
@@ -106,9 +105,9 @@ values-parts with_unique keys others key slots more slot end keys_are slots_are 
     ∙ (ap (λ xs. items_text with_unique (key ∷ others) xs ++ end) slots_are
     ∙ append_assoc (slot_text (item_text with_unique key) slot) (items_text with_unique others more) end)
 
--- the first text was cut
-pub took_first : (old new : Option (List ℕ)) (whole a rest : List ℕ) → whole ≡ a ++ rest → TookFront old new a → TookFront old new whole
-took_first old new whole a rest parts front = rw parts (took_part a rest (wrote_none old (a ++ rest)) front)
+-- the first text broke off
+pub first_breaks : (whole a rest : List ℕ) {old new : Sight} → whole ≡ a ++ rest → BreaksOff a old new → BreaksOff whole old new
+first_breaks whole a rest parts off = rw parts (breaks_first _ _ a rest off)
 
 -- the next of some parts, where the list that is walked is known by another name
 pub flat_map-next : {X : Type 0} (f : X → List ℕ) (xs ys : List X) (i : ℕ) (d : X) → ys ≡ xs → i < length ys → flat_map f (drop i xs) ≡ f (get_or ys i d) ++ flat_map f (drop (i + 1) xs)
@@ -120,43 +119,38 @@ value-parts size digits flags rest same =
     ap (λ xs. codes "VA " ++ (xs ++ (flags ++ rest))) (sym same) ∙ ap (λ xs. codes "VA " ++ xs) (ap (λ xs. xs ++ (flags ++ rest)) (sym (append-nil digits)))
 
 -- a text that was put behind others in memory and then cut off again
-pub kept_front : (old new bytes : List ℕ) (n : ℕ) → n ≡ length old → TookFront (Some old) (Some new) bytes → take n new ≡ old
-kept_front old new bytes n whole front =
-    let after : new ≡ old ++ take front.count bytes = cc (front.taken) in
-    ap (λ xs. take n xs) after ∙ take_at old (take front.count bytes) n (sym whole)
+pub kept_front : (old new bytes : List ℕ) (was is : Bool) (n : ℕ) → n ≡ length old → BreaksOff bytes (sight_out (Listed old) was) (sight_out (Listed new) is) → take n new ≡ old
+kept_front old new bytes was is n whole off =
+    let taken : Listed new ≡ Listed (old ++ take off.count bytes) = ap (λ (s : Sight). s.taken) off.sight in
+    let after : new ≡ old ++ take off.count bytes = cc in
+    ap (λ xs. take n xs) after ∙ take_at old (take off.count bytes) n (sym whole)
 
--- the texts that were gathered went out, and then this one
-pub gathered_last : (old mid new : Option (List ℕ)) (room text left : List ℕ) → mid ≡ with_bytes old room → new ≡ with_bytes mid text → left ≡ [] → WroteBut old new (room ++ text) left
-gathered_last old mid new room text left first second empty =
+-- the texts that were gathered went out, and then this one, however that went
+pub gathered_last : {X E : Type 0} (result : Result X E) (old mid new : Sight) (room text left : List ℕ) → mid ≡ took room old → left ≡ [] → Writes text result mid new → WritesBut (room ++ text) result left old new
+gathered_last (Ok done) old mid new room text left first empty wrote =
     record {
       front = room ++ text;
-      taken = second ∙ (ap (λ t. with_bytes t text) first ∙ with_bytes-append old room text);
+      sight = writes_on _ _ _ room text first wrote;
       parts = sym (append-nil (room ++ text)) ∙ ap (λ xs. (room ++ text) ++ xs) (sym empty);
     }
-
--- the texts that were gathered went out, and of this one a beginning
-pub gathered_cut : (old mid new : Option (List ℕ)) (room text : List ℕ) → mid ≡ with_bytes old room → TookFront mid new text → TookFront old new (room ++ text)
-gathered_cut old mid new room text first front =
-    let P : List ℕ → Type 0 = λ xs. TookFront old new (room ++ xs) in
-    subst P (append-nil text) (took_after old mid new room text [] first front)
+gathered_last (Err fault) old mid new room text left first empty off = breaks_later _ _ _ room text first off
 
 -- a text more, of which this is left
-pub wrote_on : (old mid new : Option (List ℕ)) (done room text left : List ℕ) → WroteBut old mid done room → WroteBut mid new (room ++ text) left → WroteBut old new (done ++ text) left
+pub wrote_on : (old mid new : Sight) (done room text left : List ℕ) → WroteBut done room old mid → WroteBut (room ++ text) left mid new → WroteBut (done ++ text) left old new
 wrote_on old mid new done room text left so_far more =
     record {
       front = so_far.front ++ more.front;
-      taken = more.taken ∙ (ap (λ t. with_bytes t more.front) so_far.taken ∙ with_bytes-append old so_far.front more.front);
+      sight = writes_on _ _ _ so_far.front more.front so_far.sight more.sight;
       parts = ap (λ xs. xs ++ text) so_far.parts ∙ (append_assoc so_far.front room text ∙ (ap (λ xs. so_far.front ++ xs) more.parts ∙ sym (append_assoc so_far.front more.front left)));
     }
 
--- a text more was cut
-pub cut_on : (old mid new : Option (List ℕ)) (done room text more whole : List ℕ) → whole ≡ (done ++ text) ++ more → WroteBut old mid done room → TookFront mid new (room ++ text) → TookFront old new whole
-cut_on old mid new done room text more whole parts so_far front =
+-- a text more broke off
+pub breaks_on : (old mid new : Sight) (done room text more whole : List ℕ) → whole ≡ (done ++ text) ++ more → WroteBut done room old mid → BreaksOff (room ++ text) mid new → BreaksOff whole old new
+breaks_on old mid new done room text more whole parts so_far off =
     let joined : so_far.front ++ ((room ++ text) ++ more) ≡ whole =
     sym (append_assoc so_far.front (room ++ text) more)
     ∙ (ap (λ xs. xs ++ more) (sym (append_assoc so_far.front room text) ∙ ap (λ xs. xs ++ text) (sym so_far.parts)) ∙ sym parts) in
-    let P : List ℕ → Type 0 = λ xs. TookFront old new xs in
-    subst P joined (took_after old mid new so_far.front (room ++ text) more so_far.taken front)
+    rw (← joined) (breaks_later _ _ _ so_far.front ((room ++ text) ++ more) so_far.sight (breaks_first _ _ (room ++ text) more off))
 
 abbrev pub texts_of : {X : Type 0} → (X → List ℕ) → List X → List ℕ
 texts_of text xs = concat (map text xs)
@@ -181,3 +175,20 @@ texts_of-around text i n xs x here below =
     ap (λ ys. texts_of text ys) (sym (take-append-drop (i + 1) (take n xs)))
     ∙ (texts_of-append text (take (i + 1) (take n xs)) (drop (i + 1) (take n xs))
     ∙ ap (λ ys. ys ++ texts_of text (drop (i + 1) (take n xs))) (ap (λ ys. texts_of text ys) front ∙ texts_of-more text i xs x here))
+
+counted_is : {a b : ℕ} → Counted a ≡ Counted b → a ≡ b
+counted_is same = ap count_of same where
+  count_of : Trace → ℕ
+  count_of Untold = 0
+  count_of (Counted count) = count
+  count_of (Listed bytes) = 0
+
+-- What a counter tells of a text that was written to it.
+pub counted : {X E : Type 0} (result : Result X E) (text : List ℕ) (count : ℕ) (full : Bool) → (IsTrue full → count ≡ 2 ^ 64 - 1) → count < 2 ^ 64 → Writes text result (sight_out (Counted 0) false) (sight_out (Counted count) full) → count ≡ capped (length text)
+counted (Ok done) text count full most fits wrote =
+    let all = counted_is (ap (λ (s : Sight). s.taken) wrote) in omega (arith, all, fits)
+counted (Err fault) text count full most fits off =
+    let failed : full ≡ true = ap (λ (s : Sight). s.failed) off.sight in
+    let part = counted_is (ap (λ (s : Sight). s.taken) off.sight) in
+    let within = off.within in
+    omega (arith, most failed, part, within, length-take off.count text)

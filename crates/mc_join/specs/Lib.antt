@@ -1,6 +1,6 @@
+pub mod Expects
 pub mod Held
 pub mod Joined
 pub mod Length
 pub mod Replies
-pub mod Slots
-pub mod Written
+pub mod internal

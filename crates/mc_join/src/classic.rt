@@ -1,9 +1,9 @@
 //! The replies of the classic commands.
 ghost use Rattle.std.specs.Prelude.{◌≡◌, ◌∷◌, [], ◌++◌, IsTrue, OnOk, OnErr, codes, decimal};
 ghost use Rattle.std.specs.List.{concat, list_any};
-ghost use Rattle.mc_wire.specs.Outlet.{with_bytes, TookFront};
+ghost use Rattle.mc_wire.specs.Outlet.{Writes};
 ghost use Rattle.mc_split.specs.Text.{answer_line, item_text, plain_item, unique_item};
-ghost use Rattle.mc_join.specs.Slots.{fixed_line, slot_text, first_text, items_text, lacks_memory};
+ghost use Rattle.mc_join.specs.internal.Slots.{fixed_line, slot_text, first_text, items_text, lacks_memory};
 
 use crate::fixed::MEMORY_LINE;
 use itoa::Buffer;
@@ -26,11 +26,7 @@ fn slot_lacks_memory(slot: &Option<Answer>) -> bool
 
 /// Writes the line of the first answer.
 pub fn put_first_line<O: Outlet>(out: &mut O, slots: &[Option<Answer>]) -> Result<(), OutFault>
-    ensures input { O.input out.new ≡ O.input out.old }
-    ensures stays { IsTrue (O.has_failed out.old) → IsTrue (O.has_failed out.new) }
-    ensures failed { OnErr result (IsTrue (O.has_failed out.new)) }
-    ensures ok { OnOk result (O.taken out.new ≡ with_bytes (O.taken out.old) (first_text answer_line slots.now)) }
-    ensures err { OnErr result (TookFront (O.taken out.old) (O.taken out.new) (first_text answer_line slots.now)) }
+    ensures { Writes (first_text answer_line slots.now) result (O.sight out.old) (O.sight out.new) }
 {
     match slots {
         [Some(answer), ..] => put_line(out, answer),
@@ -40,11 +36,7 @@ pub fn put_first_line<O: Outlet>(out: &mut O, slots: &[Option<Answer>]) -> Resul
 
 /// Writes the line of an answer; nothing for an answer that has none.
 pub fn put_line<O: Outlet>(out: &mut O, answer: &Answer) -> Result<(), OutFault>
-    ensures input { O.input out.new ≡ O.input out.old }
-    ensures stays { IsTrue (O.has_failed out.old) → IsTrue (O.has_failed out.new) }
-    ensures failed { OnErr result (IsTrue (O.has_failed out.new)) }
-    ensures ok { OnOk result (O.taken out.new ≡ with_bytes (O.taken out.old) (answer_line answer.now)) }
-    ensures err { OnErr result (TookFront (O.taken out.old) (O.taken out.new) (answer_line answer.now)) }
+    ensures { Writes (answer_line answer.now) result (O.sight out.old) (O.sight out.new) }
 {
     match answer {
         Answer::Number(number) => put_number_line(out, *number),
@@ -77,11 +69,7 @@ pub fn line_of(answer: &Answer) -> &'static [u8]
 }
 
 fn put_number_line<O: Outlet>(out: &mut O, number: u64) -> Result<(), OutFault>
-    ensures input { O.input out.new ≡ O.input out.old }
-    ensures stays { IsTrue (O.has_failed out.old) → IsTrue (O.has_failed out.new) }
-    ensures failed { OnErr result (IsTrue (O.has_failed out.new)) }
-    ensures ok { OnOk result (O.taken out.new ≡ with_bytes (O.taken out.old) (concat (decimal number ∷ codes "\r\n" ∷ []))) }
-    ensures err { OnErr result (TookFront (O.taken out.old) (O.taken out.new) (concat (decimal number ∷ codes "\r\n" ∷ []))) }
+    ensures { Writes (concat (decimal number ∷ codes "\r\n" ∷ [])) result (O.sight out.old) (O.sight out.new) }
 {
     let mut digits = Buffer::new();
     put_parts(out, &[digits.format(number).as_bytes(), b"\r\n"])
@@ -94,11 +82,7 @@ pub fn put_values<O: Outlet>(
     with_unique: bool,
     slots: &[Option<Answer>],
 ) -> Result<(), OutFault>
-    ensures input { O.input out.new ≡ O.input out.old }
-    ensures stays { IsTrue (O.has_failed out.old) → IsTrue (O.has_failed out.new) }
-    ensures failed { OnErr result (IsTrue (O.has_failed out.new)) }
-    ensures ok { OnOk result (O.taken out.new ≡ with_bytes (O.taken out.old) (items_text with_unique keys.now slots.now ++ codes "END\r\n")) }
-    ensures err { OnErr result (TookFront (O.taken out.old) (O.taken out.new) (items_text with_unique keys.now slots.now ++ codes "END\r\n")) }
+    ensures { Writes (items_text with_unique keys.now slots.now ++ codes "END\r\n") result (O.sight out.old) (O.sight out.new) }
 {
     let (key, others) = keys.parts();
     let Some((slot, more)) = slots.split_first() else {
@@ -116,11 +100,7 @@ fn put_items<O: Outlet>(
     with_unique: bool,
     slots: &[Option<Answer>],
 ) -> Result<(), OutFault>
-    ensures input { O.input out.new ≡ O.input out.old }
-    ensures stays { IsTrue (O.has_failed out.old) → IsTrue (O.has_failed out.new) }
-    ensures failed { OnErr result (IsTrue (O.has_failed out.new)) }
-    ensures ok { OnOk result (O.taken out.new ≡ with_bytes (O.taken out.old) (items_text with_unique keys.now slots.now)) }
-    ensures err { OnErr result (TookFront (O.taken out.old) (O.taken out.new) (items_text with_unique keys.now slots.now)) }
+    ensures { Writes (items_text with_unique keys.now slots.now) result (O.sight out.old) (O.sight out.new) }
 {
     let mut rest = keys;
     for slot in slots {
@@ -140,11 +120,7 @@ fn put_slot<O: Outlet>(
     with_unique: bool,
     slot: &Option<Answer>,
 ) -> Result<(), OutFault>
-    ensures input { O.input out.new ≡ O.input out.old }
-    ensures stays { IsTrue (O.has_failed out.old) → IsTrue (O.has_failed out.new) }
-    ensures failed { OnErr result (IsTrue (O.has_failed out.new)) }
-    ensures ok { OnOk result (O.taken out.new ≡ with_bytes (O.taken out.old) (slot_text (item_text with_unique key.now) slot.now)) }
-    ensures err { OnErr result (TookFront (O.taken out.old) (O.taken out.new) (slot_text (item_text with_unique key.now) slot.now)) }
+    ensures { Writes (slot_text (item_text with_unique key.now) slot.now) result (O.sight out.old) (O.sight out.new) }
 {
     match slot {
         Some(answer) => put_item(out, key.bytes(), with_unique, answer),
@@ -158,11 +134,7 @@ fn put_item<O: Outlet>(
     with_unique: bool,
     answer: &Answer,
 ) -> Result<(), OutFault>
-    ensures input { O.input out.new ≡ O.input out.old }
-    ensures stays { IsTrue (O.has_failed out.old) → IsTrue (O.has_failed out.new) }
-    ensures failed { OnErr result (IsTrue (O.has_failed out.new)) }
-    ensures ok { OnOk result (O.taken out.new ≡ with_bytes (O.taken out.old) (item_text with_unique key.now answer.now)) }
-    ensures err { OnErr result (TookFront (O.taken out.old) (O.taken out.new) (item_text with_unique key.now answer.now)) }
+    ensures { Writes (item_text with_unique key.now answer.now) result (O.sight out.old) (O.sight out.new) }
 {
     match answer {
         Answer::Hit {
@@ -200,11 +172,7 @@ fn put_plain_item<O: Outlet>(
     flags: u32,
     value: &[u8],
 ) -> Result<(), OutFault>
-    ensures input { O.input out.new ≡ O.input out.old }
-    ensures stays { IsTrue (O.has_failed out.old) → IsTrue (O.has_failed out.new) }
-    ensures failed { OnErr result (IsTrue (O.has_failed out.new)) }
-    ensures ok { OnOk result (O.taken out.new ≡ with_bytes (O.taken out.old) (plain_item key.now flags value.now)) }
-    ensures err { OnErr result (TookFront (O.taken out.old) (O.taken out.new) (plain_item key.now flags value.now)) }
+    ensures { Writes (plain_item key.now flags value.now) result (O.sight out.old) (O.sight out.new) }
 {
     let mut flag_digits = Buffer::new();
     let mut size_digits = Buffer::new();
@@ -225,11 +193,7 @@ fn put_unique_item<O: Outlet>(
     unique: u64,
     value: &[u8],
 ) -> Result<(), OutFault>
-    ensures input { O.input out.new ≡ O.input out.old }
-    ensures stays { IsTrue (O.has_failed out.old) → IsTrue (O.has_failed out.new) }
-    ensures failed { OnErr result (IsTrue (O.has_failed out.new)) }
-    ensures ok { OnOk result (O.taken out.new ≡ with_bytes (O.taken out.old) (unique_item key.now flags unique value.now)) }
-    ensures err { OnErr result (TookFront (O.taken out.old) (O.taken out.new) (unique_item key.now flags unique value.now)) }
+    ensures { Writes (unique_item key.now flags unique value.now) result (O.sight out.old) (O.sight out.new) }
 {
     let mut flag_digits = Buffer::new();
     let mut size_digits = Buffer::new();

@@ -1,6 +1,6 @@
 //! The replies that no answer changes.
 ghost use Rattle.std.specs.Prelude.{◌≡◌, IsTrue, OnOk, OnErr};
-ghost use Rattle.mc_wire.specs.Outlet.{with_bytes, TookFront};
+ghost use Rattle.mc_wire.specs.Outlet.{Writes};
 ghost use Rattle.mc_split.specs.Text.{refusal_line, fixed_text, memory_line};
 
 use mc_command::Refusal;
@@ -12,11 +12,7 @@ pub const MEMORY_LINE: &[u8] = b"SERVER_ERROR out of memory\r\n";
 
 /// Writes a reply that no answer changes. Where the outlet fails, it took a beginning of it.
 pub fn put_fixed<O: Outlet>(out: &mut O, fixed: Fixed) -> Result<(), OutFault>
-    ensures input { O.input out.new ≡ O.input out.old }
-    ensures stays { IsTrue (O.has_failed out.old) → IsTrue (O.has_failed out.new) }
-    ensures failed { OnErr result (IsTrue (O.has_failed out.new)) }
-    ensures ok { OnOk result (O.taken out.new ≡ with_bytes (O.taken out.old) (fixed_text fixed)) }
-    ensures err { OnErr result (TookFront (O.taken out.old) (O.taken out.new) (fixed_text fixed)) }
+    ensures { Writes (fixed_text fixed) result (O.sight out.old) (O.sight out.new) }
 {
     put_all(out, fixed_line(fixed))
 }
@@ -54,11 +50,7 @@ fn refused_line(refusal: Refusal) -> &'static [u8]
 
 /// Writes the line of a command that found no memory.
 pub fn put_memory_line<O: Outlet>(out: &mut O) -> Result<(), OutFault>
-    ensures input { O.input out.new ≡ O.input out.old }
-    ensures stays { IsTrue (O.has_failed out.old) → IsTrue (O.has_failed out.new) }
-    ensures failed { OnErr result (IsTrue (O.has_failed out.new)) }
-    ensures ok { OnOk result (O.taken out.new ≡ with_bytes (O.taken out.old) memory_line) }
-    ensures err { OnErr result (TookFront (O.taken out.old) (O.taken out.new) memory_line) }
+    ensures { Writes memory_line result (O.sight out.old) (O.sight out.new) }
 {
     put_all(out, MEMORY_LINE)
 }

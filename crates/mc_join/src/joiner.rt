@@ -2,7 +2,8 @@
 ghost use Rattle.std.specs.Prelude.{◌≡◌, ◌≢◌, ◌<◌, ◌≤◌, ◌+◌, ◌^◌, ◌-◌, ◌∷◌, ◌++◌, [], ℕ, List, true, false, IsTrue, IsOk, IfOk, IfErr, IfSome, IfNone, OnOk, OnErr, Ok, length, min, drop};
 ghost use Rattle.mc_ring.specs.Reply.{Shown, shown};
 ghost use Rattle.mc_split.specs.declared.form.Form.{Form};
-ghost use Rattle.mc_wire.specs.Outlet.{with_bytes, TookFront};
+ghost use Rattle.mc_wire.specs.Outlet.{Writes};
+ghost use Rattle.mc_join.specs.Expects.{Expects};
 ghost use Rattle.mc_join.specs.Held.{AreNumbered, AwaitsAt, IsAwaited, TakesIn, due_text, nothing_held, opened_count};
 ghost use Rattle.mc_join.specs.Joined.{IsJoiner, unhanded};
 ghost use Rattle.mc_join.specs.Length.{capped};
@@ -45,6 +46,7 @@ pub struct Joiner {
 
 impl Model for Joiner {
     ghost use Rattle.std.specs.Prelude.{◌≤◌, ◌+◌, ◌^◌, length};
+    ghost use Rattle.mc_join.specs.Expects.{Expects};
     ghost use Rattle.mc_join.specs.Held.{Held, AreNumbered};
 
     ghost Value = { Held };
@@ -125,6 +127,11 @@ impl Joiner {
         ensures unchanged { OnErr result (self.new ≡ self.old) }
         ensures joined { OnOk result ((opened : List Form) (accepted : List Shown) (handed : List (List ℕ)) →
             IsJoiner self.old opened accepted handed → IsJoiner self.new opened (accepted ++ shown reply ∷ []) handed) }
+        // By the lists of forms opened and replies accepted alone.
+        ensures expected { OnOk result ((opened : List Form) (accepted : List Shown) (handed : List (List ℕ)) →
+            IsJoiner self.old opened accepted handed → Expects opened accepted (shown reply)) }
+        ensures unexpected { OnErr result ((opened : List Form) (accepted : List Shown) (handed : List (List ℕ)) →
+            IsJoiner self.old opened accepted handed → ¬ Expects opened accepted (shown reply)) }
     {
         let Some(place) = self.awaiting(&reply) else {
             return Err(Stranger { reply });
@@ -135,7 +142,9 @@ impl Joiner {
 
     /// How many bytes `hand` would write; a number that stays at its greatest value.
     pub fn ready(&self) -> u64
-        ensures { result ≡ capped (length (due_text self.now)) }
+        ensures count { result ≡ capped (length (due_text self.now)) }
+        ensures turn { (opened : List Form) (accepted : List Shown) (handed : List (List ℕ)) → self.now.gone ≡ false →
+            IsJoiner self.now opened accepted handed → due_text self.now ≡ unhanded opened accepted handed }
     {
         if self.gone {
             return 0;
@@ -145,28 +154,55 @@ impl Joiner {
 
     /// How many tickets are open.
     pub fn waiting(&self) -> usize
-        ensures { result ≡ length self.now.forms }
+        ensures count { result ≡ length self.now.forms }
+        ensures joined { (opened : List Form) (accepted : List Shown) (handed : List (List ℕ)) →
+            IsJoiner self.now opened accepted handed → length handed + result ≡ length opened }
     {
         self.forms.len()
+    }
+
+    /// Whether as many tickets are open as may be.
+    pub fn is_full(&self) -> bool
+        ensures full { IsTrue result → length self.now.forms ≡ self.now.window }
+        ensures room { result ≡ false → length self.now.forms < self.now.window }
+    {
+        self.waiting() >= self.forms.capacity()
+    }
+
+    /// The ticket that is opened next, where tickets have such a number.
+    pub fn next_ticket(&self) -> Option<Ticket>
+        ensures some { IfSome result (λ ticket. ticket.0 ≡ opened_count self.now) }
+        ensures none { IfNone result (opened_count self.now ≡ 2 ^ 64) }
+    {
+        let opened = self.handed + self.waiting() as u128;
+        if opened > u64::MAX as u128 {
+            return None;
+        }
+        Some(Ticket(opened as u64))
+    }
+
+    /// How many of the open tickets, from the first on, have all their answers: so many commands `hand` would pass, a
+    /// silent one among them, as long as the outlet has not failed.
+    pub fn passes(&self) -> usize
+        ensures count { result ≡ length (complete self.now.forms) }
+        ensures joined { (opened : List Form) (accepted : List Shown) (handed : List (List ℕ)) →
+            IsJoiner self.now opened accepted handed → length handed + result ≡ length (replies opened accepted) }
+    {
+        count_complete(&self.forms)
     }
 
     /// Writes the replies whose turn has come, in the order of their tickets, and gives how many commands it passed.
     /// Small replies go out together. After a fault nothing is written any more. Takes no memory.
     pub fn hand<O: Outlet>(&mut self, out: &mut O) -> Result<u64, Gone>
-        ensures input { O.input out.new ≡ O.input out.old }
-        ensures stays { IsTrue (O.has_failed out.old) → IsTrue (O.has_failed out.new) }
-        ensures failed { OnErr result (IsTrue (O.has_failed out.new)) }
         // Once an outlet has failed.
-        ensures silent { IsTrue self.old.gone → (result ≡ Ok 0) × (self.new ≡ self.old) × (O.taken out.new ≡ O.taken out.old) }
+        ensures silent { IsTrue self.old.gone → (result ≡ Ok 0) × (self.new ≡ self.old) × (O.sight out.new ≡ O.sight out.old) }
         // Until then.
         ensures count { self.old.gone ≡ false → IfOk result (λ count. count ≡ length (complete self.old.forms)) }
         ensures left { IfOk result (λ count. self.new ≡ record self.old { handed = self.old.handed + count; forms = drop count self.old.forms }) }
         ensures opened { opened_count self.new ≡ opened_count self.old }
         ensures none_left { self.old.gone ≡ false → OnOk result (complete self.new.forms ≡ []) }
-        ensures written { OnOk result (O.taken out.new ≡ with_bytes (O.taken out.old) (due_text self.old)) }
+        ensures writes { Writes (due_text self.old) result (O.sight out.old) (O.sight out.new) }
         ensures gone { OnErr result (self.new ≡ record self.old { gone = true }) }
-        // The outlet took a beginning of what was due.
-        ensures cut { OnErr result (TookFront (O.taken out.old) (O.taken out.new) (due_text self.old)) }
         // By the lists of forms opened, replies accepted and texts handed.
         ensures turn { (opened : List Form) (accepted : List Shown) (handed : List (List ℕ)) → self.old.gone ≡ false →
             IsJoiner self.old opened accepted handed → due_text self.old ≡ unhanded opened accepted handed }

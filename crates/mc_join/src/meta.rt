@@ -3,15 +3,14 @@ ghost use Rattle.std.specs.Prelude.{◌≡◌, ◌∷◌, [], IsTrue, OnOk, OnEr
 ghost use Rattle.std.specs.List.{concat};
 ghost use Rattle.mc_item.specs.declared.answer.Answer.TheVariants as answers;
 ghost use Rattle.mc_wire.specs.Base64Key.{base64_of};
-ghost use Rattle.mc_wire.specs.Outlet.{with_bytes, TookFront};
+ghost use Rattle.mc_wire.specs.Outlet.{Writes};
 ghost use Rattle.mc_split.specs.Text.{meta_text, coded_text, head_text, value_text, flags_text, flag_text, item_flag, key_flag, left_flag};
 ghost use Rattle.mc_split.specs.Text as spec;
 
 use crate::classic::put_line;
 use itoa::Buffer;
-use mc_command::{MetaFlags, ReturnFlag};
+use mc_command::{MetaFlags, MetaKind, ReturnFlag};
 use mc_item::{Answer, Marks, MetaDone, MetaHit};
-use mc_split::MetaKind;
 use mc_wire::{BASE64_LIMIT, Key, OutFault, Outlet, put_all, put_parts};
 
 /// Writes the reply of a meta command, or nothing where `q` hides it.
@@ -23,11 +22,7 @@ pub fn put_meta<O: Outlet>(
     key: &Option<Key>,
     answer: &Answer,
 ) -> Result<(), OutFault>
-    ensures input { O.input out.new ≡ O.input out.old }
-    ensures stays { IsTrue (O.has_failed out.old) → IsTrue (O.has_failed out.new) }
-    ensures failed { OnErr result (IsTrue (O.has_failed out.new)) }
-    ensures ok { OnOk result (O.taken out.new ≡ with_bytes (O.taken out.old) (meta_text kind flags.now value key.now answer.now)) }
-    ensures err { OnErr result (TookFront (O.taken out.old) (O.taken out.new) (meta_text kind flags.now value key.now answer.now)) }
+    ensures { Writes (meta_text kind flags.now value key.now answer.now) result (O.sight out.old) (O.sight out.new) }
 {
     if flags.quiet && is_hidden(kind, value, answer) {
         return put_all(out, b"");
@@ -57,11 +52,7 @@ fn put_coded<O: Outlet>(
     key: &Option<Key>,
     answer: &Answer,
 ) -> Result<(), OutFault>
-    ensures input { O.input out.new ≡ O.input out.old }
-    ensures stays { IsTrue (O.has_failed out.old) → IsTrue (O.has_failed out.new) }
-    ensures failed { OnErr result (IsTrue (O.has_failed out.new)) }
-    ensures ok { OnOk result (O.taken out.new ≡ with_bytes (O.taken out.old) (coded_text flags.now key.now answer.now value)) }
-    ensures err { OnErr result (TookFront (O.taken out.old) (O.taken out.new) (coded_text flags.now key.now answer.now value)) }
+    ensures { Writes (coded_text flags.now key.now answer.now value) result (O.sight out.old) (O.sight out.new) }
 {
     match answer {
         Answer::MetaHit(hit) => put_found(out, flags, value, key, answer, hit),
@@ -93,11 +84,7 @@ fn put_found<O: Outlet>(
     hit: &MetaHit,
 ) -> Result<(), OutFault>
     requires { answer.now ≡ answers.MetaHit hit.now }
-    ensures input { O.input out.new ≡ O.input out.old }
-    ensures stays { IsTrue (O.has_failed out.old) → IsTrue (O.has_failed out.new) }
-    ensures failed { OnErr result (IsTrue (O.has_failed out.new)) }
-    ensures ok { OnOk result (O.taken out.new ≡ with_bytes (O.taken out.old) (coded_text flags.now key.now answer.now value)) }
-    ensures err { OnErr result (TookFront (O.taken out.old) (O.taken out.new) (coded_text flags.now key.now answer.now value)) }
+    ensures { Writes (coded_text flags.now key.now answer.now value) result (O.sight out.old) (O.sight out.new) }
 {
     let marks = marks_text(hit.marks);
     if value {
@@ -117,11 +104,7 @@ fn put_done<O: Outlet>(
     done: &MetaDone,
 ) -> Result<(), OutFault>
     requires { answer.now ≡ answers.MetaDone done.now }
-    ensures input { O.input out.new ≡ O.input out.old }
-    ensures stays { IsTrue (O.has_failed out.old) → IsTrue (O.has_failed out.new) }
-    ensures failed { OnErr result (IsTrue (O.has_failed out.new)) }
-    ensures ok { OnOk result (O.taken out.new ≡ with_bytes (O.taken out.old) (coded_text flags.now key.now answer.now value)) }
-    ensures err { OnErr result (TookFront (O.taken out.old) (O.taken out.new) (coded_text flags.now key.now answer.now value)) }
+    ensures { Writes (coded_text flags.now key.now answer.now value) result (O.sight out.old) (O.sight out.new) }
 {
     if value {
         let mut digits = Buffer::new();
@@ -141,11 +124,7 @@ fn put_head<O: Outlet>(
     answer: &Answer,
     marks: &[u8],
 ) -> Result<(), OutFault>
-    ensures input { O.input out.new ≡ O.input out.old }
-    ensures stays { IsTrue (O.has_failed out.old) → IsTrue (O.has_failed out.new) }
-    ensures failed { OnErr result (IsTrue (O.has_failed out.new)) }
-    ensures ok { OnOk result (O.taken out.new ≡ with_bytes (O.taken out.old) (head_text code.now (flags_text flags.now key.now answer.now) marks.now)) }
-    ensures err { OnErr result (TookFront (O.taken out.old) (O.taken out.new) (head_text code.now (flags_text flags.now key.now answer.now) marks.now)) }
+    ensures { Writes (head_text code.now (flags_text flags.now key.now answer.now) marks.now) result (O.sight out.old) (O.sight out.new) }
 {
     put_all(out, code)?;
     put_flags(out, flags, key, answer)?;
@@ -161,11 +140,7 @@ fn put_value<O: Outlet>(
     answer: &Answer,
     marks: &[u8],
 ) -> Result<(), OutFault>
-    ensures input { O.input out.new ≡ O.input out.old }
-    ensures stays { IsTrue (O.has_failed out.old) → IsTrue (O.has_failed out.new) }
-    ensures failed { OnErr result (IsTrue (O.has_failed out.new)) }
-    ensures ok { OnOk result (O.taken out.new ≡ with_bytes (O.taken out.old) (value_text value.now (flags_text flags.now key.now answer.now) marks.now)) }
-    ensures err { OnErr result (TookFront (O.taken out.old) (O.taken out.new) (value_text value.now (flags_text flags.now key.now answer.now) marks.now)) }
+    ensures { Writes (value_text value.now (flags_text flags.now key.now answer.now) marks.now) result (O.sight out.old) (O.sight out.new) }
 {
     let mut digits = Buffer::new();
     put_parts(out, &[b"VA ", digits.format(value.len()).as_bytes()])?;
@@ -196,11 +171,7 @@ fn put_flags<O: Outlet>(
     key: &Option<Key>,
     answer: &Answer,
 ) -> Result<(), OutFault>
-    ensures input { O.input out.new ≡ O.input out.old }
-    ensures stays { IsTrue (O.has_failed out.old) → IsTrue (O.has_failed out.new) }
-    ensures failed { OnErr result (IsTrue (O.has_failed out.new)) }
-    ensures ok { OnOk result (O.taken out.new ≡ with_bytes (O.taken out.old) (flags_text flags.now key.now answer.now)) }
-    ensures err { OnErr result (TookFront (O.taken out.old) (O.taken out.new) (flags_text flags.now key.now answer.now)) }
+    ensures { Writes (flags_text flags.now key.now answer.now) result (O.sight out.old) (O.sight out.new) }
 {
     for flag in flags.returned.flags() {
         put_flag(out, flags, key, answer, *flag)?;
@@ -215,11 +186,7 @@ fn put_flag<O: Outlet>(
     answer: &Answer,
     flag: ReturnFlag,
 ) -> Result<(), OutFault>
-    ensures input { O.input out.new ≡ O.input out.old }
-    ensures stays { IsTrue (O.has_failed out.old) → IsTrue (O.has_failed out.new) }
-    ensures failed { OnErr result (IsTrue (O.has_failed out.new)) }
-    ensures ok { OnOk result (O.taken out.new ≡ with_bytes (O.taken out.old) (flag_text flags.now key.now answer.now flag)) }
-    ensures err { OnErr result (TookFront (O.taken out.old) (O.taken out.new) (flag_text flags.now key.now answer.now flag)) }
+    ensures { Writes (flag_text flags.now key.now answer.now flag) result (O.sight out.old) (O.sight out.new) }
 {
     match flag {
         ReturnFlag::Key => put_key(out, flags.base64, key),
@@ -235,11 +202,7 @@ fn put_flag<O: Outlet>(
 
 /// Writes the flag `k`, with ` b` behind a key in base64.
 fn put_key<O: Outlet>(out: &mut O, base64: bool, key: &Option<Key>) -> Result<(), OutFault>
-    ensures input { O.input out.new ≡ O.input out.old }
-    ensures stays { IsTrue (O.has_failed out.old) → IsTrue (O.has_failed out.new) }
-    ensures failed { OnErr result (IsTrue (O.has_failed out.new)) }
-    ensures ok { OnOk result (O.taken out.new ≡ with_bytes (O.taken out.old) (key_flag base64 key.now)) }
-    ensures err { OnErr result (TookFront (O.taken out.old) (O.taken out.new) (key_flag base64 key.now)) }
+    ensures { Writes (key_flag base64 key.now) result (O.sight out.old) (O.sight out.new) }
 {
     match key {
         None => put_all(out, b""),
@@ -253,11 +216,7 @@ fn put_key<O: Outlet>(out: &mut O, base64: bool, key: &Option<Key>) -> Result<()
 
 /// Writes a flag of what was found, stored or changed.
 fn put_item_flag<O: Outlet>(out: &mut O, answer: &Answer, flag: ReturnFlag) -> Result<(), OutFault>
-    ensures input { O.input out.new ≡ O.input out.old }
-    ensures stays { IsTrue (O.has_failed out.old) → IsTrue (O.has_failed out.new) }
-    ensures failed { OnErr result (IsTrue (O.has_failed out.new)) }
-    ensures ok { OnOk result (O.taken out.new ≡ with_bytes (O.taken out.old) (item_flag answer.now flag)) }
-    ensures err { OnErr result (TookFront (O.taken out.old) (O.taken out.new) (item_flag answer.now flag)) }
+    ensures { Writes (item_flag answer.now flag) result (O.sight out.old) (O.sight out.new) }
 {
     match answer {
         Answer::MetaHit(hit) => put_hit_flag(out, hit, flag),
@@ -280,11 +239,7 @@ fn put_item_flag<O: Outlet>(out: &mut O, answer: &Answer, flag: ReturnFlag) -> R
 }
 
 fn put_hit_flag<O: Outlet>(out: &mut O, hit: &MetaHit, flag: ReturnFlag) -> Result<(), OutFault>
-    ensures input { O.input out.new ≡ O.input out.old }
-    ensures stays { IsTrue (O.has_failed out.old) → IsTrue (O.has_failed out.new) }
-    ensures failed { OnErr result (IsTrue (O.has_failed out.new)) }
-    ensures ok { OnOk result (O.taken out.new ≡ with_bytes (O.taken out.old) (item_flag (answers.MetaHit hit.now) flag)) }
-    ensures err { OnErr result (TookFront (O.taken out.old) (O.taken out.new) (item_flag (answers.MetaHit hit.now) flag)) }
+    ensures { Writes (item_flag (answers.MetaHit hit.now) flag) result (O.sight out.old) (O.sight out.new) }
 {
     match flag {
         ReturnFlag::Unique => put_number(out, b" c", hit.unique),
@@ -299,11 +254,7 @@ fn put_hit_flag<O: Outlet>(out: &mut O, hit: &MetaHit, flag: ReturnFlag) -> Resu
 }
 
 fn put_done_flag<O: Outlet>(out: &mut O, done: &MetaDone, flag: ReturnFlag) -> Result<(), OutFault>
-    ensures input { O.input out.new ≡ O.input out.old }
-    ensures stays { IsTrue (O.has_failed out.old) → IsTrue (O.has_failed out.new) }
-    ensures failed { OnErr result (IsTrue (O.has_failed out.new)) }
-    ensures ok { OnOk result (O.taken out.new ≡ with_bytes (O.taken out.old) (item_flag (answers.MetaDone done.now) flag)) }
-    ensures err { OnErr result (TookFront (O.taken out.old) (O.taken out.new) (item_flag (answers.MetaDone done.now) flag)) }
+    ensures { Writes (item_flag (answers.MetaDone done.now) flag) result (O.sight out.old) (O.sight out.new) }
 {
     match flag {
         ReturnFlag::Unique => put_number(out, b" c", done.unique),
@@ -319,11 +270,7 @@ fn put_done_flag<O: Outlet>(out: &mut O, done: &MetaDone, flag: ReturnFlag) -> R
 
 /// Writes the flag `t`: the seconds left, -1 for never.
 fn put_left<O: Outlet>(out: &mut O, left: Option<u64>) -> Result<(), OutFault>
-    ensures input { O.input out.new ≡ O.input out.old }
-    ensures stays { IsTrue (O.has_failed out.old) → IsTrue (O.has_failed out.new) }
-    ensures failed { OnErr result (IsTrue (O.has_failed out.new)) }
-    ensures ok { OnOk result (O.taken out.new ≡ with_bytes (O.taken out.old) (left_flag left)) }
-    ensures err { OnErr result (TookFront (O.taken out.old) (O.taken out.new) (left_flag left)) }
+    ensures { Writes (left_flag left) result (O.sight out.old) (O.sight out.new) }
 {
     match left {
         Some(seconds) => put_number(out, b" t", seconds),
@@ -333,11 +280,7 @@ fn put_left<O: Outlet>(out: &mut O, left: Option<u64>) -> Result<(), OutFault>
 
 /// Writes a flag's letter and its number.
 fn put_number<O: Outlet>(out: &mut O, letter: &[u8], number: u64) -> Result<(), OutFault>
-    ensures input { O.input out.new ≡ O.input out.old }
-    ensures stays { IsTrue (O.has_failed out.old) → IsTrue (O.has_failed out.new) }
-    ensures failed { OnErr result (IsTrue (O.has_failed out.new)) }
-    ensures ok { OnOk result (O.taken out.new ≡ with_bytes (O.taken out.old) (concat (letter.now ∷ decimal number ∷ []))) }
-    ensures err { OnErr result (TookFront (O.taken out.old) (O.taken out.new) (concat (letter.now ∷ decimal number ∷ []))) }
+    ensures { Writes (concat (letter.now ∷ decimal number ∷ [])) result (O.sight out.old) (O.sight out.new) }
 {
     let mut digits = Buffer::new();
     put_parts(out, &[letter, digits.format(number).as_bytes()])

@@ -3,13 +3,14 @@ ghost use Rattle.std.specs.Prelude.{◌≡◌, ◌<◌, ◌≤◌, ℕ, List, []
 ghost use Rattle.std.specs.List.{concat, prefix_len};
 ghost use Rattle.mc_ring.specs.Reply.{shown};
 ghost use Rattle.mc_split.specs.declared.form.Form.{Form};
-ghost use Rattle.mc_wire.specs.Outlet.{with_bytes, TookFront};
+ghost use Rattle.mc_wire.specs.Outlet.{Writes};
 ghost use Rattle.mc_join.specs.Held.{Awaits, Fills, HasPart};
 ghost use Rattle.mc_join.specs.Length.{capped};
 ghost use Rattle.mc_join.specs.Replies.{complete, form_text, is_answered};
 
-use crate::length::reply_len;
+use crate::length::Counter;
 use crate::room::Room;
+use crate::text::put_due;
 use circular_buffer::HeapCircularBuffer;
 use mc_item::Answer;
 use mc_ring::Reply;
@@ -54,11 +55,7 @@ pub(crate) fn put_first<O: Outlet>(
     count: usize,
 ) -> Result<(), OutFault>
     requires { count ≡ prefix_len is_answered forms.now.items }
-    ensures input { O.input out.new ≡ O.input out.old }
-    ensures stays { IsTrue (O.has_failed out.old) → IsTrue (O.has_failed out.new) }
-    ensures failed { OnErr result (IsTrue (O.has_failed out.new)) }
-    ensures ok { OnOk result (O.taken out.new ≡ with_bytes (O.taken out.old) (concat (map form_text (complete forms.now.items)))) }
-    ensures err { OnErr result (TookFront (O.taken out.old) (O.taken out.new) (concat (map form_text (complete forms.now.items)))) }
+    ensures { Writes (concat (map form_text (complete forms.now.items))) result (O.sight out.old) (O.sight out.new) }
 {
     room.clear();
     for index in 0..count {
@@ -80,19 +77,33 @@ pub(crate) fn drop_first(forms: &mut HeapCircularBuffer<Form>, count: usize)
     forms.truncate_front(left);
 }
 
+/// Writes the replies of the first forms, each by itself. Where the outlet fails, it took a beginning of them.
+fn put_each<O: Outlet>(
+    out: &mut O,
+    forms: &HeapCircularBuffer<Form>,
+    count: usize,
+) -> Result<(), OutFault>
+    requires { count ≡ prefix_len is_answered forms.now.items }
+    ensures { Writes (concat (map form_text (complete forms.now.items))) result (O.sight out.old) (O.sight out.new) }
+{
+    for index in 0..count {
+        let Some(form) = forms.get(index) else {
+            unreachable!()
+        };
+        put_due(out, form)?;
+    }
+    Ok(())
+}
+
 /// How long the replies of the first forms are together.
 pub(crate) fn texts_len(forms: &HeapCircularBuffer<Form>, count: usize) -> u64
     requires { count ≡ prefix_len is_answered forms.now.items }
     ensures { result ≡ capped (length (concat (map form_text (complete forms.now.items)))) }
 {
-    let mut len = 0u64;
-    for index in 0..count {
-        let Some(form) = forms.get(index) else {
-            unreachable!()
-        };
-        len = len.saturating_add(reply_len(form));
-    }
-    len
+    let mut counter = Counter::new();
+    // A counter that is full tells the greatest number.
+    let _ = put_each(&mut counter, forms, count);
+    counter.count
 }
 
 /// Whether a form awaits a reply: it has such a part, which has no answer yet, and it is of the reply's kind.

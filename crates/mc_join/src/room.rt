@@ -1,9 +1,10 @@
 //! Small texts are gathered in a room, and go out in one write.
-ghost use Rattle.std.specs.Prelude.{◌≡◌, [], ◌++◌, IsTrue, IfOk, OnOk, OnErr, take, false};
-ghost use Rattle.mc_wire.specs.Outlet.{with_bytes, TookFront};
+ghost use Rattle.std.specs.Prelude.{◌≡◌, [], ◌++◌, IsTrue, IfOk, OnOk, OnErr, take, false, ◌≤◌, length, vec_capacity};
+ghost use Rattle.mc_join.specs.declared.room.TheConstants.{ROOM};
+ghost use Rattle.mc_wire.specs.Outlet.{Writes};
 ghost use Rattle.mc_join.specs.Held.{IsDue};
 ghost use Rattle.mc_join.specs.Replies.{form_text};
-ghost use Rattle.mc_join.specs.Written.{WroteBut};
+ghost use Rattle.mc_join.specs.internal.Written.{WritesBut};
 
 use crate::text::put_due;
 use mc_split::Form;
@@ -19,14 +20,15 @@ pub(crate) struct Room {
     bytes: Vec<u8>,
     /// A text did not fit since the last one was let go.
     full: bool,
+    // So what fits takes no memory.
+    ghost room: { ROOM ≤ vec_capacity bytes },
+    ghost within: { length bytes.items ≤ ROOM },
 }
 
 impl Outlet for Room {
-    ghost use Rattle.std.specs.Prelude.{Some};
+    ghost use Rattle.mc_wire.specs.Outlet.{Listed, sight_out};
 
-    ghost has_failed = { λ room. room.full };
-
-    ghost taken = { λ room. Some room.bytes.items };
+    ghost sight = { λ room. sight_out (Listed room.bytes.items) room.full };
 
     fn write(&mut self, bytes: &[u8]) -> Result<usize, OutFault> {
         if !self.full && bytes.len() <= ROOM.saturating_sub(self.bytes.len()) {
@@ -75,12 +77,8 @@ impl Room {
 
     /// Writes all texts to the outlet, in one write where it takes them so.
     pub(crate) fn send<O: Outlet>(&mut self, out: &mut O) -> Result<(), OutFault>
-        ensures input { O.input out.new ≡ O.input out.old }
-        ensures stays { IsTrue (O.has_failed out.old) → IsTrue (O.has_failed out.new) }
-        ensures failed { OnErr result (IsTrue (O.has_failed out.new)) }
-        ensures ok { OnOk result (O.taken out.new ≡ with_bytes (O.taken out.old) self.old.bytes.items) }
+        ensures writes { Writes self.old.bytes.items result (O.sight out.old) (O.sight out.new) }
         ensures empty { OnOk result (self.new.bytes.items ≡ []) }
-        ensures err { OnErr result (TookFront (O.taken out.old) (O.taken out.new) self.old.bytes.items) }
     {
         put_all(out, self.bytes.as_slice())?;
         self.clear();
@@ -91,11 +89,7 @@ impl Room {
     /// room, it goes out from its answers themselves.
     pub(crate) fn gather<O: Outlet>(&mut self, out: &mut O, form: &Form) -> Result<(), OutFault>
         requires { IsDue form.now }
-        ensures input { O.input out.new ≡ O.input out.old }
-        ensures stays { IsTrue (O.has_failed out.old) → IsTrue (O.has_failed out.new) }
-        ensures failed { OnErr result (IsTrue (O.has_failed out.new)) }
-        ensures ok { OnOk result (WroteBut (O.taken out.old) (O.taken out.new) (self.old.bytes.items ++ form_text form.now) self.new.bytes.items) }
-        ensures err { OnErr result (TookFront (O.taken out.old) (O.taken out.new) (self.old.bytes.items ++ form_text form.now)) }
+        ensures { WritesBut (self.old.bytes.items ++ form_text form.now) result self.new.bytes.items (O.sight out.old) (O.sight out.new) }
     {
         if self.keep(form) {
             return Ok(());

@@ -1,5 +1,6 @@
 //! Replies of a few commands, whose answers come in any order, and outlets that count or fail.
 ghost use Rattle.std.specs.Prelude.{◌≡◌, ◌+◌, ◌≤◌, Some, IfOk, OnOk};
+ghost use Rattle.mc_wire.specs.Outlet.{Listed, sight_out};
 ghost use Rattle.mc_join.specs.Held.{opened_count};
 
 use crate::{Full, Joiner, Stranger};
@@ -22,9 +23,7 @@ struct Memory {
 }
 
 impl Outlet for Memory {
-    ghost has_failed = { λ out. out.failed };
-
-    ghost taken = { λ out. Some out.taken.items };
+    ghost sight = { λ out. sight_out (Listed out.taken.items) out.failed };
 
     fn write(&mut self, bytes: &[u8]) -> Result<usize, OutFault> {
         self.writes = self.writes.wrapping_add(1);
@@ -86,7 +85,7 @@ fn hit(alloc: Global, value: &[u8]) -> Result<Answer, Fail> {
     Ok(Answer::Hit {
         flags: 0,
         unique: 1,
-        value: Value::new(bytes),
+        value: Value::new(bytes)?,
     })
 }
 

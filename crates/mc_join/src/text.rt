@@ -1,11 +1,11 @@
 //! Writes the text of one reply.
 ghost use Rattle.std.specs.Prelude.{◌≡◌, List, IsTrue, OnOk, OnErr, Some, map, Option};
 ghost use Rattle.mc_item.specs.declared.answer.Answer.{Answer};
-ghost use Rattle.mc_wire.specs.Outlet.{with_bytes, TookFront};
+ghost use Rattle.mc_wire.specs.Outlet.{Writes};
 ghost use Rattle.mc_split.specs.Text.{shape_text};
 ghost use Rattle.mc_join.specs.Held.{IsDue};
 ghost use Rattle.mc_join.specs.Replies.{form_text};
-ghost use Rattle.mc_join.specs.Slots.{slots_text};
+ghost use Rattle.mc_join.specs.internal.Slots.{slots_text};
 
 use crate::classic::{any_lacks_memory, put_first_line, put_values};
 use crate::fixed::{put_fixed, put_memory_line};
@@ -16,13 +16,8 @@ use mc_wire::{OutFault, Outlet, put_all};
 
 /// Writes the reply of a form whose parts are all answered. Where the outlet fails, it took a beginning of it.
 pub fn put_reply<O: Outlet>(out: &mut O, form: &Form) -> Result<(), OutFault>
-    ensures input { O.input out.new ≡ O.input out.old }
-    ensures stays { IsTrue (O.has_failed out.old) → IsTrue (O.has_failed out.new) }
-    ensures failed { OnErr result (IsTrue (O.has_failed out.new)) }
-    ensures ok { OnOk result ((answers : List Answer) → form.now.slots ≡ map (λ answer. Some answer) answers →
-        O.taken out.new ≡ with_bytes (O.taken out.old) (shape_text form.now.shape answers)) }
-    ensures err { OnErr result ((answers : List Answer) → form.now.slots ≡ map (λ answer. Some answer) answers →
-        TookFront (O.taken out.old) (O.taken out.new) (shape_text form.now.shape answers)) }
+    ensures { (answers : List Answer) → form.now.slots ≡ map (λ answer. Some answer) answers →
+        Writes (shape_text form.now.shape answers) result (O.sight out.old) (O.sight out.new) }
 {
     put_slots(out, &form.shape, form.slots.answers())
 }
@@ -30,27 +25,19 @@ pub fn put_reply<O: Outlet>(out: &mut O, form: &Form) -> Result<(), OutFault>
 /// Writes the reply of a form whose parts are all answered.
 pub(crate) fn put_due<O: Outlet>(out: &mut O, form: &Form) -> Result<(), OutFault>
     requires { IsDue form.now }
-    ensures input { O.input out.new ≡ O.input out.old }
-    ensures stays { IsTrue (O.has_failed out.old) → IsTrue (O.has_failed out.new) }
-    ensures failed { OnErr result (IsTrue (O.has_failed out.new)) }
-    ensures ok { OnOk result (O.taken out.new ≡ with_bytes (O.taken out.old) (form_text form.now)) }
-    ensures err { OnErr result (TookFront (O.taken out.old) (O.taken out.new) (form_text form.now)) }
+    ensures { Writes (form_text form.now) result (O.sight out.old) (O.sight out.new) }
 {
     put_reply(out, form)
 }
 
 /// Writes the reply of a shape, as far as its slots are filled.
-#[tactic(auto, unfolding(crate::specs::Slots::slots_text))]
+#[tactic(auto, unfolding(crate::specs::internal::Slots::slots_text))]
 fn put_slots<O: Outlet>(
     out: &mut O,
     shape: &Shape,
     slots: &[Option<Answer>],
 ) -> Result<(), OutFault>
-    ensures input { O.input out.new ≡ O.input out.old }
-    ensures stays { IsTrue (O.has_failed out.old) → IsTrue (O.has_failed out.new) }
-    ensures failed { OnErr result (IsTrue (O.has_failed out.new)) }
-    ensures ok { OnOk result (O.taken out.new ≡ with_bytes (O.taken out.old) (slots_text shape.now slots.now)) }
-    ensures err { OnErr result (TookFront (O.taken out.old) (O.taken out.new) (slots_text shape.now slots.now)) }
+    ensures { Writes (slots_text shape.now slots.now) result (O.sight out.old) (O.sight out.new) }
 {
     match shape {
         Shape::Fixed(fixed) => put_fixed(out, *fixed),

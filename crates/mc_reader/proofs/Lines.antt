@@ -5,7 +5,7 @@ use Rattle.std.proofs.lemmas.Bool.Decides.{nat_tests}
 use Rattle.std.proofs.Math.Seq.{take-append_seam}
 use Rattle.memchr.specs.Find.{IsFirstByte, is_byte}
 use Rattle.mc_reader.specs.Spelling.{HasNoEnd}
-use Rattle.mc_reader.specs.State.{EndsAt, IsFirstLine}
+use Rattle.mc_reader.specs.internal.State.{EndsAt, IsFirstLine}
 use Rattle.mc_reader.proofs.Texts.{drop_front}
 
 -- no byte before the first end of a line is one

@@ -1,11 +1,12 @@
 -- What the unread bytes are after each step of the reader's machine.
-use Rattle.std.proofs.Common.{◌≡◌, ℕ, zero, suc, ◌+◌, ◌-◌, ◌<◌, Bool, true, false, List, [], ◌∷◌, ◌++◌, length, take, drop, min, refl, sym, ap, ◌∙◌, arith, append_assoc, append-nil, length-append, length-take, zero-add, add-zero, IsTrue, MatchBool, if◌then◌else◌}
+use Rattle.std.proofs.Common.{◌≡◌, ℕ, zero, suc, ◌+◌, ◌-◌, ◌<◌, ◌≤◌, Bool, true, false, List, [], ◌∷◌, ◌++◌, length, take, drop, min, refl, sym, ap, ◌∙◌, arith, append_assoc, append-nil, length-append, length-take, zero-add, add-zero, IsTrue, MatchBool, if◌then◌else◌}
 use Rattle.std.proofs.lemmas.List.{take-append-drop, drop_all}
 use Rattle.std.proofs.Math.Seq.{take-add}
+use Rattle.mc_wire.specs.declared.TheConstants.{LINE_LIMIT}
 use Rattle.mc_command.specs.declared.command.Command.{Command}
 use Rattle.mc_command.specs.declared.command.Command.TheVariants as command
 use Rattle.mc_command.specs.declared.refusal.Refusal.{Refusal}
-use Rattle.mc_command.specs.declared.refusal.Refusal.TheVariants.{Unknown, BadFormat, BadKey, InvalidFlag, DuplicateFlag, OpaqueTooLong, TooLarge, BadChunk, LineTooLong, Memory}
+use Rattle.mc_command.specs.declared.refusal.Refusal.TheVariants.{BadChunk, LineTooLong, Memory}
 use Rattle.mc_command.specs.declared.line.Line.{Line}
 use Rattle.mc_command.specs.declared.line.Line.TheVariants.{Whole, Data, Refused, Skip}
 use Rattle.mc_command.specs.Command.{can_give_up, is_memory, with_block}
@@ -13,7 +14,7 @@ use Rattle.mc_command.specs.Line.{Says, CanGiveUpBlock, CanGiveUpLine, bytes_beh
 use Rattle.mc_command.proofs.Blocks.{data_stores}
 use Rattle.mc_wire.specs.Words.{words_of}
 use Rattle.mc_reader.specs.Spelling.{HasNoEnd, Spells, SpellsNothing, block_entry, is_block_end, line_says, without_return}
-use Rattle.mc_reader.specs.State.{IsWhole, IsInBlock, IsInSkip}
+use Rattle.mc_reader.specs.internal.State.{IsWhole, IsInBlock, IsInSkip}
 use Rattle.mc_reader.proofs.Texts.{Reads, entry_after, spells, nothing_yet}
 
 -- a piece behind what has come of a block, and behind the bytes that follow it
@@ -35,8 +36,8 @@ none_left n m others piece all none = rw (none, drop_all n piece (omega arith)) 
   none_taken (suc k) = refl
 
 -- A piece comes while a block is read.
-pub block_fed : (asked : Command) (count : ℕ) (bytes others unread piece : List ℕ) (n m : ℕ) → IsInBlock asked count bytes others unread → n ≡ min (count + 2 - length bytes) (length piece) → IsInBlock asked count (bytes ++ take n piece) (others ++ take m (drop n piece)) (unread ++ take (n + m) piece)
-block_fed asked count bytes others unread piece n m part n_is = record {
+pub block_fed : (limit : ℕ) (asked : Command) (count : ℕ) (bytes others unread piece : List ℕ) (n m : ℕ) → IsInBlock limit asked count bytes others unread → n ≡ min (count + 2 - length bytes) (length piece) → IsInBlock limit asked count (bytes ++ take n piece) (others ++ take m (drop n piece)) (unread ++ take (n + m) piece)
+block_fed limit asked count bytes others unread piece n m part n_is = record {
   line = part.line;
   no_end = part.no_end;
   short = part.short;
@@ -46,8 +47,8 @@ block_fed asked count bytes others unread piece n m part n_is = record {
 }
 
 -- A piece comes while bytes are skipped.
-pub skip_fed : (refusal : Refusal) (left after : ℕ) (others unread piece : List ℕ) (n m : ℕ) → IsInSkip refusal left others unread → n ≡ min left (length piece) → after + n ≡ left → IsInSkip refusal after (others ++ take m (drop n piece)) (unread ++ take (n + m) piece)
-skip_fed refusal left after others unread piece n m part n_is after_is =
+pub skip_fed : (limit : ℕ) (refusal : Refusal) (left after : ℕ) (others unread piece : List ℕ) (n m : ℕ) → IsInSkip limit refusal left others unread → n ≡ min left (length piece) → after + n ≡ left → IsInSkip limit refusal after (others ++ take m (drop n piece)) (unread ++ take (n + m) piece)
+skip_fed limit refusal left after others unread piece n m part n_is after_is =
     let long : length (part.skipped ++ take n piece) + after ≡ length part.skipped + left = omega (arith, length-append part.skipped (take n piece), length-take n piece) in
     record {
       line = part.line;
@@ -60,8 +61,8 @@ skip_fed refusal left after others unread piece n m part n_is after_is =
     }
 
 -- A block begins with what the buffer has of it.
-pub block_begun : (line : List ℕ) (asked : Command) (count : ℕ) (others : List ℕ) (n : ℕ) → HasNoEnd line → length line < 65536 → line_says line ≡ Data asked count → n ≡ min (count + 2 - 0) (length others) → IsInBlock asked count (take n others) (drop n others) (line ++ 10 ∷ others)
-block_begun line asked count others n none short says n_is = record {
+pub block_begun : (limit : ℕ) (line : List ℕ) (asked : Command) (count : ℕ) (others : List ℕ) (n : ℕ) → HasNoEnd line → length line < LINE_LIMIT → line_says limit line ≡ Data asked count → n ≡ min (count + 2 - 0) (length others) → IsInBlock limit asked count (take n others) (drop n others) (line ++ 10 ∷ others)
+block_begun limit line asked count others n none short says n_is = record {
   line = line;
   no_end = none;
   short = short;
@@ -71,8 +72,8 @@ block_begun line asked count others n none short says n_is = record {
 }
 
 -- Skipping begins with what the buffer has of it.
-pub skip_begun : (line : List ℕ) (refusal : Refusal) (left after : ℕ) (others : List ℕ) (n : ℕ) → HasNoEnd line → length line < 65536 → Says (line_says line) (Skip refusal left) → n ≡ min left (length others) → after + n ≡ left → IsInSkip refusal after (drop n others) (line ++ 10 ∷ others)
-skip_begun line refusal left after others n none short says n_is after_is =
+pub skip_begun : (limit : ℕ) (line : List ℕ) (refusal : Refusal) (left after : ℕ) (others : List ℕ) (n : ℕ) → HasNoEnd line → length line < LINE_LIMIT → Says (line_says limit line) (Skip refusal left) → n ≡ min left (length others) → after + n ≡ left → IsInSkip limit refusal after (drop n others) (line ++ 10 ∷ others)
+skip_begun limit line refusal left after others n none short says n_is after_is =
     let long : length (take n others) + after ≡ left = omega (arith, length-take n others) in
     record {
       line = line;
@@ -85,12 +86,12 @@ skip_begun line refusal left after others n none short says n_is after_is =
     }
 
 -- a text that begins with a line spells what the line says
-pub lined : (line tail : List ℕ) (entry : Command) → HasNoEnd line → length line < 65536 → length tail ≡ bytes_behind (line_says line) → entry ≡ entry_after (line_says line) tail → Spells (line ++ 10 ∷ tail) entry
-lined line tail entry none short long is = spells (line ++ 10 ∷ tail) entry (Reads.lined line tail (record { text_is = refl; no_end = none; short = short; tail_long = long; entry_is = is }))
+pub lined : (limit : ℕ) (line tail : List ℕ) (entry : Command) → HasNoEnd line → length line < LINE_LIMIT → length tail ≡ bytes_behind (line_says limit line) → entry ≡ entry_after (line_says limit line) tail → Spells limit (line ++ 10 ∷ tail) entry
+lined limit line tail entry none short long is = spells limit (line ++ 10 ∷ tail) entry (Reads.lined line tail (record { text_is = refl; no_end = none; short = short; tail_long = long; entry_is = is }))
 
 -- what is spelled by a line and the bytes behind it, and shown as it is
-itself : (line tail others unread : List ℕ) (entry : Command) → unread ≡ line ++ 10 ∷ (tail ++ others) → Spells (line ++ 10 ∷ tail) entry → IsWhole entry others unread
-itself line tail others unread entry is spelled = record {
+itself : (limit : ℕ) (line tail others unread : List ℕ) (entry : Command) → unread ≡ line ++ 10 ∷ (tail ++ others) → Spells limit (line ++ 10 ∷ tail) entry → IsWhole limit entry others unread
+itself limit line tail others unread entry is spelled = record {
   text = line ++ 10 ∷ tail;
   one = record { entry = entry; given_up = false };
   unread_are = is ∙ sym (append_assoc line (10 ∷ tail) others);
@@ -98,9 +99,9 @@ itself line tail others unread entry is spelled = record {
   given = record { shown_is = refl; may = tt };
 }
 
--- what is given up for want of memory
-given_up : (line tail others unread : List ℕ) (entry : Command) (refusal : Refusal) → unread ≡ line ++ 10 ∷ (tail ++ others) → Spells (line ++ 10 ∷ tail) entry → refusal ≡ Memory → IsTrue (can_give_up entry) → IsWhole (command.Refused refusal) others unread
-given_up line tail others unread entry refusal is spelled memory may = record {
+-- what is given up because memory ran out
+given_up : (limit : ℕ) (line tail others unread : List ℕ) (entry : Command) (refusal : Refusal) → unread ≡ line ++ 10 ∷ (tail ++ others) → Spells limit (line ++ 10 ∷ tail) entry → refusal ≡ Memory → IsTrue (can_give_up entry) → IsWhole limit (command.Refused refusal) others unread
+given_up limit line tail others unread entry refusal is spelled memory may = record {
   text = line ++ 10 ∷ tail;
   one = record { entry = entry; given_up = true };
   unread_are = is ∙ sym (append_assoc line (10 ∷ tail) others);
@@ -109,64 +110,62 @@ given_up line tail others unread entry refusal is spelled memory may = record {
 }
 
 the_memory : (refusal : Refusal) → is_memory refusal ≡ true → refusal ≡ Memory
-the_memory Unknown e = cc
-the_memory BadFormat e = cc
-the_memory BadKey e = cc
-the_memory InvalidFlag e = cc
-the_memory DuplicateFlag e = cc
-the_memory OpaqueTooLong e = cc
-the_memory TooLarge e = cc
-the_memory BadChunk e = cc
-the_memory LineTooLong e = cc
 the_memory Memory e = refl
+the_memory other e = cc
 
 -- A line without a block is a command.
-pub whole_line : (line others : List ℕ) (entry : Command) → HasNoEnd line → length line < 65536 → line_says line ≡ Whole entry → IsWhole entry others (line ++ 10 ∷ others)
-whole_line line others entry none short says = itself line [] others (line ++ 10 ∷ others) entry refl (lined line [] entry none short (rw says refl) (rw says refl))
+pub whole_line : (limit : ℕ) (line others : List ℕ) (entry : Command) → HasNoEnd line → length line < LINE_LIMIT → line_says limit line ≡ Whole entry → IsWhole limit entry others (line ++ 10 ∷ others)
+whole_line limit line others entry none short says = itself limit line [] others (line ++ 10 ∷ others) entry refl (lined limit line [] entry none short (rw says refl) (rw says refl))
 
 -- A line without a block is refused, or given up.
-pub whole_refused : (line others : List ℕ) (refusal : Refusal) → HasNoEnd line → length line < 65536 → Says (line_says line) (Refused refusal) → IsWhole (command.Refused refusal) others (line ++ 10 ∷ others)
-whole_refused line others refusal none short says = go (is_memory refusal) refl says where
-  by_line : (said : Line) → line_says line ≡ said → refusal ≡ Memory → CanGiveUpLine said → IsWhole (command.Refused refusal) others (line ++ 10 ∷ others)
-  by_line (Whole entry) e memory may = given_up line [] others (line ++ 10 ∷ others) entry refusal refl (lined line [] entry none short (rw e refl) (rw e refl)) memory may
-  by_line (Refused other) e memory may = given_up line [] others (line ++ 10 ∷ others) (command.Refused other) refusal refl (lined line [] (command.Refused other) none short (rw e refl) (rw e refl)) memory may
+pub whole_refused : (limit : ℕ) (line others : List ℕ) (refusal : Refusal) → HasNoEnd line → length line < LINE_LIMIT → Says (line_says limit line) (Refused refusal) → IsWhole limit (command.Refused refusal) others (line ++ 10 ∷ others)
+whole_refused limit line others refusal none short says = go (is_memory refusal) refl says where
+  by_line : (said : Line) → line_says limit line ≡ said → refusal ≡ Memory → CanGiveUpLine said → IsWhole limit (command.Refused refusal) others (line ++ 10 ∷ others)
+  by_line (Whole entry) e memory may = given_up limit line [] others (line ++ 10 ∷ others) entry refusal refl (lined limit line [] entry none short (rw e refl) (rw e refl)) memory may
+  by_line (Refused other) e memory may = given_up limit line [] others (line ++ 10 ∷ others) (command.Refused other) refusal refl (lined limit line [] (command.Refused other) none short (rw e refl) (rw e refl)) memory may
   by_line (Data asked count) e memory may = absurd may
   by_line (Skip other count) e memory may = absurd may
 
-  go : (test : Bool) → is_memory refusal ≡ test → MatchBool test (CanGiveUpLine (line_says line)) (line_says line ≡ Refused refusal) → IsWhole (command.Refused refusal) others (line ++ 10 ∷ others)
-  go true t may = by_line (line_says line) refl (the_memory refusal t) may
-  go false t e = itself line [] others (line ++ 10 ∷ others) (command.Refused refusal) refl (lined line [] (command.Refused refusal) none short (rw e refl) (rw e refl))
+  go : (test : Bool) → is_memory refusal ≡ test → MatchBool test (CanGiveUpLine (line_says limit line)) (line_says limit line ≡ Refused refusal) → IsWhole limit (command.Refused refusal) others (line ++ 10 ∷ others)
+  go true t may = by_line (line_says limit line) refl (the_memory refusal t) may
+  go false t e = itself limit line [] others (line ++ 10 ∷ others) (command.Refused refusal) refl (lined limit line [] (command.Refused refusal) none short (rw e refl) (rw e refl))
 
 -- All of a block has come.
-pub whole_block : (asked : Command) (count : ℕ) (bytes others unread : List ℕ) → IsInBlock asked count bytes others unread → length bytes ≡ count + 2 → IsWhole (block_entry asked count bytes) others unread
-whole_block asked count bytes others unread part long =
+pub whole_block : (limit : ℕ) (asked : Command) (count : ℕ) (bytes others unread : List ℕ) → IsInBlock limit asked count bytes others unread → length bytes ≡ count + 2 → IsWhole limit (block_entry asked count bytes) others unread
+whole_block limit asked count bytes others unread part long =
     let says = part.says in
-    itself part.line bytes others unread (block_entry asked count bytes) part.unread_are (lined part.line bytes (block_entry asked count bytes) part.no_end part.short (rw says long) (rw says refl))
+    itself limit part.line bytes others unread (block_entry asked count bytes) part.unread_are (lined limit part.line bytes (block_entry asked count bytes) part.no_end part.short (rw says long) (rw says refl))
 
 still_given_up : (asked : Command) (block : List ℕ) → IsTrue (can_give_up asked) → IsTrue (can_give_up (with_block asked block))
 still_given_up (command.Store storage) block h = refl
 still_given_up (command.MetaSet set) block h = refl
-still_given_up (command.Get retrieval) block h = h
-still_given_up (command.Delete key noreply) block h = h
-still_given_up (command.Count key direction amount noreply) block h = h
-still_given_up (command.Touch key exptime noreply) block h = h
-still_given_up (command.FlushAll delay noreply) block h = h
-still_given_up command.Version block h = h
-still_given_up (command.Verbosity noreply) block h = h
-still_given_up command.Quit block h = h
-still_given_up command.MetaNoop block h = h
-still_given_up (command.MetaGet get) block h = h
-still_given_up (command.MetaDelete delete) block h = h
-still_given_up (command.MetaArithmetic arithmetic) block h = h
-still_given_up (command.Refused refusal) block h = h
+still_given_up other block h = h
 
 block_given_up : (asked : Command) (count : ℕ) (bytes : List ℕ) → IsTrue (can_give_up asked) → IsTrue (can_give_up (block_entry asked count bytes))
 block_given_up asked count bytes h =
     elim (is_block_end (drop count bytes)) as (λ test. IsTrue (can_give_up (if test then with_block asked (take count bytes) else command.Refused BadChunk))) [ true ↦ still_given_up asked (take count bytes) h | false ↦ refl ]
 
+-- A line whose block lies behind it is a command, or given up.
+pub whole_at_once : (limit : ℕ) (line : List ℕ) (asked : Command) (count : ℕ) (behind : List ℕ) → HasNoEnd line → length line < LINE_LIMIT → line_says limit line ≡ Data asked count → count + 2 ≤ length behind →
+    IsWhole limit (block_entry asked count (take (count + 2) behind)) (drop (count + 2) behind) (line ++ 10 ∷ behind)
+whole_at_once limit line asked count behind none short says enough =
+    let tail = take (count + 2) behind in
+    let long : length tail ≡ count + 2 = omega (arith, length-take (count + 2) behind) in
+    itself limit line tail (drop (count + 2) behind) (line ++ 10 ∷ behind) (block_entry asked count tail) (ap (λ xs. line ++ 10 ∷ xs) (sym (take-append-drop (count + 2) behind)))
+    (lined limit line tail (block_entry asked count tail) none short (rw says long) (rw says refl))
+
+pub given_up_at_once : (limit : ℕ) (line : List ℕ) (asked : Command) (count : ℕ) (behind : List ℕ) → HasNoEnd line → length line < LINE_LIMIT → line_says limit line ≡ Data asked count → count + 2 ≤ length behind →
+    IsWhole limit (command.Refused Memory) (drop (count + 2) behind) (line ++ 10 ∷ behind)
+given_up_at_once limit line asked count behind none short says enough =
+    let tail = take (count + 2) behind in
+    let long : length tail ≡ count + 2 = omega (arith, length-take (count + 2) behind) in
+    given_up limit line tail (drop (count + 2) behind) (line ++ 10 ∷ behind) (block_entry asked count tail) Memory (ap (λ xs. line ++ 10 ∷ xs) (sym (take-append-drop (count + 2) behind)))
+    (lined limit line tail (block_entry asked count tail) none short (rw says long) (rw says refl)) refl
+    (block_given_up asked count tail (data_stores limit (words_of (without_return line)) asked count says))
+
 -- All bytes that are skipped have come.
-pub whole_skip : (refusal : Refusal) (others unread : List ℕ) → IsInSkip refusal 0 others unread → IsWhole (command.Refused refusal) others unread
-whole_skip refusal others unread part = go (is_memory refusal) refl part.says where
+pub whole_skip : (limit : ℕ) (refusal : Refusal) (others unread : List ℕ) → IsInSkip limit refusal 0 others unread → IsWhole limit (command.Refused refusal) others unread
+whole_skip limit refusal others unread part = go (is_memory refusal) refl part.says where
   line : List ℕ
   line = part.line
 
@@ -176,27 +175,27 @@ whole_skip refusal others unread part = go (is_memory refusal) refl part.says wh
   n_is : n ≡ length part.skipped
   n_is = add-zero (length part.skipped)
 
-  spelled : (entry : Command) → length part.skipped ≡ bytes_behind (line_says line) → entry ≡ entry_after (line_says line) part.skipped → Spells (line ++ 10 ∷ part.skipped) entry
-  spelled entry long is = lined line part.skipped entry part.no_end part.short long is
+  spelled : (entry : Command) → length part.skipped ≡ bytes_behind (line_says limit line) → entry ≡ entry_after (line_says limit line) part.skipped → Spells limit (line ++ 10 ∷ part.skipped) entry
+  spelled entry long is = lined limit line part.skipped entry part.no_end part.short long is
 
-  by_line : (said : Line) → line_says line ≡ said → refusal ≡ Memory → CanGiveUpBlock said n → IsWhole (command.Refused refusal) others unread
+  by_line : (said : Line) → line_says limit line ≡ said → refusal ≡ Memory → CanGiveUpBlock said n → IsWhole limit (command.Refused refusal) others unread
   by_line (Data asked count) e memory may =
-      given_up line part.skipped others unread (block_entry asked count part.skipped) refusal part.unread_are
+      given_up limit line part.skipped others unread (block_entry asked count part.skipped) refusal part.unread_are
       (spelled (block_entry asked count part.skipped) (rw e (sym n_is ∙ may)) (rw e refl)) memory
-      (block_given_up asked count part.skipped (data_stores (words_of (without_return line)) asked count e))
+      (block_given_up asked count part.skipped (data_stores limit (words_of (without_return line)) asked count e))
   by_line (Skip other count) e memory may =
-      given_up line part.skipped others unread (command.Refused other) refusal part.unread_are
+      given_up limit line part.skipped others unread (command.Refused other) refusal part.unread_are
       (spelled (command.Refused other) (rw e (sym n_is ∙ may.0)) (rw e refl)) memory may.1
   by_line (Whole entry) e memory may = absurd may
   by_line (Refused other) e memory may = absurd may
 
-  go : (test : Bool) → is_memory refusal ≡ test → MatchBool test (CanGiveUpBlock (line_says line) n) (line_says line ≡ Skip refusal n) → IsWhole (command.Refused refusal) others unread
-  go true t may = by_line (line_says line) refl (the_memory refusal t) may
-  go false t e = itself line part.skipped others unread (command.Refused refusal) part.unread_are (spelled (command.Refused refusal) (rw e (sym n_is)) (rw e refl))
+  go : (test : Bool) → is_memory refusal ≡ test → MatchBool test (CanGiveUpBlock (line_says limit line) n) (line_says limit line ≡ Skip refusal n) → IsWhole limit (command.Refused refusal) others unread
+  go true t may = by_line (line_says limit line) refl (the_memory refusal t) may
+  go false t e = itself limit line part.skipped others unread (command.Refused refusal) part.unread_are (spelled (command.Refused refusal) (rw e (sym n_is)) (rw e refl))
 
 -- A line that is too long.
-pub whole_long : (bytes : List ℕ) → HasNoEnd bytes → length bytes ≡ 65536 → IsWhole (command.Refused LineTooLong) [] bytes
-whole_long bytes none full = record {
+pub whole_long : (limit : ℕ) (bytes : List ℕ) → HasNoEnd bytes → length bytes ≡ LINE_LIMIT → IsWhole limit (command.Refused LineTooLong) [] bytes
+whole_long limit bytes none full = record {
   text = bytes;
   one = record { entry = command.Refused LineTooLong; given_up = false };
   unread_are = sym (append-nil bytes);
@@ -205,11 +204,11 @@ whole_long bytes none full = record {
 }
 
 -- While a block comes, nothing is spelled.
-pub nothing_in_block : (asked : Command) (count : ℕ) (bytes others unread : List ℕ) → IsInBlock asked count bytes others unread → length bytes < count + 2 → SpellsNothing unread
-nothing_in_block asked count bytes others unread part few =
+pub nothing_in_block : (limit : ℕ) (asked : Command) (count : ℕ) (bytes others unread : List ℕ) → IsInBlock limit asked count bytes others unread → length bytes < count + 2 → SpellsNothing limit unread
+nothing_in_block limit asked count bytes others unread part few =
     let says = part.says in
     let none = part.behind few in
-    rw part.unread_are (nothing_yet part.line (bytes ++ others) part.no_end part.short (rw (says, none, append-nil bytes) few))
+    rw part.unread_are (nothing_yet limit part.line (bytes ++ others) part.no_end part.short (rw (says, none, append-nil bytes) few))
 
 skip_long : (said : Line) (refusal : Refusal) (n : ℕ) → Says said (Skip refusal n) → bytes_behind said ≡ n
 skip_long said refusal n says = go (is_memory refusal) says where
@@ -224,8 +223,8 @@ skip_long said refusal n says = go (is_memory refusal) says where
   go false e = ap bytes_behind e
 
 -- While bytes are skipped, nothing is spelled.
-pub nothing_in_skip : (refusal : Refusal) (left : ℕ) (others unread : List ℕ) → IsInSkip refusal left others unread → 0 < left → SpellsNothing unread
-nothing_in_skip refusal left others unread part more =
-    let long = skip_long (line_says part.line) refusal (length part.skipped + left) part.says in
+pub nothing_in_skip : (limit : ℕ) (refusal : Refusal) (left : ℕ) (others unread : List ℕ) → IsInSkip limit refusal left others unread → 0 < left → SpellsNothing limit unread
+nothing_in_skip limit refusal left others unread part more =
+    let long = skip_long (line_says limit part.line) refusal (length part.skipped + left) part.says in
     let none = part.behind more in
-    rw part.unread_are (nothing_yet part.line (part.skipped ++ others) part.no_end part.short (rw (long, none, append-nil part.skipped) (omega arith)))
+    rw part.unread_are (nothing_yet limit part.line (part.skipped ++ others) part.no_end part.short (rw (long, none, append-nil part.skipped) (omega arith)))

@@ -1,5 +1,6 @@
 -- Worked texts with what they spell, and worked streams with their commands.
 use Rattle.std.proofs.Common.{◌≡◌, ℕ, ◌<◌, Bool, true, false, ◌||◌, List, [], ◌∷◌, ◌++◌, length, ◌==◌, refl, codes, pos, lit<}
+use Rattle.mc_wire.specs.declared.TheConstants.{DEFAULT_VALUE_LIMIT, LINE_LIMIT}
 use Rattle.mc_wire.specs.Number.{number_of}
 use Rattle.mc_wire.specs.Words.{words_of}
 use Rattle.mc_command.specs.declared.command.Command.{Command}
@@ -27,74 +28,74 @@ no_end [] e = tt
 no_end (x ∷ xs) e = let parts = both_false (x == 10) (has_end xs) e in (parts.0, no_end xs parts.1)
 
 -- a line with the bytes behind it
-spelled : (line tail : List ℕ) (entry : Command) → has_end line ≡ false → length line < 65536 → length tail ≡ bytes_behind (line_says line) → entry ≡ entry_after (line_says line) tail → Spells (line ++ 10 ∷ tail) entry
-spelled line tail entry none short long is = lined line tail entry (no_end line none) short long is
+spelled : (line tail : List ℕ) (entry : Command) → has_end line ≡ false → length line < LINE_LIMIT → length tail ≡ bytes_behind (line_says DEFAULT_VALUE_LIMIT line) → entry ≡ entry_after (line_says DEFAULT_VALUE_LIMIT line) tail → Spells DEFAULT_VALUE_LIMIT (line ++ 10 ∷ tail) entry
+spelled line tail entry none short long is = lined DEFAULT_VALUE_LIMIT line tail entry (no_end line none) short long is
 
 abbrev stored : List ℕ → ℕ → List ℕ → Command
 stored key flags bytes = command.Store (record { key = key; mode = Set; flags = flags; exptime = pos 0; noreply = false; block = bytes })
 
 -- a line, ended by CR LF or by LF alone
-noop : Spells (codes "mn\r\n") command.MetaNoop
+noop : Spells DEFAULT_VALUE_LIMIT (codes "mn\r\n") command.MetaNoop
 unfolding line_of words_of name_of
 noop = spelled (codes "mn\r") [] command.MetaNoop refl (lit< tt) refl refl
 
-bare_noop : Spells (codes "mn\n") command.MetaNoop
+bare_noop : Spells DEFAULT_VALUE_LIMIT (codes "mn\n") command.MetaNoop
 unfolding line_of words_of name_of
 bare_noop = spelled (codes "mn") [] command.MetaNoop refl (lit< tt) refl refl
 
 -- a line without words
-blank : Spells (codes "\r\n") (command.Refused Unknown)
+blank : Spells DEFAULT_VALUE_LIMIT (codes "\r\n") (command.Refused Unknown)
 unfolding line_of words_of name_of
 blank = spelled (codes "\r") [] (command.Refused Unknown) refl (lit< tt) refl refl
 
 -- a line and its block
-set : Spells (codes "set a 5 0 3\r\nabc\r\n") (stored (codes "a") 5 (codes "abc"))
+set : Spells DEFAULT_VALUE_LIMIT (codes "set a 5 0 3\r\nabc\r\n") (stored (codes "a") 5 (codes "abc"))
 unfolding line_of words_of name_of number_of is_key
 set = spelled (codes "set a 5 0 3\r") (codes "abc\r\n") (stored (codes "a") 5 (codes "abc")) refl (lit< tt) refl refl
 
-empty_value : Spells (codes "set b 0 0 0\r\n\r\n") (stored (codes "b") 0 [])
+empty_value : Spells DEFAULT_VALUE_LIMIT (codes "set b 0 0 0\r\n\r\n") (stored (codes "b") 0 [])
 unfolding line_of words_of name_of number_of is_key
 empty_value = spelled (codes "set b 0 0 0\r") (codes "\r\n") (stored (codes "b") 0 []) refl (lit< tt) refl refl
 
 -- line ends and lines in a block are bytes of it
-line_in_block : Spells (codes "set a 0 0 6\r\nget a\n\r\n") (stored (codes "a") 0 (codes "get a\n"))
+line_in_block : Spells DEFAULT_VALUE_LIMIT (codes "set a 0 0 6\r\nget a\n\r\n") (stored (codes "a") 0 (codes "get a\n"))
 unfolding line_of words_of name_of number_of is_key
 line_in_block = spelled (codes "set a 0 0 6\r") (codes "get a\n\r\n") (stored (codes "a") 0 (codes "get a\n")) refl (lit< tt) refl refl
 
 -- a block is as long as its line says, whatever stands behind it
-bad_chunk : Spells (codes "set a 0 0 3\r\nabcde") (command.Refused BadChunk)
+bad_chunk : Spells DEFAULT_VALUE_LIMIT (codes "set a 0 0 3\r\nabcde") (command.Refused BadChunk)
 unfolding line_of words_of name_of number_of is_key
 bad_chunk = spelled (codes "set a 0 0 3\r") (codes "abcde") (command.Refused BadChunk) refl (lit< tt) refl refl
 
-bare_end : Spells (codes "set a 0 0 1\r\nx\nm") (command.Refused BadChunk)
+bare_end : Spells DEFAULT_VALUE_LIMIT (codes "set a 0 0 1\r\nx\nm") (command.Refused BadChunk)
 unfolding line_of words_of name_of number_of is_key
 bare_end = spelled (codes "set a 0 0 1\r") (codes "x\nm") (command.Refused BadChunk) refl (lit< tt) refl refl
 
 -- a refused line whose count can be read takes its block along, without a look at its end; another doesn't
-skipped : Spells (codes "set a x 0 3\r\nabcde") (command.Refused BadFormat)
+skipped : Spells DEFAULT_VALUE_LIMIT (codes "set a x 0 3\r\nabcde") (command.Refused BadFormat)
 unfolding line_of words_of name_of number_of is_key
 skipped = spelled (codes "set a x 0 3\r") (codes "abcde") (command.Refused BadFormat) refl (lit< tt) refl refl
 
-none_skipped : Spells (codes "set a 0 0 y\r\n") (command.Refused BadFormat)
+none_skipped : Spells DEFAULT_VALUE_LIMIT (codes "set a 0 0 y\r\n") (command.Refused BadFormat)
 unfolding line_of words_of name_of number_of is_key
 none_skipped = spelled (codes "set a 0 0 y\r") [] (command.Refused BadFormat) refl (lit< tt) refl refl
 
-too_large : (bytes : List ℕ) → length bytes ≡ 1048579 → Spells (codes "set a 0 0 1048577\r\n" ++ bytes) (command.Refused TooLarge)
+too_large : (bytes : List ℕ) → length bytes ≡ 1048579 → Spells DEFAULT_VALUE_LIMIT (codes "set a 0 0 1048577\r\n" ++ bytes) (command.Refused TooLarge)
 unfolding line_of words_of name_of number_of is_key
 too_large bytes long = spelled (codes "set a 0 0 1048577\r") bytes (command.Refused TooLarge) refl (lit< tt) long refl
 
-quit : Spells (codes "quit\r\n") command.Quit
+quit : Spells DEFAULT_VALUE_LIMIT (codes "quit\r\n") command.Quit
 unfolding line_of words_of name_of
 quit = spelled (codes "quit\r") [] command.Quit refl (lit< tt) refl refl
 
 -- nothing behind quit is a command
-quit_closes : AreCommands (codes "mn\r\nquit\r\nmn\r\n") (command.MetaNoop ∷ command.Quit ∷ [])
+quit_closes : AreCommands DEFAULT_VALUE_LIMIT (codes "mn\r\nquit\r\nmn\r\n") (command.MetaNoop ∷ command.Quit ∷ [])
 quit_closes = (codes "mn\r\n", (codes "mn\r\n", codes "quit\r\nmn\r\n", refl, noop, (codes "quit\r\n", codes "mn\r\n", refl, quit, (refl, refl))), tt)
 
 -- a stream that stops in a line, and one that stops in a block
-unfinished_line : AreCommands (codes "mn\r\nget a") (command.MetaNoop ∷ [])
-unfinished_line = (codes "get a", (codes "mn\r\n", codes "get a", refl, noop, refl), nothing_without_end (codes "get a") (no_end (codes "get a") refl) (lit< tt))
+unfinished_line : AreCommands DEFAULT_VALUE_LIMIT (codes "mn\r\nget a") (command.MetaNoop ∷ [])
+unfinished_line = (codes "get a", (codes "mn\r\n", codes "get a", refl, noop, refl), nothing_without_end DEFAULT_VALUE_LIMIT (codes "get a") (no_end (codes "get a") refl) (lit< tt))
 
-unfinished_block : AreCommands (codes "set a 0 0 5\r\nab") []
+unfinished_block : AreCommands DEFAULT_VALUE_LIMIT (codes "set a 0 0 5\r\nab") []
 unfolding line_of words_of name_of number_of is_key
-unfinished_block = (codes "set a 0 0 5\r\nab", refl, nothing_yet (codes "set a 0 0 5\r") (codes "ab") (no_end (codes "set a 0 0 5\r") refl) (lit< tt) (lit< tt))
+unfinished_block = (codes "set a 0 0 5\r\nab", refl, nothing_yet DEFAULT_VALUE_LIMIT (codes "set a 0 0 5\r") (codes "ab") (no_end (codes "set a 0 0 5\r") refl) (lit< tt) (lit< tt))

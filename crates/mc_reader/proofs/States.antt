@@ -5,6 +5,7 @@ use Rattle.std.proofs.lemmas.Bool.Decides.{nat_tests}
 use Rattle.std.specs.Option.{IfNone, is_some}
 use Rattle.std.specs.Vec.{vec_len}
 use Rattle.memchr.specs.Find.{IsFirstByte, is_byte}
+use Rattle.mc_wire.specs.declared.TheConstants.{LINE_LIMIT}
 use Rattle.mc_command.specs.declared.command.Command.{Command}
 use Rattle.mc_command.specs.declared.command.Command.TheVariants as command
 use Rattle.mc_command.specs.declared.refusal.Refusal.{Refusal}
@@ -16,46 +17,46 @@ use Rattle.mc_reader.specs.declared.block.Skipped.{Skipped}
 use Rattle.mc_reader.specs.declared.state.State.{State}
 use Rattle.mc_reader.specs.declared.state.State.TheVariants as state
 use Rattle.mc_reader.specs.Spelling.{HasNoEnd, SpellsNothing, block_entry, line_says}
-use Rattle.mc_reader.specs.State.{Completes, EndsAt, Holds, IsFirstLine, IsInBlock, IsInSkip, IsWhole, SpellsSomething, Waits, is_opened}
+use Rattle.mc_reader.specs.internal.State.{Completes, EndsAt, Holds, IsFirstLine, IsInBlock, IsInSkip, IsWhole, SpellsSomething, Waits, is_opened}
 use Rattle.mc_reader.proofs.Lines.{at_line, line_in, ends_behind, ends_found, ends_more, no_end_append}
 use Rattle.mc_reader.proofs.Machine.{block_begun, block_fed, lined, nothing_in_block, nothing_in_skip, skip_begun, skip_fed, whole_block, whole_line, whole_long, whole_refused, whole_skip}
 use Rattle.mc_reader.proofs.Texts.{entry_after, nothing_without_end, nothing_yet, something}
 
 -- Where not all has come, nothing is spelled.
-pub nothing_awaited : (s : State) (buffer unread : List ℕ) → (Completes s buffer → ⊥) → IsTrue (is_opened s) → Holds s buffer unread → SpellsNothing unread × Waits s buffer
-nothing_awaited (state.Line None) buffer unread more opened h =
-    let short : length buffer < 65536 = omega (arith, h.1, more) in
-    (rw h.0 (nothing_without_end buffer h.2 short), short)
-nothing_awaited (state.Line (Some long)) buffer unread more opened h = absurd cc
-nothing_awaited (state.Block block) buffer unread more opened h =
+pub nothing_awaited : (limit : ℕ) (s : State) (buffer unread : List ℕ) → (Completes s buffer → ⊥) → IsTrue (is_opened s) → Holds limit s buffer unread → SpellsNothing limit unread × Waits s buffer
+nothing_awaited limit (state.Line None) buffer unread more opened h =
+    let short : length buffer < LINE_LIMIT = omega (arith, h.1, more) in
+    (rw h.0 (nothing_without_end limit buffer h.2 short), short)
+nothing_awaited limit (state.Line (Some long)) buffer unread more opened h = absurd cc
+nothing_awaited limit (state.Block block) buffer unread more opened h =
     let few : length block.bytes.items < block.count + 2 = omega (arith, more) in
-    (nothing_in_block block.command block.count block.bytes.items buffer unread h few, few)
-nothing_awaited (state.Skip skipped) buffer unread more opened h =
+    (nothing_in_block limit block.command block.count block.bytes.items buffer unread h few, few)
+nothing_awaited limit (state.Skip skipped) buffer unread more opened h =
     let few : 0 < skipped.left = omega (arith, more) in
-    (nothing_in_skip skipped.refusal skipped.left buffer unread h few, few)
-nothing_awaited state.Closed buffer unread more opened h = absurd h
+    (nothing_in_skip limit skipped.refusal skipped.left buffer unread h few, few)
+nothing_awaited limit state.Closed buffer unread more opened h = absurd h
 
-pub finished_line : (s : State) (buffer after unread : List ℕ) (long : Option ℕ) → s ≡ state.Line long → Completes s buffer → IsTrue (is_opened s) → Holds s buffer unread → after ≡ [] → IsWhole (command.Refused LineTooLong) after unread
-finished_line (state.Line None) buffer after unread long e full opened h none = rw (none, h.0) (whole_long buffer h.2 full)
-finished_line (state.Line (Some n)) buffer after unread long e full opened h none = absurd cc
-finished_line (state.Block block) buffer after unread long e full opened h none = absurd cc
-finished_line (state.Skip skipped) buffer after unread long e full opened h none = absurd cc
-finished_line state.Closed buffer after unread long e full opened h none = absurd cc
+pub finished_line : (limit : ℕ) (s : State) (buffer after unread : List ℕ) (long : Option ℕ) → s ≡ state.Line long → Completes s buffer → IsTrue (is_opened s) → Holds limit s buffer unread → after ≡ [] → IsWhole limit (command.Refused LineTooLong) after unread
+finished_line limit (state.Line None) buffer after unread long e full opened h none = rw (none, h.0) (whole_long limit buffer h.2 full)
+finished_line limit (state.Line (Some n)) buffer after unread long e full opened h none = absurd cc
+finished_line limit (state.Block block) buffer after unread long e full opened h none = absurd cc
+finished_line limit (state.Skip skipped) buffer after unread long e full opened h none = absurd cc
+finished_line limit state.Closed buffer after unread long e full opened h none = absurd cc
 
-pub finished_block : (s : State) (buffer unread : List ℕ) (block : OpenBlock) (entry : Command) → s ≡ state.Block block → Completes s buffer → vec_len block.bytes ≤ block.count + 2 → entry ≡ block_entry block.command block.count block.bytes.items → Holds s buffer unread → IsWhole entry buffer unread
-finished_block s buffer unread block entry e full within entry_is h =
+pub finished_block : (limit : ℕ) (s : State) (buffer unread : List ℕ) (block : OpenBlock) (entry : Command) → s ≡ state.Block block → Completes s buffer → vec_len block.bytes ≤ block.count + 2 → entry ≡ block_entry block.command block.count block.bytes.items → Holds limit s buffer unread → IsWhole limit entry buffer unread
+finished_block limit s buffer unread block entry e full within entry_is h =
     let come : block.count + 2 ≤ length block.bytes.items = rw e at full in
-    rw entry_is (whole_block block.command block.count block.bytes.items buffer unread (rw e at h) (omega arith))
+    rw entry_is (whole_block limit block.command block.count block.bytes.items buffer unread (rw e at h) (omega arith))
 
 -- what a test that answers no says
 pub not_complete : {P : Type 0} (test : Bool) → test ≡ false → (P → IsTrue test) → P → ⊥
 not_complete test e f p = let yes = f p in absurd cc
 
-pub finished_skip : (s : State) (buffer unread : List ℕ) (skipped : Skipped) → s ≡ state.Skip skipped → Completes s buffer → Holds s buffer unread → IsWhole (command.Refused skipped.refusal) buffer unread
-finished_skip s buffer unread skipped e full h =
+pub finished_skip : (limit : ℕ) (s : State) (buffer unread : List ℕ) (skipped : Skipped) → s ≡ state.Skip skipped → Completes s buffer → Holds limit s buffer unread → IsWhole limit (command.Refused skipped.refusal) buffer unread
+finished_skip limit s buffer unread skipped e full h =
     let none : skipped.left ≡ 0 = rw e at full in
-    let part : IsInSkip skipped.refusal skipped.left buffer unread = rw e at h in
-    whole_skip skipped.refusal buffer unread (rw none at part)
+    let part : IsInSkip limit skipped.refusal skipped.left buffer unread = rw e at h in
+    whole_skip limit skipped.refusal buffer unread (rw none at part)
 
 -- A line end is found in a piece.
 pub found_in_piece : (bytes piece all : List ℕ) (long : Option ℕ) (place : ℕ) → is_some long ≡ false → EndsAt bytes long → IsFirstByte (is_byte 10) piece (Some place) → all ≡ bytes ++ piece → IsFirstLine all (length bytes + place)
@@ -72,25 +73,25 @@ pub still_there : (bytes piece all : List ℕ) (long : Option ℕ) → is_some l
 still_there bytes piece all None old h is = absurd cc
 still_there bytes piece all (Some long) old h is = rw is (ends_more bytes piece long h)
 
-pub fed_block : (s : State) (old new : OpenBlock) (buffer after unread piece behind : List ℕ) (n m : ℕ) → s ≡ state.Block old → new.command ≡ old.command → new.count ≡ old.count → new.bytes.items ≡ old.bytes.items ++ take n piece →
-    n ≡ min (old.count + 2 - length old.bytes.items) (length piece) → behind ≡ drop n piece → after ≡ buffer ++ take m behind → Holds s buffer unread → IsInBlock new.command new.count new.bytes.items after (unread ++ take (n + m) piece)
-fed_block s old new buffer after unread piece behind n m e same_command same_count bytes_are n_is behind_is after_is h =
-    rw (same_command, same_count, bytes_are, after_is, behind_is) (block_fed old.command old.count old.bytes.items buffer unread piece n m (rw e at h) n_is)
+pub fed_block : (limit : ℕ) (s : State) (old new : OpenBlock) (buffer after unread piece behind : List ℕ) (n m : ℕ) → s ≡ state.Block old → new.command ≡ old.command → new.count ≡ old.count → new.bytes.items ≡ old.bytes.items ++ take n piece →
+    n ≡ min (old.count + 2 - length old.bytes.items) (length piece) → behind ≡ drop n piece → after ≡ buffer ++ take m behind → Holds limit s buffer unread → IsInBlock limit new.command new.count new.bytes.items after (unread ++ take (n + m) piece)
+fed_block limit s old new buffer after unread piece behind n m e same_command same_count bytes_are n_is behind_is after_is h =
+    rw (same_command, same_count, bytes_are, after_is, behind_is) (block_fed limit old.command old.count old.bytes.items buffer unread piece n m (rw e at h) n_is)
 
-pub fed_skip : (s : State) (old new : Skipped) (buffer after unread piece behind : List ℕ) (n m : ℕ) → s ≡ state.Skip old → new.refusal ≡ old.refusal → new.left + n ≡ old.left →
-    n ≡ min old.left (length piece) → behind ≡ drop n piece → after ≡ buffer ++ take m behind → Holds s buffer unread → IsInSkip new.refusal new.left after (unread ++ take (n + m) piece)
-fed_skip s old new buffer after unread piece behind n m e same left n_is behind_is after_is h =
-    rw (same, after_is, behind_is) (skip_fed old.refusal old.left new.left buffer unread piece n m (rw e at h) n_is left)
+pub fed_skip : (limit : ℕ) (s : State) (old new : Skipped) (buffer after unread piece behind : List ℕ) (n m : ℕ) → s ≡ state.Skip old → new.refusal ≡ old.refusal → new.left + n ≡ old.left →
+    n ≡ min old.left (length piece) → behind ≡ drop n piece → after ≡ buffer ++ take m behind → Holds limit s buffer unread → IsInSkip limit new.refusal new.left after (unread ++ take (n + m) piece)
+fed_skip limit s old new buffer after unread piece behind n m e same left n_is behind_is after_is h =
+    rw (same, after_is, behind_is) (skip_fed limit old.refusal old.left new.left buffer unread piece n m (rw e at h) n_is left)
 
 -- the unread bytes by the first line of the buffer
 record FirstLine (buffer after unread : List ℕ) (long : ℕ) : Type 0 where
   pub unread_are : unread ≡ take long buffer ++ 10 ∷ after
   pub no_end : HasNoEnd (take long buffer)
-  pub short : length (take long buffer) < 65536
+  pub short : length (take long buffer) < LINE_LIMIT
 
-first_line : (s : State) (buffer after unread : List ℕ) (long : ℕ) → s ≡ state.Line (Some long) → after ≡ drop (long + 1) buffer → Holds s buffer unread → FirstLine buffer after unread long
-first_line s buffer after unread long e after_is h =
-    let part : (unread ≡ buffer) × (length buffer ≤ 65536) × EndsAt buffer (Some long) = rw e at h in
+first_line : (limit : ℕ) (s : State) (buffer after unread : List ℕ) (long : ℕ) → s ≡ state.Line (Some long) → after ≡ drop (long + 1) buffer → Holds limit s buffer unread → FirstLine buffer after unread long
+first_line limit s buffer after unread long e after_is h =
+    let part : (unread ≡ buffer) × (length buffer ≤ LINE_LIMIT) × EndsAt buffer (Some long) = rw e at h in
     let cut = at_line buffer long part.2 in
     let below = line_in buffer long part.2 in
     record {
@@ -99,86 +100,85 @@ first_line s buffer after unread long e after_is h =
       short = (let l = cut.long_is in let room = part.1 in omega arith);
     }
 
-pub read_whole : (s : State) (buffer after unread : List ℕ) (long : ℕ) (shown : Command) → s ≡ state.Line (Some long) → after ≡ drop (long + 1) buffer → line_says (take long buffer) ≡ Whole shown → Holds s buffer unread → IsWhole shown after unread
-read_whole s buffer after unread long shown e after_is says h =
-    let first = first_line s buffer after unread long e after_is h in
-    rw first.unread_are (whole_line (take long buffer) after shown first.no_end first.short says)
+pub read_whole : (limit : ℕ) (s : State) (buffer after unread : List ℕ) (long : ℕ) (shown : Command) → s ≡ state.Line (Some long) → after ≡ drop (long + 1) buffer → line_says limit (take long buffer) ≡ Whole shown → Holds limit s buffer unread → IsWhole limit shown after unread
+read_whole limit s buffer after unread long shown e after_is says h =
+    let first = first_line limit s buffer after unread long e after_is h in
+    rw first.unread_are (whole_line limit (take long buffer) after shown first.no_end first.short says)
 
-pub read_refused : (s : State) (buffer after unread : List ℕ) (long : ℕ) (refusal : Refusal) → s ≡ state.Line (Some long) → after ≡ drop (long + 1) buffer → Says (line_says (take long buffer)) (Refused refusal) → Holds s buffer unread → IsWhole (command.Refused refusal) after unread
-read_refused s buffer after unread long refusal e after_is says h =
-    let first = first_line s buffer after unread long e after_is h in
-    rw first.unread_are (whole_refused (take long buffer) after refusal first.no_end first.short says)
+pub read_refused : (limit : ℕ) (s : State) (buffer after unread : List ℕ) (long : ℕ) (refusal : Refusal) → s ≡ state.Line (Some long) → after ≡ drop (long + 1) buffer → Says (line_says limit (take long buffer)) (Refused refusal) → Holds limit s buffer unread → IsWhole limit (command.Refused refusal) after unread
+read_refused limit s buffer after unread long refusal e after_is says h =
+    let first = first_line limit s buffer after unread long e after_is h in
+    rw first.unread_are (whole_refused limit (take long buffer) after refusal first.no_end first.short says)
 
--- what is awaited behind a line
-pub read_head : (s new : State) (buffer after rest unread : List ℕ) (long : ℕ) → s ≡ state.Line (Some long) → after ≡ drop (long + 1) buffer →
-    (HasNoEnd (take long buffer) → length (take long buffer) < 65536 → Holds new rest (take long buffer ++ 10 ∷ after)) → Holds s buffer unread → Holds new rest unread
-read_head s new buffer after rest unread long e after_is holds h =
-    let first = first_line s buffer after unread long e after_is h in
-    let got = holds first.no_end first.short in
-    subst (Holds new rest) (sym first.unread_are) got
+-- what holds of the first line and the bytes behind it holds of the unread bytes
+pub read_head : (limit : ℕ) (P : List ℕ → Type 0) (s : State) (buffer after unread : List ℕ) (long : ℕ) → s ≡ state.Line (Some long) → after ≡ drop (long + 1) buffer →
+    (HasNoEnd (take long buffer) → length (take long buffer) < LINE_LIMIT → P (take long buffer ++ 10 ∷ after)) → Holds limit s buffer unread → P unread
+read_head limit P s buffer after unread long e after_is holds h =
+    let first = first_line limit s buffer after unread long e after_is h in
+    subst P (sym first.unread_are) (holds first.no_end first.short)
 
-pub begun_skip : (new : Skipped) (refusal : Refusal) (left : ℕ) (buffer after bytes line : List ℕ) (n : ℕ) → new.refusal ≡ refusal → new.left + n ≡ left → n ≡ min left (length bytes) → bytes ≡ buffer → after ≡ drop n buffer →
-    HasNoEnd line → length line < 65536 → Says (line_says line) (Skip refusal left) → IsInSkip new.refusal new.left after (line ++ 10 ∷ buffer)
-begun_skip new refusal left buffer after bytes line n same left_is n_is bytes_are after_is none short says =
-    rw (same, after_is) (skip_begun line refusal left new.left buffer n none short says (rw bytes_are at n_is) left_is)
+pub begun_skip : (limit : ℕ) (new : Skipped) (refusal : Refusal) (left : ℕ) (buffer after bytes line : List ℕ) (n : ℕ) → new.refusal ≡ refusal → new.left + n ≡ left → n ≡ min left (length bytes) → bytes ≡ buffer → after ≡ drop n buffer →
+    HasNoEnd line → length line < LINE_LIMIT → Says (line_says limit line) (Skip refusal left) → IsInSkip limit new.refusal new.left after (line ++ 10 ∷ buffer)
+begun_skip limit new refusal left buffer after bytes line n same left_is n_is bytes_are after_is none short says =
+    rw (same, after_is) (skip_begun limit line refusal left new.left buffer n none short says (rw bytes_are at n_is) left_is)
 
-pub begun_block : (new : OpenBlock) (asked : Command) (count : ℕ) (buffer after bytes line : List ℕ) (n : ℕ) → new.command ≡ asked → new.count ≡ count → new.bytes.items ≡ take n bytes → n ≡ min (count + 2 - 0) (length bytes) → bytes ≡ buffer → after ≡ drop n buffer →
-    HasNoEnd line → length line < 65536 → line_says line ≡ Data asked count → IsInBlock new.command new.count new.bytes.items after (line ++ 10 ∷ buffer)
-begun_block new asked count buffer after bytes line n same same_count items_are n_is bytes_are after_is none short says =
-    rw (same, same_count, items_are, bytes_are, after_is) (block_begun line asked count buffer n none short says (rw bytes_are at n_is))
+pub begun_block : (limit : ℕ) (new : OpenBlock) (asked : Command) (count : ℕ) (buffer after bytes line : List ℕ) (n : ℕ) → new.command ≡ asked → new.count ≡ count → new.bytes.items ≡ take n bytes → n ≡ min (count + 2 - 0) (length bytes) → bytes ≡ buffer → after ≡ drop n buffer →
+    HasNoEnd line → length line < LINE_LIMIT → line_says limit line ≡ Data asked count → IsInBlock limit new.command new.count new.bytes.items after (line ++ 10 ∷ buffer)
+begun_block limit new asked count buffer after bytes line n same same_count items_are n_is bytes_are after_is none short says =
+    rw (same, same_count, items_are, bytes_are, after_is) (block_begun limit line asked count buffer n none short says (rw bytes_are at n_is))
 
-shows : {shown : Command} {others unread bytes : List ℕ} → IsWhole shown others unread → bytes ≡ unread → SpellsSomething bytes
-shows {shown} {others} {unread} {bytes} w is = (w.text, others, w.one.entry, is ∙ w.unread_are, w.spelled)
+shows : (limit : ℕ) {shown : Command} {others unread bytes : List ℕ} → IsWhole limit shown others unread → bytes ≡ unread → SpellsSomething limit bytes
+shows limit {shown} {others} {unread} {bytes} w is = (w.text, others, w.one.entry, is ∙ w.unread_are, w.spelled)
 
 -- Where all that is awaited has come, something is spelled.
-something_awaited : (s : State) (buffer unread : List ℕ) → Completes s buffer → IsTrue (is_opened s) → Holds s buffer unread → SpellsSomething unread
-something_awaited (state.Line None) buffer unread full opened h = shows (whole_long buffer h.2 full) h.0
-something_awaited (state.Line (Some long)) buffer unread full opened h = absurd cc
-something_awaited (state.Block block) buffer unread full opened h =
+something_awaited : (limit : ℕ) (s : State) (buffer unread : List ℕ) → Completes s buffer → IsTrue (is_opened s) → Holds limit s buffer unread → SpellsSomething limit unread
+something_awaited limit (state.Line None) buffer unread full opened h = shows limit (whole_long limit buffer h.2 full) h.0
+something_awaited limit (state.Line (Some long)) buffer unread full opened h = absurd cc
+something_awaited limit (state.Block block) buffer unread full opened h =
     let within = block.within in
-    shows (whole_block block.command block.count block.bytes.items buffer unread h (omega arith)) refl
-something_awaited (state.Skip skipped) buffer unread full opened h =
-    let part : IsInSkip skipped.refusal skipped.left buffer unread = h in
-    shows (whole_skip skipped.refusal buffer unread (rw full at part)) refl
-something_awaited state.Closed buffer unread full opened h = absurd h
+    shows limit (whole_block limit block.command block.count block.bytes.items buffer unread h (omega arith)) refl
+something_awaited limit (state.Skip skipped) buffer unread full opened h =
+    let part : IsInSkip limit skipped.refusal skipped.left buffer unread = h in
+    shows limit (whole_skip limit skipped.refusal buffer unread (rw full at part)) refl
+something_awaited limit state.Closed buffer unread full opened h = absurd h
 
 -- A test whether all has come tells whether something is spelled.
-pub whole_awaited : (s : State) (buffer unread : List ℕ) (test : Bool) → (IsTrue test ↔ Completes s buffer) → IsTrue (is_opened s) → Holds s buffer unread → IsTrue test ↔ SpellsSomething unread
-whole_awaited s buffer unread test is opened h = (λ come. something_awaited s buffer unread (is.0 come) opened h, back test is.1) where
-  back : (t : Bool) → (Completes s buffer → IsTrue t) → SpellsSomething unread → IsTrue t
+pub whole_awaited : (limit : ℕ) (s : State) (buffer unread : List ℕ) (test : Bool) → (IsTrue test ↔ Completes s buffer) → IsTrue (is_opened s) → Holds limit s buffer unread → IsTrue test ↔ SpellsSomething limit unread
+whole_awaited limit s buffer unread test is opened h = (λ come. something_awaited limit s buffer unread (is.0 come) opened h, back test is.1) where
+  back : (t : Bool) → (Completes s buffer → IsTrue t) → SpellsSomething limit unread → IsTrue t
   back true f some = refl
-  back false f some = absurd (something some.0 some.1 some.2 some.4 (rw some.3 at (nothing_awaited s buffer unread (λ all. let yes = f all in absurd cc) opened h).0))
+  back false f some = absurd (something limit some.0 some.1 some.2 some.4 (rw some.3 at (nothing_awaited limit s buffer unread (λ all. let yes = f all in absurd cc) opened h).0))
 
 -- The line that was found spells something where the bytes that belong to it have come.
-pub whole_found : (s : State) (buffer unread behind : List ℕ) (long n : ℕ) → s ≡ state.Line (Some long) → behind ≡ drop long buffer → n ≡ bytes_behind (line_says (take long buffer)) → Holds s buffer unread → IsTrue (nat_lt n (length behind)) ↔ SpellsSomething unread
-whole_found s buffer unread behind long n e behind_is n_is h = (forth, back (nat_lt n (length behind)) refl) where
+pub whole_found : (limit : ℕ) (s : State) (buffer unread behind : List ℕ) (long n : ℕ) → s ≡ state.Line (Some long) → behind ≡ drop long buffer → n ≡ bytes_behind (line_says limit (take long buffer)) → Holds limit s buffer unread → IsTrue (nat_lt n (length behind)) ↔ SpellsSomething limit unread
+whole_found limit s buffer unread behind long n e behind_is n_is h = (forth, back (nat_lt n (length behind)) refl) where
   tail : List ℕ
   tail = drop (long + 1) buffer
 
   first : FirstLine buffer tail unread long
-  first = first_line s buffer tail unread long e refl h
+  first = first_line limit s buffer tail unread long e refl h
 
   one_more : length behind ≡ suc (length tail)
   one_more = omega (arith, ap length first_bytes, length-append (take long buffer) (10 ∷ tail), ap length behind_is, length-drop long buffer, length-take long buffer) where
     first_bytes : buffer ≡ take long buffer ++ 10 ∷ tail
-    first_bytes = let part : (unread ≡ buffer) × (length buffer ≤ 65536) × EndsAt buffer (Some long) = rw e at h in (at_line buffer long part.2).bytes_are
+    first_bytes = let part : (unread ≡ buffer) × (length buffer ≤ LINE_LIMIT) × EndsAt buffer (Some long) = rw e at h in (at_line buffer long part.2).bytes_are
 
-  forth : IsTrue (nat_lt n (length behind)) → SpellsSomething unread
+  forth : IsTrue (nat_lt n (length behind)) → SpellsSomething limit unread
   forth enough_come =
       let line = take long buffer in
       let enough : n ≤ length tail = (let more = one_more in grind (arith, nat_tests)) in (
         line ++ 10 ∷ take n tail,
         drop n tail,
-        entry_after (line_says line) (take n tail),
+        entry_after (line_says limit line) (take n tail),
         first.unread_are ∙ (ap (λ xs. line ++ 10 ∷ xs) (sym (take-append-drop n tail)) ∙ sym (append_assoc line (10 ∷ take n tail) (drop n tail))),
-        lined line (take n tail) (entry_after (line_says line) (take n tail)) first.no_end first.short (omega (arith, length-take n tail)) refl,
+        lined limit line (take n tail) (entry_after (line_says limit line) (take n tail)) first.no_end first.short (omega (arith, length-take n tail)) refl,
       )
 
-  back : (test : Bool) → nat_lt n (length behind) ≡ test → SpellsSomething unread → IsTrue (nat_lt n (length behind))
+  back : (test : Bool) → nat_lt n (length behind) ≡ test → SpellsSomething limit unread → IsTrue (nat_lt n (length behind))
   back true t some = t
   back false t some =
-      let few : length tail < bytes_behind (line_says (take long buffer)) = (let more = one_more in grind (arith, nat_tests)) in
-      absurd (something some.0 some.1 some.2 some.4 (rw some.3 at (rw (← first.unread_are) at (nothing_yet (take long buffer) tail first.no_end first.short few))))
+      let few : length tail < bytes_behind (line_says limit (take long buffer)) = (let more = one_more in grind (arith, nat_tests)) in
+      absurd (something limit some.0 some.1 some.2 some.4 (rw some.3 at (rw (← first.unread_are) at (nothing_yet limit (take long buffer) tail first.no_end first.short few))))
 
 -- Where two calls found nothing
 pub none_of_both : {A P Q R : Type 0} (found : Option A) → (P → Q → R) → IfNone found P → IfNone found Q → IfNone found R

@@ -1,3 +1,3 @@
 pub mod Spelling
-pub mod State
+pub mod internal
 pub mod Reader

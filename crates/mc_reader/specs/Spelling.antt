@@ -1,14 +1,15 @@
 -- What texts spell, and the commands of a whole stream (protocol.txt, "Protocol": a line ends with a line
 -- feed, and a storage line is followed by its data block).
-use Rattle.std.specs.Prelude.{ℕ, ◌≡◌, ◌+◌, ◌-◌, ◌≤◌, ◌^◌, Bool, true, false, ◌||◌, List, [], ◌∷◌, ◌++◌, length, take, drop, MatchBool, IsTrue, slice_index, ◌==◌, nat_eq, if◌then◌else◌}
+use Rattle.std.specs.Prelude.{ℕ, ◌≡◌, ◌+◌, ◌-◌, ◌≤◌, ◌^◌, Bool, true, false, ◌||◌, List, [], ◌∷◌, ◌++◌, length, map, take, drop, MatchBool, IsTrue, slice_index, ◌==◌, nat_eq, if◌then◌else◌}
 use Rattle.std.specs.Bool.{OnTrue}
 use Rattle.std.specs.List.{AllByRecursion}
 use Rattle.std.specs.Cmp.Lexicographic.{pointwise}
+use Rattle.mc_wire.specs.declared.TheConstants.{LINE_LIMIT}
 use Rattle.mc_wire.specs.Words.{words_of}
 use Rattle.mc_command.specs.declared.command.Command.{Command}
 use Rattle.mc_command.specs.declared.command.Command.TheVariants as command
 use Rattle.mc_command.specs.declared.refusal.Refusal.{Refusal}
-use Rattle.mc_command.specs.declared.refusal.Refusal.TheVariants.{Unknown, BadFormat, BadKey, InvalidFlag, DuplicateFlag, OpaqueTooLong, TooLarge, BadChunk, LineTooLong, Memory}
+use Rattle.mc_command.specs.declared.refusal.Refusal.TheVariants.{BadChunk, LineTooLong, Memory}
 use Rattle.mc_command.specs.declared.line.Line.{Line}
 use Rattle.mc_command.specs.declared.line.Line.TheVariants.{Whole, Data, Refused, Skip}
 use Rattle.mc_command.specs.Command.{can_give_up, with_block}
@@ -19,8 +20,8 @@ abbrev pub without_return : List ℕ → List ℕ
 without_return line = if slice_index line (length line - 1) == 13 then take (length line - 1) line else line
 
 -- what the command table says of a line without its line feed
-abbrev pub line_says : List ℕ → Line
-line_says line = line_of (words_of (without_return line))
+abbrev pub line_says : ℕ → List ℕ → Line
+line_says limit line = line_of limit (words_of (without_return line))
 
 abbrev pub HasNoEnd : List ℕ → Type 0
 HasNoEnd bytes = AllByRecursion (λ byte. (byte == 10) ≡ false) bytes
@@ -29,7 +30,7 @@ HasNoEnd bytes = AllByRecursion (λ byte. (byte == 10) ≡ false) bytes
 pub record IsLine (text line : List ℕ) : Type 0 where
   pub text_is : text ≡ line ++ 10 ∷ []
   pub no_end : HasNoEnd line
-  pub short : length text ≤ 65536
+  pub short : length text ≤ LINE_LIMIT
 
 -- the two bytes that end a data block are CR LF
 abbrev pub is_block_end : List ℕ → Bool
@@ -40,58 +41,34 @@ abbrev pub block_entry : Command → ℕ → List ℕ → Command
 block_entry asked count bytes = if is_block_end (drop count bytes) then with_block asked (take count bytes) else command.Refused BadChunk
 
 -- the whole text spells the entry, and nothing is left over
-pub data Spells (text : List ℕ) (entry : Command) : Type 0 where
+pub data Spells (limit : ℕ) (text : List ℕ) (entry : Command) : Type 0 where
   -- a line that is a command
-  line : (line : List ℕ) → IsLine text line → line_says line ≡ Whole entry → Spells text entry
+  line : (line : List ℕ) → IsLine text line → line_says limit line ≡ Whole entry → Spells limit text entry
   -- a line that is refused
-  refused : (line : List ℕ) (refusal : Refusal) → IsLine text line → line_says line ≡ Refused refusal →
-      entry ≡ command.Refused refusal → Spells text entry
+  refused : (line : List ℕ) (refusal : Refusal) → IsLine text line → line_says limit line ≡ Refused refusal →
+      entry ≡ command.Refused refusal → Spells limit text entry
   -- a storage line with its data block and its end
   block : (head line data_block : List ℕ) (asked : Command) → IsLine head line → text ≡ head ++ (data_block ++ 13 ∷ 10 ∷ []) →
-      line_says line ≡ Data asked (length data_block) → entry ≡ with_block asked data_block → Spells text entry
+      line_says limit line ≡ Data asked (length data_block) → entry ≡ with_block asked data_block → Spells limit text entry
   -- a storage line with as many bytes, and two more that are no end
   bad_block : (head line chunk ends : List ℕ) (asked : Command) → IsLine head line → text ≡ head ++ (chunk ++ ends) →
       length ends ≡ 2 → is_block_end ends ≡ false →
-      line_says line ≡ Data asked (length chunk) → entry ≡ command.Refused BadChunk → Spells text entry
+      line_says limit line ≡ Data asked (length chunk) → entry ≡ command.Refused BadChunk → Spells limit text entry
   -- a line that is refused, with the bytes that are skipped
   skipped : (head line skipped : List ℕ) (refusal : Refusal) → IsLine head line → text ≡ head ++ skipped →
-      line_says line ≡ Skip refusal (length skipped) → entry ≡ command.Refused refusal → Spells text entry
+      line_says limit line ≡ Skip refusal (length skipped) → entry ≡ command.Refused refusal → Spells limit text entry
   -- a line that is too long
-  long : length text ≡ 65536 → HasNoEnd text → entry ≡ command.Refused LineTooLong → Spells text entry
+  long : length text ≡ LINE_LIMIT → HasNoEnd text → entry ≡ command.Refused LineTooLong → Spells limit text entry
 
 -- No beginning of the bytes spells anything.
-abbrev pub SpellsNothing : List ℕ → Type 0
-SpellsNothing bytes = (count : ℕ) (entry : Command) → count ≤ length bytes → Spells (take count bytes) entry → ⊥
-
-abbrev pub refusal_closes : Refusal → Bool
-refusal_closes LineTooLong = true
-refusal_closes Unknown = false
-refusal_closes BadFormat = false
-refusal_closes BadKey = false
-refusal_closes InvalidFlag = false
-refusal_closes DuplicateFlag = false
-refusal_closes OpaqueTooLong = false
-refusal_closes TooLarge = false
-refusal_closes BadChunk = false
-refusal_closes Memory = false
+abbrev pub SpellsNothing : ℕ → List ℕ → Type 0
+SpellsNothing limit bytes = (count : ℕ) (entry : Command) → count ≤ length bytes → Spells limit (take count bytes) entry → ⊥
 
 -- Nothing is read after `quit`, nor after a line that is too long.
 abbrev pub closes : Command → Bool
 closes command.Quit = true
-closes (command.Refused refusal) = refusal_closes refusal
-closes (command.Store storage) = false
-closes (command.Get retrieval) = false
-closes (command.Delete key noreply) = false
-closes (command.Count key direction amount noreply) = false
-closes (command.Touch key exptime noreply) = false
-closes (command.FlushAll delay noreply) = false
-closes command.Version = false
-closes (command.Verbosity noreply) = false
-closes command.MetaNoop = false
-closes (command.MetaGet get) = false
-closes (command.MetaSet set) = false
-closes (command.MetaDelete delete) = false
-closes (command.MetaArithmetic arithmetic) = false
+closes (command.Refused LineTooLong) = true
+closes other = false
 
 -- how many commands a connection has at most
 abbrev pub most_commands : ℕ
@@ -103,11 +80,11 @@ is_last before entry = closes entry || (before + 1 == most_commands)
 
 -- Behind so many earlier commands, the input spells these, one after another, and then the rest follows.
 -- Nothing but the rest follows a last one.
-abbrev pub SpellsFront : ℕ → List ℕ → List Command → List ℕ → Type 0
-SpellsFront before input [] rest = input ≡ rest
-SpellsFront before input (entry ∷ entries) rest =
-    (text : List ℕ) × (after : List ℕ) × (input ≡ text ++ after) × Spells text entry
-    × MatchBool (is_last before entry) ((entries ≡ []) × (after ≡ rest)) (SpellsFront (before + 1) after entries rest)
+abbrev pub SpellsFront : ℕ → ℕ → List ℕ → List Command → List ℕ → Type 0
+SpellsFront limit before input [] rest = input ≡ rest
+SpellsFront limit before input (entry ∷ entries) rest =
+    (text : List ℕ) × (after : List ℕ) × (input ≡ text ++ after) × Spells limit text entry
+    × MatchBool (is_last before entry) ((entries ≡ []) × (after ≡ rest)) (SpellsFront limit (before + 1) after entries rest)
 
 -- One of the commands is a last one, where so many came before them.
 abbrev pub is_closed_after : ℕ → List Command → Bool
@@ -118,28 +95,36 @@ abbrev pub is_closed : List Command → Bool
 is_closed entries = is_closed_after 0 entries
 
 -- These are a beginning of the commands of the input.
-abbrev pub BeginCommands : List ℕ → List Command → Type 0
-BeginCommands input entries = (rest : List ℕ) × SpellsFront 0 input entries rest
+abbrev pub BeginCommands : ℕ → List ℕ → List Command → Type 0
+BeginCommands limit input entries = (rest : List ℕ) × SpellsFront limit 0 input entries rest
 
 -- These are the commands of the input: all that it spells, up to the first after which nothing is read.
-abbrev pub AreCommands : List ℕ → List Command → Type 0
-AreCommands input entries =
-    (rest : List ℕ) × SpellsFront 0 input entries rest × MatchBool (is_closed entries) (Unit {0}) (SpellsNothing rest)
+abbrev pub AreCommands : ℕ → List ℕ → List Command → Type 0
+AreCommands limit input entries =
+    (rest : List ℕ) × SpellsFront limit 0 input entries rest × MatchBool (is_closed entries) (Unit {0}) (SpellsNothing limit rest)
 
 -- These commands are a beginning of those.
 abbrev pub Begins : List Command → List Command → Type 0
 Begins entries others = (more : List Command) × (entries ++ more ≡ others)
 
--- a command that the reader gave: what was spelled, and whether it was given up for want of memory
+-- a command that the reader gave: what was spelled, and whether it was given up because memory ran out
 pub record Given : Type 0 where
   pub entry : Command
   pub given_up : Bool
+
+-- A command is given up only where it may be.
+abbrev pub MayBeGiven : Given → Type 0
+MayBeGiven given = OnTrue given.given_up (IsTrue (can_give_up given.entry))
 
 -- the command as it is shown to the reader's caller
 abbrev pub shown_of : Given → Command
 shown_of given = if given.given_up then command.Refused Memory else given.entry
 
--- The command is one that was spelled, or the refusal of one that was given up for want of memory.
+-- The command is one that was spelled, or the refusal "out of memory" of one that was given up.
 pub record IsGiven (shown : Command) (given : Given) : Type 0 where
   pub shown_is : shown ≡ shown_of given
-  pub may : OnTrue given.given_up (IsTrue (can_give_up given.entry))
+  pub may : MayBeGiven given
+
+-- what was spelled of each
+abbrev pub entries_of : List Given → List Command
+entries_of given = map (λ g. g.entry) given

@@ -1,10 +1,13 @@
 //! What follows a line and belongs to it: a data block that is kept, or one that is skipped.
 ghost use Rattle.std.specs.Prelude.{◌≡◌, ◌+◌, ◌-◌, ◌≤◌, ◌<◌, ◌++◌, [], length, take, min, IfOk};
 ghost use Rattle.std.specs.Vec.{vec_len, vec_capacity};
+ghost use Rattle.mc_wire.specs.declared.TheConstants.{GREATEST_VALUE_LIMIT};
 ghost use Rattle.mc_reader.specs.Spelling.{block_entry};
+ghost use Rattle.mc_reader.specs.Spelling as spelling;
 
 use crate::room::append;
 use mc_command::{Block, Command, Refusal};
+use mc_wire::GREATEST_VALUE_LIMIT;
 use std::alloc::{AllocError, Global};
 
 /// A data block that comes piece by piece, with the command that it belongs to.
@@ -15,7 +18,7 @@ pub(crate) struct OpenBlock {
     pub(crate) count: usize,
     /// What has come of the block and of the two bytes that end it, in the room that was taken for all.
     pub(crate) bytes: Vec<u8>,
-    ghost small: { count ≤ 1048576 },
+    ghost small: { count ≤ GREATEST_VALUE_LIMIT },
     ghost within: { vec_len bytes ≤ count + 2 },
     ghost room: { count + 2 ≤ vec_capacity bytes },
 }
@@ -23,7 +26,7 @@ pub(crate) struct OpenBlock {
 impl OpenBlock {
     /// Takes the room of a block of so many bytes.
     pub(crate) fn new(alloc: Global, command: Command, count: u32) -> Result<OpenBlock, AllocError>
-        requires { count ≤ 1048576 }
+        requires { count ≤ GREATEST_VALUE_LIMIT }
         ensures { IfOk result (λ block. (block.command ≡ command) × (block.count ≡ count) × (block.bytes.items ≡ [])) }
     {
         let count = count as usize;
@@ -63,12 +66,37 @@ impl OpenBlock {
             mut bytes,
         } = self;
         let (_, ends) = bytes.as_slice().split_at(count);
-        if ends != b"\r\n".as_slice() {
+        if !is_block_end(ends) {
             return Command::Refused(Refusal::BadChunk);
         }
         bytes.truncate(count);
         command.with_block(Block::new(bytes))
     }
+}
+
+/// Whether the bytes are the two that end a data block.
+fn is_block_end(ends: &[u8]) -> bool
+    ensures { result ≡ spelling.is_block_end ends.now }
+{
+    ends == b"\r\n".as_slice()
+}
+
+/// The command whose data block these bytes are, with the two that end it.
+pub(crate) fn block_command(
+    alloc: Global,
+    command: Command,
+    bytes: &[u8],
+) -> Result<Command, AllocError>
+    requires ended { 2 ≤ length bytes.now }
+    requires small { length bytes.now ≤ GREATEST_VALUE_LIMIT }
+    ensures { IfOk result (λ entry. entry ≡ block_entry command (length bytes.now - 2) bytes.now) }
+{
+    let (block, ends) = bytes.split_at(bytes.len() - 2);
+    if !is_block_end(ends) {
+        return Ok(Command::Refused(Refusal::BadChunk));
+    }
+    let block = Vec::from_slice(alloc, block)?;
+    Ok(command.with_block(Block::new(block)))
 }
 
 /// Bytes that are skipped before a line's refusal is given.

@@ -17,12 +17,13 @@ pub(crate) struct Buffer {
 impl Model for Buffer {
     ghost use Rattle.std.specs.Prelude.{ℕ, List, ◌≤◌, drop};
     ghost use Rattle.std.specs.Vec.{vec_len, vec_capacity};
+    ghost use Rattle.mc_wire.specs.declared.TheConstants.{LINE_LIMIT};
 
     ghost Value = { List ℕ };
 
     ghost view = { λ buffer. drop buffer.start buffer.bytes.items };
 
-    ghost invariant = { λ buffer. (buffer.start ≤ vec_len buffer.bytes) × (vec_len buffer.bytes ≤ 65536) × (65536 ≤ vec_capacity buffer.bytes) };
+    ghost invariant = { λ buffer. (buffer.start ≤ vec_len buffer.bytes) × (vec_len buffer.bytes ≤ LINE_LIMIT) × (LINE_LIMIT ≤ vec_capacity buffer.bytes) };
 }
 
 impl Buffer {
@@ -39,7 +40,7 @@ impl Buffer {
     /// The bytes that are not read yet.
     pub(crate) fn unread(&self) -> &[u8]
         ensures bytes { result.now ≡ self.now }
-        ensures fits { length result.now ≤ 65536 }
+        ensures fits { length result.now ≤ LINE_LIMIT }
     {
         self.bytes.as_slice().split_at(self.start).1
     }
@@ -68,7 +69,7 @@ impl Buffer {
     pub(crate) fn push(&mut self, piece: &[u8]) -> usize
         ensures within { result ≤ length piece.now }
         ensures bytes { self.new ≡ self.old ++ take result piece.now }
-        ensures fits { length self.new ≤ 65536 }
+        ensures fits { length self.new ≤ LINE_LIMIT }
     {
         append(&mut self.bytes, LINE_LIMIT, piece)
     }
@@ -76,9 +77,9 @@ impl Buffer {
     /// Takes as much of the piece as there is room for, and tells how much that is. The bytes are moved to
     /// the front where that makes room.
     pub(crate) fn push_all(&mut self, piece: &[u8]) -> usize
-        ensures count { result ≡ min (65536 - length self.old) (length piece.now) }
+        ensures count { result ≡ min (LINE_LIMIT - length self.old) (length piece.now) }
         ensures bytes { self.new ≡ self.old ++ take result piece.now }
-        ensures fits { length self.new ≤ 65536 }
+        ensures fits { length self.new ≤ LINE_LIMIT }
     {
         if LINE_LIMIT - self.bytes.len() < piece.len() {
             remove_front(&mut self.bytes, self.start);

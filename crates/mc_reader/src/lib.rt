@@ -12,5 +12,6 @@ mod tests;
 
 pub use laws::{
     commands_only_grow, every_input_has_commands, no_text_begins_another, one_list_of_commands,
+    readers_give_commands,
 };
 pub use reader::{Memory, Next, Reader};

@@ -1,11 +1,13 @@
 //! The stream of one connection, read piece by piece.
 ghost use Rattle.std.specs.Prelude.{◌≡◌, ◌+◌, ◌<◌, ◌≤◌, ◌++◌, ◌↔◌, ℕ, List, [], Bool, true, false, IfOk, IsTrue, length, take};
+ghost use Rattle.mc_wire.specs.declared.TheConstants.{GREATEST_VALUE_LIMIT};
 ghost use Rattle.mc_reader.specs.Spelling.{Given, closes};
-ghost use Rattle.mc_reader.specs.State.{line_fits};
+ghost use Rattle.mc_reader.specs.internal.State.{line_fits};
 
 use crate::buffer::Buffer;
 use crate::state::State;
 use mc_command::{Command, Refusal};
+use mc_wire::{GREATEST_VALUE_LIMIT, LINE_LIMIT};
 use std::alloc::{AllocError, Global};
 
 /// How many commands a stream has at most: nothing is read after the last.
@@ -41,29 +43,36 @@ pub struct Reader {
     ended: bool,
     /// How many commands may still be given.
     commands_left: u64,
+    /// A value has at most this many bytes.
+    limit: usize,
+    ghost small: { limit ≤ GREATEST_VALUE_LIMIT },
     ghost line_in_buffer: { IsTrue (line_fits state buffer) },
 }
 
 impl Reader {
-    ghost use Rattle.mc_reader.specs.Reader.{IsReader, IsWaiting, IsSkipping, IsAmidSkipped, held_bytes, NextSays, IsGivenWhole, IsUsedUp, IsClosedLine, IsNotAllGiven};
+    ghost use Rattle.mc_reader.specs.Reader.{IsReader, IsWaiting, IsSkipping, IsAmidSkipped, entries_of, held_bytes, NextSays, IsGivenWhole, IsUsedUp, IsClosedLine, IsNotAllGiven};
+    ghost use Rattle.mc_reader.specs.Spelling.{AreCommands, SpellsFront, is_closed, most_commands};
 
-    /// A reader of a new stream, with all its fixed room.
+    /// A reader of a new stream whose values have at most so many bytes, with all its fixed room.
     #[tactic(auto, unfolding(crate::specs::Reader::IsReader))]
-    pub fn new(alloc: Global) -> Result<Reader, Memory>
-        ensures { IfOk result (λ reader. IsReader reader [] false []) }
+    pub fn new(alloc: Global, limit: usize) -> Result<Reader, Memory>
+        requires { limit ≤ GREATEST_VALUE_LIMIT }
+        ensures { IfOk result (λ reader. IsReader reader limit [] false []) }
     {
         Ok(Reader {
             buffer: Buffer::new(alloc)?,
             state: State::Line(None),
             ended: false,
             commands_left: MOST_COMMANDS,
+            limit,
         })
     }
 
-    /// Makes the reader as new, for another stream. It takes no memory.
+    /// Makes the reader as new, for another stream under the same value limit. It takes no memory.
     #[tactic(auto, unfolding(crate::specs::Reader::IsReader))]
     pub fn reset(&mut self)
-        ensures { IsReader self.new [] false [] }
+        ensures { (limit : ℕ) (fed : List ℕ) (ended : Bool) (given : List Given) →
+            IsReader self.old limit fed ended given → IsReader self.new limit [] false [] }
     {
         self.buffer.clear();
         self.state = State::Line(None);
@@ -75,17 +84,17 @@ impl Reader {
     #[tactic(auto, unfolding(crate::specs::Reader::IsReader))]
     pub fn feed(&mut self, piece: &[u8]) -> usize
         ensures within { result ≤ length piece.now }
-        ensures fed { (fed : List ℕ) (ended : Bool) (given : List Given) →
-            IsReader self.old fed ended given → IsReader self.new (fed ++ take result piece.now) ended given }
+        ensures fed { (limit : ℕ) (fed : List ℕ) (ended : Bool) (given : List Given) →
+            IsReader self.old limit fed ended given → IsReader self.new limit (fed ++ take result piece.now) ended given }
         // Some byte is taken right after `next` answered that it needs more.
-        ensures progress { (fed : List ℕ) (given : List Given) → IsReader self.old fed false given →
-            IsGivenWhole fed given → IsWaiting self.old → 0 < length piece.now → 0 < result }
+        ensures progress { (limit : ℕ) (fed : List ℕ) (given : List Given) → IsReader self.old limit fed false given →
+            IsGivenWhole limit fed given → IsWaiting self.old → 0 < length piece.now → 0 < result }
         // The whole of a piece that isn't too long is taken where nothing is unread.
-        ensures whole { (fed : List ℕ) (given : List Given) → IsReader self.old fed false given →
-            IsUsedUp fed given → length piece.now ≤ 65536 → result ≡ length piece.now }
-        ensures closed { (fed : List ℕ) (given : List Given) → IsReader self.old fed false given →
+        ensures whole { (limit : ℕ) (fed : List ℕ) (given : List Given) → IsReader self.old limit fed false given →
+            IsUsedUp limit fed given → length piece.now ≤ LINE_LIMIT → result ≡ length piece.now }
+        ensures closed { (limit : ℕ) (fed : List ℕ) (given : List Given) → IsReader self.old limit fed false given →
             IsClosedLine given → result ≡ length piece.now }
-        ensures ended { (fed : List ℕ) (given : List Given) → IsReader self.old fed true given → result ≡ 0 }
+        ensures ended { (limit : ℕ) (fed : List ℕ) (given : List Given) → IsReader self.old limit fed true given → result ≡ 0 }
     {
         if self.ended {
             return 0;
@@ -93,13 +102,13 @@ impl Reader {
         self.state.feed(&mut self.buffer, piece)
     }
 
-    /// The next command, if one is whole. A block's room is taken when its line is read; where there is none,
-    /// the block is skipped and the command is refused for want of memory.
+    /// The next command, if one is whole. A block's room is taken when its line is read; where memory runs
+    /// out, the block is skipped and the command is given up.
     #[tactic(auto, unfolding(crate::specs::Reader::IsReader))]
     pub fn next(&mut self, alloc: Global) -> Next
         ensures { NextSays self.old result self.new }
     {
-        let Some(command) = self.state.take_command(alloc, &mut self.buffer) else {
+        let Some(command) = self.state.take_command(alloc, &mut self.buffer, self.limit) else {
             if self.ended || self.state.is_closed() {
                 return Next::Closed;
             }
@@ -119,10 +128,33 @@ impl Reader {
     /// Whether a command of the bytes fed is not given yet: whether `next` gives one. It takes no memory.
     #[tactic(auto, unfolding(crate::specs::Reader::IsReader))]
     pub fn whole(&self) -> bool
-        ensures { (fed : List ℕ) (ended : Bool) (given : List Given) → IsReader self.now fed ended given →
-            IsTrue result ↔ IsNotAllGiven fed given }
+        ensures whole { (limit : ℕ) (fed : List ℕ) (ended : Bool) (given : List Given) → IsReader self.now limit fed ended given →
+            IsTrue result ↔ IsNotAllGiven limit fed given }
+        ensures all { (limit : ℕ) (fed : List ℕ) (ended : Bool) (given : List Given) → IsReader self.now limit fed ended given →
+            (result ≡ false) ↔ AreCommands limit fed (entries_of given) }
     {
         self.state.is_whole(&self.buffer)
+    }
+
+    /// Whether a command was given after which nothing is read. It takes no memory.
+    #[tactic(auto, unfolding(crate::specs::Reader::IsReader))]
+    pub fn is_closed(&self) -> bool
+        ensures closed { (limit : ℕ) (fed : List ℕ) (ended : Bool) (given : List Given) → IsReader self.now limit fed ended given →
+            IsTrue result ↔ IsClosedLine given }
+        // However long the stream is.
+        ensures most { (limit : ℕ) (fed : List ℕ) (ended : Bool) (given : List Given) → IsReader self.now limit fed ended given →
+            length given ≤ most_commands }
+    {
+        self.state.is_closed()
+    }
+
+    /// Whether the end of the bytes was told. It takes no memory.
+    #[tactic(auto, unfolding(crate::specs::Reader::IsReader))]
+    pub fn is_ended(&self) -> bool
+        ensures { (limit : ℕ) (fed : List ℕ) (ended : Bool) (given : List Given) → IsReader self.now limit fed ended given →
+            result ≡ ended }
+    {
+        self.ended
     }
 
     /// How many bytes are held: those that are unread, and those of an open block. A skipped block holds none.
@@ -130,19 +162,33 @@ impl Reader {
     #[tactic(auto, unfolding(crate::specs::Reader::held_bytes, crate::specs::Reader::IsSkipping))]
     pub fn held(&self) -> usize
         ensures value { result ≡ held_bytes self.now }
-        ensures most { result ≤ 65536 + 1048578 }
-        ensures skipping { IsSkipping self.now → result ≤ 65536 }
-        ensures skipped { (fed : List ℕ) (ended : Bool) (given : List Given) → IsReader self.now fed ended given →
-            IsAmidSkipped fed given → result ≤ 65536 }
+        ensures most { (limit : ℕ) (fed : List ℕ) (ended : Bool) (given : List Given) → IsReader self.now limit fed ended given →
+            result ≤ LINE_LIMIT + limit + 2 }
+        // They are part of the bytes that are unread.
+        ensures unread { (limit : ℕ) (fed : List ℕ) (ended : Bool) (given : List Given) (rest : List ℕ) → IsReader self.now limit fed ended given →
+            is_closed (entries_of given) ≡ false → SpellsFront limit 0 fed (entries_of given) rest → result ≤ length rest }
+        // A block is skipped that memory ran out for, and bytes behind a refused line: none of them is held.
+        ensures skipping { IsSkipping self.now → result ≤ LINE_LIMIT }
+        ensures skipped { (limit : ℕ) (fed : List ℕ) (ended : Bool) (given : List Given) → IsReader self.now limit fed ended given →
+            IsAmidSkipped limit fed given → result ≤ LINE_LIMIT }
     {
         self.buffer.unread().len() + self.state.held()
+    }
+
+    /// Whether the bytes that come next are skipped: those that a refused line announced, or a block that
+    /// memory ran out for. It takes no memory.
+    #[tactic(auto, unfolding(crate::specs::Reader::IsSkipping))]
+    pub fn is_skipping(&self) -> bool
+        ensures { IsTrue result ↔ IsSkipping self.now }
+    {
+        self.state.is_skipping()
     }
 
     /// No more bytes come: `feed` takes none from here on, and `next` gives what is whole.
     #[tactic(auto, unfolding(crate::specs::Reader::IsReader))]
     pub fn end(&mut self)
-        ensures { (fed : List ℕ) (ended : Bool) (given : List Given) →
-            IsReader self.old fed ended given → IsReader self.new fed true given }
+        ensures { (limit : ℕ) (fed : List ℕ) (ended : Bool) (given : List Given) →
+            IsReader self.old limit fed ended given → IsReader self.new limit fed true given }
     {
         self.ended = true;
     }

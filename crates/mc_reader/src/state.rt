@@ -3,14 +3,14 @@ ghost use Rattle.std.specs.Prelude.{◌≡◌, ◌+◌, ◌<◌, ◌≤◌, ◌+
 ghost use Rattle.std.specs.Option.{IfSome, IfNone};
 ghost use Rattle.mc_command.specs.declared.line.Line.TheVariants.{Data, Skip};
 ghost use Rattle.mc_command.specs.Line.{Says};
-ghost use Rattle.mc_reader.specs.State.{EndsAt, Holds, fits_in, is_opened};
+ghost use Rattle.mc_reader.specs.internal.State.{EndsAt, Holds, IsWhole, fits_in, is_opened};
 ghost use Rattle.mc_reader.specs.Spelling as spelling;
 ghost use Rattle.mc_reader.specs.Spelling.{HasNoEnd, SpellsNothing, line_says};
 
-use crate::block::{OpenBlock, Skipped};
+use crate::block::{OpenBlock, Skipped, block_command};
 use crate::buffer::Buffer;
 use mc_command::{Command, Line, Refusal, announced_bytes, read_line};
-use mc_wire::LINE_LIMIT;
+use mc_wire::{GREATEST_VALUE_LIMIT, LINE_LIMIT};
 use memchr::memchr;
 use std::alloc::Global;
 use std::mem;
@@ -29,12 +29,13 @@ pub(crate) enum State {
 }
 
 impl State {
-    ghost use Rattle.mc_reader.specs.State.{Completes, IsWhole, SpellsSomething, Waits, held_in, line_fits};
+    ghost use Rattle.mc_reader.specs.internal.State.{Completes, SpellsSomething, Waits, held_in, line_fits};
     ghost use Rattle.mc_reader.specs.declared.state.State.TheVariants as state;
+    ghost use Rattle.mc_reader.specs.declared.block.Skipped.{Skipped};
 
     /// At the beginning of a line.
     pub(crate) fn at_line(buffer: &Buffer) -> State
-        ensures holds { Holds result buffer.now buffer.now }
+        ensures holds { (limit : ℕ) → Holds limit result buffer.now buffer.now }
         ensures fits { IsTrue (line_fits result buffer.now) }
     {
         State::Line(memchr(b'\n', buffer.unread()))
@@ -47,10 +48,16 @@ impl State {
         matches!(self, State::Closed)
     }
 
+    /// Whether bytes are skipped.
+    pub(crate) fn is_skipping(&self) -> bool
+        ensures { IsTrue result ↔ ((skipped : Skipped) × (self.now ≡ state.Skip skipped)) }
+    {
+        matches!(self, State::Skip(_))
+    }
+
     /// How many bytes of a block have come.
     pub(crate) fn held(&self) -> usize
         ensures value { result ≡ held_in self.now }
-        ensures most { result ≤ 1048578 }
     {
         match self {
             State::Block(block) => block.bytes.len(),
@@ -63,9 +70,9 @@ impl State {
         requires { IsTrue (line_fits self.old buffer.old) }
         ensures within { result ≤ length piece.now }
         ensures fits { IsTrue (line_fits self.new buffer.new) }
-        ensures holds { (unread : List ℕ) → Holds self.old buffer.old unread → Holds self.new buffer.new (unread ++ take result piece.now) }
+        ensures holds { (limit : ℕ) (unread : List ℕ) → Holds limit self.old buffer.old unread → Holds limit self.new buffer.new (unread ++ take result piece.now) }
         ensures waits { Waits self.old buffer.old → 0 < length piece.now → 0 < result }
-        ensures whole { Holds self.old buffer.old [] → length piece.now ≤ 65536 → result ≡ length piece.now }
+        ensures whole { (limit : ℕ) → Holds limit self.old buffer.old [] → length piece.now ≤ LINE_LIMIT → result ≡ length piece.now }
         ensures closed { self.old ≡ state.Closed → (self.new ≡ state.Closed) × (result ≡ length piece.now) }
     {
         match self {
@@ -85,15 +92,21 @@ impl State {
     }
 
     /// The next command or refusal, if its whole text has come, which is then taken away.
-    pub(crate) fn take_command(&mut self, alloc: Global, buffer: &mut Buffer) -> Option<Command>
-        requires { IsTrue (line_fits self.old buffer.old) }
-        ensures some { IfSome result (λ shown. (unread : List ℕ) → Holds self.old buffer.old unread → IsWhole shown buffer.new unread) }
-        ensures none { IfNone result ((unread : List ℕ) → Holds self.old buffer.old unread →
-            Holds self.new buffer.new unread × SpellsNothing unread × Waits self.new buffer.new) }
+    pub(crate) fn take_command(
+        &mut self,
+        alloc: Global,
+        buffer: &mut Buffer,
+        limit: usize,
+    ) -> Option<Command>
+        requires fits { IsTrue (line_fits self.old buffer.old) }
+        requires small { limit ≤ GREATEST_VALUE_LIMIT }
+        ensures some { IfSome result (λ shown. (unread : List ℕ) → Holds limit self.old buffer.old unread → IsWhole limit shown buffer.new unread) }
+        ensures none { IfNone result ((unread : List ℕ) → Holds limit self.old buffer.old unread →
+            Holds limit self.new buffer.new unread × SpellsNothing limit unread × Waits self.new buffer.new) }
         ensures opened { IfNone result (IsTrue (is_opened self.new)) }
         ensures closed { self.old ≡ state.Closed → (self.new ≡ state.Closed) × (result ≡ None) }
     {
-        match self.read_line(alloc, buffer) {
+        match self.read_line(alloc, buffer, limit) {
             Some(command) => Some(command),
             None => self.finish(buffer),
         }
@@ -101,20 +114,26 @@ impl State {
 
     /// Reads the first line, where it is whole: a command without a block, whose text is taken away, or a
     /// line with a block, which is then awaited.
-    fn read_line(&mut self, alloc: Global, buffer: &mut Buffer) -> Option<Command>
-        requires { IsTrue (line_fits self.old buffer.old) }
-        ensures some { IfSome result (λ shown. (unread : List ℕ) → Holds self.old buffer.old unread → IsWhole shown buffer.new unread) }
-        ensures none { IfNone result ((unread : List ℕ) → Holds self.old buffer.old unread → Holds self.new buffer.new unread) }
+    fn read_line(&mut self, alloc: Global, buffer: &mut Buffer, limit: usize) -> Option<Command>
+        requires fits { IsTrue (line_fits self.old buffer.old) }
+        requires small { limit ≤ GREATEST_VALUE_LIMIT }
+        ensures some { IfSome result (λ shown. (unread : List ℕ) → Holds limit self.old buffer.old unread → IsWhole limit shown buffer.new unread) }
+        ensures none { IfNone result ((unread : List ℕ) → Holds limit self.old buffer.old unread → Holds limit self.new buffer.new unread) }
         ensures opened { IfNone result (IsTrue (is_opened self.new)) }
         ensures closed { self.old ≡ state.Closed → (self.new ≡ state.Closed) × (result ≡ None) }
     {
         let State::Line(Some(long)) = self else {
             return None;
         };
-        match take_line(alloc, buffer, *long) {
+        match take_line(alloc, buffer, *long, limit) {
             Line::Whole(command) => return Some(command),
             Line::Refused(refusal) => return Some(Command::Refused(refusal)),
-            Line::Data(command, count) => *self = open_block(alloc, buffer, command, count),
+            Line::Data(command, count) => {
+                if has_block(buffer, count) {
+                    return Some(take_block(alloc, buffer, command, count));
+                }
+                *self = open_block(alloc, buffer, command, count);
+            }
             Line::Skip(refusal, left) => *self = open_skip(buffer, refusal, left),
         }
         None
@@ -123,7 +142,7 @@ impl State {
     /// Whether the whole text of a command or refusal has come. It takes no memory.
     pub(crate) fn is_whole(&self, buffer: &Buffer) -> bool
         requires { IsTrue (line_fits self.now buffer.now) }
-        ensures whole { (unread : List ℕ) → Holds self.now buffer.now unread → IsTrue result ↔ SpellsSomething unread }
+        ensures whole { (limit : ℕ) (unread : List ℕ) → Holds limit self.now buffer.now unread → IsTrue result ↔ SpellsSomething limit unread }
         ensures closed { self.now ≡ state.Closed → result ≡ false }
     {
         match self {
@@ -150,9 +169,9 @@ impl State {
     /// The command whose block has come, or the refusal whose bytes were skipped or whose line is too long.
     /// Its text is then taken away.
     fn finish(&mut self, buffer: &mut Buffer) -> Option<Command>
-        ensures some { IfSome result (λ shown. (unread : List ℕ) → IsTrue (is_opened self.old) → Holds self.old buffer.old unread → IsWhole shown buffer.new unread) }
+        ensures some { IfSome result (λ shown. (limit : ℕ) (unread : List ℕ) → IsTrue (is_opened self.old) → Holds limit self.old buffer.old unread → IsWhole limit shown buffer.new unread) }
         ensures none { IfNone result ((self.new ≡ self.old) × (buffer.new ≡ buffer.old)) }
-        ensures nothing { IfNone result ((unread : List ℕ) → IsTrue (is_opened self.old) → Holds self.old buffer.old unread → SpellsNothing unread × Waits self.old buffer.old) }
+        ensures nothing { IfNone result ((limit : ℕ) (unread : List ℕ) → IsTrue (is_opened self.old) → Holds limit self.old buffer.old unread → SpellsNothing limit unread × Waits self.old buffer.old) }
         ensures closed { self.old ≡ state.Closed → result ≡ None }
     {
         if !self.is_complete(buffer) {
@@ -176,10 +195,10 @@ fn feed_line(buffer: &mut Buffer, long: &mut Option<usize>, piece: &[u8]) -> usi
     requires { IsTrue (fits_in long.old buffer.old) }
     ensures within { result ≤ length piece.now }
     ensures bytes { buffer.new ≡ buffer.old ++ take result piece.now }
-    ensures room { length buffer.new ≤ 65536 }
+    ensures room { length buffer.new ≤ LINE_LIMIT }
     ensures fits { IsTrue (fits_in long.new buffer.new) }
     ensures ends { EndsAt buffer.old long.old → EndsAt buffer.new long.new }
-    ensures all { long.old ≡ None → result ≡ min (65536 - length buffer.old) (length piece.now) }
+    ensures all { long.old ≡ None → result ≡ min (LINE_LIMIT - length buffer.old) (length piece.now) }
 {
     if long.is_some() {
         return buffer.push(piece);
@@ -201,23 +220,46 @@ fn without_return(line: &[u8]) -> &[u8]
 }
 
 /// Reads the first line, which has so many bytes, and takes it away with its line feed.
-fn take_line(alloc: Global, buffer: &mut Buffer, long: usize) -> Line
+fn take_line(alloc: Global, buffer: &mut Buffer, long: usize, limit: usize) -> Line
     requires { long < length buffer.old }
-    ensures says { Says (line_says (take long buffer.old)) result }
+    ensures says { Says (line_says limit (take long buffer.old)) result }
     ensures rest { buffer.new ≡ drop (long + 1) buffer.old }
 {
     let (text, _) = buffer.unread().split_at(long);
-    let line = read_line(alloc, without_return(text));
+    let line = read_line(alloc, without_return(text), limit);
     buffer.consume(long + 1);
     line
+}
+
+/// Whether a block of so many bytes lies in the buffer, with its line end.
+fn has_block(buffer: &Buffer, count: u32) -> bool
+    ensures { IsTrue result ↔ (count + 2 ≤ length buffer.now) }
+{
+    count as usize + 2 <= buffer.unread().len()
+}
+
+/// The command whose block lies in the buffer, which is then taken away with its line end. Where memory runs
+/// out, the command is given up.
+fn take_block(alloc: Global, buffer: &mut Buffer, command: Command, count: u32) -> Command
+    requires { count + 2 ≤ length buffer.old }
+    ensures { (limit : ℕ) (line : List ℕ) → HasNoEnd line → length line < LINE_LIMIT → line_says limit line ≡ Data command count →
+        IsWhole limit result buffer.new (line ++ 10 ∷ buffer.old) }
+{
+    let (bytes, _) = buffer.unread().split_at(count as usize + 2);
+    let read = block_command(alloc, command, bytes);
+    buffer.consume(count as usize + 2);
+    match read {
+        Ok(entry) => entry,
+        Err(_) => Command::Refused(Refusal::Memory),
+    }
 }
 
 /// Takes the room of a block of so many bytes, and what the buffer has of it. Where there is no room, the
 /// block is skipped.
 fn open_block(alloc: Global, buffer: &mut Buffer, command: Command, count: u32) -> State
-    requires { count ≤ 1048576 }
-    ensures holds { (line : List ℕ) → HasNoEnd line → length line < 65536 → line_says line ≡ Data command count →
-        Holds result buffer.new (line ++ 10 ∷ buffer.old) }
+    requires { count ≤ GREATEST_VALUE_LIMIT }
+    ensures holds { (limit : ℕ) (line : List ℕ) → HasNoEnd line → length line < LINE_LIMIT → line_says limit line ≡ Data command count →
+        Holds limit result buffer.new (line ++ 10 ∷ buffer.old) }
     ensures opened { IsTrue (is_opened result) }
 {
     match OpenBlock::new(alloc, command, count) {
@@ -232,8 +274,8 @@ fn open_block(alloc: Global, buffer: &mut Buffer, command: Command, count: u32) 
 
 /// Skips what the buffer has of so many bytes.
 fn open_skip(buffer: &mut Buffer, refusal: Refusal, left: u64) -> State
-    ensures holds { (line : List ℕ) → HasNoEnd line → length line < 65536 → Says (line_says line) (Skip refusal left) →
-        Holds result buffer.new (line ++ 10 ∷ buffer.old) }
+    ensures holds { (limit : ℕ) (line : List ℕ) → HasNoEnd line → length line < LINE_LIMIT → Says (line_says limit line) (Skip refusal left) →
+        Holds limit result buffer.new (line ++ 10 ∷ buffer.old) }
     ensures opened { IsTrue (is_opened result) }
 {
     let mut skipped = Skipped { refusal, left };

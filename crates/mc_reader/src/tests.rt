@@ -2,8 +2,9 @@
 //! reading goes on where an allocation was refused.
 ghost use Rattle.std.specs.Prelude.{◌<◌};
 
-use crate::{Next, Reader};
+use crate::{Next, Reader, readers_give_commands};
 use mc_command::{Command, Refusal};
+use mc_wire::{DEFAULT_VALUE_LIMIT, GREATEST_VALUE_LIMIT, LEAST_VALUE_LIMIT};
 use std::alloc::Global;
 use std::process::Abort;
 use std::test::Fail;
@@ -76,7 +77,7 @@ fn gives_cut(
 ) -> Result<(), Fail>
     requires { 0 < size }
 {
-    let mut reader = Reader::new(alloc)?;
+    let mut reader = Reader::new(alloc, DEFAULT_VALUE_LIMIT)?;
     let mut count = 0;
     for piece in input.chunks(size) {
         feed_all(rt, &mut reader, piece);
@@ -119,7 +120,7 @@ fn every_cutting_gives_the_same(rt: HostRuntime) -> Result<(), Fail> {
 #[test]
 fn each_call_with_ample_memory(rt: HostRuntime) -> Result<(), Fail> {
     let alloc = rt.alloc();
-    let mut reader = Reader::new(alloc)?;
+    let mut reader = Reader::new(alloc, DEFAULT_VALUE_LIMIT)?;
     assert!(rt; !reader.whole());
     gives(&rt, alloc, &mut reader, &[Came::NeedMore]);
     feed_all(&rt, &mut reader, b"set a 0 0 2\r\nhi\r\nget a\r\nms c 1");
@@ -152,7 +153,7 @@ fn each_call_with_ample_memory(rt: HostRuntime) -> Result<(), Fail> {
 #[test]
 fn a_skipped_block_is_not_kept(rt: HostRuntime) -> Result<(), Fail> {
     let alloc = rt.alloc();
-    let mut reader = Reader::new(alloc)?;
+    let mut reader = Reader::new(alloc, DEFAULT_VALUE_LIMIT)?;
     feed_all(&rt, &mut reader, b"set a 0 0 4294967295\r\n");
     // These are the block and one of the two bytes behind it.
     for _ in 0..65_536u32 {
@@ -180,7 +181,7 @@ fn a_skipped_block_is_not_kept(rt: HostRuntime) -> Result<(), Fail> {
 #[test]
 fn a_refused_allocation_gives_up_one_command(rt: HostRuntime) {
     let alloc = rt.alloc();
-    let Ok(mut reader) = Reader::new(alloc) else {
+    let Ok(mut reader) = Reader::new(alloc, DEFAULT_VALUE_LIMIT) else {
         return;
     };
     feed_all(
@@ -199,4 +200,38 @@ fn a_refused_allocation_gives_up_one_command(rt: HostRuntime) {
     }
     assert!(rt; refused <= 1);
     gives(&rt, alloc, &mut reader, &[Came::NeedMore]);
+}
+
+/// A value has at most as many bytes as the limit says, whatever limit is chosen.
+#[test]
+fn values_at_the_limit(rt: HostRuntime) -> Result<(), Fail> {
+    let alloc = rt.alloc();
+    for limit in [LEAST_VALUE_LIMIT, DEFAULT_VALUE_LIMIT, GREATEST_VALUE_LIMIT] {
+        let mut reader = Reader::new(alloc, limit)?;
+        for (count, wanted) in [
+            (limit - 1, Came::Store),
+            (limit, Came::Store),
+            (limit + 1, Came::Refused(Refusal::TooLarge)),
+        ] {
+            let line = format!(in alloc; "set a 0 0 {count}\r\n")?;
+            feed_all(&rt, &mut reader, line.as_bytes());
+            gives(&rt, alloc, &mut reader, &[Came::NeedMore]);
+            assert_eq!(rt; reader.is_skipping(), count > limit);
+            let mut left = count;
+            for _ in 0..GREATEST_VALUE_LIMIT {
+                let (piece, _) = PIECE.split_at(left.min(PIECE.len()));
+                feed_all(&rt, &mut reader, piece);
+                left -= piece.len();
+                if left == 0 {
+                    break;
+                }
+                gives(&rt, alloc, &mut reader, &[Came::NeedMore]);
+            }
+            assert_eq!(rt; left, 0);
+            feed_all(&rt, &mut reader, b"\r\n");
+            gives(&rt, alloc, &mut reader, &[wanted, Came::NeedMore]);
+        }
+    }
+    readers_give_commands();
+    Ok(())
 }

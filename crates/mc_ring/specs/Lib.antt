@@ -1,1 +1,6 @@
 pub mod Reply
+pub mod Lane
+pub mod Ends
+pub mod EndsLaws
+pub mod Made
+pub mod internal

@@ -1,10 +1,28 @@
-//! What goes between the seats of connections and the shards: pieces one way, replies the other.
+//! What goes between the seats of connections and the shards, and the lanes on which it goes: parcels one way, replies
+//! the other.
 #![tactic(auto)]
 
+mod making;
+mod pair;
 mod parcel;
 mod reply;
+mod seat;
+mod shard;
 #[cfg(test)]
 mod tests;
 
+pub use making::{RingRefusal, lanes};
+pub use pair::beside;
 pub use parcel::Parcel;
 pub use reply::Reply;
+pub use seat::SeatEnds;
+pub use shard::ShardEnds;
+
+/// Seats: at most this many.
+pub const SEAT_LIMIT: usize = 64;
+
+/// Shards: at most this many.
+pub const SHARD_LIMIT: usize = 16;
+
+/// Items that one ring holds: at most this many.
+pub const RING_LIMIT: usize = 1_024;

@@ -24,7 +24,7 @@ use Rattle.mc_wire.specs.Base64Key.{base64_of, base64_bytes}
 use Rattle.mc_wire.specs.Key.{fnv_of}
 use Rattle.mc_wire.specs.Words.{words_of}
 use Rattle.mc_wire.specs.Number.{number_of}
-use Rattle.mc_store.specs.State.{State, Used, with_given, first}
+use Rattle.mc_store.specs.State.{State, Used, with_given, first, entered}
 use Rattle.mc_store.specs.Step.{step_of}
 use Rattle.mc_split.specs.Pieces.{pieces_of}
 use Rattle.mc_split.specs.Text.{shape_text}
@@ -40,10 +40,10 @@ step_on_is_step state (op.Count key direction amount) = refl
 step_on_is_step state (op.Delete key) = refl
 step_on_is_step state (op.Touch key exptime) = refl
 step_on_is_step state (op.Flush delay) = refl
-step_on_is_step state (op.MetaGet key touch vivify recache) = refl
-step_on_is_step state (op.MetaStore key mode compare flags exptime value) = refl
-step_on_is_step state (op.MetaDelete key compare invalidate exptime) = refl
-step_on_is_step state (op.MetaCount key compare direction amount exptime vivify) = refl
+step_on_is_step state (op.MetaGet asked) = refl
+step_on_is_step state (op.MetaStore asked) = refl
+step_on_is_step state (op.MetaDelete asked) = refl
+step_on_is_step state (op.MetaCount asked) = refl
 
 abbrev line : List ℕ → Sent
 line text = record { line = text; behind = [] }
@@ -53,7 +53,7 @@ block text behind = record { line = text; behind = behind }
 
 -- the first of two shards, which has given so many uniques
 abbrev shard : ℕ → State
-shard given = record { items = empty; uses = 0; time = 1000; flush = None; given = given; index = 0; shards = 2; capacity = 65536 }
+shard given = record { items = empty; uses = 0; time = 1000; flush = None; given = given; index = 0; shards = 2; budget = 16777216; limit = 1048576 }
 
 -- an item with this value and the unique 1, just stored
 abbrev item : List ℕ → Item
@@ -501,13 +501,13 @@ touch_keeps_fetched = refl
 
 -- and so does incr, which leaves the marks too;
 incr_keeps_fetched_and_stale : outcomes_on (shard 2) (line (codes "incr a 1\r")) (there (record (item (codes "5")) { fetched = true; stale = true; sent = true }))
-    ≡ (Number 6, first (with_given (shard 2)) (codes "a") (record (item (codes "6")) { unique = 5; fetched = true; stale = true; sent = true })) ∷ []
+    ≡ (Number 6, entered (with_given (shard 2)) (codes "a") (record (item (codes "6")) { unique = 5; fetched = true; stale = true; sent = true })) ∷ []
 unfolding line_of words_of name_of number_of is_key keys_of meta_line_of decoded_key base64_bytes pieces_of shape_of shape_text fnv_of base64_of key_of number_in expiry_of is_dead seconds_left digits
 incr_keeps_fetched_and_stale = refl
 
 -- what append has made was not fetched yet;
 append_clears_fetched : outcomes_on (shard 1) (block (codes "append a 9 9 1\r") (codes "y\r\n")) (there (record (item (codes "x")) { flags = 7; fetched = true }))
-    ≡ (Stored, first (with_given (shard 1)) (codes "a") (record (item (codes "xy")) { unique = 3; flags = 7 })) ∷ []
+    ≡ (Stored, entered (with_given (shard 1)) (codes "a") (record (item (codes "xy")) { unique = 3; flags = 7 })) ∷ []
 unfolding line_of words_of name_of number_of is_key keys_of meta_line_of decoded_key base64_bytes pieces_of shape_of shape_text fnv_of base64_of key_of number_in expiry_of is_dead seconds_left digits
 append_clears_fetched = refl
 

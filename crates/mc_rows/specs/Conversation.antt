@@ -1,7 +1,8 @@
 -- What a client gets, by the definitions alone: the command table, the protocol's step and the texts of replies.
-use Rattle.std.specs.Prelude.{ℕ, List, map, Option, None}
+use Rattle.std.specs.Prelude.{ℕ, false, List, map, Option, None}
 use Rattle.std.specs.FinMap.{get}
 use Rattle.std.specs.Option.{option_and_then}
+use Rattle.mc_wire.specs.declared.TheConstants.{DEFAULT_VALUE_LIMIT}
 use Rattle.mc_command.specs.declared.command.Command.{Command}
 use Rattle.mc_command.specs.declared.command.Command.TheVariants as command
 use Rattle.mc_command.specs.declared.line.Line.{Line}
@@ -12,7 +13,9 @@ use Rattle.mc_item.specs.declared.op.Op.TheVariants as op
 use Rattle.mc_item.specs.Expiry.{expiry_of}
 use Rattle.mc_item.specs.Kind.{key_of}
 use Rattle.mc_reader.specs.Spelling.{line_says, block_entry}
-use Rattle.mc_server.specs.Alone.{Taken, alone}
+use Rattle.mc_conn.specs.History.{Taken}
+use Rattle.mc_core.specs.Sizes.{Sizes}
+use Rattle.mc_core.specs.Alone.{alone}
 use Rattle.mc_split.specs.Pieces.{pieces_of}
 use Rattle.mc_split.specs.Text.{text_of}
 use Rattle.mc_store.specs.State.{State, Used}
@@ -31,32 +34,35 @@ entry_of (Refused refusal) behind = command.Refused refusal
 entry_of (Skip refusal count) behind = command.Refused refusal
 
 abbrev pub spelled : Sent → Command
-spelled sent = entry_of (line_says sent.line) sent.behind
+spelled sent = entry_of (line_says DEFAULT_VALUE_LIMIT sent.line) sent.behind
 
 abbrev pub taken_at : ℕ → Sent → Taken
-taken_at moment sent = record { entry = spelled sent; moment = moment }
+taken_at moment sent = record { entry = spelled sent; moment = moment; given_up = false }
+
+abbrev pub row_sizes : Sizes
+row_sizes = record { seats = 1; shards = 2; bytes = 65536; ring = 64; value = DEFAULT_VALUE_LIMIT; window = 256 }
 
 -- the replies of a server of two shards, still empty, at the moment
 abbrev pub replies : ℕ → List Sent → List ℕ
-replies moment sent = alone 2 65536 (map (taken_at moment) sent)
+replies moment sent = alone row_sizes (map (taken_at moment) sent)
 
 -- what a shard answers where this stands under the key, and its state then
 abbrev pub step_on : State → Op → Option Used → Outcome
 step_on state (op.Fetch key touch) found = fetch_step state key touch found
 step_on state (op.Store key mode flags exptime value) found =
-    store_step state key (storing (mode_of mode) (compare_of mode) flags exptime value) (λ done. Stored) found
+    store_step state key (storing (mode_of mode) (compare_of mode) None flags exptime value) (λ done. Stored) found
 step_on state (op.Count key direction amount) found =
-    count_step state key (counting None direction amount None) (λ done. Number done.number) None found
+    count_step state key (counting None None direction amount None) (λ done. Number done.number) None found
 step_on state (op.Delete key) found = delete_step state key found
 step_on state (op.Touch key exptime) found = touch_step state key exptime found
 step_on state (op.Flush delay) found = (Done, flush_step state (coming (expiry_of delay state.time) state.time))
-step_on state (op.MetaGet key touch vivify recache) found = meta_get_step state key touch vivify recache found
-step_on state (op.MetaStore key mode compare flags exptime value) found =
-    store_step state key (storing mode compare flags exptime value) (λ done. MetaDone done) found
-step_on state (op.MetaDelete key compare invalidate exptime) found =
-    meta_delete_step state key compare invalidate exptime found
-step_on state (op.MetaCount key compare direction amount exptime vivify) found =
-    count_step state key (counting compare direction amount exptime) (λ done. MetaDone done) vivify found
+step_on state (op.MetaGet asked) found = meta_get_step state asked.key asked.touch asked.vivify asked.recache found
+step_on state (op.MetaStore asked) found =
+    store_step state asked.key (storing asked.mode asked.compare asked.unique asked.flags asked.exptime asked.value) (λ done. MetaDone done) found
+step_on state (op.MetaDelete asked) found =
+    meta_delete_step state asked found
+step_on state (op.MetaCount asked) found =
+    count_step state asked.key (counting asked.compare asked.unique asked.direction asked.amount asked.exptime) (λ done. MetaDone done) asked.vivify found
 
 -- what stands under the key of an operation
 abbrev pub found_by : State → Op → Option Used

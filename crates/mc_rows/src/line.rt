@@ -1,7 +1,7 @@
 //! A line over memory, which is cut into pieces and may fail.
-ghost use Rattle.std.specs.Prelude.{◌≡◌, IsTrue};
+ghost use Rattle.std.specs.Prelude.{◌≡◌, None, IsTrue};
 
-use mc_server::{Line, LineFault};
+use mc_seat::{Line, LineFault};
 use mc_wire::{OutFault, Outlet};
 use std::alloc::Global;
 
@@ -86,13 +86,9 @@ impl<'a> MemoryLine<'a> {
 }
 
 impl Outlet for MemoryLine<'_> {
-    ghost use Rattle.std.specs.Prelude.{None};
+    ghost use Rattle.mc_wire.specs.Outlet.{Untold};
 
-    ghost has_failed = { λ line. line.failed };
-
-    ghost taken = { λ _. None };
-
-    ghost input = { λ line. record { given = None; ended = line.ended } };
+    ghost sight = { λ line. record { given = Untold; ended = line.ended; reads = None; taken = Untold; failed = line.failed } };
 
     fn write(&mut self, bytes: &[u8]) -> Result<usize, OutFault> {
         if self.fails() {
@@ -122,12 +118,5 @@ impl Line for MemoryLine<'_> {
         self.given = self.given.saturating_add(count);
         self.ended = count == 0;
         Ok(count)
-    }
-
-    fn flush(&mut self) -> Result<(), OutFault> {
-        if self.failed {
-            return Err(OutFault);
-        }
-        Ok(())
     }
 }

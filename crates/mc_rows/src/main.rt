@@ -8,9 +8,12 @@ mod line;
 mod row;
 
 use line::{Cutting, MemoryLine};
-use mc_server::{Gathered, Line, Served, Sizes, StillClock, gathering_room, serve_one};
+use mc_seat::{Line, Served};
+use mc_server::{DEFAULT_RING, DEFAULT_WINDOW, Sizes, StillClock, serve_one};
+use mc_store::{GREATEST_BUDGET, LEAST_BUDGET};
+use mc_wire::DEFAULT_VALUE_LIMIT;
 use row::{Row, split_at_tab};
-use std::alloc::{AllocError, Global};
+use std::alloc::Global;
 use std::random::RandomSource;
 use std::sync::Wait;
 use std::{fs, io};
@@ -42,12 +45,15 @@ fn served<R: Wait + RandomSource, L: Line>(
     row: &Row,
     line: &mut L,
 ) -> Option<Served> {
-    if row.items == 0 {
+    if row.bytes < LEAST_BUDGET || row.bytes > GREATEST_BUDGET {
         return None;
     }
     let sizes = Sizes {
         shards: 2,
-        items: row.items,
+        bytes: row.bytes,
+        ring: DEFAULT_RING,
+        value: DEFAULT_VALUE_LIMIT,
+        window: DEFAULT_WINDOW,
     };
     serve_one(rt, alloc, line, sizes, &StillClock(row.moment)).ok()
 }
@@ -90,27 +96,21 @@ fn is_right_cut<R: Wait + RandomSource>(rt: &R, alloc: Global, row: &Row) -> boo
     true
 }
 
-/// Whether the row's output comes where it is gathered; a short one in a single write.
-fn is_right_gathered<R: Wait + RandomSource>(
-    rt: &R,
-    alloc: Global,
-    row: &Row,
-) -> Result<bool, AllocError> {
+/// Whether the row's output comes where nothing is cut; a short one in a single write.
+fn is_right_whole<R: Wait + RandomSource>(rt: &R, alloc: Global, row: &Row) -> bool {
     let cutting = Cutting {
         piece: WHOLE,
         portion: WHOLE,
         fails_at: NEVER,
     };
-    let line = MemoryLine::new(alloc, row.input.as_slice(), cutting);
-    let mut gathered = Gathered::new(line, gathering_room(alloc)?);
-    let Some(served) = served(rt, alloc, row, &mut gathered) else {
-        return Ok(false);
+    let mut line = MemoryLine::new(alloc, row.input.as_slice(), cutting);
+    let Some(served) = served(rt, alloc, row, &mut line) else {
+        return false;
     };
-    let (line, _room) = gathered.into_parts();
     // One read of the input, one of its end, and one write.
     let is_short = row.input.len() <= WHOLE && row.output.len() <= 16_384;
     let few = !is_short || line.calls() <= 3;
-    Ok(!served.broke && few && line.output() == row.output.as_slice())
+    !served.broke && few && line.output() == row.output.as_slice()
 }
 
 /// Whether a line that failed at one of its calls was told to have failed, and took a beginning of the row's
@@ -156,21 +156,17 @@ fn is_right_failing<R: Wait + RandomSource>(rt: &R, alloc: Global, row: &Row) ->
 }
 
 /// What is wrong with a row, if anything is.
-fn fault_of<R: Wait + RandomSource>(
-    rt: &R,
-    alloc: Global,
-    row: &Row,
-) -> Result<Option<&'static str>, AllocError> {
+fn fault_of<R: Wait + RandomSource>(rt: &R, alloc: Global, row: &Row) -> Option<&'static str> {
     if !is_right_cut(rt, alloc, row) {
-        return Ok(Some("wrong"));
+        return Some("wrong");
     }
-    if !is_right_gathered(rt, alloc, row)? {
-        return Ok(Some("wrong where it is gathered"));
+    if !is_right_whole(rt, alloc, row) {
+        return Some("wrong where nothing is cut");
     }
     if !is_right_failing(rt, alloc, row) {
-        return Ok(Some("wrong where the line fails"));
+        return Some("wrong where the line fails");
     }
-    Ok(None)
+    None
 }
 
 fn main(rt: HostRuntime) -> io::Result<()> {
@@ -183,7 +179,7 @@ fn main(rt: HostRuntime) -> io::Result<()> {
             continue;
         };
         rows = rows.saturating_add(1);
-        if let Some(fault) = fault_of(&rt, rt.alloc(), &row)? {
+        if let Some(fault) = fault_of(&rt, rt.alloc(), &row) {
             failed = failed.saturating_add(1);
             println!(rt; "{fault}: {line}")?;
         }

@@ -7,28 +7,28 @@ use std::alloc::{AllocError, Global};
 pub struct Row {
     /// Every command's moment, in seconds since 1970.
     pub moment: u64,
-    /// How many items a shard holds at most.
-    pub items: usize,
+    /// What the items of a shard may cost together, in bytes.
+    pub bytes: usize,
     pub input: Vec<u8>,
     pub output: Vec<u8>,
 }
 
 impl Row {
-    /// Reads a row: name, moment, items, input and output, parted by tabs. A line that begins with `#` is none.
+    /// Reads a row: name, moment, bytes, input and output, parted by tabs. A line that begins with `#` is none.
     pub fn read(alloc: Global, line: &[u8]) -> Result<Option<Row>, AllocError> {
         if line.is_empty() || line.starts_with(b"#") {
             return Ok(None);
         }
         let (_name, rest) = split_at_tab(line);
         let (moment, rest) = split_at_tab(rest);
-        let (items, rest) = split_at_tab(rest);
+        let (bytes, rest) = split_at_tab(rest);
         let (input, output) = split_at_tab(rest);
-        let Ok(items) = usize::try_from(number(items)) else {
+        let Ok(bytes) = usize::try_from(number(bytes)) else {
             return Ok(None);
         };
         Ok(Some(Row {
             moment: number(moment),
-            items,
+            bytes,
             input: unescape(alloc, input)?,
             output: unescape(alloc, output)?,
         }))

@@ -1,10 +1,6 @@
-pub mod Logs
+pub mod Backing
+pub mod Answering
+pub mod Explaining
+pub mod Turning
 pub mod Shards
-pub mod Pieces
-pub mod Commands
-pub mod Histories
-pub mod Fronts
-pub mod Turns
-pub mod Gathering
-pub mod Alone
 pub mod Calls

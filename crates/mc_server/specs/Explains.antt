@@ -1,38 +1,59 @@
--- When one history explains what was read of a line, what it took and what the shards did.
-use Rattle.std.specs.Prelude.{ℕ, ◌≡◌, Bool, true, false, ◌⊎◌, List, ◌++◌, length, map, IsTrue}
-use Rattle.std.specs.List.{AllByRecursion}
-use Rattle.mc_wire.specs.Outlet.{Input, with_bytes}
-use Rattle.mc_reader.specs.Spelling.{AreCommands, BeginCommands, is_closed}
-use Rattle.mc_server.specs.Lines.{Sight}
-use Rattle.mc_server.specs.History.{Done, entries_of, texts_of, IsAnswered}
-use Rattle.mc_server.specs.Log.{log_of, IsLawful}
-use Rattle.mc_server.specs.Alone.{alone, taken_of, HadMemory}
+-- When one log explains what was read of the lines, what they took and what the shards did.
+use Rattle.std.specs.Prelude.{ℕ, ◌≡◌, ◌<◌, ◌≢◌, Bool, false, List, length, map, Some}
+use Rattle.std.specs.List.{AllByRecursion, slice_get}
+use Rattle.mc_wire.specs.Outlet.{Sight}
+use Rattle.mc_conn.specs.History.{Done, IsAnswered, entries_of, taken_of, text_done}
+use Rattle.mc_conn.specs.Due.{Ran}
+use Rattle.mc_conn.specs.Due as due
+use Rattle.mc_core.specs.Sizes.{Sizes}
+use Rattle.mc_core.specs.Log.{Entry, IsLawful, of_asker, on_shard}
+use Rattle.mc_core.specs.Alone.{HadMemory, alone}
+use Rattle.mc_seat.specs.Story.{Story}
+use Rattle.mc_seat.specs.Reads.{ReadsOwingNothing}
 
--- Of a line that did not break all commands of the bytes read were taken, and it took all their texts; of one that did, a
--- beginning of the commands, and a beginning of their texts.
-abbrev pub Covers : Bool → List ℕ → List ℕ → List Done → Type 0
-Covers false read taken history = AreCommands read (entries_of history) × (taken ≡ texts_of history)
-Covers true read taken history = BeginCommands read (entries_of history) × ((rest : List ℕ) × (taken ++ rest ≡ texts_of history))
+-- what is told of a line that was served: what was seen of it before and after, how many commands it took, and whether it failed
+pub record LineTold : Type 0 where
+  pub begin : Sight
+  pub now : Sight
+  pub commands : ℕ
+  pub broke : Bool
 
-pub record Explains (shards items : ℕ) (may_answer : ℕ → Type 0) (read taken : List ℕ) (broke : Bool) (history : List Done) : Type 0 where
-  pub covers : Covers broke read taken history
-  pub lawful : IsLawful shards items (log_of shards history)
-  pub answered : AllByRecursion (IsAnswered shards) history
-  pub moments : AllByRecursion (λ done. may_answer done.moment) history
+-- what a shard ran for a line
+abbrev pub entry_of : ℕ → Ran → Entry
+entry_of asker ran = record { shard = ran.shard; asker = asker; piece = ran.piece; answer = ran.answer }
 
--- A read has answered that the input is at its end, or a command was taken after which nothing is read.
-abbrev pub IsFinished : Input → List Done → Type 0
-IsFinished input history = IsTrue input.ended ⊎ IsTrue (is_closed (entries_of history))
+-- what was run for the commands of a line's history, in their order
+abbrev pub log_of : ℕ → ℕ → List Done → List Entry
+log_of shards asker history = map (entry_of asker) (due.log_of shards history)
 
--- What became of a line between begin and now is explained by one history.
-pub record IsExplained (shards items : ℕ) (may_answer : ℕ → Type 0) (begin now : Sight) (commands : ℕ) (broke : Bool) : Type 0 where
+-- Each shard's entries are one run of the protocol's step, and each entry was asked by one of so many lines.
+pub record IsLogOf (sizes : Sizes) (lines : ℕ) (log : List Entry) : Type 0 where
+  pub lawful : IsLawful sizes log
+  pub owned : AllByRecursion (λ entry. (entry.shard < sizes.shards) × (entry.asker < lines)) log
+
+-- The log explains the line of this number by one history: its commands, each with its moment and answers.
+pub record ExplainsLine (sizes : Sizes) (may_answer : ℕ → Type 0) (log : List Entry) (number : ℕ) (line : LineTold) : Type 0 where
   pub history : List Done
-  pub read : List ℕ
-  pub taken : List ℕ
-  pub read_is : now.input.given ≡ with_bytes begin.input.given read
-  pub taken_is : now.taken ≡ with_bytes begin.taken taken
-  pub explains : Explains shards items may_answer read taken broke history
-  pub counted : commands ≡ length history
-  pub finished : broke ≡ false → IsFinished now.input history
-  -- where memory was never wanting, it took just what it would have taken alone
-  pub alone_is : broke ≡ false → AllByRecursion HadMemory history → taken ≡ alone shards items (map taken_of history)
+  -- The commands are those of the bytes read, and the line took the texts of their replies.
+  pub story : Story sizes.value line.begin line.now line.broke (map taken_of history) (map text_done history)
+  -- It was read only where all replies to the bytes read so far were written out.
+  pub reads : ReadsOwingNothing sizes.value line.begin line.now (entries_of history) (map text_done history)
+  pub answered : AllByRecursion (IsAnswered sizes.shards) history
+  pub moments : AllByRecursion (λ done. may_answer done.moment) history
+  pub counted : line.commands ≡ length history
+  -- What a shard ran for the line is just what was due there, in order, with these answers.
+  pub ran : (shard : ℕ) → shard < sizes.shards → of_asker number (on_shard shard log) ≡ on_shard shard (log_of sizes.shards number history)
+
+-- One log explains all these lines.
+pub record Explains (sizes : Sizes) (may_answer : ℕ → Type 0) (lines : List LineTold) : Type 0 where
+  pub log : List Entry
+  pub log_is : IsLogOf sizes (length lines) log
+  pub each : (number : ℕ) (line : LineTold) → slice_get lines number ≡ Some line → ExplainsLine sizes may_answer log number line
+
+-- One log explains a line that is served by itself.
+pub record IsExplained (sizes : Sizes) (may_answer : ℕ → Type 0) (line : LineTold) : Type 0 where
+  pub log : List Entry
+  pub log_is : IsLogOf sizes 1 log
+  pub explained : ExplainsLine sizes may_answer log 0 line
+  -- Where no allocation failed, it took just what its commands get alone.
+  pub alone_is : line.broke ≡ false → AllByRecursion HadMemory explained.history → explained.story.written ≡ alone sizes (map taken_of explained.history)

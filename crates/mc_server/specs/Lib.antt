@@ -1,9 +1,4 @@
-pub mod Lines
 pub mod Options
-pub mod History
-pub mod Log
+pub mod Sizes
 pub mod Explains
-pub mod Plans
-pub mod Backs
-pub mod Stands
-pub mod Alone
+pub mod internal

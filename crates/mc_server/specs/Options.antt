@@ -4,7 +4,10 @@ use Rattle.clap.specs.Words.{App, HasKind, Kinds, Row, Rule, fault_of, first_of,
 use Rattle.clap.specs.declared.builder.ArgAction.TheVariants.{Set, SetTrue}
 use Rattle.clap.specs.declared.error.kind.ErrorKind.{ErrorKind}
 use Rattle.clap.specs.declared.error.kind.ErrorKind.TheVariants.{DisplayHelp, OutOfMemory}
+use Rattle.mc_wire.specs.declared.TheConstants.{DEFAULT_VALUE_LIMIT}
+use Rattle.mc_store.specs.declared.TheConstants.{LEAST_BUDGET, GREATEST_BUDGET}
 use Rattle.mc_wire.specs.Number.{number_of}
+use Rattle.mc_server.specs.declared.options.TheConstants.{DEFAULT_RING, DEFAULT_WINDOW}
 use Rattle.mc_server.specs.declared.options.Options.{Options}
 use Rattle.mc_server.specs.declared.options.OptionFault.{OptionFault}
 use Rattle.mc_server.specs.declared.options.OptionFault.TheVariants.{Call}
@@ -19,10 +22,11 @@ in_range least most (Some number) = if nat_le least number && nat_le number most
 abbrev pub number_within : ℕ → ℕ → List ℕ → Option ℕ
 number_within least most text = in_range least most (number_of (2 ^ 64) text)
 
--- the count that is given, from 1 to the most, or where none is given this one; none where it is out of that range
-abbrev pub count_of : ℕ → ℕ → Option (List ℕ) → Option ℕ
-count_of default most None = Some default
-count_of default most (Some text) = number_within 1 most text
+-- the count that is given, from the least to the most, or where none is given this one; none where it is out of that
+-- range
+abbrev pub count_of : ℕ → ℕ → ℕ → Option (List ℕ) → Option ℕ
+count_of least default most None = Some default
+count_of least default most (Some text) = number_within least most text
 
 -- the moment that is given, if one is; none where it is no number of 64 bits
 abbrev pub moment_of : Option (List ℕ) → Option (Option ℕ)
@@ -34,8 +38,8 @@ abbrev pub options_by : (List ℕ → Option (List ℕ)) → Option Options
 options_by given =
     option_and_then
     (λ at. option_and_then
-    (λ shards. option_map (λ items. record { at = at; sizes = record { shards = shards; items = items } }) (count_of 65536 16777216 (given (codes "items"))))
-    (count_of 2 16 (given (codes "shards"))))
+    (λ shards. option_map (λ bytes. record { at = at; sizes = record { shards = shards; bytes = bytes; ring = DEFAULT_RING; value = DEFAULT_VALUE_LIMIT; window = DEFAULT_WINDOW } }) (count_of LEAST_BUDGET 16777216 GREATEST_BUDGET (given (codes "bytes"))))
+    (count_of 1 2 16 (given (codes "shards"))))
     (moment_of (given (codes "at")))
 
 -- the flag that every call has
@@ -51,7 +55,7 @@ abbrev pub program : App
 program =
     with_rule
     (with_rule (with_rule (with_rule (new_app (codes "mcd")) stdio_rule) (option_rule (codes "at"))) (option_rule (codes "shards")))
-    (option_rule (codes "items"))
+    (option_rule (codes "bytes"))
 
 -- what may be wrong with the words as a call of the program; nothing where they are one
 unfoldable pub call_faults : List (List ℕ) → Kinds

@@ -6,7 +6,8 @@ ghost use Rattle.mc_server.specs.Options.{IsFaultOf, IsNumberFault, call_faults,
 use crate::serve::Sizes;
 use clap::error::ErrorKind;
 use clap::{Arg, ArgAction, ArgMatches, Command};
-use mc_wire::number_u64;
+use mc_store::{GREATEST_BUDGET, LEAST_BUDGET};
+use mc_wire::{DEFAULT_VALUE_LIMIT, GREATEST_VALUE_LIMIT, number_u64};
 use std::alloc::{AllocError, Global};
 use std::io;
 use std::io::{Eprint, Print};
@@ -15,8 +16,14 @@ use thiserror::Error;
 /// The most shards that a server has.
 const MOST_SHARDS: u64 = 16;
 
-/// The most items that a shard holds.
-const MOST_ITEMS: u64 = 16_777_216;
+/// What the items of a shard may cost together where nothing else is said, in bytes.
+const DEFAULT_BUDGET: u64 = 16_777_216;
+
+/// So many pieces, or replies, a ring holds unless it is said otherwise.
+pub const DEFAULT_RING: usize = 64;
+
+/// So many commands of a line may be open unless it is said otherwise.
+pub const DEFAULT_WINDOW: usize = 256;
 
 /// How the program is called.
 #[derive(Clone, Copy, Debug, PartialEq, Eq)]
@@ -73,7 +80,9 @@ pub fn read_options(alloc: Global, words: &[String]) -> Result<Options, OptionFa
     ensures call { OnOk result (call_faults (map string_bytes words.now) ≡ []) }
     ensures given { IfOk result (λ options. options_of (map string_bytes words.now) ≡ Some options) }
     ensures shards { IfOk result (λ options. (0 < options.sizes.shards) × (options.sizes.shards ≤ 16)) }
-    ensures items { IfOk result (λ options. (0 < options.sizes.items) × (options.sizes.items ≤ 16777216)) }
+    ensures bytes { IfOk result (λ options. (LEAST_BUDGET ≤ options.sizes.bytes) × (options.sizes.bytes ≤ GREATEST_BUDGET)) }
+    ensures window { IfOk result (λ options. 0 < options.sizes.window) }
+    ensures value { IfOk result (λ options. options.sizes.value ≤ GREATEST_VALUE_LIMIT) }
     ensures refused { IfErr result (IsFaultOf (map string_bytes words.now)) }
 {
     match parse(alloc, words) {
@@ -115,16 +124,16 @@ fn program_calls<'a>(alloc: Global) -> Result<Command<'a>, AllocError>
         "shards",
         "How many shards there are, from 1 to 16 [default: 2]",
     );
-    let items = valued_option(
+    let bytes = valued_option(
         alloc,
-        "items",
-        "How many items a shard holds, from 1 to 16777216 [default: 65536]",
+        "bytes",
+        "What a shard's items may cost together, from 1024 to 1073741824 bytes [default: 16777216]",
     );
     Command::new(alloc, "mcd")
         .arg(stdio_flag(alloc))?
         .arg(at)?
         .arg(shards)?
-        .arg(items)
+        .arg(bytes)
 }
 
 /// What was given, by a call of the program.
@@ -142,11 +151,20 @@ fn options_in(matches: &ArgMatches<'_>) -> Result<Options, OptionFault>
     ensures refused { IfErr result (λ fault. IsNumberFault fault × (options_by (first_value (found_of matches.now)) ≡ None)) }
 {
     let at = moment_in(matches.get_str("at"))?;
-    let shards = count_in("--shards", matches.get_str("shards"), 2, MOST_SHARDS)?;
-    let items = count_in("--items", matches.get_str("items"), 65_536, MOST_ITEMS)?;
+    let shards = count_in("--shards", matches.get_str("shards"), 1, 2, MOST_SHARDS)?;
+    let bytes = count_in(
+        "--bytes",
+        matches.get_str("bytes"),
+        LEAST_BUDGET as u64,
+        DEFAULT_BUDGET,
+        GREATEST_BUDGET as u64,
+    )?;
     let sizes = Sizes {
         shards: shards as usize,
-        items: items as usize,
+        bytes: bytes as usize,
+        ring: DEFAULT_RING,
+        value: DEFAULT_VALUE_LIMIT,
+        window: DEFAULT_WINDOW,
     };
     Ok(Options { at, sizes })
 }
@@ -169,24 +187,25 @@ fn moment_in(given: Option<&str>) -> Result<Option<u64>, OptionFault>
     }
 }
 
-/// The count that is given, from 1 to the most, or where none is given this one.
+/// The count that is given, from the least to the most, or where none is given this one.
 fn count_in(
     option: &'static str,
     given: Option<&str>,
+    least: u64,
     default: u64,
     most: u64,
 ) -> Result<u64, OptionFault>
-    ensures given { IfOk result (λ count. count_of default most (option_map (λ text. text.now) given.entry) ≡ Some count) }
-    ensures refused { IfErr result (λ fault. IsNumberFault fault × (count_of default most (option_map (λ text. text.now) given.entry) ≡ None)) }
+    ensures given { IfOk result (λ count. count_of least default most (option_map (λ text. text.now) given.entry) ≡ Some count) }
+    ensures refused { IfErr result (λ fault. IsNumberFault fault × (count_of least default most (option_map (λ text. text.now) given.entry) ≡ None)) }
 {
     let Some(text) = given else {
         return Ok(default);
     };
     match number_u64(text.as_bytes()) {
-        Ok(number) if number >= 1 && number <= most => Ok(number),
+        Ok(number) if number >= least && number <= most => Ok(number),
         _ => Err(OptionFault::Number {
             option,
-            least: 1,
+            least,
             most,
         }),
     }

@@ -1,13 +1,15 @@
 //! A line that tells what it gave and took, the memory that a service asks for, and the command line. The worked
 //! rows stand in the crate mc_rows.
-ghost use Rattle.std.specs.Prelude.{◌≡◌, ◌≤◌, Some, IsTrue, length, take};
+ghost use Rattle.std.specs.Prelude.{◌≡◌, ◌≤◌, None, IsTrue, length, take};
 
 use crate::{
-    Gathered, Line, LineFault, OptionFault, ServeRefusal, Served, Sizes, StillClock,
-    gathering_room, read_options, serve_one,
+    DEFAULT_RING, DEFAULT_WINDOW, OptionFault, ServeRefusal, Sizes, StillClock, read_options,
+    serve_one,
 };
-use mc_wire::{OutFault, Outlet};
+use mc_seat::{Clock, Line, LineFault, Served};
+use mc_wire::{DEFAULT_VALUE_LIMIT, OutFault, Outlet};
 use std::alloc::{AllocError, Global};
+use std::cell::Cell;
 use std::test::Fail;
 
 /// A line over memory.
@@ -40,13 +42,9 @@ impl MemoryLine {
 
 impl Outlet for MemoryLine {
     ghost use Rattle.std.specs.Prelude.{take};
-    ghost use Rattle.mc_wire.specs.Outlet.{Input};
+    ghost use Rattle.mc_wire.specs.Outlet.{Listed};
 
-    ghost has_failed = { λ line. line.failed };
-
-    ghost taken = { λ line. Some line.output.items };
-
-    ghost input = { λ line. record { given = Some (take line.at line.input.now); ended = line.ended } };
+    ghost sight = { λ line. record { given = Listed (take line.at line.input.now); ended = line.ended; reads = None; taken = Listed line.output.items; failed = line.failed } };
 
     fn write(&mut self, bytes: &[u8]) -> Result<usize, OutFault> {
         self.calls = self.calls.wrapping_add(1);
@@ -75,24 +73,22 @@ impl Line for MemoryLine {
         self.ended = count == 0;
         Ok(count)
     }
-
-    fn flush(&mut self) -> Result<(), OutFault> {
-        if self.failed { Err(OutFault) } else { Ok(()) }
-    }
 }
 
 const SIZES: Sizes = Sizes {
     shards: 2,
-    items: 8,
+    bytes: 1_024,
+    ring: DEFAULT_RING,
+    value: DEFAULT_VALUE_LIMIT,
+    window: DEFAULT_WINDOW,
 };
 
 #[test]
 fn replies_in_one_write(rt: HostRuntime) -> Result<(), Fail> {
     let input =
         b"set a 7 0 2\r\nhi\r\nget a\r\nstats\r\nset b 0 0 1 noreply\r\nx\r\nmn\r\nquit\r\nmn\r\n";
-    let line = MemoryLine::new(rt.alloc(), input.as_slice())?;
-    let mut gathered = Gathered::new(line, gathering_room(rt.alloc())?);
-    let served = serve_one(&rt, rt.alloc(), &mut gathered, SIZES, &StillClock(1000))?;
+    let mut line = MemoryLine::new(rt.alloc(), input.as_slice())?;
+    let served = serve_one(&rt, rt.alloc(), &mut line, SIZES, &StillClock(1000))?;
     assert_eq!(rt;
         served,
         Served {
@@ -100,11 +96,37 @@ fn replies_in_one_write(rt: HostRuntime) -> Result<(), Fail> {
             broke: false
         }
     );
-    let (line, _room) = gathered.into_parts();
     let output = b"STORED\r\nVALUE a 7 2\r\nhi\r\nEND\r\nERROR\r\nMN\r\n";
     assert_eq!(rt; line.output.as_slice(), output.as_slice());
     // One read and one write: nothing is read behind `quit`.
     assert_eq!(rt; line.calls, 2);
+    Ok(())
+}
+
+/// A clock that is a second further at each call.
+#[derive(Drop)]
+struct RisingClock(Cell<u64>);
+
+impl Clock for RisingClock {
+    ghost may_answer = { λ _ _. Unit {0} };
+
+    fn now(&self) -> u64 {
+        let moment = self.0.get();
+        self.0.set(moment.wrapping_add(1));
+        moment
+    }
+}
+
+/// The clock is asked once for each command that is taken: an item that is stored at 1000 and lives for three seconds is
+/// there at 1001 and 1002, and gone at 1003.
+#[test]
+fn a_moment_for_each_command(rt: HostRuntime) -> Result<(), Fail> {
+    let input = b"set a 0 3 1\r\nx\r\nget a\r\nget a\r\nget a\r\nquit\r\n";
+    let mut line = MemoryLine::new(rt.alloc(), input.as_slice())?;
+    let clock = RisingClock(Cell::new(1000));
+    serve_one(&rt, rt.alloc(), &mut line, SIZES, &clock)?;
+    let output = b"STORED\r\nVALUE a 0 1\r\nx\r\nEND\r\nVALUE a 0 1\r\nx\r\nEND\r\nEND\r\n";
+    assert_eq!(rt; line.output.as_slice(), output.as_slice());
     Ok(())
 }
 
@@ -160,7 +182,7 @@ fn options(rt: HostRuntime) -> Result<(), Fail> {
     let alloc = rt.alloc();
     let mut words = Vec::new(alloc);
     for word in [
-        "mcd", "--stdio", "--at", "1000", "--shards", "016", "--items", "1",
+        "mcd", "--stdio", "--at", "1000", "--shards", "016", "--bytes", "1024",
     ] {
         words.push(String::from_str(alloc, word)?)?;
     }
@@ -170,7 +192,10 @@ fn options(rt: HostRuntime) -> Result<(), Fail> {
         options.sizes,
         Sizes {
             shards: 16,
-            items: 1
+            bytes: 1_024,
+            ring: DEFAULT_RING,
+            value: DEFAULT_VALUE_LIMIT,
+            window: DEFAULT_WINDOW,
         }
     );
     Ok(())
@@ -182,7 +207,7 @@ fn options_in_fault(rt: HostRuntime) -> Result<(), Fail> {
     let calls = [
         ("", 2),
         ("--stdio --shards 17", 2),
-        ("--stdio --items 0", 2),
+        ("--stdio --bytes 1023", 2),
         ("--stdio --at x", 2),
         ("--stdio --listen 127.0.0.1:0", 2),
         ("--stdio --at 1 --at 1", 2),

@@ -11,8 +11,8 @@ use Rattle.mc_command.specs.declared.meta.ReturnFlag.{ReturnFlag}
 use Rattle.mc_item.specs.declared.answer.Answer.{Answer}
 use Rattle.mc_item.specs.declared.answer.Answer.TheVariants.{NotStored, Exists, NotFound, Miss, Deleted, Done}
 use Rattle.mc_item.specs.declared.answer.Answer.TheVariants as answer
-use Rattle.mc_split.specs.declared.form.MetaKind.{MetaKind}
-use Rattle.mc_split.specs.declared.form.MetaKind.TheVariants as kind
+use Rattle.mc_command.specs.declared.meta.MetaKind.{MetaKind}
+use Rattle.mc_command.specs.declared.meta.MetaKind.TheVariants as kind
 use Rattle.mc_split.specs.declared.form.Shape.TheVariants as shape
 use Rattle.mc_split.specs.Pieces.{pieces_of}
 use Rattle.mc_split.specs.Shape.{is_key_flag, shape_of, shown_key}

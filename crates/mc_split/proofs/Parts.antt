@@ -1,5 +1,9 @@
 -- Pieces that are numbered one after another are the parts of a command.
-use Rattle.std.proofs.Common.{◌≡◌, ℕ, suc, ◌+◌, ◌-◌, ◌<◌, List, [], ◌∷◌, ◌++◌, length, map, replicate, Option, None, refl, ap, sym, ◌∙◌, append_assoc, append-nil, arith, length-append}
+use Rattle.std.proofs.Common.{◌≡◌, ℕ, zero, suc, ◌+◌, ◌-◌, ◌<◌, ◌≤◌, List, [], ◌∷◌, ◌++◌, length, map, replicate, Option, None, refl, ap, sym, ◌∙◌, append_assoc, append-nil, arith, length-append, take, subst}
+use Rattle.std.proofs.lemmas.List.{length-map}
+use Rattle.mc_item.specs.declared.answer.Kind.TheVariants.{Fetch, Flush}
+use Rattle.mc_split.proofs.Shards.{flushes_kind, gets_kind}
+use Rattle.std.proofs.lemmas.List.{take_at}
 use Rattle.std.specs.Prelude.{ℤ}
 use Rattle.std.specs.List.{range_with_len}
 use Rattle.mc_item.specs.declared.op.Op.TheVariants as op
@@ -7,35 +11,69 @@ use Rattle.mc_item.specs.declared.answer.Answer.{Answer}
 use Rattle.mc_split.specs.declared.plan.Ticket.{Ticket}
 use Rattle.mc_split.specs.declared.plan.Piece.{Piece}
 use Rattle.mc_split.specs.Pieces.{Asked, asked_of}
-use Rattle.mc_split.specs.Plan.{no_answers, parts_from}
-
--- With what is left, the pieces so far become those of the whole.
-pub record Completes (pieces : List (ℕ × Piece)) (ticket : Ticket) (moment : ℕ) (rest whole : List Asked) : Type 0 where
-  pub together : pieces ++ parts_from (length pieces) ticket moment rest ≡ parts_from 0 ticket moment whole
-
-pub completes_none : (ticket : Ticket) (moment : ℕ) (whole : List Asked) → Completes [] ticket moment whole whole
-completes_none ticket moment whole = record { together = refl }
+use Rattle.mc_split.specs.Plan.{form_kind, no_answers, parts_from}
+use Rattle.mc_split.specs.internal.Splits.{Splits}
+use Rattle.std.specs.Prelude.{IfOk, Result, Ok, Err}
+use Rattle.std.specs.Result.{IsErr}
+use Rattle.mc_item.specs.declared.answer.Kind.{Kind}
+use Rattle.mc_item.specs.declared.memory.NoMemory.{NoMemory}
+use Rattle.mc_split.specs.declared.form.Form.{Form}
+use Rattle.mc_split.specs.declared.form.Shape.{Shape}
 
 abbrev pub numbered : ℕ → Ticket → ℕ → Asked → ℕ × Piece
 numbered part ticket moment asked = (asked.shard, record { ticket = ticket; part = part; op = asked.op; moment = moment })
 
-length-push : (pieces : List (ℕ × Piece)) (piece : ℕ × Piece) → length (pieces ++ piece ∷ []) ≡ length pieces + 1
-length-push pieces piece = omega (arith, length-append pieces (piece ∷ []))
+-- Of these pieces some stand behind those that were there, and the rest is left.
+pub record Queued (old now : List (ℕ × Piece)) (ticket : Ticket) (moment : ℕ) (rest whole : List Asked) : Type 0 where
+  pub done : List Asked
+  pub so_far : now ≡ old ++ parts_from 0 ticket moment done
+  pub together : done ++ rest ≡ whole
 
-pub completes_more : (pieces : List (ℕ × Piece)) (ticket : Ticket) (moment : ℕ) (asked : Asked) (rest whole : List Asked) → Completes pieces ticket moment (asked ∷ rest) whole → Completes (pieces ++ numbered (length pieces) ticket moment asked ∷ []) ticket moment rest whole
-completes_more pieces ticket moment asked rest whole before = record {
-  together =
-      let piece = numbered (length pieces) ticket moment asked in
-      rw (length-push pieces piece) (append_assoc pieces (piece ∷ []) (parts_from (length pieces + 1) ticket moment rest) ∙ before.together);
-}
+pub queued_none : (old : List (ℕ × Piece)) (ticket : Ticket) (moment : ℕ) (whole : List Asked) → Queued old old ticket moment whole whole
+queued_none old ticket moment whole = record { done = []; so_far = sym (append-nil old); together = refl }
 
-pub completes_all : (pieces : List (ℕ × Piece)) (ticket : Ticket) (moment : ℕ) (whole : List Asked) → Completes pieces ticket moment [] whole → pieces ≡ parts_from 0 ticket moment whole
-completes_all pieces ticket moment whole done = sym (append-nil pieces) ∙ done.together
+parts_from-push : (part : ℕ) (ticket : Ticket) (moment : ℕ) (done : List Asked) (asked : Asked) → parts_from part ticket moment done ++ numbered (part + length done) ticket moment asked ∷ [] ≡ parts_from part ticket moment (done ++ asked ∷ [])
+parts_from-push part ticket moment [] asked = let e : part + 0 ≡ part = omega arith in ap (λ n. numbered n ticket moment asked ∷ []) e
+parts_from-push part ticket moment (first ∷ done) asked =
+    let e : part + length (first ∷ done) ≡ (part + 1) + length done = omega arith in
+    ap (λ n. numbered part ticket moment first ∷ (parts_from (part + 1) ticket moment done ++ numbered n ticket moment asked ∷ [])) e
+    ∙ ap (λ ps. numbered part ticket moment first ∷ ps) (parts_from-push (part + 1) ticket moment done asked)
+
+pub length-parts_from : (part : ℕ) (ticket : Ticket) (moment : ℕ) (asked : List Asked) → length (parts_from part ticket moment asked) ≡ length asked
+length-parts_from part ticket moment [] = refl
+length-parts_from part ticket moment (one ∷ asked) = ap (λ n. suc n) (length-parts_from (part + 1) ticket moment asked)
+
+-- how many pieces were added
+pub added : {old now : List (ℕ × Piece)} {ticket : Ticket} {moment : ℕ} {rest whole : List Asked} (so_far : Queued old now ticket moment rest whole) → length now ≡ length old + length so_far.done
+added {old} {now} {ticket} {moment} so_far =
+    ap length so_far.so_far ∙ (length-append old (parts_from 0 ticket moment so_far.done) ∙ ap (λ n. length old + n) (length-parts_from 0 ticket moment so_far.done))
+
+-- one more
+pub queued_more : (old now new : List (ℕ × Piece)) (ticket : Ticket) (moment part : ℕ) (asked : Asked) (rest whole : List Asked) → Queued old now ticket moment (asked ∷ rest) whole → length now ≡ length old + part → new ≡ now ++ numbered part ticket moment asked ∷ [] → Queued old new ticket moment rest whole
+queued_more old now new ticket moment part asked rest whole before count after =
+    let same : part ≡ 0 + length before.done = omega (arith, count, added before) in
+    record {
+      done = before.done ++ asked ∷ [];
+      so_far =
+          after
+          ∙ (ap (λ n. now ++ numbered n ticket moment asked ∷ []) same
+          ∙ (ap (λ ps. ps ++ numbered (0 + length before.done) ticket moment asked ∷ []) before.so_far
+          ∙ (append_assoc old (parts_from 0 ticket moment before.done) (numbered (0 + length before.done) ticket moment asked ∷ [])
+          ∙ ap (λ ps. old ++ ps) (parts_from-push 0 ticket moment before.done asked))));
+      together = append_assoc before.done (asked ∷ []) rest ∙ before.together;
+    }
+
+pub queued_all : {old now : List (ℕ × Piece)} {ticket : Ticket} {moment : ℕ} {whole : List Asked} → Queued old now ticket moment [] whole → now ≡ old ++ parts_from 0 ticket moment whole
+queued_all {old} {now} {ticket} {moment} all = all.so_far ∙ ap (λ asked. old ++ parts_from 0 ticket moment asked) (sym (append-nil all.done) ∙ all.together)
+
+-- those that were there are still in front
+pub queued_behind : {old now : List (ℕ × Piece)} {ticket : Ticket} {moment : ℕ} {rest whole : List Asked} → Queued old now ticket moment rest whole → take (length old) now ≡ old
+queued_behind {old} {now} {ticket} {moment} so_far = ap (λ ps. take (length old) ps) so_far.so_far ∙ take_at old (parts_from 0 ticket moment so_far.done) (length old) refl
 
 -- there is a slot for each part
-pub empty_slots : (part : ℕ) (ticket : Ticket) (moment : ℕ) (asked : List Asked) → replicate {A = Option Answer} (length (parts_from part ticket moment asked)) None ≡ no_answers asked
-empty_slots part ticket moment [] = refl
-empty_slots part ticket moment (piece ∷ asked) = ap (λ (slots : List (Option Answer)). None ∷ slots) (empty_slots (part + 1) ticket moment asked)
+pub empty_slots : (asked : List Asked) → replicate {A = Option Answer} (length asked) None ≡ no_answers asked
+empty_slots [] = refl
+empty_slots (piece ∷ asked) = ap (λ (slots : List (Option Answer)). None ∷ slots) (empty_slots asked)
 
 -- the parts are numbered from the first on
 pub parts_numbered : (part : ℕ) (ticket : Ticket) (moment : ℕ) (asked : List Asked) → map (λ (sent : ℕ × Piece). sent.1.part) (parts_from part ticket moment asked) ≡ range_with_len part (length asked)
@@ -54,3 +92,73 @@ pub flush_from-next : (delay : ℤ) (first shards : ℕ) → first < shards → 
 flush_from-next delay first shards below =
     let left : shards - first ≡ suc (shards - (first + 1)) = omega arith in
     rw left refl
+
+-- A form with an empty slot for each of these pieces, which stand behind those that were there.
+pub splits : (result : Result Form NoMemory) (ticket : Ticket) (moment : ℕ) (shape : Shape) (kind : Kind) (asked : List Asked) (old now : List (ℕ × Piece)) →
+    IfOk result (λ form. form ≡ record { ticket = ticket; kind = kind; shape = shape; slots = replicate (length asked) None }) → kind ≡ form_kind asked → 0 < length asked → Queued old now ticket moment [] asked →
+    Splits result ticket moment shape asked old now
+splits (Ok form) ticket moment shape kind asked old now form_is kind_is some all = record {
+  form = form_is ∙ (ap (λ (slots : List (Option Answer)). record { ticket = ticket; kind = kind; shape = shape; slots = slots }) (empty_slots asked) ∙ ap (λ k. record { ticket = ticket; kind = k; shape = shape; slots = no_answers asked }) kind_is);
+  pieces = queued_all all;
+  front = tt;
+  asks = tt;
+}
+splits (Err fault) ticket moment shape kind asked old now form_is kind_is some all = record { form = tt; pieces = tt; front = queued_behind all; asks = some }
+
+-- No memory for a piece.
+pub gives_up : (result : Result Form NoMemory) (ticket : Ticket) (moment : ℕ) (shape : Shape) (rest asked : List Asked) (old now : List (ℕ × Piece)) → IsErr result → 0 < length asked → Queued old now ticket moment rest asked → Splits result ticket moment shape asked old now
+gives_up (Ok form) ticket moment shape rest asked old now failed some so_far = absurd cc
+gives_up (Err fault) ticket moment shape rest asked old now failed some so_far = record { form = tt; pieces = tt; front = queued_behind so_far; asks = some }
+
+length-flush_from : (delay : ℤ) (first count : ℕ) → length (flush_from delay first count) ≡ count
+length-flush_from delay first zero = refl
+length-flush_from delay first (suc count) = ap (λ n. suc n) (length-flush_from delay (first + 1) count)
+
+pub flush_none : (old : List (ℕ × Piece)) (ticket : Ticket) (moment : ℕ) (delay : ℤ) (shards : ℕ) → Queued old old ticket moment (flush_from delay 0 (shards - 0)) (flush_from delay 0 shards)
+flush_none old ticket moment delay shards =
+    let all : shards - 0 ≡ shards = omega arith in
+    rw all (queued_none old ticket moment (flush_from delay 0 shards))
+
+-- the next shard
+pub flush_more : (old now new : List (ℕ × Piece)) (ticket : Ticket) (moment : ℕ) (delay : ℤ) (shard shards : ℕ) → shard < shards → Queued old now ticket moment (flush_from delay shard (shards - shard)) (flush_from delay 0 shards) →
+    new ≡ now ++ numbered shard ticket moment (record { shard = shard; op = op.Flush delay }) ∷ [] → Queued old new ticket moment (flush_from delay (shard + 1) (shards - (shard + 1))) (flush_from delay 0 shards)
+flush_more old now new ticket moment delay shard shards below so_far after =
+    let all = ap length so_far.together in
+    let parts = length-append so_far.done (flush_from delay shard (shards - shard)) in
+    let count : length now ≡ length old + shard = omega (arith, added so_far, all, parts, length-flush_from delay shard (shards - shard), length-flush_from delay 0 shards, below) in
+    queued_more old now new ticket moment shard (record { shard = shard; op = op.Flush delay }) (flush_from delay (shard + 1) (shards - (shard + 1))) (flush_from delay 0 shards)
+    (rw (flush_from-next delay shard shards below) at so_far) count after
+
+pub flush_all : (old now : List (ℕ × Piece)) (ticket : Ticket) (moment : ℕ) (delay : ℤ) (shard shards : ℕ) → shards ≤ shard → Queued old now ticket moment (flush_from delay shard (shards - shard)) (flush_from delay 0 shards) → Queued old now ticket moment [] (flush_from delay 0 shards)
+flush_all old now ticket moment delay shard shards all so_far =
+    let none : shards - shard ≡ 0 = omega arith in
+    rw none at so_far
+
+pub flush_some : (delay : ℤ) (shards : ℕ) → 0 < shards → 0 < length (flush_from delay 0 shards)
+flush_some delay shards some = omega (arith, length-flush_from delay 0 shards, some)
+
+pub splits_flush : (result : Result Form NoMemory) (ticket : Ticket) (moment : ℕ) (shape : Shape) (delay : ℤ) (shards : ℕ) (old now : List (ℕ × Piece)) → IfOk result (λ form. form ≡ record { ticket = ticket; kind = Flush; shape = shape; slots = replicate shards None }) → 0 < shards → Queued old now ticket moment [] (flush_from delay 0 shards) →
+    Splits result ticket moment shape (flush_from delay 0 shards) old now
+splits_flush result ticket moment shape delay shards old now form_is some all =
+    let count = length-flush_from delay 0 shards in
+    let P : ℕ → Type 0 = λ n. IfOk result (λ form. form ≡ record { ticket = ticket; kind = Flush; shape = shape; slots = replicate n None }) in
+    splits result ticket moment shape Flush (flush_from delay 0 shards) old now (subst P (sym count) form_is) (flushes_kind 0 shards delay) (flush_some delay shards some) all
+
+pub get_first : (old now : List (ℕ × Piece)) (ticket : Ticket) (moment : ℕ) (shards : ℕ) (touch : Option ℤ) (first : List ℕ) (others : List (List ℕ)) → now ≡ old ++ numbered 0 ticket moment (asked_of shards first (op.Fetch first touch)) ∷ [] →
+    Queued old now ticket moment (gets_of shards touch others) (gets_of shards touch (first ∷ others))
+get_first old now ticket moment shards touch first others after =
+    queued_more old old now ticket moment 0 (asked_of shards first (op.Fetch first touch)) (gets_of shards touch others) (gets_of shards touch (first ∷ others)) (queued_none old ticket moment (gets_of shards touch (first ∷ others))) (omega arith) after
+
+-- the next key
+pub get_more : (old now new : List (ℕ × Piece)) (ticket : Ticket) (moment part : ℕ) (shards : ℕ) (touch : Option ℤ) (key : List ℕ) (keys others whole : List (List ℕ)) → keys ≡ key ∷ others → Queued old now ticket moment (gets_of shards touch keys) (gets_of shards touch whole) → part ≡ length now - length old →
+    new ≡ now ++ numbered part ticket moment (asked_of shards key (op.Fetch key touch)) ∷ [] → Queued old new ticket moment (gets_of shards touch others) (gets_of shards touch whole)
+get_more old now new ticket moment part shards touch key keys others whole keys_are so_far part_is after =
+    queued_more old now new ticket moment part (asked_of shards key (op.Fetch key touch)) (gets_of shards touch others) (gets_of shards touch whole) (rw keys_are at so_far) (omega (arith, part_is, added so_far)) after
+
+pub splits_get : (result : Result Form NoMemory) (ticket : Ticket) (moment : ℕ) (shape : Shape) (shards : ℕ) (touch : Option ℤ) (count : ℕ) (first : List ℕ) (others keys left : List (List ℕ)) (old now : List (ℕ × Piece)) → keys ≡ first ∷ others → count ≡ length others + 1 → left ≡ [] →
+    IfOk result (λ form. form ≡ record { ticket = ticket; kind = Fetch; shape = shape; slots = replicate count None }) → Queued old now ticket moment (gets_of shards touch left) (gets_of shards touch keys) → Splits result ticket moment shape (gets_of shards touch keys) old now
+splits_get result ticket moment shape shards touch count first others keys left old now keys_are count_is none form_is so_far =
+    let number : count ≡ length (gets_of shards touch (first ∷ others)) = omega (arith, count_is, length-map others (λ key. asked_of shards key (op.Fetch key touch))) in
+    let P : ℕ → Type 0 = λ n. IfOk result (λ form. form ≡ record { ticket = ticket; kind = Fetch; shape = shape; slots = replicate n None }) in
+    let all : Queued old now ticket moment [] (gets_of shards touch keys) = rw none at so_far in
+    rw keys_are (splits result ticket moment shape Fetch (gets_of shards touch (first ∷ others)) old now (subst P number form_is) (gets_kind shards touch first others) (omega arith) (rw keys_are at all))

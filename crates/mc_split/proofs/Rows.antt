@@ -9,7 +9,7 @@ use Rattle.mc_command.specs.declared.meta.ReturnFlag.TheVariants as flag
 use Rattle.mc_item.specs.declared.op.Op.TheVariants as op
 use Rattle.mc_split.specs.declared.form.Shape.TheVariants as shape
 use Rattle.mc_split.specs.declared.form.Fixed.TheVariants as fixed
-use Rattle.mc_split.specs.declared.form.MetaKind.TheVariants as kind
+use Rattle.mc_command.specs.declared.meta.MetaKind.TheVariants as kind
 use Rattle.mc_split.specs.Pieces.{pieces_of}
 use Rattle.mc_split.specs.Shape.{shape_of}
 
@@ -44,17 +44,17 @@ flags_k = record { base64 = false; quiet = true; returned = flag.TimeLeft ∷ fl
 abbrev flags_t : MetaFlags
 flags_t = record { base64 = false; quiet = true; returned = flag.TimeLeft ∷ []; opaque = [] }
 
-vivify_pieces : pieces_of 2 (command.MetaArithmetic (record { key = codes "c"; flags = flags_k; value = true; compare = None; direction = direction.Increment; amount = 1; initial = 13; vivify = Some (pos 30); exptime = None }))
-    ≡ record { shard = 0; op = op.MetaCount (codes "c") None direction.Increment 1 None (Some (record { exptime = pos 30; initial = 13 })) } ∷ []
+vivify_pieces : pieces_of 2 (command.MetaArithmetic (record { key = codes "c"; flags = flags_k; value = true; compare = None; unique = None; direction = direction.Increment; amount = 1; initial = 13; vivify = Some (pos 30); exptime = None }))
+    ≡ record { shard = 0; op = op.MetaCount (record { key = codes "c"; compare = None; unique = None; direction = direction.Increment; amount = 1; exptime = None; vivify = Some (record { exptime = pos 30; initial = 13 }) }) } ∷ []
 unfolding pieces_of fnv_of
 vivify_pieces = refl
 
 -- the key is kept for the reply where the flag k stands
-shown : shape_of (command.MetaDelete (record { key = codes "a"; flags = flags_k; compare = None; invalidate = false; exptime = None })) ≡ shape.Meta kind.Delete flags_k false (Some (codes "a"))
+shown : shape_of (command.MetaDelete (record { key = codes "a"; flags = flags_k; compare = None; unique = None; invalidate = false; exptime = None })) ≡ shape.Meta kind.Delete flags_k false (Some (codes "a"))
 unfolding shape_of
 shown = refl
 
-not_shown : shape_of (command.MetaDelete (record { key = codes "a"; flags = flags_t; compare = None; invalidate = false; exptime = None })) ≡ shape.Meta kind.Delete flags_t false None
+not_shown : shape_of (command.MetaDelete (record { key = codes "a"; flags = flags_t; compare = None; unique = None; invalidate = false; exptime = None })) ≡ shape.Meta kind.Delete flags_t false None
 unfolding shape_of
 not_shown = refl
 

@@ -9,6 +9,7 @@ use Rattle.mc_item.specs.declared.op.Op.TheVariants as op
 use Rattle.mc_item.specs.declared.answer.Kind.TheVariants.{Fetch, Flush}
 use Rattle.mc_item.specs.Kind.{key_of, kind_of}
 use Rattle.mc_split.specs.Pieces.{Asked, asked_of, pieces_of}
+use Rattle.mc_split.specs.Plan.{form_kind}
 
 abbrev NamesShard : ℕ → Asked → Type 0
 NamesShard shards asked = IfSome (key_of asked.op) (λ key. asked.shard ≡ place_of key shards)
@@ -73,12 +74,45 @@ pieces_within shards some (command.MetaArithmetic arithmetic) = (place_within ar
 pieces_within shards some (command.Refused refusal) = tt
 
 -- the pieces of a get are of one kind, and so are those of a flush
-pub gets_alike : (shards : ℕ) (touch : Option ℤ) (keys : List (List ℕ)) → AllByRecursion (λ (asked : Asked). kind_of asked.op ≡ Fetch) (map (λ key. asked_of shards key (op.Fetch key touch)) keys)
+gets_alike : (shards : ℕ) (touch : Option ℤ) (keys : List (List ℕ)) → AllByRecursion (λ (asked : Asked). kind_of asked.op ≡ Fetch) (map (λ key. asked_of shards key (op.Fetch key touch)) keys)
 unfolding kind_of
 gets_alike shards touch [] = tt
 gets_alike shards touch (key ∷ keys) = (refl, gets_alike shards touch keys)
 
-pub flushes_alike : (first count : ℕ) (delay : ℤ) → AllByRecursion (λ (asked : Asked). kind_of asked.op ≡ Flush) (map (λ (shard : ℕ). let asked : Asked = record { shard = shard; op = op.Flush delay } in asked) (range_with_len first count))
+flushes_alike : (first count : ℕ) (delay : ℤ) → AllByRecursion (λ (asked : Asked). kind_of asked.op ≡ Flush) (map (λ (shard : ℕ). let asked : Asked = record { shard = shard; op = op.Flush delay } in asked) (range_with_len first count))
 unfolding kind_of
 flushes_alike first zero delay = tt
 flushes_alike first (suc count) delay = (refl, flushes_alike (first + 1) count delay)
+
+pub flushes_kind : (first count : ℕ) (delay : ℤ) → Flush ≡ form_kind (map (λ (shard : ℕ). let asked : Asked = record { shard = shard; op = op.Flush delay } in asked) (range_with_len first count))
+unfolding kind_of
+flushes_kind first zero delay = refl
+flushes_kind first (suc count) delay = refl
+
+pub gets_kind : (shards : ℕ) (touch : Option ℤ) (first : List ℕ) (keys : List (List ℕ)) → Fetch ≡ form_kind (map (λ key. asked_of shards key (op.Fetch key touch)) (first ∷ keys))
+unfolding kind_of
+gets_kind shards touch first keys = refl
+
+-- All of these pieces are of the first one's kind.
+abbrev AreAlike : List Asked → Type 0
+AreAlike asked = AllByRecursion (λ one. kind_of one.op ≡ form_kind asked) asked
+
+gets_of_one_kind : (shards : ℕ) (touch : Option ℤ) (keys : List (List ℕ)) → AreAlike (map (λ key. asked_of shards key (op.Fetch key touch)) keys)
+unfolding kind_of
+gets_of_one_kind shards touch [] = tt
+gets_of_one_kind shards touch (key ∷ keys) = rw (← gets_kind shards touch key keys) (gets_alike shards touch (key ∷ keys))
+
+-- all pieces of a command are of one kind
+pub pieces_alike : (shards : ℕ) (command : Command) → AreAlike (pieces_of shards command)
+unfolding pieces_of
+pieces_alike shards (command.Get retrieval) = gets_of_one_kind shards retrieval.touch retrieval.keys
+pieces_alike shards (command.FlushAll delay noreply) = rw (← flushes_kind 0 shards delay) (flushes_alike 0 shards delay)
+pieces_alike shards (command.Store storage) = (refl, tt)
+pieces_alike shards (command.Delete key noreply) = (refl, tt)
+pieces_alike shards (command.Count key direction amount noreply) = (refl, tt)
+pieces_alike shards (command.Touch key exptime noreply) = (refl, tt)
+pieces_alike shards (command.MetaGet get) = (refl, tt)
+pieces_alike shards (command.MetaSet set) = (refl, tt)
+pieces_alike shards (command.MetaDelete delete) = (refl, tt)
+pieces_alike shards (command.MetaArithmetic arithmetic) = (refl, tt)
+pieces_alike shards other = tt

@@ -13,8 +13,8 @@ use Rattle.mc_item.specs.declared.answer.Answer.TheVariants as answer
 use Rattle.mc_item.specs.declared.answer.Kind.{Kind}
 use Rattle.mc_item.specs.declared.answer.Kind.TheVariants.{Store, Count, Delete, Touch, Flush, MetaGet, MetaStore, MetaDelete, MetaCount}
 use Rattle.mc_item.specs.Kind.{is_lawful, kind_of}
-use Rattle.mc_split.specs.declared.form.MetaKind.{MetaKind}
-use Rattle.mc_split.specs.declared.form.MetaKind.TheVariants as kind
+use Rattle.mc_command.specs.declared.meta.MetaKind.{MetaKind}
+use Rattle.mc_command.specs.declared.meta.MetaKind.TheVariants as kind
 use Rattle.mc_split.specs.declared.form.Shape.TheVariants as shape
 use Rattle.mc_split.specs.Pieces.{pieces_of}
 use Rattle.mc_split.specs.Shape.{shape_of, shown_key}

@@ -58,7 +58,7 @@ abbrev meta_get : List ℕ → MetaFlags → Bool → Command
 meta_get key flags value = command.MetaGet (record { key = key; flags = flags; value = value; touch = None; vivify = None; recache = None })
 
 abbrev meta_set : List ℕ → MetaFlags → Command
-meta_set key flags = command.MetaSet (record { key = key; flags = flags; mode = mode.Set; compare = None; client_flags = 0; exptime = pos 0; block = codes "x" })
+meta_set key flags = command.MetaSet (record { key = key; flags = flags; mode = mode.Set; compare = None; unique = None; client_flags = 0; exptime = pos 0; block = codes "x" })
 
 abbrev meta_hit : List ℕ → ℕ → Option ℕ → Bool → Bool → Bool → Answer
 meta_hit value unique left won stale sent = answer.MetaHit (record { value = value; flags = 0; unique = unique; fetched = true; idle = 2; left = left; marks = record { won = won; stale = stale; sent = sent } })
@@ -112,7 +112,7 @@ unfolding shape_of shape_text digits
 too_large = refl
 
 -- `ma` with `v` shows its number, also where it is quiet
-arithmetic : text_of (command.MetaArithmetic (record { key = codes "c"; flags = flags_of false true (flag.Unique ∷ []) []; value = true; compare = None; direction = direction.Increment; amount = 2; initial = 0; vivify = None; exptime = None })) (meta_done 3 2 15 ∷ []) ≡ codes "VA 2 c3\r\n15\r\n"
+arithmetic : text_of (command.MetaArithmetic (record { key = codes "c"; flags = flags_of false true (flag.Unique ∷ []) []; value = true; compare = None; unique = None; direction = direction.Increment; amount = 2; initial = 0; vivify = None; exptime = None })) (meta_done 3 2 15 ∷ []) ≡ codes "VA 2 c3\r\n15\r\n"
 unfolding shape_of shape_text digits
 arithmetic = refl
 

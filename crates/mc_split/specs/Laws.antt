@@ -3,10 +3,10 @@ use Rattle.std.specs.Prelude.{ℕ, ◌≡◌, ◌<◌, List, length, map, IfSome
 use Rattle.std.specs.List.{AllByRecursion, range_with_len}
 use Rattle.mc_wire.specs.Key.{place_of}
 use Rattle.mc_command.specs.declared.command.Command.{Command}
-use Rattle.mc_item.specs.Kind.{key_of}
+use Rattle.mc_item.specs.Kind.{key_of, kind_of}
 use Rattle.mc_split.specs.declared.plan.Ticket.{Ticket}
 use Rattle.mc_split.specs.Pieces.{Asked, pieces_of}
-use Rattle.mc_split.specs.Plan.{parts_from}
+use Rattle.mc_split.specs.Plan.{form_of, parts_from}
 
 -- The parts of a command are 0, 1, 2 and so on, in the order of its pieces.
 abbrev pub NumbersParts : Type 0
@@ -22,3 +22,8 @@ AsksShardOfKey = (shards : ℕ) (command : Command) →
 abbrev pub AsksShardsWithin : Type 0
 AsksShardsWithin = (shards : ℕ) → 0 < shards → (command : Command) →
     AllByRecursion (λ asked. asked.shard < shards) (pieces_of shards command)
+
+-- All pieces of a command are of one kind, that of its form.
+abbrev pub AsksOneKind : Type 0
+AsksOneKind = (shards : ℕ) (ticket : Ticket) (command : Command) →
+    AllByRecursion (λ asked. kind_of asked.op ≡ (form_of shards ticket command).kind) (pieces_of shards command)

@@ -1,5 +1,5 @@
 -- The pieces of a command: what each shard is asked, in order.
-use Rattle.std.specs.Prelude.{ℕ, ℤ, List, [], ◌∷◌, Option, map}
+use Rattle.std.specs.Prelude.{ℕ, ℤ, List, [], ◌∷◌, Option, None, map}
 use Rattle.std.specs.List.{range_with_len}
 use Rattle.std.specs.Option.{option_map}
 use Rattle.mc_wire.specs.Key.{place_of}
@@ -36,11 +36,11 @@ pieces_of shards command.Version = []
 pieces_of shards (command.Verbosity noreply) = []
 pieces_of shards command.Quit = []
 pieces_of shards command.MetaNoop = []
-pieces_of shards (command.MetaGet get) = asked_of shards get.key (op.MetaGet get.key get.touch get.vivify get.recache) ∷ []
+pieces_of shards (command.MetaGet get) = asked_of shards get.key (op.MetaGet (record { key = get.key; touch = get.touch; vivify = get.vivify; recache = get.recache })) ∷ []
 pieces_of shards (command.MetaSet set) =
-    asked_of shards set.key (op.MetaStore set.key set.mode set.compare set.client_flags set.exptime set.block) ∷ []
+    asked_of shards set.key (op.MetaStore (record { key = set.key; mode = set.mode; compare = set.compare; unique = set.unique; flags = set.client_flags; exptime = set.exptime; value = set.block })) ∷ []
 pieces_of shards (command.MetaDelete delete) =
-    asked_of shards delete.key (op.MetaDelete delete.key delete.compare delete.invalidate delete.exptime) ∷ []
+    asked_of shards delete.key (op.MetaDelete (record { key = delete.key; compare = delete.compare; unique = delete.unique; invalidate = delete.invalidate; exptime = delete.exptime })) ∷ []
 pieces_of shards (command.MetaArithmetic arithmetic) =
-    asked_of shards arithmetic.key (op.MetaCount arithmetic.key arithmetic.compare arithmetic.direction arithmetic.amount arithmetic.exptime (vivify_of arithmetic.vivify arithmetic.initial)) ∷ []
+    asked_of shards arithmetic.key (op.MetaCount (record { key = arithmetic.key; compare = arithmetic.compare; unique = arithmetic.unique; direction = arithmetic.direction; amount = arithmetic.amount; exptime = arithmetic.exptime; vivify = vivify_of arithmetic.vivify arithmetic.initial })) ∷ []
 pieces_of shards (command.Refused refusal) = []

@@ -9,7 +9,7 @@ use Rattle.mc_command.specs.declared.meta.ReturnFlag.TheVariants.{Unique, Client
 use Rattle.mc_split.specs.declared.form.Shape.{Shape}
 use Rattle.mc_split.specs.declared.form.Shape.TheVariants.{Fixed, Line, Values, Meta}
 use Rattle.mc_split.specs.declared.form.Fixed.TheVariants as fixed
-use Rattle.mc_split.specs.declared.form.MetaKind.TheVariants as kind
+use Rattle.mc_command.specs.declared.meta.MetaKind.TheVariants as kind
 
 -- the flag k
 abbrev pub is_key_flag : ReturnFlag → Bool

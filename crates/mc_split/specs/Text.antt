@@ -13,8 +13,8 @@ use Rattle.mc_item.specs.declared.answer.Answer.TheVariants as answer
 use Rattle.mc_item.specs.declared.answer.Marks.{Marks}
 use Rattle.mc_split.specs.declared.form.Fixed.{Fixed}
 use Rattle.mc_split.specs.declared.form.Fixed.TheVariants as fixed
-use Rattle.mc_split.specs.declared.form.MetaKind.{MetaKind}
-use Rattle.mc_split.specs.declared.form.MetaKind.TheVariants as kind
+use Rattle.mc_command.specs.declared.meta.MetaKind.{MetaKind}
+use Rattle.mc_command.specs.declared.meta.MetaKind.TheVariants as kind
 use Rattle.mc_split.specs.declared.form.Shape.{Shape}
 use Rattle.mc_split.specs.declared.form.Shape.TheVariants as shape
 use Rattle.mc_split.specs.Shape.{shape_of}

@@ -9,8 +9,8 @@ use Rattle.mc_command.specs.declared.meta.ReturnFlag.{ReturnFlag}
 use Rattle.mc_command.specs.FlagOrder.{returned_in, with_returned}
 use Rattle.mc_item.specs.declared.answer.Answer.{Answer}
 use Rattle.mc_item.specs.Kind.{is_lawful, kind_of}
-use Rattle.mc_split.specs.declared.form.MetaKind.{MetaKind}
-use Rattle.mc_split.specs.declared.form.MetaKind.TheVariants as kind
+use Rattle.mc_command.specs.declared.meta.MetaKind.{MetaKind}
+use Rattle.mc_command.specs.declared.meta.MetaKind.TheVariants as kind
 use Rattle.mc_split.specs.Pieces.{Asked, pieces_of}
 use Rattle.mc_split.specs.Text.{is_hidden, text_of}
 

@@ -3,35 +3,38 @@ ghost use Rattle.std.specs.Prelude.{◌≡◌, ◌<◌, ◌∷◌, [], IfOk, OnE
 ghost use Rattle.std.specs.List.{range_with_len};
 ghost use Rattle.mc_split.specs.Pieces.{pieces_of, asked_of};
 ghost use Rattle.mc_split.specs.Shape.{shape_of};
-ghost use Rattle.mc_split.specs.Splits.{Splits};
+ghost use Rattle.mc_split.specs.internal.Splits.{Splits};
 
-use crate::form::Shape;
-use crate::plan::Plan;
+use crate::form::{Form, Shape};
+use crate::plan::Piece;
 use crate::splitter::Splitter;
 use mc_command::{Block, Command, Direction, Retrieval, Storage};
-use mc_item::{Kind, LARGEST_VALUE, NoMemory, Op, Value};
-use mc_wire::Key;
+use mc_item::{Kind, NoMemory, Op, Value};
+use mc_wire::{GREATEST_VALUE_LIMIT, Key};
 use std::collections::VecDeque;
 
-/// The value of a data block, without a copy and without memory. Blocks above the limit of values are refused while
+/// The value of a data block, without a copy. Blocks above the limit of values are refused while
 /// they are read, so none comes that no value can hold.
 pub fn value_of(block: Block) -> Result<Value, NoMemory>
-    ensures ok { IfOk result (λ value. value ≡ block) }
-    ensures err { OnErr result (LARGEST_VALUE < length block) }
+    ensures { IfOk result (λ value. value ≡ block) }
 {
     let bytes = block.into_bytes();
-    if bytes.len() > LARGEST_VALUE {
+    if bytes.len() > GREATEST_VALUE_LIMIT {
         return Err(NoMemory);
     }
-    Ok(Value::new(bytes))
+    Value::new(bytes)
 }
 
 impl Splitter {
     /// `set`, `add`, `replace`, `append`, `prepend`, `cas`.
     #[tactic(auto, unfolding(crate::specs::Pieces::pieces_of, crate::specs::Shape::shape_of))]
-    pub fn store(self, storage: Storage) -> Result<Plan, NoMemory>
+    pub fn store(
+        self,
+        queue: &mut VecDeque<(usize, Piece)>,
+        storage: Storage,
+    ) -> Result<Form, NoMemory>
         requires { 0 < self.shards }
-        ensures { Splits result self.ticket self.moment self.shards (shape_of (Command.Store storage)) (pieces_of self.shards (Command.Store storage)) }
+        ensures { Splits result self.ticket self.moment (shape_of (Command.Store storage)) (pieces_of self.shards (Command.Store storage)) queue.old.items queue.new.items }
     {
         let shape = Shape::Line {
             noreply: storage.noreply,
@@ -44,64 +47,66 @@ impl Splitter {
             exptime: storage.exptime,
             value: value_of(storage.block)?,
         };
-        self.one(shape, shard, op)
+        self.one(queue, shape, shard, op)
     }
 
     /// `get`, `gets`, `gat`, `gats`: one piece a key, in the order of the request.
     #[tactic(auto, unfolding(crate::specs::Pieces::pieces_of, crate::specs::Shape::shape_of))]
-    pub fn get(self, retrieval: Retrieval) -> Result<Plan, NoMemory>
+    pub fn get(
+        self,
+        queue: &mut VecDeque<(usize, Piece)>,
+        retrieval: Retrieval,
+    ) -> Result<Form, NoMemory>
         requires { 0 < self.shards }
-        ensures { Splits result self.ticket self.moment self.shards (shape_of (Command.Get retrieval)) (pieces_of self.shards (Command.Get retrieval)) }
+        ensures { Splits result self.ticket self.moment (shape_of (Command.Get retrieval)) (pieces_of self.shards (Command.Get retrieval)) queue.old.items queue.new.items }
     {
-        let (first, others) = retrieval.keys.parts();
-        let mut pieces = VecDeque::with_capacity(self.alloc, others.len() + 1)?;
+        let before = queue.len();
         let touch = retrieval.touch;
-        self.push(
-            &mut pieces,
-            first.place(self.shards),
-            Op::Fetch {
-                key: first.clone()?,
-                touch,
-            },
-        )?;
-        for key in others {
-            self.push(
-                &mut pieces,
-                key.place(self.shards),
-                Op::Fetch {
-                    key: key.clone()?,
-                    touch,
-                },
-            )?;
+        let (first, others) = retrieval.keys.parts();
+        let count = others.len() + 1;
+        let key = first.clone()?;
+        let shard = key.place(self.shards);
+        self.push(queue, shard, 0, Op::Fetch { key, touch })?;
+        for other in others {
+            let key = other.clone()?;
+            let shard = key.place(self.shards);
+            let part = queue.len() - before;
+            self.push(queue, shard, part, Op::Fetch { key, touch })?;
         }
         let shape = Shape::Values {
             keys: retrieval.keys,
             with_unique: retrieval.with_unique,
         };
-        self.plan(shape, Kind::Fetch, pieces)
+        self.form(shape, Kind::Fetch, count)
     }
 
     /// `delete`.
     #[tactic(auto, unfolding(crate::specs::Pieces::pieces_of, crate::specs::Shape::shape_of))]
-    pub fn delete(self, key: Key, noreply: bool) -> Result<Plan, NoMemory>
+    pub fn delete(
+        self,
+        queue: &mut VecDeque<(usize, Piece)>,
+        key: Key,
+        noreply: bool,
+    ) -> Result<Form, NoMemory>
         requires { 0 < self.shards }
-        ensures { Splits result self.ticket self.moment self.shards (shape_of (Command.Delete key noreply)) (pieces_of self.shards (Command.Delete key noreply)) }
+        ensures { Splits result self.ticket self.moment (shape_of (Command.Delete key noreply)) (pieces_of self.shards (Command.Delete key noreply)) queue.old.items queue.new.items }
     {
         let shard = key.place(self.shards);
-        self.one(Shape::Line { noreply }, shard, Op::Delete { key })
+        self.one(queue, Shape::Line { noreply }, shard, Op::Delete { key })
     }
 
     /// `incr`, `decr`.
     #[tactic(auto, unfolding(crate::specs::Pieces::pieces_of, crate::specs::Shape::shape_of))]
     pub fn count(
         self,
+        queue: &mut VecDeque<(usize, Piece)>,
         key: Key,
         direction: Direction,
         amount: u64,
         noreply: bool,
-    ) -> Result<Plan, NoMemory>
+    ) -> Result<Form, NoMemory>
         requires { 0 < self.shards }
-        ensures { Splits result self.ticket self.moment self.shards (shape_of (Command.Count key direction amount noreply)) (pieces_of self.shards (Command.Count key direction amount noreply)) }
+        ensures { Splits result self.ticket self.moment (shape_of (Command.Count key direction amount noreply)) (pieces_of self.shards (Command.Count key direction amount noreply)) queue.old.items queue.new.items }
     {
         let shard = key.place(self.shards);
         let op = Op::Count {
@@ -109,28 +114,44 @@ impl Splitter {
             direction,
             amount,
         };
-        self.one(Shape::Line { noreply }, shard, op)
+        self.one(queue, Shape::Line { noreply }, shard, op)
     }
 
     /// `touch`.
     #[tactic(auto, unfolding(crate::specs::Pieces::pieces_of, crate::specs::Shape::shape_of))]
-    pub fn touch(self, key: Key, exptime: i64, noreply: bool) -> Result<Plan, NoMemory>
+    pub fn touch(
+        self,
+        queue: &mut VecDeque<(usize, Piece)>,
+        key: Key,
+        exptime: i64,
+        noreply: bool,
+    ) -> Result<Form, NoMemory>
         requires { 0 < self.shards }
-        ensures { Splits result self.ticket self.moment self.shards (shape_of (Command.Touch key exptime noreply)) (pieces_of self.shards (Command.Touch key exptime noreply)) }
+        ensures { Splits result self.ticket self.moment (shape_of (Command.Touch key exptime noreply)) (pieces_of self.shards (Command.Touch key exptime noreply)) queue.old.items queue.new.items }
     {
         let shard = key.place(self.shards);
-        self.one(Shape::Line { noreply }, shard, Op::Touch { key, exptime })
+        self.one(
+            queue,
+            Shape::Line { noreply },
+            shard,
+            Op::Touch { key, exptime },
+        )
     }
 
     /// `flush_all`: one piece a shard, rising.
     #[tactic(auto, unfolding(crate::specs::Pieces::pieces_of, crate::specs::Shape::shape_of))]
-    pub fn flush_all(self, delay: i64, noreply: bool) -> Result<Plan, NoMemory>
-        ensures { Splits result self.ticket self.moment self.shards (shape_of (Command.FlushAll delay noreply)) (pieces_of self.shards (Command.FlushAll delay noreply)) }
+    pub fn flush_all(
+        self,
+        queue: &mut VecDeque<(usize, Piece)>,
+        delay: i64,
+        noreply: bool,
+    ) -> Result<Form, NoMemory>
+        requires { 0 < self.shards }
+        ensures { Splits result self.ticket self.moment (shape_of (Command.FlushAll delay noreply)) (pieces_of self.shards (Command.FlushAll delay noreply)) queue.old.items queue.new.items }
     {
-        let mut pieces = VecDeque::with_capacity(self.alloc, self.shards)?;
         for shard in 0..self.shards {
-            self.push(&mut pieces, shard, Op::Flush { delay })?;
+            self.push(queue, shard, shard, Op::Flush { delay })?;
         }
-        self.plan(Shape::Line { noreply }, Kind::Flush, pieces)
+        self.form(Shape::Line { noreply }, Kind::Flush, self.shards)
     }
 }

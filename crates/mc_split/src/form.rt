@@ -1,9 +1,9 @@
 //! The form of a reply: what is known of its text before the answers come, and a slot for each answer.
-ghost use Rattle.std.specs.Prelude.{◌≡◌, ◌<◌, ◌↔◌, [], Some, None, IsTrue, IfOk, length, replicate, slice_set};
+ghost use Rattle.std.specs.Prelude.{◌≡◌, ◌<◌, ◌↔◌, ◌∷◌, [], Some, None, IsTrue, IfOk, length, replicate, slice_set};
 ghost use Rattle.mc_split.specs.Slots.{missing_in};
 
 use crate::plan::Ticket;
-use mc_command::{Keys, MetaFlags, Refusal};
+use mc_command::{Keys, MetaFlags, MetaKind, Refusal};
 use mc_item::{Answer, Kind};
 use mc_wire::Key;
 use std::alloc::{AllocError, Global};
@@ -50,15 +50,6 @@ pub enum Fixed {
     Refused(Refusal),
 }
 
-/// Which meta command is answered.
-#[derive(Clone, Copy, Debug, PartialEq, Eq)]
-pub enum MetaKind {
-    Get,
-    Set,
-    Delete,
-    Arithmetic,
-}
-
 /// The answers of a command's parts, as far as they have come. One part takes no room of its own.
 #[derive(Drop)]
 pub struct Slots {
@@ -98,15 +89,22 @@ impl Slots {
         }
     }
 
+    /// One empty slot. It takes no memory.
+    pub(crate) fn one() -> Slots
+        ensures { result ≡ None ∷ [] }
+    {
+        Slots {
+            kept: Kept::One(None),
+            missing: 1,
+        }
+    }
+
     /// So many empty slots.
     pub(crate) fn empty(alloc: Global, count: usize) -> Result<Slots, AllocError>
         ensures { IfOk result (λ slots. slots ≡ replicate count None) }
     {
         if count == 1 {
-            return Ok(Slots {
-                kept: Kept::One(None),
-                missing: 1,
-            });
+            return Ok(Slots::one());
         }
         let mut answers = Vec::with_capacity(alloc, count)?;
         for _ in 0..count {

@@ -1,5 +1,5 @@
 //! Laws of the pieces and of the reply of every command.
-ghost use Rattle.mc_split.specs.Laws.{NumbersParts, AsksShardOfKey, AsksShardsWithin};
+ghost use Rattle.mc_split.specs.Laws.{NumbersParts, AsksOneKind, AsksShardOfKey, AsksShardsWithin};
 ghost use Rattle.mc_split.specs.TextLaws.{IsEmptyWhereSilent, IsEmptyOrLoud, AsksAsLoud, OrdersFlags, AsksAlike};
 
 /// The parts of a command are 0, 1, 2 and so on, in the order of its pieces.
@@ -15,6 +15,11 @@ pub fn pieces_name_their_shard()
 /// Every shard that is asked is there.
 pub fn shards_are_there()
     ensures { AsksShardsWithin }
+{}
+
+/// All pieces of a command are of one kind, that of its form.
+pub fn pieces_are_of_one_kind()
+    ensures { AsksOneKind }
 {}
 
 /// A reply is empty of `quit`, where `noreply` stands and where `q` hides what was answered, and nowhere else.

@@ -10,10 +10,11 @@ mod splitter;
 #[cfg(test)]
 mod tests;
 
-pub use form::{Fixed, Form, MetaKind, Shape, Slots};
+pub use form::{Fixed, Form, Shape, Slots};
 pub use laws::{
     flags_change_their_order_alone, only_silent_replies_are_empty, parts_are_numbered,
-    pieces_name_their_shard, quiet_replies_are_empty_or_loud, shards_are_there,
+    pieces_are_of_one_kind, pieces_name_their_shard, quiet_replies_are_empty_or_loud,
+    shards_are_there,
 };
 pub use mc_item::NoMemory;
-pub use plan::{Piece, Plan, Ticket, split};
+pub use plan::{Piece, Plan, Ticket, split, split_into};

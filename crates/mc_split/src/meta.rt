@@ -3,16 +3,19 @@ ghost use Rattle.std.specs.Prelude.{◌≡◌, ◌<◌, IfOk};
 ghost use Rattle.std.specs.List.{list_any};
 ghost use Rattle.mc_split.specs.Pieces.{pieces_of};
 ghost use Rattle.mc_split.specs.Shape.{shape_of, shown_key, is_key_flag};
-ghost use Rattle.mc_split.specs.Splits.{Splits};
+ghost use Rattle.mc_split.specs.internal.Splits.{Splits};
 
 use crate::classic::value_of;
-use crate::form::{MetaKind, Shape};
-use crate::plan::Plan;
+use crate::form::{Form, Shape};
+use crate::plan::Piece;
 use crate::splitter::Splitter;
-use mc_command::{Command, MetaArithmetic, MetaDelete, MetaFlags, MetaGet, MetaSet, ReturnFlag};
+use mc_command::{
+    Command, MetaArithmetic, MetaDelete, MetaFlags, MetaGet, MetaKind, MetaSet, ReturnFlag,
+};
 use mc_item::{NoMemory, Op, Vivify};
 use mc_wire::Key;
 use std::alloc::AllocError;
+use std::collections::VecDeque;
 
 /// Whether it is the flag `k`.
 fn is_key(flag: ReturnFlag) -> bool
@@ -42,9 +45,13 @@ fn copy_shown(flags: &MetaFlags, key: &Key) -> Result<Option<Key>, AllocError>
 impl Splitter {
     /// `mg`.
     #[tactic(auto, unfolding(crate::specs::Pieces::pieces_of, crate::specs::Shape::shape_of))]
-    pub fn meta_get(self, get: MetaGet) -> Result<Plan, NoMemory>
+    pub fn meta_get(
+        self,
+        queue: &mut VecDeque<(usize, Piece)>,
+        get: MetaGet,
+    ) -> Result<Form, NoMemory>
         requires { 0 < self.shards }
-        ensures { Splits result self.ticket self.moment self.shards (shape_of (Command.MetaGet get)) (pieces_of self.shards (Command.MetaGet get)) }
+        ensures { Splits result self.ticket self.moment (shape_of (Command.MetaGet get)) (pieces_of self.shards (Command.MetaGet get)) queue.old.items queue.new.items }
     {
         let shape = Shape::Meta {
             kind: MetaKind::Get,
@@ -53,20 +60,24 @@ impl Splitter {
             flags: get.flags,
         };
         let shard = get.key.place(self.shards);
-        let op = Op::MetaGet {
+        let op = Op::MetaGet(mc_item::MetaGet {
             key: get.key,
             touch: get.touch,
             vivify: get.vivify,
             recache: get.recache,
-        };
-        self.one(shape, shard, op)
+        });
+        self.one(queue, shape, shard, op)
     }
 
     /// `ms`.
     #[tactic(auto, unfolding(crate::specs::Pieces::pieces_of, crate::specs::Shape::shape_of))]
-    pub fn meta_set(self, set: MetaSet) -> Result<Plan, NoMemory>
+    pub fn meta_set(
+        self,
+        queue: &mut VecDeque<(usize, Piece)>,
+        set: MetaSet,
+    ) -> Result<Form, NoMemory>
         requires { 0 < self.shards }
-        ensures { Splits result self.ticket self.moment self.shards (shape_of (Command.MetaSet set)) (pieces_of self.shards (Command.MetaSet set)) }
+        ensures { Splits result self.ticket self.moment (shape_of (Command.MetaSet set)) (pieces_of self.shards (Command.MetaSet set)) queue.old.items queue.new.items }
     {
         let shape = Shape::Meta {
             kind: MetaKind::Set,
@@ -75,22 +86,27 @@ impl Splitter {
             flags: set.flags,
         };
         let shard = set.key.place(self.shards);
-        let op = Op::MetaStore {
+        let op = Op::MetaStore(mc_item::MetaStore {
             key: set.key,
             mode: set.mode,
             compare: set.compare,
+            unique: set.unique,
             flags: set.client_flags,
             exptime: set.exptime,
             value: value_of(set.block)?,
-        };
-        self.one(shape, shard, op)
+        });
+        self.one(queue, shape, shard, op)
     }
 
     /// `md`.
     #[tactic(auto, unfolding(crate::specs::Pieces::pieces_of, crate::specs::Shape::shape_of))]
-    pub fn meta_delete(self, delete: MetaDelete) -> Result<Plan, NoMemory>
+    pub fn meta_delete(
+        self,
+        queue: &mut VecDeque<(usize, Piece)>,
+        delete: MetaDelete,
+    ) -> Result<Form, NoMemory>
         requires { 0 < self.shards }
-        ensures { Splits result self.ticket self.moment self.shards (shape_of (Command.MetaDelete delete)) (pieces_of self.shards (Command.MetaDelete delete)) }
+        ensures { Splits result self.ticket self.moment (shape_of (Command.MetaDelete delete)) (pieces_of self.shards (Command.MetaDelete delete)) queue.old.items queue.new.items }
     {
         let shape = Shape::Meta {
             kind: MetaKind::Delete,
@@ -99,20 +115,25 @@ impl Splitter {
             flags: delete.flags,
         };
         let shard = delete.key.place(self.shards);
-        let op = Op::MetaDelete {
+        let op = Op::MetaDelete(mc_item::MetaDelete {
             key: delete.key,
             compare: delete.compare,
+            unique: delete.unique,
             invalidate: delete.invalidate,
             exptime: delete.exptime,
-        };
-        self.one(shape, shard, op)
+        });
+        self.one(queue, shape, shard, op)
     }
 
     /// `ma`. The item that it makes of a miss has the exptime of `N` and the number of `J`.
     #[tactic(auto, unfolding(crate::specs::Pieces::pieces_of, crate::specs::Shape::shape_of))]
-    pub fn meta_arithmetic(self, arithmetic: MetaArithmetic) -> Result<Plan, NoMemory>
+    pub fn meta_arithmetic(
+        self,
+        queue: &mut VecDeque<(usize, Piece)>,
+        arithmetic: MetaArithmetic,
+    ) -> Result<Form, NoMemory>
         requires { 0 < self.shards }
-        ensures { Splits result self.ticket self.moment self.shards (shape_of (Command.MetaArithmetic arithmetic)) (pieces_of self.shards (Command.MetaArithmetic arithmetic)) }
+        ensures { Splits result self.ticket self.moment (shape_of (Command.MetaArithmetic arithmetic)) (pieces_of self.shards (Command.MetaArithmetic arithmetic)) queue.old.items queue.new.items }
     {
         let shape = Shape::Meta {
             kind: MetaKind::Arithmetic,
@@ -122,14 +143,15 @@ impl Splitter {
         };
         let shard = arithmetic.key.place(self.shards);
         let initial = arithmetic.initial;
-        let op = Op::MetaCount {
+        let op = Op::MetaCount(mc_item::MetaCount {
             key: arithmetic.key,
             compare: arithmetic.compare,
+            unique: arithmetic.unique,
             direction: arithmetic.direction,
             amount: arithmetic.amount,
             exptime: arithmetic.exptime,
             vivify: arithmetic.vivify.map(|exptime| Vivify { exptime, initial }),
-        };
-        self.one(shape, shard, op)
+        });
+        self.one(queue, shape, shard, op)
     }
 }

@@ -1,11 +1,10 @@
 //! From a command to its pieces.
-ghost use Rattle.std.specs.Prelude.{◌≡◌, ◌<◌, IfOk, IsTrue, OnErr};
-ghost use Rattle.std.specs.List.{AllByRecursion};
+ghost use Rattle.std.specs.Prelude.{◌≡◌, ◌<◌, ◌++◌, IfOk, IsTrue, OnOk, OnErr, length};
 ghost use Rattle.mc_command.specs.Command.{can_give_up};
-ghost use Rattle.mc_item.specs.Kind.{kind_of};
 ghost use Rattle.mc_split.specs.Pieces.{pieces_of};
 ghost use Rattle.mc_split.specs.Shape.{shape_of};
-ghost use Rattle.mc_split.specs.Plan.{no_answers, parts_from};
+ghost use Rattle.mc_split.specs.Plan.{form_of, parts_from};
+ghost use Rattle.mc_split.specs.internal.Splits.{Splits};
 
 use crate::form::{Fixed, Form};
 use crate::splitter::Splitter;
@@ -36,9 +35,39 @@ pub struct Plan {
     pub pieces: VecDeque<(usize, Piece)>,
 }
 
-/// Splits a command. All growth happens here, before the first piece goes out; it is refused only where there is
-/// no memory for the plan.
-#[tactic(auto, unfolding(crate::specs::Pieces::pieces_of, crate::specs::Shape::shape_of))]
+/// Splits a command: puts its pieces behind those of the queue, and gives the form of its reply. All growth happens
+/// here, before the first piece goes out. Where memory runs out, the queue holds what it held.
+pub fn split_into(
+    alloc: Global,
+    command: Command,
+    ticket: Ticket,
+    moment: u64,
+    shards: usize,
+    queue: &mut VecDeque<(usize, Piece)>,
+) -> Result<Form, NoMemory>
+    requires { 0 < shards }
+    ensures form { IfOk result (λ form. form ≡ form_of shards ticket command) }
+    ensures pieces { OnOk result (queue.new.items ≡ queue.old.items ++ parts_from 0 ticket moment (pieces_of shards command)) }
+    ensures unchanged { OnErr result (queue.new.items ≡ queue.old.items) }
+    // Only a command that asks a shard can find no memory.
+    ensures asks { OnErr result (0 < length (pieces_of shards command)) }
+    ensures gives_up { OnErr result (IsTrue (can_give_up command)) }
+{
+    let before = queue.len();
+    let splitter = Splitter {
+        alloc,
+        ticket,
+        moment,
+        shards,
+    };
+    let form = splitter.split(queue, command);
+    if form.is_err() {
+        queue.truncate(before);
+    }
+    form
+}
+
+/// Splits a command into a queue of its own.
 pub fn split(
     alloc: Global,
     command: Command,
@@ -47,48 +76,49 @@ pub fn split(
     shards: usize,
 ) -> Result<Plan, NoMemory>
     requires { 0 < shards }
-    ensures ticket { IfOk result (λ plan. plan.form.ticket ≡ ticket) }
-    ensures shape { IfOk result (λ plan. plan.form.shape ≡ shape_of command) }
-    ensures kind { IfOk result (λ plan. AllByRecursion (λ asked. kind_of asked.op ≡ plan.form.kind) (pieces_of shards command)) }
-    ensures slots { IfOk result (λ plan. plan.form.slots ≡ no_answers (pieces_of shards command)) }
+    ensures form { IfOk result (λ plan. plan.form ≡ form_of shards ticket command) }
     ensures pieces { IfOk result (λ plan. plan.pieces.items ≡ parts_from 0 ticket moment (pieces_of shards command)) }
-
-    // Every shard that is asked is there.
-    ensures places { IfOk result (λ plan. AllByRecursion (λ asked. asked.shard < shards) (pieces_of shards command)) }
-
-    // Only what asks a shard can find no memory.
+    ensures asks { OnErr result (0 < length (pieces_of shards command)) }
     ensures gives_up { OnErr result (IsTrue (can_give_up command)) }
 {
-    let splitter = Splitter {
-        alloc,
-        ticket,
-        moment,
-        shards,
-    };
-    match command {
-        Command::Store(storage) => splitter.store(storage),
-        Command::Get(retrieval) => splitter.get(retrieval),
-        Command::Delete { key, noreply } => splitter.delete(key, noreply),
-        Command::Count {
-            key,
-            direction,
-            amount,
-            noreply,
-        } => splitter.count(key, direction, amount, noreply),
-        Command::Touch {
-            key,
-            exptime,
-            noreply,
-        } => splitter.touch(key, exptime, noreply),
-        Command::FlushAll { delay, noreply } => splitter.flush_all(delay, noreply),
-        Command::Version => Ok(splitter.fixed(Fixed::Version)),
-        Command::Verbosity { noreply: false } => Ok(splitter.fixed(Fixed::Ok)),
-        Command::Verbosity { noreply: true } | Command::Quit => Ok(splitter.fixed(Fixed::Nothing)),
-        Command::MetaNoop => Ok(splitter.fixed(Fixed::MetaNoop)),
-        Command::MetaGet(get) => splitter.meta_get(get),
-        Command::MetaSet(set) => splitter.meta_set(set),
-        Command::MetaDelete(delete) => splitter.meta_delete(delete),
-        Command::MetaArithmetic(arithmetic) => splitter.meta_arithmetic(arithmetic),
-        Command::Refused(refusal) => Ok(splitter.fixed(Fixed::Refused(refusal))),
+    let mut pieces = VecDeque::new(alloc);
+    let form = split_into(alloc, command, ticket, moment, shards, &mut pieces)?;
+    Ok(Plan { form, pieces })
+}
+
+impl Splitter {
+    /// Splits a command.
+    #[tactic(auto, unfolding(crate::specs::Pieces::pieces_of, crate::specs::Shape::shape_of))]
+    fn split(self, queue: &mut VecDeque<(usize, Piece)>, command: Command) -> Result<Form, NoMemory>
+        requires { 0 < self.shards }
+        ensures splits { Splits result self.ticket self.moment (shape_of command) (pieces_of self.shards command) queue.old.items queue.new.items }
+        ensures gives_up { OnErr result (IsTrue (can_give_up command)) }
+    {
+        match command {
+            Command::Store(storage) => self.store(queue, storage),
+            Command::Get(retrieval) => self.get(queue, retrieval),
+            Command::Delete { key, noreply } => self.delete(queue, key, noreply),
+            Command::Count {
+                key,
+                direction,
+                amount,
+                noreply,
+            } => self.count(queue, key, direction, amount, noreply),
+            Command::Touch {
+                key,
+                exptime,
+                noreply,
+            } => self.touch(queue, key, exptime, noreply),
+            Command::FlushAll { delay, noreply } => self.flush_all(queue, delay, noreply),
+            Command::Version => Ok(self.fixed(Fixed::Version)),
+            Command::Verbosity { noreply: false } => Ok(self.fixed(Fixed::Ok)),
+            Command::Verbosity { noreply: true } | Command::Quit => Ok(self.fixed(Fixed::Nothing)),
+            Command::MetaNoop => Ok(self.fixed(Fixed::MetaNoop)),
+            Command::MetaGet(get) => self.meta_get(queue, get),
+            Command::MetaSet(set) => self.meta_set(queue, set),
+            Command::MetaDelete(delete) => self.meta_delete(queue, delete),
+            Command::MetaArithmetic(arithmetic) => self.meta_arithmetic(queue, arithmetic),
+            Command::Refused(refusal) => Ok(self.fixed(Fixed::Refused(refusal))),
+        }
     }
 }

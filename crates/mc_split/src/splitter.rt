@@ -1,11 +1,11 @@
-//! The parts of a plan: the pieces of one command, numbered, and the form of its reply.
-ghost use Rattle.std.specs.Prelude.{◌≡◌, ◌<◌, ◌++◌, ◌∷◌, List, [], Ok, OnOk, length};
+//! The pieces of one command, numbered, and the form of its reply.
+ghost use Rattle.std.specs.Prelude.{◌≡◌, ◌++◌, ◌∷◌, [], IfOk, OnOk, OnErr, None, replicate};
 ghost use Rattle.mc_split.specs.Pieces.{Asked};
-ghost use Rattle.mc_split.specs.Plan.{parts_from};
-ghost use Rattle.mc_split.specs.Splits.{AreFor, Splits};
+ghost use Rattle.mc_split.specs.Plan.{form_with};
+ghost use Rattle.mc_split.specs.internal.Splits.{Splits};
 
 use crate::form::{Fixed, Form, Shape, Slots};
-use crate::plan::{Piece, Plan, Ticket};
+use crate::plan::{Piece, Ticket};
 use mc_item::{Kind, NoMemory, Op};
 use std::alloc::{AllocError, Global};
 use std::collections::VecDeque;
@@ -20,69 +20,70 @@ pub struct Splitter {
 }
 
 impl Splitter {
-    /// The plan of a command that asks no shard, so that its kind is of no meaning.
-    pub fn fixed(self, fixed: Fixed) -> Plan
-        ensures { Splits (Ok result) self.ticket self.moment self.shards (Shape.Fixed fixed) [] }
+    /// The form of a reply that asks no shard, so that its kind is of no meaning.
+    pub fn fixed(self, fixed: Fixed) -> Form
+        ensures { result ≡ form_with self.ticket (Shape.Fixed fixed) [] }
     {
-        Plan {
-            form: Form {
-                ticket: self.ticket,
-                kind: Kind::Flush,
-                shape: Shape::Fixed(fixed),
-                slots: Slots::none(self.alloc),
-            },
-            pieces: VecDeque::new(self.alloc),
+        Form {
+            ticket: self.ticket,
+            kind: Kind::Flush,
+            shape: Shape::Fixed(fixed),
+            slots: Slots::none(self.alloc),
         }
     }
 
-    /// The plan of a command that asks one shard.
-    pub fn one(self, shape: Shape, shard: usize, op: Op) -> Result<Plan, NoMemory>
-        requires { shard < self.shards }
-        ensures { let asked : Asked = record { shard = shard; op = op } in Splits result self.ticket self.moment self.shards shape (asked ∷ []) }
-    {
-        let kind = op.kind();
-        let mut pieces = VecDeque::with_capacity(self.alloc, 1)?;
-        self.push(&mut pieces, shard, op)?;
-        self.plan(shape, kind, pieces)
-    }
-
-    /// Adds a piece behind the others.
-    pub fn push(
+    /// Asks one shard: puts the piece behind those of the queue.
+    pub fn one(
         self,
-        pieces: &mut VecDeque<(usize, Piece)>,
+        queue: &mut VecDeque<(usize, Piece)>,
+        shape: Shape,
         shard: usize,
         op: Op,
-    ) -> Result<(), AllocError>
-        ensures { OnOk result (pieces.new.items ≡ pieces.old.items ++ (shard, record { ticket = self.ticket; part = length pieces.old.items; op = op; moment = self.moment }) ∷ []) }
+    ) -> Result<Form, NoMemory>
+        ensures { let asked : Asked = record { shard = shard; op = op } in Splits result self.ticket self.moment shape (asked ∷ []) queue.old.items queue.new.items }
     {
+        let kind = op.kind();
+        self.push(queue, shard, 0, op)?;
+        Ok(Form {
+            ticket: self.ticket,
+            kind,
+            shape,
+            slots: Slots::one(),
+        })
+    }
+
+    /// Puts a piece, which is this part of the command, behind those of the queue.
+    pub fn push(
+        self,
+        queue: &mut VecDeque<(usize, Piece)>,
+        shard: usize,
+        part: usize,
+        op: Op,
+    ) -> Result<(), AllocError>
+        ensures ok { OnOk result (queue.new.items ≡ queue.old.items ++ (shard, record { ticket = self.ticket; part = part; op = op; moment = self.moment }) ∷ []) }
+        ensures err { OnErr result (queue.new.items ≡ queue.old.items) }
+    {
+        queue.reserve(1)?;
         let piece = Piece {
             ticket: self.ticket,
-            part: pieces.len(),
+            part,
             op,
             moment: self.moment,
         };
-        pieces.push_back((shard, piece))?;
+        queue.push_back_reserved((shard, piece));
         Ok(())
     }
 
-    /// The plan with these pieces, all of this kind, each with an empty slot.
-    pub fn plan(
-        self,
-        shape: Shape,
-        kind: Kind,
-        pieces: VecDeque<(usize, Piece)>,
-    ) -> Result<Plan, NoMemory>
-        ensures { (asked : List Asked) → AreFor self.shards kind asked → pieces.items ≡ parts_from 0 self.ticket self.moment asked → Splits result self.ticket self.moment self.shards shape asked }
+    /// The form of a reply to so many pieces, all of this kind.
+    pub fn form(self, shape: Shape, kind: Kind, count: usize) -> Result<Form, NoMemory>
+        ensures { IfOk result (λ form. form ≡ record { ticket = self.ticket; kind = kind; shape = shape; slots = replicate count None }) }
     {
-        let slots = Slots::empty(self.alloc, pieces.len())?;
-        Ok(Plan {
-            form: Form {
-                ticket: self.ticket,
-                kind,
-                shape,
-                slots,
-            },
-            pieces,
+        let slots = Slots::empty(self.alloc, count)?;
+        Ok(Form {
+            ticket: self.ticket,
+            kind,
+            shape,
+            slots,
         })
     }
 }

@@ -2,23 +2,25 @@
 use Rattle.std.proofs.Common.{◌≡◌, ℕ, ◌+◌, ◌<◌, true, false, List, [], Some, None, refl, arith, nat_eq, max, min}
 use Rattle.std.specs.Cmp.Lexicographic.{pointwise}
 use Rattle.std.specs.Map.{lookup, remove_entry}
+use Rattle.mc_wire.specs.declared.TheConstants.{LATEST_MOMENT}
 use Rattle.mc_item.specs.declared.item.Item.{Item}
-use Rattle.mc_store.specs.Found.{live}
-use Rattle.mc_store.specs.State.{State, empty_state, latest, is_due, flushed, arrived, met}
+use Rattle.mc_store.specs.internal.Found.{live}
+use Rattle.mc_store.specs.State.{State, empty_state, is_due, flushed, arrived, without_dead}
 use Rattle.mc_store.specs.Shard.{AllBelow, Held, Keeps}
-use Rattle.mc_store.proofs.Lists.{nothing, get_nothing, len_nothing}
+use Rattle.mc_store.proofs.Lists.{nothing, get_nothing}
+use Rattle.mc_store.proofs.Costs.{costs_nothing}
 use Rattle.mc_store.proofs.Shards.{with_entries, meets, misses, take_out}
 
 none_below : (n : ℕ) → AllBelow nothing n
 none_below n q u h = absurd (let h' = rw (get_nothing q) at h in cc)
 
-pub new_keeps : (index shards capacity given : ℕ) → index < shards → 0 < capacity → Keeps (record { entries = []; limit = capacity; time = 0; flush = None; given = given; index = index; shards = shards }) (empty_state index shards capacity given)
-new_keeps index shards capacity given place room = let none = len_nothing in record {
+pub new_keeps : (index shards budget given limit : ℕ) → index < shards → Keeps (record { entries = []; budget = budget; limit = limit; time = 0; flush = None; given = given; index = index; shards = shards }) (empty_state index shards budget given limit)
+new_keeps index shards budget given limit place = let none = costs_nothing in record {
   order = refl;
   below = none_below 1;
   fits = omega arith;
-  positive = room;
-  capacity = refl;
+  budget = refl;
+  limit = refl;
   time = refl;
   flush = refl;
   given = refl;
@@ -28,12 +30,12 @@ new_keeps index shards capacity given place room = let none = len_nothing in rec
 }
 
 pub flush_all : (held : Held) (state : State) → Keeps held state → Keeps (record held { entries = []; flush = None }) (flushed state)
-flush_all held state h = let none = len_nothing in let some = h.positive in record {
+flush_all held state h = let none = costs_nothing in record {
   order = refl;
   below = none_below (state.uses + 1);
   fits = omega arith;
-  positive = h.positive;
-  capacity = h.capacity;
+  budget = h.budget;
+  limit = h.limit;
   time = h.time;
   flush = refl;
   given = h.given;
@@ -44,15 +46,15 @@ flush_all held state h = let none = len_nothing in let some = h.positive in reco
 
 -- the state once its time was moved
 abbrev pub moved : State → ℕ → State
-moved state moment = record state { time = max state.time (min moment latest) }
+moved state moment = record state { time = max state.time (min moment LATEST_MOMENT) }
 
-pub timed : (held : Held) (state : State) (moment time : ℕ) → Keeps held state → time ≡ max held.time (min moment latest) → Keeps (record held { time = time }) (moved state moment)
+pub timed : (held : Held) (state : State) (moment time : ℕ) → Keeps held state → time ≡ max held.time (min moment LATEST_MOMENT) → Keeps (record held { time = time }) (moved state moment)
 timed held state moment time h is = record {
   order = h.order;
   below = h.below;
   fits = h.fits;
-  positive = h.positive;
-  capacity = h.capacity;
+  budget = h.budget;
+  limit = h.limit;
   time = rw (h.time, is);
   flush = h.flush;
   given = h.given;
@@ -61,17 +63,17 @@ timed held state moment time h is = record {
   place = h.place;
 }
 
-due_is : (held : Held) (state : State) (moment time : ℕ) → Keeps held state → time ≡ max held.time (min moment latest) → is_due state.flush (max state.time (min moment latest)) ≡ is_due held.flush time
+due_is : (held : Held) (state : State) (moment time : ℕ) → Keeps held state → time ≡ max held.time (min moment LATEST_MOMENT) → is_due state.flush (max state.time (min moment LATEST_MOMENT)) ≡ is_due held.flush time
 due_is held state moment time h is = rw (h.flush, h.time, is)
 
-pub arrived_due : (held : Held) (state : State) (moment time : ℕ) → Keeps held state → time ≡ max held.time (min moment latest) → is_due held.flush time ≡ true → arrived state moment ≡ flushed (moved state moment)
+pub arrived_due : (held : Held) (state : State) (moment time : ℕ) → Keeps held state → time ≡ max held.time (min moment LATEST_MOMENT) → is_due held.flush time ≡ true → arrived state moment ≡ flushed (moved state moment)
 arrived_due held state moment time h is due = rw (due_is held state moment time h is, due)
 
-pub arrived_early : (held : Held) (state : State) (moment time : ℕ) → Keeps held state → time ≡ max held.time (min moment latest) → is_due held.flush time ≡ false → arrived state moment ≡ moved state moment
+pub arrived_early : (held : Held) (state : State) (moment time : ℕ) → Keeps held state → time ≡ max held.time (min moment LATEST_MOMENT) → is_due held.flush time ≡ false → arrived state moment ≡ moved state moment
 arrived_early held state moment time h is early = rw (due_is held state moment time h is, early)
 
-pub settled_gone : (held : Held) (state : State) (key : List ℕ) → Keeps held state → None ≡ live held.time (lookup (pointwise nat_eq key) held.entries) → Keeps (with_entries held (remove_entry (pointwise nat_eq key) held.entries)) (met state (Some key))
+pub settled_gone : (held : Held) (state : State) (key : List ℕ) → Keeps held state → None ≡ live held.time (lookup (pointwise nat_eq key) held.entries) → Keeps (with_entries held (remove_entry (pointwise nat_eq key) held.entries)) (without_dead state (Some key))
 settled_gone held state key h none = rw (misses held state key h none).settled (take_out held state key h)
 
-pub settled_live : (held : Held) (state : State) (key : List ℕ) (item : Item) → Keeps held state → Some item ≡ live held.time (lookup (pointwise nat_eq key) held.entries) → Keeps held (met state (Some key))
+pub settled_live : (held : Held) (state : State) (key : List ℕ) (item : Item) → Keeps held state → Some item ≡ live held.time (lookup (pointwise nat_eq key) held.entries) → Keeps held (without_dead state (Some key))
 settled_live held state key item h is = rw (meets held state key item h is).settled h

@@ -1,5 +1,5 @@
 -- The outcomes of counting.
-use Rattle.std.proofs.Common.{◌≡◌, ℕ, ℤ, true, false, List, Option, Some, None, refl, sym, ap, ◌∙◌, nat_eq, subst}
+use Rattle.std.proofs.Common.{◌≡◌, ℕ, true, false, List, Option, Some, None, refl, sym, ap, ◌∙◌, nat_eq, subst}
 use Rattle.std.specs.Cmp.Lexicographic.{pointwise}
 use Rattle.std.specs.FinMap.{get}
 use Rattle.std.specs.Map.{lookup}
@@ -7,13 +7,14 @@ use Rattle.mc_command.specs.declared.command.Direction.{Direction}
 use Rattle.mc_item.specs.declared.item.Item.{Item}
 use Rattle.mc_item.specs.declared.op.Vivify.{Vivify}
 use Rattle.mc_item.specs.declared.op.Op.TheVariants.{Count, MetaCount}
+use Rattle.mc_item.specs.declared.op.MetaCount as op
 use Rattle.mc_item.specs.declared.answer.Answer.{Answer}
 use Rattle.mc_item.specs.declared.answer.Answer.TheVariants.{Exists, NonNumeric, Number, MetaDone}
 use Rattle.mc_item.specs.Expiry.{expiry_of}
 use Rattle.mc_item.specs.Value.{number_in, number_text}
 use Rattle.mc_item.specs.Kind.{kind_of, is_lawful}
-use Rattle.mc_store.specs.Found.{live}
-use Rattle.mc_store.specs.State.{Used, State, met, first}
+use Rattle.mc_store.specs.internal.Found.{live}
+use Rattle.mc_store.specs.State.{Used, State, without_dead, entered}
 use Rattle.mc_store.specs.Rows.{counted_item, done_of}
 use Rattle.mc_store.specs.Step.{Outcome, Reply, Counting, is_other, numbered, counted, changes, absent_count, count_step, counting, step_of}
 use Rattle.mc_store.specs.Shard.{Held, Keeps}
@@ -22,37 +23,37 @@ use Rattle.mc_store.proofs.Outcomes.{Ends, ends, absent_as, present_as, unchange
 use Rattle.mc_store.proofs.Stores.{fresh, fresh_of}
 
 -- what is written, with a new unique and what is answered of it
-abbrev pub done_with : State → List ℕ → (ℕ → Item) → ℕ → Reply → Outcome
-done_with settled key item_of number reply = numbered settled (λ unique given. (reply (done_of (item_of unique) number settled.time), first given key (item_of unique)))
+abbrev pub done_with : State → List ℕ → Option ℕ → (ℕ → Item) → ℕ → Reply → Outcome
+done_with settled key token item_of number reply = numbered settled token (λ unique given. (reply (done_of (item_of unique) number settled.time), entered given key (item_of unique)))
 
-pub written_as : (settled : State) (key : List ℕ) (item made : Item) (number : ℕ) (reply : Reply) (answer : Answer) (new : Held) → item ≡ made → Closes settled (done_with settled key (λ unique. record item { unique = unique }) number reply) answer new → Closes settled (done_with settled key (λ unique. record made { unique = unique }) number reply) answer new
-written_as settled key item made number reply answer new is closes = subst (λ i. Closes settled (done_with settled key (λ unique. record i { unique = unique }) number reply) answer new) is closes
+pub written_as : (settled : State) (key : List ℕ) (token : Option ℕ) (item made : Item) (number : ℕ) (reply : Reply) (answer : Answer) (new : Held) → item ≡ made → Closes settled (done_with settled key token (λ unique. record item { unique = unique }) number reply) answer new → Closes settled (done_with settled key token (λ unique. record made { unique = unique }) number reply) answer new
+written_as settled key token item made number reply answer new is closes = subst (λ i. Closes settled (done_with settled key token (λ unique. record i { unique = unique }) number reply) answer new) is closes
 
 -- a counter that is made of a miss
-counter_is : (held : Held) (state : State) (key : List ℕ) (made : Vivify) (reply : Reply) → Keeps held state →
-    done_with (met state (Some key)) key (λ unique. fresh (number_text made.initial) 0 (expiry_of made.exptime held.time) unique) made.initial reply ≡ absent_count (met state (Some key)) key reply (Some made)
-counter_is held state key made reply h =
-    let time : (met state (Some key)).time ≡ held.time = met_time state key ∙ h.time in
-    subst (λ t. done_with (met state (Some key)) key (λ unique. fresh (number_text made.initial) 0 (expiry_of made.exptime t) unique) made.initial reply ≡ absent_count (met state (Some key)) key reply (Some made)) time refl
+counter_is : (held : Held) (state : State) (key : List ℕ) (token : Option ℕ) (made : Vivify) (reply : Reply) → Keeps held state →
+    done_with (without_dead state (Some key)) key token (λ unique. fresh (number_text made.initial) 0 (expiry_of made.exptime held.time) unique) made.initial reply ≡ absent_count (without_dead state (Some key)) key token reply (Some made)
+counter_is held state key token made reply h =
+    let time : (without_dead state (Some key)).time ≡ held.time = met_time state key ∙ h.time in
+    subst (λ t. done_with (without_dead state (Some key)) key token (λ unique. fresh (number_text made.initial) 0 (expiry_of made.exptime t) unique) made.initial reply ≡ absent_count (without_dead state (Some key)) key token reply (Some made)) time refl
 
-pub counter_as : (held : Held) (state : State) (key : List ℕ) (made : Vivify) (item : Item) (reply : Reply) (answer : Answer) (new : Held) → Keeps held state → item ≡ fresh_of (number_text made.initial) 0 (expiry_of made.exptime held.time) →
-    Closes (met state (Some key)) (done_with (met state (Some key)) key (λ unique. record item { unique = unique }) made.initial reply) answer new → Closes (met state (Some key)) (absent_count (met state (Some key)) key reply (Some made)) answer new
-counter_as held state key made item reply answer new h is closes =
-    along (met state (Some key)) (done_with (met state (Some key)) key (λ unique. fresh (number_text made.initial) 0 (expiry_of made.exptime held.time) unique) made.initial reply) (absent_count (met state (Some key)) key reply (Some made)) answer new
-    (counter_is held state key made reply h)
-    (written_as (met state (Some key)) key item (fresh_of (number_text made.initial) 0 (expiry_of made.exptime held.time)) made.initial reply answer new is closes)
+pub counter_as : (held : Held) (state : State) (key : List ℕ) (token : Option ℕ) (made : Vivify) (item : Item) (reply : Reply) (answer : Answer) (new : Held) → Keeps held state → item ≡ fresh_of (number_text made.initial) 0 (expiry_of made.exptime held.time) →
+    Closes (without_dead state (Some key)) (done_with (without_dead state (Some key)) key token (λ unique. record item { unique = unique }) made.initial reply) answer new → Closes (without_dead state (Some key)) (absent_count (without_dead state (Some key)) key token reply (Some made)) answer new
+counter_as held state key token made item reply answer new h is closes =
+    along (without_dead state (Some key)) (done_with (without_dead state (Some key)) key token (λ unique. fresh (number_text made.initial) 0 (expiry_of made.exptime held.time) unique) made.initial reply) (absent_count (without_dead state (Some key)) key token reply (Some made)) answer new
+    (counter_is held state key token made reply h)
+    (written_as (without_dead state (Some key)) key token item (fresh_of (number_text made.initial) 0 (expiry_of made.exptime held.time)) made.initial reply answer new is closes)
 
 pub count_misses : (held : Held) (state : State) (key : List ℕ) (asked : Counting) (vivify : Option Vivify) (reply : Reply) (answer : Answer) (new : Held) → Keeps held state → None ≡ live held.time (lookup (pointwise nat_eq key) held.entries) →
-    Closes (met state (Some key)) (absent_count (met state (Some key)) key reply vivify) answer new → Closes (met state (Some key)) (count_step (met state (Some key)) key asked reply vivify (get (met state (Some key)).items key)) answer new
+    Closes (without_dead state (Some key)) (absent_count (without_dead state (Some key)) key asked.unique reply vivify) answer new → Closes (without_dead state (Some key)) (count_step (without_dead state (Some key)) key asked reply vivify (get (without_dead state (Some key)).items key)) answer new
 count_misses held state key asked vivify reply answer new h none closes =
-    along (met state (Some key)) (absent_count (met state (Some key)) key reply vivify) (count_step (met state (Some key)) key asked reply vivify (get (met state (Some key)).items key)) answer new
-    (absent_as held state key (λ s o. count_step s key asked reply vivify o) (λ s. absent_count s key reply vivify) h none (λ s. refl)) closes
+    along (without_dead state (Some key)) (absent_count (without_dead state (Some key)) key asked.unique reply vivify) (count_step (without_dead state (Some key)) key asked reply vivify (get (without_dead state (Some key)).items key)) answer new
+    (absent_as held state key (λ s o. count_step s key asked reply vivify o) (λ s. absent_count s key asked.unique reply vivify) h none (λ s. refl)) closes
 
 differs : (s : State) (key : List ℕ) (asked : Counting) (reply : Reply) (vivify : Option Vivify) (u : Used) → is_other asked.compare u.item.unique ≡ true → (Exists, s) ≡ count_step s key asked reply vivify (Some u)
 differs s key asked reply vivify u o = rw o
 
 pub count_exists : (held : Held) (state : State) (key : List ℕ) (item : Item) (asked : Counting) (vivify : Option Vivify) (reply : Reply) → Keeps held state → Some item ≡ live held.time (lookup (pointwise nat_eq key) held.entries) → is_other asked.compare item.unique ≡ true →
-    Closes (met state (Some key)) (count_step (met state (Some key)) key asked reply vivify (get (met state (Some key)).items key)) Exists held
+    Closes (without_dead state (Some key)) (count_step (without_dead state (Some key)) key asked reply vivify (get (without_dead state (Some key)).items key)) Exists held
 count_exists held state key item asked vivify reply h is other =
     unchanged_as held state key item (λ s o. count_step s key asked reply vivify o) Exists h is (λ s u i. differs s key asked reply vivify u (rw i other))
 
@@ -60,50 +61,50 @@ no_number : (s : State) (key : List ℕ) (asked : Counting) (reply : Reply) (viv
 no_number s key asked reply vivify u o none = rw (o, ← none)
 
 pub count_fails : (held : Held) (state : State) (key : List ℕ) (item : Item) (asked : Counting) (vivify : Option Vivify) (reply : Reply) → Keeps held state → Some item ≡ live held.time (lookup (pointwise nat_eq key) held.entries) → is_other asked.compare item.unique ≡ false → None ≡ number_in item.value →
-    Closes (met state (Some key)) (count_step (met state (Some key)) key asked reply vivify (get (met state (Some key)).items key)) NonNumeric held
+    Closes (without_dead state (Some key)) (count_step (without_dead state (Some key)) key asked reply vivify (get (without_dead state (Some key)).items key)) NonNumeric held
 count_fails held state key item asked vivify reply h is other none =
     unchanged_as held state key item (λ s o. count_step s key asked reply vivify o) NonNumeric h is (λ s u i. no_number s key asked reply vivify u (rw i other) (rw i none))
 
 counts_to : (s : State) (key : List ℕ) (asked : Counting) (reply : Reply) (vivify : Option Vivify) (u : Used) (number : ℕ) → is_other asked.compare u.item.unique ≡ false → Some number ≡ number_in u.item.value →
-    changes s key u.item asked.exptime (counted asked.direction number asked.amount) reply ≡ count_step s key asked reply vivify (Some u)
+    changes s key u.item asked (counted asked.direction number asked.amount) reply ≡ count_step s key asked reply vivify (Some u)
 counts_to s key asked reply vivify u number o is = rw (o, ← is)
 
 -- the item with its new number, before it has a new unique
 pub counted_as : (held : Held) (state : State) (key : List ℕ) (item : Item) (asked : Counting) (vivify : Option Vivify) (reply : Reply) (number : ℕ) (new_item : Item) (answer : Answer) (new : Held) → Keeps held state → Some item ≡ live held.time (lookup (pointwise nat_eq key) held.entries) →
     is_other asked.compare item.unique ≡ false → Some number ≡ number_in item.value → new_item ≡ counted_item item (counted asked.direction number asked.amount) asked.exptime held.time item.unique →
-    Closes (met state (Some key)) (done_with (met state (Some key)) key (λ unique. record new_item { unique = unique }) (counted asked.direction number asked.amount) reply) answer new →
-    Closes (met state (Some key)) (count_step (met state (Some key)) key asked reply vivify (get (met state (Some key)).items key)) answer new
+    Closes (without_dead state (Some key)) (done_with (without_dead state (Some key)) key asked.unique (λ unique. record new_item { unique = unique }) (counted asked.direction number asked.amount) reply) answer new →
+    Closes (without_dead state (Some key)) (count_step (without_dead state (Some key)) key asked reply vivify (get (without_dead state (Some key)).items key)) answer new
 counted_as held state key item asked vivify reply number new_item answer new h is other number_is made closes =
-    let settled = met state (Some key) in
+    let settled = without_dead state (Some key) in
     let to = counted asked.direction number asked.amount in
     let time : settled.time ≡ held.time = met_time state key ∙ h.time in
-    let same : done_with settled key (λ unique. counted_item item to asked.exptime held.time unique) to reply ≡ changes settled key item asked.exptime to reply
-    = subst (λ t. done_with settled key (λ unique. counted_item item to asked.exptime t unique) to reply ≡ changes settled key item asked.exptime to reply) time refl in
-    along settled (changes settled key item asked.exptime to reply) (count_step settled key asked reply vivify (get settled.items key)) answer new
-    (present_as held state key item (λ s o. count_step s key asked reply vivify o) (λ i _ s. changes s key i asked.exptime to reply) h is (λ s u i. counts_to s key asked reply vivify u number (rw i other) (rw i number_is)))
-    (along settled (done_with settled key (λ unique. counted_item item to asked.exptime held.time unique) to reply) (changes settled key item asked.exptime to reply) answer new same
-    (written_as settled key new_item (counted_item item to asked.exptime held.time item.unique) to reply answer new made closes))
+    let same : done_with settled key asked.unique (λ unique. counted_item item to asked.exptime held.time unique) to reply ≡ changes settled key item asked to reply
+    = subst (λ t. done_with settled key asked.unique (λ unique. counted_item item to asked.exptime t unique) to reply ≡ changes settled key item asked to reply) time refl in
+    along settled (changes settled key item asked to reply) (count_step settled key asked reply vivify (get settled.items key)) answer new
+    (present_as held state key item (λ s o. count_step s key asked reply vivify o) (λ i _ s. changes s key i asked to reply) h is (λ s u i. counts_to s key asked reply vivify u number (rw i other) (rw i number_is)))
+    (along settled (done_with settled key asked.unique (λ unique. counted_item item to asked.exptime held.time unique) to reply) (changes settled key item asked to reply) answer new same
+    (written_as settled key asked.unique new_item (counted_item item to asked.exptime held.time item.unique) to reply answer new made closes))
 
 -- the same, where the new number was computed
 pub counted_by : (held : Held) (state : State) (key : List ℕ) (item : Item) (asked : Counting) (vivify : Option Vivify) (reply : Reply) (number to : ℕ) (new_item : Item) (answer : Answer) (new : Held) → Keeps held state → Some item ≡ live held.time (lookup (pointwise nat_eq key) held.entries) →
     is_other asked.compare item.unique ≡ false → Some number ≡ number_in item.value → to ≡ counted asked.direction number asked.amount → new_item ≡ counted_item item to asked.exptime held.time item.unique →
-    Closes (met state (Some key)) (done_with (met state (Some key)) key (λ unique. record new_item { unique = unique }) to reply) answer new →
-    Closes (met state (Some key)) (count_step (met state (Some key)) key asked reply vivify (get (met state (Some key)).items key)) answer new
+    Closes (without_dead state (Some key)) (done_with (without_dead state (Some key)) key asked.unique (λ unique. record new_item { unique = unique }) to reply) answer new →
+    Closes (without_dead state (Some key)) (count_step (without_dead state (Some key)) key asked reply vivify (get (without_dead state (Some key)).items key)) answer new
 counted_by held state key item asked vivify reply number to new_item answer new h is other number_is to_is made closes =
     counted_as held state key item asked vivify reply number new_item answer new h is other number_is
     (made ∙ ap (λ n. counted_item item n asked.exptime held.time item.unique) to_is)
-    (subst (λ n. Closes (met state (Some key)) (done_with (met state (Some key)) key (λ unique. record new_item { unique = unique }) n reply) answer new) to_is closes)
+    (subst (λ n. Closes (without_dead state (Some key)) (done_with (without_dead state (Some key)) key asked.unique (λ unique. record new_item { unique = unique }) n reply) answer new) to_is closes)
 
 pub classic_count : (settled : State) (key : List ℕ) (direction : Direction) (amount : ℕ) (answer : Answer) (new : Held) →
-    Closes settled (count_step settled key (counting None direction amount None) (λ done. Number done.number) None (get settled.items key)) answer new → Ends settled (Count key direction amount) answer new
+    Closes settled (count_step settled key (counting None None direction amount None) (λ done. Number done.number) None (get settled.items key)) answer new → Ends settled (Count key direction amount) answer new
 unfolding step_of kind_of is_lawful
 classic_count settled key direction amount answer new closes = ends settled (Count key direction amount) answer new (λ _. refl) closes
 
-pub meta_count : (settled : State) (key : List ℕ) (compare : Option ℕ) (direction : Direction) (amount : ℕ) (exptime : Option ℤ) (vivify : Option Vivify) (answer : Answer) (new : Held) →
-    Closes settled (count_step settled key (counting compare direction amount exptime) (λ done. MetaDone done) vivify (get settled.items key)) answer new → Ends settled (MetaCount key compare direction amount exptime vivify) answer new
+pub meta_count : (settled : State) (asked : op.MetaCount) (answer : Answer) (new : Held) →
+    Closes settled (count_step settled asked.key (counting asked.compare asked.unique asked.direction asked.amount asked.exptime) (λ done. MetaDone done) asked.vivify (get settled.items asked.key)) answer new → Ends settled (MetaCount asked) answer new
 unfolding step_of kind_of is_lawful
-meta_count settled key compare direction amount exptime vivify answer new closes = ends settled (MetaCount key compare direction amount exptime vivify) answer new (λ _. refl) closes
+meta_count settled asked answer new closes = ends settled (MetaCount asked) answer new (λ _. refl) closes
 
 -- the same, where what is to be made is given as an option
-pub vivified_as : (settled : State) (key : List ℕ) (vivify : Option Vivify) (made : Vivify) (reply : Reply) (answer : Answer) (new : Held) → vivify ≡ Some made → Closes settled (absent_count settled key reply (Some made)) answer new → Closes settled (absent_count settled key reply vivify) answer new
-vivified_as settled key vivify made reply answer new is closes = subst (λ v. Closes settled (absent_count settled key reply v) answer new) (sym is) closes
+pub vivified_as : (settled : State) (key : List ℕ) (token : Option ℕ) (vivify : Option Vivify) (made : Vivify) (reply : Reply) (answer : Answer) (new : Held) → vivify ≡ Some made → Closes settled (absent_count settled key token reply (Some made)) answer new → Closes settled (absent_count settled key token reply vivify) answer new
+vivified_as settled key token vivify made reply answer new is closes = subst (λ v. Closes settled (absent_count settled key token reply v) answer new) (sym is) closes

@@ -1,81 +1,79 @@
 -- The outcomes of deleting and flushing.
-use Rattle.std.proofs.Common.{◌≡◌, ℕ, ◌+◌, ◌*◌, ◌^◌, ◌<◌, ℤ, Bool, true, false, List, Option, Some, None, refl, sym, ap, ◌∙◌, inr, arith, nat_eq, nat_lt}
+use Rattle.std.proofs.Common.{◌≡◌, ℕ, ℤ, true, false, List, Option, Some, None, refl, sym, ap, ◌∙◌, inr, nat_eq}
 use Rattle.std.specs.Cmp.Lexicographic.{pointwise}
-use Rattle.std.specs.FinMap.{insert}
+use Rattle.std.specs.FinMap.{get, insert}
 use Rattle.std.specs.Map.{lookup, remove_entry, set_value}
 use Rattle.mc_item.specs.declared.item.Item.{Item}
 use Rattle.mc_item.specs.declared.op.Op.TheVariants.{Delete, MetaDelete, Flush}
+use Rattle.mc_item.specs.declared.op.MetaDelete as op
 use Rattle.mc_item.specs.declared.answer.Answer.TheVariants.{NotFound, Exists, Deleted, Done, NoCas}
 use Rattle.mc_item.specs.Expiry.{expiry_of}
 use Rattle.mc_item.specs.Kind.{kind_of, is_lawful}
-use Rattle.mc_store.specs.Found.{live}
-use Rattle.mc_store.specs.State.{Used, State, met, with_items, with_given, next_unique, flushed}
+use Rattle.mc_store.specs.internal.Found.{live, unique_for, given_after}
+use Rattle.mc_store.specs.State.{Used, State, without_dead, with_items, flushed}
 use Rattle.mc_store.specs.Rows.{stale_item}
 use Rattle.mc_store.specs.Step.{Outcome, Answers, is_other, delete_step, deletes, stales, meta_delete_step, coming, flush_step, step_of}
 use Rattle.mc_store.specs.Shard.{Held, Keeps}
-use Rattle.mc_store.proofs.Shards.{with_entries, set_in_place, give_one}
-use Rattle.mc_store.proofs.Writes.{Closes, held_unique, lt_true, lt_false, not_less}
+use Rattle.mc_store.proofs.Shards.{with_entries, set_in_place, giving, gives}
+use Rattle.mc_store.proofs.Writes.{Closes, next_of, numbered_some, numbered_none, unique_now}
 use Rattle.mc_store.proofs.Outcomes.{Ends, ends, here, at_live, misses_as, unchanged_as, goes_as}
 
-pub delete_miss : (held : Held) (state : State) (key : List ℕ) → Keeps held state → None ≡ live held.time (lookup (pointwise nat_eq key) held.entries) → Ends (met state (Some key)) (Delete key) NotFound (with_entries held (remove_entry (pointwise nat_eq key) held.entries))
+pub delete_miss : (held : Held) (state : State) (key : List ℕ) → Keeps held state → None ≡ live held.time (lookup (pointwise nat_eq key) held.entries) → Ends (without_dead state (Some key)) (Delete key) NotFound (with_entries held (remove_entry (pointwise nat_eq key) held.entries))
 unfolding step_of kind_of is_lawful
-delete_miss held state key h none = ends (met state (Some key)) (Delete key) NotFound _ (λ e. absurd cc) (misses_as held state key (λ s o. delete_step s key o) NotFound h none (λ s. refl))
+delete_miss held state key h none = ends (without_dead state (Some key)) (Delete key) NotFound _ (λ e. absurd cc) (misses_as held state key (λ s o. delete_step s key o) NotFound h none (λ s. refl))
 
-pub delete_hit : (held : Held) (state : State) (key : List ℕ) (item : Item) → Keeps held state → Some item ≡ live held.time (lookup (pointwise nat_eq key) held.entries) → Ends (met state (Some key)) (Delete key) Deleted (with_entries held (remove_entry (pointwise nat_eq key) held.entries))
+pub delete_hit : (held : Held) (state : State) (key : List ℕ) (item : Item) → Keeps held state → Some item ≡ live held.time (lookup (pointwise nat_eq key) held.entries) → Ends (without_dead state (Some key)) (Delete key) Deleted (with_entries held (remove_entry (pointwise nat_eq key) held.entries))
 unfolding step_of kind_of is_lawful
-delete_hit held state key item h is = ends (met state (Some key)) (Delete key) Deleted _ (λ e. absurd cc) (goes_as held state key item (λ s o. delete_step s key o) Deleted h is (λ s u _. refl))
+delete_hit held state key item h is = ends (without_dead state (Some key)) (Delete key) Deleted _ (λ e. absurd cc) (goes_as held state key item (λ s o. delete_step s key o) Deleted h is (λ s u _. refl))
 
-pub meta_delete_miss : (held : Held) (state : State) (key : List ℕ) (compare : Option ℕ) (invalidate : Bool) (exptime : Option ℤ) → Keeps held state → None ≡ live held.time (lookup (pointwise nat_eq key) held.entries) → Ends (met state (Some key)) (MetaDelete key compare invalidate exptime) NotFound (with_entries held (remove_entry (pointwise nat_eq key) held.entries))
+pub meta_delete_miss : (held : Held) (state : State) (asked : op.MetaDelete) → Keeps held state → None ≡ live held.time (lookup (pointwise nat_eq asked.key) held.entries) → Ends (without_dead state (Some asked.key)) (MetaDelete asked) NotFound (with_entries held (remove_entry (pointwise nat_eq asked.key) held.entries))
 unfolding step_of kind_of is_lawful
-meta_delete_miss held state key compare invalidate exptime h none = ends (met state (Some key)) (MetaDelete key compare invalidate exptime) NotFound _ (λ e. absurd cc) (misses_as held state key (λ s o. meta_delete_step s key compare invalidate exptime o) NotFound h none (λ s. refl))
+meta_delete_miss held state asked h none = ends (without_dead state (Some asked.key)) (MetaDelete asked) NotFound _ (λ e. absurd cc) (misses_as held state asked.key (λ s o. meta_delete_step s asked o) NotFound h none (λ s. refl))
 
-differs : (s : State) (key : List ℕ) (compare : Option ℕ) (invalidate : Bool) (exptime : Option ℤ) (u : Used) → is_other compare u.item.unique ≡ true → (Exists, s) ≡ meta_delete_step s key compare invalidate exptime (Some u)
-differs s key compare true exptime u o = rw o
-differs s key compare false exptime u o = rw o
+differs : (s : State) (asked : op.MetaDelete) (u : Used) → is_other asked.compare u.item.unique ≡ true → (Exists, s) ≡ meta_delete_step s asked (Some u)
+differs s asked u o = rw o
 
-pub meta_delete_exists : (held : Held) (state : State) (key : List ℕ) (compare : Option ℕ) (invalidate : Bool) (exptime : Option ℤ) (item : Item) → Keeps held state → Some item ≡ live held.time (lookup (pointwise nat_eq key) held.entries) → is_other compare item.unique ≡ true → Ends (met state (Some key)) (MetaDelete key compare invalidate exptime) Exists held
+pub meta_delete_exists : (held : Held) (state : State) (asked : op.MetaDelete) (item : Item) → Keeps held state → Some item ≡ live held.time (lookup (pointwise nat_eq asked.key) held.entries) → is_other asked.compare item.unique ≡ true → Ends (without_dead state (Some asked.key)) (MetaDelete asked) Exists held
 unfolding step_of kind_of is_lawful
-meta_delete_exists held state key compare invalidate exptime item h is other = ends (met state (Some key)) (MetaDelete key compare invalidate exptime) Exists held (λ e. absurd cc)
-    (unchanged_as held state key item (λ s o. meta_delete_step s key compare invalidate exptime o) Exists h is (λ s u i. differs s key compare invalidate exptime u (rw i other)))
+meta_delete_exists held state asked item h is other = ends (without_dead state (Some asked.key)) (MetaDelete asked) Exists held (λ e. absurd cc)
+    (unchanged_as held state asked.key item (λ s o. meta_delete_step s asked o) Exists h is (λ s u i. differs s asked u (rw i other)))
 
-removes : (s : State) (key : List ℕ) (compare : Option ℕ) (invalidate : Bool) (exptime : Option ℤ) (u : Used) → is_other compare u.item.unique ≡ false → invalidate ≡ false → deletes s key ≡ meta_delete_step s key compare invalidate exptime (Some u)
-removes s key compare true exptime u o no_mark = absurd cc
-removes s key compare false exptime u o no_mark = rw o
+removes : (s : State) (asked : op.MetaDelete) (u : Used) → is_other asked.compare u.item.unique ≡ false → asked.invalidate ≡ false → deletes s asked.key ≡ meta_delete_step s asked (Some u)
+removes s asked u o no_mark = rw (o, no_mark)
 
-pub meta_delete_hit : (held : Held) (state : State) (key : List ℕ) (compare : Option ℕ) (invalidate : Bool) (exptime : Option ℤ) (item : Item) → Keeps held state → Some item ≡ live held.time (lookup (pointwise nat_eq key) held.entries) → is_other compare item.unique ≡ false → invalidate ≡ false → Ends (met state (Some key)) (MetaDelete key compare invalidate exptime) Deleted (with_entries held (remove_entry (pointwise nat_eq key) held.entries))
+pub meta_delete_hit : (held : Held) (state : State) (asked : op.MetaDelete) (item : Item) → Keeps held state → Some item ≡ live held.time (lookup (pointwise nat_eq asked.key) held.entries) → is_other asked.compare item.unique ≡ false → asked.invalidate ≡ false → Ends (without_dead state (Some asked.key)) (MetaDelete asked) Deleted (with_entries held (remove_entry (pointwise nat_eq asked.key) held.entries))
 unfolding step_of kind_of is_lawful
-meta_delete_hit held state key compare invalidate exptime item h is other no_mark = ends (met state (Some key)) (MetaDelete key compare invalidate exptime) Deleted _ (λ e. absurd cc)
-    (goes_as held state key item (λ s o. meta_delete_step s key compare invalidate exptime o) Deleted h is (λ s u i. removes s key compare invalidate exptime u (rw i other) no_mark))
+meta_delete_hit held state asked item h is other no_mark = ends (without_dead state (Some asked.key)) (MetaDelete asked) Deleted _ (λ e. absurd cc)
+    (goes_as held state asked.key item (λ s o. meta_delete_step s asked o) Deleted h is (λ s u i. removes s asked u (rw i other) no_mark))
 
-marks : (s : State) (key : List ℕ) (compare : Option ℕ) (invalidate : Bool) (exptime : Option ℤ) (u : Used) → is_other compare u.item.unique ≡ false → invalidate ≡ true → stales s key u exptime ≡ meta_delete_step s key compare invalidate exptime (Some u)
-marks s key compare true exptime u o mark = rw o
-marks s key compare false exptime u o mark = absurd cc
+marks : (s : State) (asked : op.MetaDelete) (u : Used) → is_other asked.compare u.item.unique ≡ false → asked.invalidate ≡ true → stales s asked u ≡ meta_delete_step s asked (Some u)
+marks s asked u o mark = rw (o, mark)
 
-used_up : (held : Held) (state : State) (key : List ℕ) (exptime : Option ℤ) (u : Used) → Keeps held state → ¬ (held.index + 1 + held.shards * held.given < 2 ^ 64) → (NoCas, state) ≡ stales state key u exptime
-used_up held state key exptime u h none =
-    let test : nat_lt (next_unique state) (2 ^ 64) ≡ false = rw (held_unique held state h) (lt_false _ _ (not_less _ _ none)) in rw test
+-- the outcome with this unique
+abbrev staling : State → op.MetaDelete → Used → ℕ → State → Outcome
+staling state asked u unique after = (Done, with_items after (insert state.items asked.key (record u { item = stale_item u.item asked.exptime state.time unique })))
 
-pub stale_refused : (held : Held) (state : State) (key : List ℕ) (compare : Option ℕ) (invalidate : Bool) (exptime : Option ℤ) (item : Item) → Keeps held state → Some item ≡ live held.time (lookup (pointwise nat_eq key) held.entries) → is_other compare item.unique ≡ false → invalidate ≡ true → ¬ (held.index + 1 + held.shards * held.given < 2 ^ 64) → Ends (met state (Some key)) (MetaDelete key compare invalidate exptime) NoCas held
+pub stale_refused : (held : Held) (state : State) (asked : op.MetaDelete) (item : Item) → Keeps held state → Some item ≡ live held.time (lookup (pointwise nat_eq asked.key) held.entries) → is_other asked.compare item.unique ≡ false → asked.invalidate ≡ true → None ≡ unique_for asked.unique (next_of held) →
+    Ends (without_dead state (Some asked.key)) (MetaDelete asked) NoCas held
 unfolding step_of kind_of is_lawful
-stale_refused held state key compare invalidate exptime item h is other mark none = ends (met state (Some key)) (MetaDelete key compare invalidate exptime) NoCas held (λ e. absurd cc)
-    (at_live held state key item h is (λ i _ settled. i ≡ item → Closes settled (here (λ s o. meta_delete_step s key compare invalidate exptime o) settled key) NoCas held)
-    (λ u found i. (state, inr (used_up held state key exptime u h none ∙ marks state key compare invalidate exptime u (rw i other) mark ∙ sym (ap (λ o. meta_delete_step state key compare invalidate exptime o) found)), h)) refl)
+stale_refused held state asked item h is other mark none = ends (without_dead state (Some asked.key)) (MetaDelete asked) NoCas held (λ e. absurd cc)
+    (at_live held state asked.key item h is (λ i _ settled. i ≡ item → Closes settled (here (λ s o. meta_delete_step s asked o) settled asked.key) NoCas held)
+    (λ u found i. (state, inr (sym (numbered_none state asked.unique (staling state asked u) (unique_now held state asked.unique None h none)) ∙ marks state asked u (rw i other) mark ∙ sym (ap (λ o. meta_delete_step state asked o) found)), h)) refl)
 
-numbered_is : (held : Held) (state : State) (key : List ℕ) (exptime : Option ℤ) (u : Used) (unique : ℕ) → Keeps held state → held.index + 1 + held.shards * held.given < 2 ^ 64 → unique ≡ held.index + 1 + held.shards * held.given → ◌≡◌ {A = Outcome} (Done, with_items (with_given state) (insert state.items key (record u { item = stale_item u.item exptime state.time unique }))) (stales state key u exptime)
-numbered_is held state key exptime u unique h fits is =
-    let number : next_unique state ≡ unique = held_unique held state h ∙ sym is in
-    let test : nat_lt unique (2 ^ 64) ≡ true = lt_true _ _ (omega arith) in
-    rw (number, test)
+stale_keeps : (held : Held) (state : State) (key : List ℕ) (u : Used) (item : Item) (token : Option ℕ) → Keeps held state → get state.items key ≡ Some u → item.value ≡ u.item.value →
+    Keeps (record held { entries = set_value (pointwise nat_eq key) held.entries item; given = given_after token held.given }) (with_items (giving token state) (insert state.items key (record u { item = item })))
+stale_keeps held state key u item (Some token) h found value = set_in_place held state key u item h found value
+stale_keeps held state key u item None h found value = gives (with_entries held (set_value (pointwise nat_eq key) held.entries item)) (with_items state (insert state.items key (record u { item = item }))) None (set_in_place held state key u item h found value)
 
-pub stale_done : (held : Held) (state : State) (key : List ℕ) (compare : Option ℕ) (invalidate : Bool) (exptime : Option ℤ) (item : Item) (unique : ℕ) → Keeps held state → Some item ≡ live held.time (lookup (pointwise nat_eq key) held.entries) → is_other compare item.unique ≡ false → invalidate ≡ true → held.index + 1 + held.shards * held.given < 2 ^ 64 → unique ≡ held.index + 1 + held.shards * held.given →
-    Ends (met state (Some key)) (MetaDelete key compare invalidate exptime) Done (record held { entries = set_value (pointwise nat_eq key) held.entries (stale_item item exptime held.time unique); given = held.given + 1 })
+pub stale_done : (held : Held) (state : State) (asked : op.MetaDelete) (item : Item) (unique : ℕ) → Keeps held state → Some item ≡ live held.time (lookup (pointwise nat_eq asked.key) held.entries) → is_other asked.compare item.unique ≡ false → asked.invalidate ≡ true → Some unique ≡ unique_for asked.unique (next_of held) →
+    Ends (without_dead state (Some asked.key)) (MetaDelete asked) Done (record held { entries = set_value (pointwise nat_eq asked.key) held.entries (stale_item item asked.exptime held.time unique); given = given_after asked.unique held.given })
 unfolding step_of kind_of is_lawful
-stale_done held state key compare invalidate exptime item unique h is other mark fits number = ends (met state (Some key)) (MetaDelete key compare invalidate exptime) Done _ (λ e. absurd cc)
-    (at_live held state key item h is (λ i time settled. i ≡ item → Closes settled (here (λ s o. meta_delete_step s key compare invalidate exptime o) settled key) Done (record held { entries = set_value (pointwise nat_eq key) held.entries (stale_item i exptime time unique); given = held.given + 1 }))
+stale_done held state asked item unique h is other mark there = ends (without_dead state (Some asked.key)) (MetaDelete asked) Done _ (λ e. absurd cc)
+    (at_live held state asked.key item h is (λ i time settled. i ≡ item → Closes settled (here (λ s o. meta_delete_step s asked o) settled asked.key) Done (record held { entries = set_value (pointwise nat_eq asked.key) held.entries (stale_item i asked.exptime time unique); given = given_after asked.unique held.given }))
     (λ u found i. (
-      with_items (with_given state) (insert state.items key (record u { item = stale_item u.item exptime state.time unique })),
-      inr (numbered_is held state key exptime u unique h fits number ∙ marks state key compare invalidate exptime u (rw i other) mark ∙ sym (ap (λ o. meta_delete_step state key compare invalidate exptime o) found)),
-      set_in_place (record held { given = held.given + 1 }) (with_given state) key u (stale_item u.item exptime state.time unique) (give_one held state h) found,
+      with_items (giving asked.unique state) (insert state.items asked.key (record u { item = stale_item u.item asked.exptime state.time unique })),
+      inr (sym (numbered_some state asked.unique unique (staling state asked u) (unique_now held state asked.unique (Some unique) h there)) ∙ marks state asked u (rw i other) mark ∙ sym (ap (λ o. meta_delete_step state asked o) found)),
+      stale_keeps held state asked.key u (stale_item u.item asked.exptime state.time unique) asked.unique h found refl,
     )) refl)
 
 -- a flush that comes later
@@ -84,8 +82,8 @@ pending held state second h = record {
   order = h.order;
   below = h.below;
   fits = h.fits;
-  positive = h.positive;
-  capacity = h.capacity;
+  budget = h.budget;
+  limit = h.limit;
   time = h.time;
   flush = refl;
   given = h.given;

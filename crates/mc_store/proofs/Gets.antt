@@ -7,12 +7,13 @@ use Rattle.lru.specs.LruCache.{promoted}
 use Rattle.mc_item.specs.declared.item.Item.{Item}
 use Rattle.mc_item.specs.declared.item.Expiry.{Expiry}
 use Rattle.mc_item.specs.declared.op.Op.TheVariants.{Fetch, Touch, MetaGet}
+use Rattle.mc_item.specs.declared.op.MetaGet as op
 use Rattle.mc_item.specs.declared.answer.Answer.{Answer}
 use Rattle.mc_item.specs.declared.answer.Answer.TheVariants.{Hit, Miss, NoMemory, NotFound, Touched, MetaHit}
 use Rattle.mc_item.specs.Expiry.{expiry_of, seconds_left}
 use Rattle.mc_item.specs.Kind.{kind_of, is_lawful}
-use Rattle.mc_store.specs.Found.{live}
-use Rattle.mc_store.specs.State.{State, met, first}
+use Rattle.mc_store.specs.internal.Found.{live}
+use Rattle.mc_store.specs.State.{State, without_dead, entered}
 use Rattle.mc_store.specs.Rows.{fetched_item, touched_item, shown_item, hit_of, made_hit}
 use Rattle.mc_store.specs.Step.{numbered, fetch_step, touch_step, meta_get_step, absent_meta_get, step_of}
 use Rattle.mc_store.specs.Shard.{Held, Keeps}
@@ -20,65 +21,65 @@ use Rattle.mc_store.proofs.Shards.{with_entries, at_now}
 use Rattle.mc_store.proofs.Writes.{Closes, along, met_time}
 use Rattle.mc_store.proofs.Outcomes.{Ends, ends, misses_as, absent_as, lacks_as, uses_as}
 
-pub fetch_miss : (held : Held) (state : State) (key : List ℕ) (touch : Option ℤ) → Keeps held state → None ≡ live held.time (lookup (pointwise nat_eq key) held.entries) → Ends (met state (Some key)) (Fetch key touch) Miss (with_entries held (remove_entry (pointwise nat_eq key) held.entries))
+pub fetch_miss : (held : Held) (state : State) (key : List ℕ) (touch : Option ℤ) → Keeps held state → None ≡ live held.time (lookup (pointwise nat_eq key) held.entries) → Ends (without_dead state (Some key)) (Fetch key touch) Miss (with_entries held (remove_entry (pointwise nat_eq key) held.entries))
 unfolding step_of kind_of is_lawful
 fetch_miss held state key touch h none =
-    ends (met state (Some key)) (Fetch key touch) Miss _ (λ _. refl) (misses_as held state key (λ s o. fetch_step s key touch o) Miss h none (λ s. refl))
+    ends (without_dead state (Some key)) (Fetch key touch) Miss _ (λ _. refl) (misses_as held state key (λ s o. fetch_step s key touch o) Miss h none (λ s. refl))
 
-pub fetch_lacks : (held : Held) (state : State) (key : List ℕ) (touch : Option ℤ) (item : Item) → Keeps held state → Some item ≡ live held.time (lookup (pointwise nat_eq key) held.entries) → Ends (met state (Some key)) (Fetch key touch) NoMemory held
+pub fetch_lacks : (held : Held) (state : State) (key : List ℕ) (touch : Option ℤ) (item : Item) → Keeps held state → Some item ≡ live held.time (lookup (pointwise nat_eq key) held.entries) → Ends (without_dead state (Some key)) (Fetch key touch) NoMemory held
 unfolding step_of kind_of is_lawful
-fetch_lacks held state key touch item h is = ends (met state (Some key)) (Fetch key touch) NoMemory held (λ _. refl) (lacks_as held state key item _ h is)
+fetch_lacks held state key touch item h is = ends (without_dead state (Some key)) (Fetch key touch) NoMemory held (λ _. refl) (lacks_as held state key item _ h is)
 
-pub fetch_hit : (held : Held) (state : State) (key : List ℕ) (touch : Option ℤ) (item : Item) → Keeps held state → Some item ≡ live held.time (lookup (pointwise nat_eq key) held.entries) → Ends (met state (Some key)) (Fetch key touch) (Hit item.flags item.unique item.value) (with_entries held (set_value (pointwise nat_eq key) (promoted (pointwise nat_eq key) held.entries) (at_now (fetched_item item touch held.time) held.time)))
+pub fetch_hit : (held : Held) (state : State) (key : List ℕ) (touch : Option ℤ) (item : Item) → Keeps held state → Some item ≡ live held.time (lookup (pointwise nat_eq key) held.entries) → Ends (without_dead state (Some key)) (Fetch key touch) (Hit item.flags item.unique item.value) (with_entries held (set_value (pointwise nat_eq key) (promoted (pointwise nat_eq key) held.entries) (at_now (fetched_item item touch held.time) held.time)))
 unfolding step_of kind_of is_lawful
 fetch_hit held state key touch item h is =
-    ends (met state (Some key)) (Fetch key touch) (Hit item.flags item.unique item.value) _ (λ _. refl)
-    (uses_as held state key item (λ s o. fetch_step s key touch o) (λ i _. Hit i.flags i.unique i.value) (λ i time. fetched_item i touch time) h is (λ s u _. refl))
+    ends (without_dead state (Some key)) (Fetch key touch) (Hit item.flags item.unique item.value) _ (λ _. refl)
+    (uses_as held state key item (λ s o. fetch_step s key touch o) (λ i _. Hit i.flags i.unique i.value) (λ i time. fetched_item i touch time) (λ _ _. refl) h is (λ s u _. refl))
 
-pub touch_miss : (held : Held) (state : State) (key : List ℕ) (exptime : ℤ) → Keeps held state → None ≡ live held.time (lookup (pointwise nat_eq key) held.entries) → Ends (met state (Some key)) (Touch key exptime) NotFound (with_entries held (remove_entry (pointwise nat_eq key) held.entries))
+pub touch_miss : (held : Held) (state : State) (key : List ℕ) (exptime : ℤ) → Keeps held state → None ≡ live held.time (lookup (pointwise nat_eq key) held.entries) → Ends (without_dead state (Some key)) (Touch key exptime) NotFound (with_entries held (remove_entry (pointwise nat_eq key) held.entries))
 unfolding step_of kind_of is_lawful
 touch_miss held state key exptime h none =
-    ends (met state (Some key)) (Touch key exptime) NotFound _ (λ e. absurd cc) (misses_as held state key (λ s o. touch_step s key exptime o) NotFound h none (λ s. refl))
+    ends (without_dead state (Some key)) (Touch key exptime) NotFound _ (λ e. absurd cc) (misses_as held state key (λ s o. touch_step s key exptime o) NotFound h none (λ s. refl))
 
-pub touch_hit : (held : Held) (state : State) (key : List ℕ) (exptime : ℤ) (item : Item) → Keeps held state → Some item ≡ live held.time (lookup (pointwise nat_eq key) held.entries) → Ends (met state (Some key)) (Touch key exptime) Touched (with_entries held (set_value (pointwise nat_eq key) (promoted (pointwise nat_eq key) held.entries) (at_now (touched_item item exptime held.time) held.time)))
+pub touch_hit : (held : Held) (state : State) (key : List ℕ) (exptime : ℤ) (item : Item) → Keeps held state → Some item ≡ live held.time (lookup (pointwise nat_eq key) held.entries) → Ends (without_dead state (Some key)) (Touch key exptime) Touched (with_entries held (set_value (pointwise nat_eq key) (promoted (pointwise nat_eq key) held.entries) (at_now (touched_item item exptime held.time) held.time)))
 unfolding step_of kind_of is_lawful
 touch_hit held state key exptime item h is =
-    ends (met state (Some key)) (Touch key exptime) Touched _ (λ e. absurd cc)
-    (uses_as held state key item (λ s o. touch_step s key exptime o) (λ _ _. Touched) (λ i time. touched_item i exptime time) h is (λ s u _. refl))
+    ends (without_dead state (Some key)) (Touch key exptime) Touched _ (λ e. absurd cc)
+    (uses_as held state key item (λ s o. touch_step s key exptime o) (λ _ _. Touched) (λ i time. touched_item i exptime time) (λ _ _. refl) h is (λ s u _. refl))
 
-pub meta_get_lacks : (held : Held) (state : State) (key : List ℕ) (touch vivify recache : Option ℤ) (item : Item) → Keeps held state → Some item ≡ live held.time (lookup (pointwise nat_eq key) held.entries) → Ends (met state (Some key)) (MetaGet key touch vivify recache) NoMemory held
+pub meta_get_lacks : (held : Held) (state : State) (asked : op.MetaGet) (item : Item) → Keeps held state → Some item ≡ live held.time (lookup (pointwise nat_eq asked.key) held.entries) → Ends (without_dead state (Some asked.key)) (MetaGet asked) NoMemory held
 unfolding step_of kind_of is_lawful
-meta_get_lacks held state key touch vivify recache item h is = ends (met state (Some key)) (MetaGet key touch vivify recache) NoMemory held (λ _. refl) (lacks_as held state key item _ h is)
+meta_get_lacks held state asked item h is = ends (without_dead state (Some asked.key)) (MetaGet asked) NoMemory held (λ _. refl) (lacks_as held state asked.key item _ h is)
 
-pub meta_get_hit : (held : Held) (state : State) (key : List ℕ) (touch vivify recache : Option ℤ) (item : Item) → Keeps held state → Some item ≡ live held.time (lookup (pointwise nat_eq key) held.entries) → Ends (met state (Some key)) (MetaGet key touch vivify recache) (MetaHit (hit_of item touch recache held.time)) (with_entries held (set_value (pointwise nat_eq key) (promoted (pointwise nat_eq key) held.entries) (at_now (shown_item item touch recache held.time) held.time)))
+pub meta_get_hit : (held : Held) (state : State) (asked : op.MetaGet) (item : Item) → Keeps held state → Some item ≡ live held.time (lookup (pointwise nat_eq asked.key) held.entries) → Ends (without_dead state (Some asked.key)) (MetaGet asked) (MetaHit (hit_of item asked.touch asked.recache held.time)) (with_entries held (set_value (pointwise nat_eq asked.key) (promoted (pointwise nat_eq asked.key) held.entries) (at_now (shown_item item asked.touch asked.recache held.time) held.time)))
 unfolding step_of kind_of is_lawful
-meta_get_hit held state key touch vivify recache item h is =
-    ends (met state (Some key)) (MetaGet key touch vivify recache) (MetaHit (hit_of item touch recache held.time)) _ (λ _. refl)
-    (uses_as held state key item (λ s o. meta_get_step s key touch vivify recache o) (λ i time. MetaHit (hit_of i touch recache time)) (λ i time. shown_item i touch recache time) h is (λ s u _. refl))
+meta_get_hit held state asked item h is =
+    ends (without_dead state (Some asked.key)) (MetaGet asked) (MetaHit (hit_of item asked.touch asked.recache held.time)) _ (λ _. refl)
+    (uses_as held state asked.key item (λ s o. meta_get_step s asked.key asked.touch asked.vivify asked.recache o) (λ i time. MetaHit (hit_of i asked.touch asked.recache time)) (λ i time. shown_item i asked.touch asked.recache time) (λ _ _. refl) h is (λ s u _. refl))
 
-pub meta_get_absent : (held : Held) (state : State) (key : List ℕ) (touch vivify recache : Option ℤ) (answer : Answer) (new : Held) → Keeps held state → None ≡ live held.time (lookup (pointwise nat_eq key) held.entries) → Closes (met state (Some key)) (absent_meta_get (met state (Some key)) key vivify) answer new → Ends (met state (Some key)) (MetaGet key touch vivify recache) answer new
+pub meta_get_absent : (held : Held) (state : State) (asked : op.MetaGet) (answer : Answer) (new : Held) → Keeps held state → None ≡ live held.time (lookup (pointwise nat_eq asked.key) held.entries) → Closes (without_dead state (Some asked.key)) (absent_meta_get (without_dead state (Some asked.key)) asked.key asked.vivify) answer new → Ends (without_dead state (Some asked.key)) (MetaGet asked) answer new
 unfolding step_of kind_of is_lawful
-meta_get_absent held state key touch vivify recache answer new h none closes =
-    ends (met state (Some key)) (MetaGet key touch vivify recache) answer new (λ _. refl)
-    (along (met state (Some key)) (absent_meta_get (met state (Some key)) key vivify) (meta_get_step (met state (Some key)) key touch vivify recache (get (met state (Some key)).items key)) answer new
-    (absent_as held state key (λ s o. meta_get_step s key touch vivify recache o) (λ s. absent_meta_get s key vivify) h none (λ s. refl)) closes)
+meta_get_absent held state asked answer new h none closes =
+    ends (without_dead state (Some asked.key)) (MetaGet asked) answer new (λ _. refl)
+    (along (without_dead state (Some asked.key)) (absent_meta_get (without_dead state (Some asked.key)) asked.key asked.vivify) (meta_get_step (without_dead state (Some asked.key)) asked.key asked.touch asked.vivify asked.recache (get (without_dead state (Some asked.key)).items asked.key)) answer new
+    (absent_as held state asked.key (λ s o. meta_get_step s asked.key asked.touch asked.vivify asked.recache o) (λ s. absent_meta_get s asked.key asked.vivify) h none (λ s. refl)) closes)
 
 -- an item that mg makes, before it has a unique
 abbrev pub empty_item : Expiry → ℕ → Item
 empty_item expiry unique = record { value = []; flags = 0; expiry = expiry; unique = unique; last_access = 0; fetched = false; stale = false; sent = true }
 
-pub recached_is : (held : Held) (state : State) (key : List ℕ) (exptime : ℤ) → Keeps held state →
-    numbered (met state (Some key)) (λ unique given. (MetaHit (made_hit (empty_item (expiry_of exptime held.time) unique) held.time), first given key (empty_item (expiry_of exptime held.time) unique))) ≡ absent_meta_get (met state (Some key)) key (Some exptime)
-recached_is held state key exptime h =
-    let time : (met state (Some key)).time ≡ held.time = met_time state key ∙ h.time in
-    subst (λ t. numbered (met state (Some key)) (λ unique given. (MetaHit (made_hit (empty_item (expiry_of exptime t) unique) t), first given key (empty_item (expiry_of exptime t) unique))) ≡ absent_meta_get (met state (Some key)) key (Some exptime)) time refl
+pub vivified_is : (held : Held) (state : State) (key : List ℕ) (exptime : ℤ) → Keeps held state →
+    numbered (without_dead state (Some key)) None (λ unique given. (MetaHit (made_hit (empty_item (expiry_of exptime held.time) unique) held.time), entered given key (empty_item (expiry_of exptime held.time) unique))) ≡ absent_meta_get (without_dead state (Some key)) key (Some exptime)
+vivified_is held state key exptime h =
+    let time : (without_dead state (Some key)).time ≡ held.time = met_time state key ∙ h.time in
+    subst (λ t. numbered (without_dead state (Some key)) None (λ unique given. (MetaHit (made_hit (empty_item (expiry_of exptime t) unique) t), entered given key (empty_item (expiry_of exptime t) unique))) ≡ absent_meta_get (without_dead state (Some key)) key (Some exptime)) time refl
 
-pub recached_as : (held : Held) (state : State) (key : List ℕ) (exptime : ℤ) (item : Item) (answer : Answer) (new : Held) → Keeps held state → item ≡ empty_item (expiry_of exptime held.time) 0 →
-    Closes (met state (Some key)) (numbered (met state (Some key)) (λ unique given. (MetaHit (made_hit (record item { unique = unique }) held.time), first given key (record item { unique = unique })))) answer new → Closes (met state (Some key)) (absent_meta_get (met state (Some key)) key (Some exptime)) answer new
-recached_as held state key exptime item answer new h is closes =
-    along (met state (Some key)) (numbered (met state (Some key)) (λ unique given. (MetaHit (made_hit (empty_item (expiry_of exptime held.time) unique) held.time), first given key (empty_item (expiry_of exptime held.time) unique)))) (absent_meta_get (met state (Some key)) key (Some exptime)) answer new
-    (recached_is held state key exptime h)
-    (subst (λ i. Closes (met state (Some key)) (numbered (met state (Some key)) (λ unique given. (MetaHit (made_hit (record i { unique = unique }) held.time), first given key (record i { unique = unique })))) answer new) is closes)
+pub vivified_item_as : (held : Held) (state : State) (key : List ℕ) (exptime : ℤ) (item : Item) (answer : Answer) (new : Held) → Keeps held state → item ≡ empty_item (expiry_of exptime held.time) 0 →
+    Closes (without_dead state (Some key)) (numbered (without_dead state (Some key)) None (λ unique given. (MetaHit (made_hit (record item { unique = unique }) held.time), entered given key (record item { unique = unique })))) answer new → Closes (without_dead state (Some key)) (absent_meta_get (without_dead state (Some key)) key (Some exptime)) answer new
+vivified_item_as held state key exptime item answer new h is closes =
+    along (without_dead state (Some key)) (numbered (without_dead state (Some key)) None (λ unique given. (MetaHit (made_hit (empty_item (expiry_of exptime held.time) unique) held.time), entered given key (empty_item (expiry_of exptime held.time) unique)))) (absent_meta_get (without_dead state (Some key)) key (Some exptime)) answer new
+    (vivified_is held state key exptime h)
+    (subst (λ i. Closes (without_dead state (Some key)) (numbered (without_dead state (Some key)) None (λ unique given. (MetaHit (made_hit (record i { unique = unique }) held.time), entered given key (record i { unique = unique })))) answer new) is closes)
 
 -- the same, where the exptime is given as an option
 pub vivified_as : (settled : State) (key : List ℕ) (vivify : Option ℤ) (exptime : ℤ) (answer : Answer) (new : Held) → vivify ≡ Some exptime → Closes settled (absent_meta_get settled key (Some exptime)) answer new → Closes settled (absent_meta_get settled key vivify) answer new

@@ -1,5 +1,5 @@
 -- A list in the order of use shows a map of numbered items, through each change of both.
-use Rattle.std.proofs.Common.{◌≡◌, ℕ, ◌+◌, ◌-◌, ◌<◌, Bool, true, false, cond, List, [], ◌∷◌, length, take, Option, Some, None, refl, sym, ap, ◌∙◌, inl, inr, arith, nat_eq}
+use Rattle.std.proofs.Common.{◌≡◌, ℕ, ◌+◌, ◌-◌, ◌<◌, Bool, true, false, cond, List, [], ◌∷◌, length, Option, Some, None, refl, sym, ap, ◌∙◌, inl, inr, arith, nat_eq}
 use Rattle.std.specs.Ordering.{nat_cmp, eq_by_cmp, is_eq}
 use Rattle.std.specs.declared.cmp.Ordering.{Ordering}
 use Rattle.std.specs.declared.cmp.Ordering.TheVariants.{Less, Equal, Greater}
@@ -156,55 +156,3 @@ len-Shows (e ∷ es) m h =
     let fewer : len (remove m e.0) ≡ len m - 1 = rw found at removed in
     let some : 0 < len m = not_empty m e.0 (used e.1 h.0) h.1 in
     omega arith
-
--- every other item of the map has a greater number than that under the key
-pub record IsLeast (m : Items) (key : List ℕ) : Type 0 where
-  pub used : Used
-  pub found : get m key ≡ Some used
-  pub others : (other : List ℕ) (u : Used) → get m other ≡ Some u → same other key ≡ false → used.number < u.number
-
--- what is left when the least recently used item goes
-pub record Evicts (e : List ℕ × Item) (es : List (List ℕ × Item)) (m : Items) : Type 0 where
-  pub victim : List ℕ
-  pub least : IsLeast m victim
-  pub rest : Shows (take (length es) (e ∷ es)) (remove m victim)
-
--- the number at the front of the list is that which the list tells
-number_is : (m : Items) (k q : List ℕ) (item : Item) (n : ℕ) (u : Used) → get m k ≡ Some (used item n) → same q k ≡ true → get m q ≡ Some u → u.number ≡ n
-number_is m k q item n u is t g =
-    let g' = rw (same_is q k t, is) at g in
-    let both : used item n ≡ u = cc in
-    sym (ap (λ v. v.number) both)
-
-pub evict : (e : List ℕ × Item) (es : List (List ℕ × Item)) (m : Items) → Shows (e ∷ es) m → Evicts e es m
-evict e [] m h = record {
-  victim = e.0;
-  least = record {
-    used = used e.1 h.0;
-    found = h.1;
-    others = λ q u g apart. let none = get_apart m e.0 q apart in let none' = rw (h.3, get_nothing q, g) at none in absurd cc;
-  };
-  rest = h.3;
-}
-evict e (f ∷ es) m h =
-    let inner = evict f es (remove m e.0) h.3 in
-    let kept = get_kept m e.0 inner.victim inner.least.used inner.least.found in
-    let below = h.2 inner.victim inner.least.used inner.least.found in
-    let swapped = remove-remove m e.0 inner.victim in
-    record {
-      victim = inner.victim;
-      least = record {
-        used = inner.least.used;
-        found = kept.1;
-        others = λ q u g apart. elim (cases_Bool (same q e.0)) [
-          | inl t ↦ let n = number_is m e.0 q e.1 h.0 u h.1 t g in omega arith
-          | inr f ↦ inner.least.others q u (get_apart m e.0 q f ∙ g) apart
-        ];
-      };
-      rest = (
-        h.0,
-        get_apart m inner.victim e.0 (not_same inner.victim e.0 kept.0) ∙ h.1,
-        rw (← swapped) (AllBelow-remove (remove m e.0) inner.victim h.0 h.2),
-        rw (← swapped) inner.rest,
-      );
-    }

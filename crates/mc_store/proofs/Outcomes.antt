@@ -11,8 +11,8 @@ use Rattle.mc_item.specs.declared.answer.Answer.{Answer}
 use Rattle.mc_item.specs.declared.answer.Answer.TheVariants.{NoMemory}
 use Rattle.mc_item.specs.Expiry.{is_dead}
 use Rattle.mc_item.specs.Kind.{kind_of, is_lawful}
-use Rattle.mc_store.specs.Found.{live}
-use Rattle.mc_store.specs.State.{Used, State, with_items, met, first}
+use Rattle.mc_store.specs.internal.Found.{live}
+use Rattle.mc_store.specs.State.{Used, State, with_items, without_dead, first}
 use Rattle.mc_store.specs.Step.{Outcome, Answers, step_of}
 use Rattle.mc_store.specs.Shard.{Held, Keeps}
 use Rattle.mc_store.proofs.Shards.{with_entries, at_now, meets, misses, take_out, use_first}
@@ -36,51 +36,51 @@ abbrev pub here : Stepping → State → List ℕ → Outcome
 here step settled key = step settled (get settled.items key)
 
 -- a fact of the item that a look-up found and of the settled state, from the same of the state
-pub at_live : (held : Held) (state : State) (key : List ℕ) (item : Item) → Keeps held state → Some item ≡ live held.time (lookup (pointwise nat_eq key) held.entries) → (P : Item → ℕ → State → Type 0) → ((u : Used) → get state.items key ≡ Some u → P u.item state.time state) → P item held.time (met state (Some key))
+pub at_live : (held : Held) (state : State) (key : List ℕ) (item : Item) → Keeps held state → Some item ≡ live held.time (lookup (pointwise nat_eq key) held.entries) → (P : Item → ℕ → State → Type 0) → ((u : Used) → get state.items key ≡ Some u → P u.item state.time state) → P item held.time (without_dead state (Some key))
 at_live held state key item h is P found =
     let meet = meets held state key item h is in
     subst (λ s. P item held.time s) (sym meet.settled) (subst (λ t. P item t state) h.time (subst (λ i. P i state.time state) meet.item_is (found meet.used meet.found)))
 
 -- nothing is there, and the dead item that was there was taken out
 pub misses_as : (held : Held) (state : State) (key : List ℕ) (step : Stepping) (answer : Answer) → Keeps held state → None ≡ live held.time (lookup (pointwise nat_eq key) held.entries) → ((s : State) → (answer, s) ≡ step s None) →
-    Closes (met state (Some key)) (here step (met state (Some key)) key) answer (with_entries held (remove_entry (pointwise nat_eq key) held.entries))
+    Closes (without_dead state (Some key)) (here step (without_dead state (Some key)) key) answer (with_entries held (remove_entry (pointwise nat_eq key) held.entries))
 misses_as held state key step answer h none is =
     let miss = misses held state key h none in
-    (met state (Some key), inr (is (met state (Some key)) ∙ sym (ap (λ o. step (met state (Some key)) o) miss.gone)), rw miss.settled (take_out held state key h))
+    (without_dead state (Some key), inr (is (without_dead state (Some key)) ∙ sym (ap (λ o. step (without_dead state (Some key)) o) miss.gone)), rw miss.settled (take_out held state key h))
 
 -- nothing is there, and what follows is an outcome of its own
 pub absent_as : (held : Held) (state : State) (key : List ℕ) (step : Stepping) (outcome : State → Outcome) → Keeps held state → None ≡ live held.time (lookup (pointwise nat_eq key) held.entries) → ((s : State) → outcome s ≡ step s None) →
-    outcome (met state (Some key)) ≡ here step (met state (Some key)) key
+    outcome (without_dead state (Some key)) ≡ here step (without_dead state (Some key)) key
 absent_as held state key step outcome h none is =
-    is (met state (Some key)) ∙ sym (ap (λ o. step (met state (Some key)) o) (misses held state key h none).gone)
+    is (without_dead state (Some key)) ∙ sym (ap (λ o. step (without_dead state (Some key)) o) (misses held state key h none).gone)
 
 -- an item is there, and what follows is an outcome of its own
 pub present_as : (held : Held) (state : State) (key : List ℕ) (item : Item) (step : Stepping) (outcome : Item → ℕ → State → Outcome) → Keeps held state → Some item ≡ live held.time (lookup (pointwise nat_eq key) held.entries) → ((s : State) (u : Used) → u.item ≡ item → outcome u.item s.time s ≡ step s (Some u)) →
-    outcome item held.time (met state (Some key)) ≡ here step (met state (Some key)) key
+    outcome item held.time (without_dead state (Some key)) ≡ here step (without_dead state (Some key)) key
 present_as held state key item step outcome h is same =
     at_live held state key item h is (λ i time settled. i ≡ item → outcome i time settled ≡ here step settled key)
     (λ u found i. same state u i ∙ sym (ap (λ o. step state o) found)) refl
 
 -- an item is there and nothing changes
 pub unchanged_as : (held : Held) (state : State) (key : List ℕ) (item : Item) (step : Stepping) (answer : Answer) → Keeps held state → Some item ≡ live held.time (lookup (pointwise nat_eq key) held.entries) → ((s : State) (u : Used) → u.item ≡ item → (answer, s) ≡ step s (Some u)) →
-    Closes (met state (Some key)) (here step (met state (Some key)) key) answer held
+    Closes (without_dead state (Some key)) (here step (without_dead state (Some key)) key) answer held
 unchanged_as held state key item step answer h is same =
-    (met state (Some key), inr (present_as held state key item step (λ _ _ s. (answer, s)) h is same), settled_live held state key item h is)
+    (without_dead state (Some key), inr (present_as held state key item step (λ _ _ s. (answer, s)) h is same), settled_live held state key item h is)
 
 -- an item is there, and memory is wanting
-pub lacks_as : (held : Held) (state : State) (key : List ℕ) (item : Item) (outcome : Outcome) → Keeps held state → Some item ≡ live held.time (lookup (pointwise nat_eq key) held.entries) → Closes (met state (Some key)) outcome NoMemory held
-lacks_as held state key item outcome h is = (met state (Some key), inl (refl, refl), settled_live held state key item h is)
+pub lacks_as : (held : Held) (state : State) (key : List ℕ) (item : Item) (outcome : Outcome) → Keeps held state → Some item ≡ live held.time (lookup (pointwise nat_eq key) held.entries) → Closes (without_dead state (Some key)) outcome NoMemory held
+lacks_as held state key item outcome h is = (without_dead state (Some key), inl (refl, refl), settled_live held state key item h is)
 
 -- an item is there and becomes the first
-pub uses_as : (held : Held) (state : State) (key : List ℕ) (item : Item) (step : Stepping) (answer : Item → ℕ → Answer) (new : Item → ℕ → Item) → Keeps held state → Some item ≡ live held.time (lookup (pointwise nat_eq key) held.entries) → ((s : State) (u : Used) → u.item ≡ item → (answer u.item s.time, first s key (new u.item s.time)) ≡ step s (Some u)) →
-    Closes (met state (Some key)) (here step (met state (Some key)) key) (answer item held.time) (with_entries held (set_value (pointwise nat_eq key) (promoted (pointwise nat_eq key) held.entries) (at_now (new item held.time) held.time)))
-uses_as held state key item step answer new h is same =
+pub uses_as : (held : Held) (state : State) (key : List ℕ) (item : Item) (step : Stepping) (answer : Item → ℕ → Answer) (new : Item → ℕ → Item) → ((i : Item) (time : ℕ) → (new i time).value ≡ i.value) → Keeps held state → Some item ≡ live held.time (lookup (pointwise nat_eq key) held.entries) → ((s : State) (u : Used) → u.item ≡ item → (answer u.item s.time, first s key (new u.item s.time)) ≡ step s (Some u)) →
+    Closes (without_dead state (Some key)) (here step (without_dead state (Some key)) key) (answer item held.time) (with_entries held (set_value (pointwise nat_eq key) (promoted (pointwise nat_eq key) held.entries) (at_now (new item held.time) held.time)))
+uses_as held state key item step answer new value h is same =
     at_live held state key item h is (λ i time settled. i ≡ item → Closes settled (here step settled key) (answer i time) (with_entries held (set_value (pointwise nat_eq key) (promoted (pointwise nat_eq key) held.entries) (at_now (new i time) time))))
-    (λ u found i. (first state key (new u.item state.time), inr (same state u i ∙ sym (ap (λ o. step state o) found)), use_first held state key u (new u.item state.time) h found)) refl
+    (λ u found i. (first state key (new u.item state.time), inr (same state u i ∙ sym (ap (λ o. step state o) found)), use_first held state key u (new u.item state.time) h found (value u.item state.time))) refl
 
 -- an item is there and goes
 pub goes_as : (held : Held) (state : State) (key : List ℕ) (item : Item) (step : Stepping) (answer : Answer) → Keeps held state → Some item ≡ live held.time (lookup (pointwise nat_eq key) held.entries) → ((s : State) (u : Used) → u.item ≡ item → (answer, with_items s (remove s.items key)) ≡ step s (Some u)) →
-    Closes (met state (Some key)) (here step (met state (Some key)) key) answer (with_entries held (remove_entry (pointwise nat_eq key) held.entries))
+    Closes (without_dead state (Some key)) (here step (without_dead state (Some key)) key) answer (with_entries held (remove_entry (pointwise nat_eq key) held.entries))
 goes_as held state key item step answer h is same =
     at_live held state key item h is (λ i _ settled. i ≡ item → Closes settled (here step settled key) answer (with_entries held (remove_entry (pointwise nat_eq key) held.entries)))
     (λ u found i. (with_items state (remove state.items key), inr (same state u i ∙ sym (ap (λ o. step state o) found)), take_out held state key h)) refl

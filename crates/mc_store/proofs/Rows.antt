@@ -11,12 +11,12 @@ use Rattle.mc_item.specs.declared.answer.Answer.TheVariants.{Stored, Exists, Not
 use Rattle.mc_item.specs.declared.answer.MetaDone as done
 use Rattle.mc_item.specs.Expiry.{expiry_of, is_dead, seconds_left}
 use Rattle.mc_store.specs.State.{Used, Items, State, is_dead_at, next_unique}
-use Rattle.mc_store.specs.Rows.{joined_item, stale_item, marks_of, hit_of, recached_item, made_hit}
+use Rattle.mc_store.specs.Rows.{joined_item, stale_item, marks_of, hit_of, vivified_item, made_hit}
 use Rattle.mc_store.specs.Step.{Outcome, storing, mode_of, compare_of, store_step, numbered, counted, coming}
 
 -- the first of two shards that has given so many uniques
 abbrev at : Items → ℕ → State
-at items given = record { items = items; uses = 7; time = 1000; flush = None; given = given; index = 0; shards = 2; capacity = 2 }
+at items given = record { items = items; uses = 7; time = 1000; flush = None; given = given; index = 0; shards = 2; budget = 1024; limit = 1048576 }
 
 -- an item with the value x
 abbrev item : ℕ → Item
@@ -29,17 +29,17 @@ abbrev plain : done.MetaDone → Answer
 plain _ = Stored
 
 -- compare and swap: the unique 1 is there, then 3
-swapped : (m : Items) → (store_step (at m 1) (codes "a") (storing (mode_of (mode.Cas 1)) (compare_of (mode.Cas 1)) 0 (pos 0) (codes "y")) plain (Some (used (item 1)))).0 ≡ Stored
+swapped : (m : Items) → (store_step (at m 1) (codes "a") (storing (mode_of (mode.Cas 1)) (compare_of (mode.Cas 1)) None 0 (pos 0) (codes "y")) plain (Some (used (item 1)))).0 ≡ Stored
 swapped m = refl
 
-swapped_too_late : (m : Items) → (store_step (at m 2) (codes "a") (storing (mode_of (mode.Cas 1)) (compare_of (mode.Cas 1)) 0 (pos 0) (codes "z")) plain (Some (used (item 3)))) ≡ (Exists, at m 2)
+swapped_too_late : (m : Items) → (store_step (at m 2) (codes "a") (storing (mode_of (mode.Cas 1)) (compare_of (mode.Cas 1)) None 0 (pos 0) (codes "z")) plain (Some (used (item 3)))) ≡ (Exists, at m 2)
 swapped_too_late m = refl
 
-nothing_to_swap : (m : Items) → (store_step (at m 2) (codes "c") (storing (mode_of (mode.Cas 1)) (compare_of (mode.Cas 1)) 0 (pos 0) (codes "z")) plain None) ≡ (NotFound, at m 2)
+nothing_to_swap : (m : Items) → (store_step (at m 2) (codes "c") (storing (mode_of (mode.Cas 1)) (compare_of (mode.Cas 1)) None 0 (pos 0) (codes "z")) plain None) ≡ (NotFound, at m 2)
 nothing_to_swap m = refl
 
 -- a stored item has the next unique, which counts as given
-second_unique : (m : Items) → (store_step (at m 1) (codes "a") (storing Replace None 0 (pos 0) (codes "y")) (λ done. MetaDone done) (Some (used (item 1)))).0 ≡ MetaDone (record { unique = 3; size = 1; left = None; number = 0 })
+second_unique : (m : Items) → (store_step (at m 1) (codes "a") (storing Replace None None 0 (pos 0) (codes "y")) (λ done. MetaDone done) (Some (used (item 1)))).0 ≡ MetaDone (record { unique = 3; size = 1; left = None; number = 0 })
 unfolding seconds_left expiry_of
 second_unique m = refl
 
@@ -51,7 +51,7 @@ appended = refl
 last_unique : (m : Items) → next_unique (at m 9223372036854775807) ≡ 18446744073709551615
 last_unique m = refl
 
-none_after_the_last : (m : Items) (f : ℕ → State → Outcome) → numbered (at m 9223372036854775808) f ≡ (NoCas, at m 9223372036854775808)
+none_after_the_last : (m : Items) (f : ℕ → State → Outcome) → numbered (at m 9223372036854775808) None f ≡ (NoCas, at m 9223372036854775808)
 none_after_the_last m f = refl
 
 -- arithmetic
@@ -112,11 +112,11 @@ unfolding seconds_left expiry_of
 seen = refl
 
 -- an item that mg made is sent, which its maker isn't told
-made : made_hit (recached_item (pos 30) 1000 1) 1000 ≡ record { value = []; flags = 0; unique = 1; fetched = false; idle = 0; left = Some 30; marks = record { won = true; stale = false; sent = false } }
+made : made_hit (vivified_item (pos 30) 1000 1) 1000 ≡ record { value = []; flags = 0; unique = 1; fetched = false; idle = 0; left = Some 30; marks = record { won = true; stale = false; sent = false } }
 unfolding seconds_left expiry_of
 made = refl
 
-made_is_sent : (recached_item (pos 30) 1000 1).sent ≡ true
+made_is_sent : (vivified_item (pos 30) 1000 1).sent ≡ true
 made_is_sent = refl
 
 -- a second md with I takes the mark away again

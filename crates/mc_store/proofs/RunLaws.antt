@@ -4,9 +4,9 @@ use Rattle.std.specs.Prelude.{◌==◌, ◌&&◌, not, All, slice_index_or}
 use Rattle.std.specs.List.{AllZip, AllByRecursion}
 use Rattle.std.specs.List.Sorted.{IsStrictlyIncreasing}
 use Rattle.std.specs.Cmp.Lexicographic.{texts_ties}
-use Rattle.std.specs.FinMap.{get, len}
+use Rattle.std.specs.FinMap.{get}
 use Rattle.std.proofs.lemmas.Bool.Decides.{nat_tests}
-use Rattle.std.proofs.lemmas.List.Elements.{All-nil, All-cons, All-head, All-tail, All-contains, All-from_recursion}
+use Rattle.std.proofs.lemmas.List.Elements.{All-head, All-tail, All-contains, All-from_recursion}
 use Rattle.std.proofs.lemmas.List.Sorted.{IsNonDecreasingBy-from_all_adjacent}
 use Rattle.mc_item.specs.declared.item.Item.{Item}
 use Rattle.mc_item.specs.declared.op.Op.{Op}
@@ -14,15 +14,13 @@ use Rattle.mc_item.specs.declared.answer.Answer.{Answer}
 use Rattle.mc_item.specs.declared.answer.Answer.TheVariants.{MetaHit}
 use Rattle.mc_item.specs.declared.answer.MetaHit as hit
 use Rattle.mc_item.specs.Kind.{kind_of, key_of, is_lawful}
-use Rattle.mc_store.specs.declared.shard.Shard.{Shard}
 use Rattle.mc_store.specs.State.{Used, Items, State, settle, next_unique}
 use Rattle.mc_store.specs.Step.{IsStep}
-use Rattle.mc_store.specs.Shard.{IsShard, held_of}
-use Rattle.mc_store.specs.Laws.{StaysUnless, IsKept, is_sent}
+use Rattle.mc_store.specs.Laws.{StaysUnless, IsKept, IsNew, token_of, is_sent}
 use Rattle.mc_store.specs.Runs.{Asked, Runs, last_of, uniques_of, times_of}
 use Rattle.mc_store.specs.RunLaws.{RunsAreOrderly, RunsShareNoUnique, RunsLeaveOthers, IsGiven, NewIsGiven, SameUniqueSameItem, one_if, is_telling, is_asked, told, cleared, ToldAlone}
 use Rattle.mc_store.proofs.Lists.{same_is, get_nothing}
-use Rattle.mc_store.proofs.StepLaws.{Shown, SamePlace, same_place, shown_after, answers_are_lawful, others_stay, uniques_rise, uniques_differ, uniques_tell, time_rises, winners_are_first}
+use Rattle.mc_store.proofs.StepLaws.{SamePlace, same_place, answers_are_lawful, others_stay, uniques_rise, uniques_differ, uniques_tell, time_rises, winners_are_first}
 
 -- Of every run: what holds of no operation, and of one more where it holds of those after it.
 of_runs : (P : State → List Asked → List Answer → List State → Type 0) → ((old : State) → P old [] [] []) → ((old : State) (ask : Asked) (rest : List Asked) (answer : Answer) (answers : List Answer) (new : State) (states : List State) → IsStep old ask.0 ask.1 answer new → P new rest answers states → P old (ask ∷ rest) (answer ∷ answers) (new ∷ states)) → (old : State) (asked : List Asked) (answers : List Answer) (states : List State) → Runs old asked answers states → P old asked answers states
@@ -115,17 +113,10 @@ runs_share_no_unique one other asked more answers replies states after run secon
     let second_is = All-contains (IsOf other.index other.shards) (uniques_of other after) unique (All-from_recursion (IsOf other.index other.shards) (uniques_of other after) (uniques_of_place other more replies after second)) here in
     differ (uniques_differ (record one { given = first_is.0 }) (record other { given = second_is.0 }) shards place other_place (sym first_is.1 ∙ second_is.1)).0
 
--- Room
+-- Budget
 
-fits_in : (state : State) → Shown state → len state.items ≤ state.capacity
-fits_in state h = h.1.fits
-
-room_runs : (old : State) (asked : List Asked) (answers : List Answer) (states : List State) → Runs old asked answers states → Shown old → All (λ (state : State). len state.items ≤ old.capacity) states
-room_runs = of_runs (λ old asked answers states. Shown old → All (λ (state : State). len state.items ≤ old.capacity) states) (λ old h. All-nil (λ (state : State). len state.items ≤ old.capacity)) (λ old ask rest answer answers new states step after h.
-    let room = (same_place old new ask.0 ask.1 answer step).capacity in
-    let now = shown_after old new ask.0 ask.1 answer step h in
-    let fits = fits_in new now in
-    All-cons (λ (state : State). len state.items ≤ old.capacity) new states (omega arith) (subst (λ n. All (λ (state : State). len state.items ≤ n) states) room (after now)))
+pub same_budget : (old : State) (asked : List Asked) (answers : List Answer) (states : List State) → Runs old asked answers states → (last_of old states).budget ≡ old.budget
+same_budget = of_runs (λ old asked answers states. (last_of old states).budget ≡ old.budget) (λ old. refl) (λ old ask rest answer answers new states step after. after ∙ (same_place old new ask.0 ask.1 answer step).budget)
 
 -- Time
 
@@ -141,24 +132,14 @@ adjacent low (x ∷ xs) h (suc k) d less = let after : k + 1 < length (x ∷ xs)
 times_runs : (old : State) (asked : List Asked) (answers : List Answer) (states : List State) → Runs old asked answers states → NoneBelow old.time (times_of states)
 times_runs = of_runs (λ old asked answers states. NoneBelow old.time (times_of states)) (λ old. tt) (λ old ask rest answer answers new states step after. (let time = time_rises old new ask.0 ask.1 answer step in omega arith, after))
 
--- All of a run from what a shard shows
-
-shown_by : (shard : Shard) (old : State) → IsShard shard old → Shown old
-unfolding IsShard
-shown_by shard old h = (held_of shard, h)
-
-some_shards : (old : State) → Shown old → 0 < old.shards
-some_shards old h = let place = h.1.place in omega arith
+-- All of a run
 
 pub runs_are_orderly : RunsAreOrderly
-runs_are_orderly shard old asked answers states is run =
-    let shown = shown_by shard old is in
-    record {
-      lawful = lawful_runs old asked answers states run;
-      uniques = rises (next_unique old) (uniques_of old states) (uniques_rise_in old asked answers states run (some_shards old shown));
-      room = room_runs old asked answers states run shown;
-      time = IsNonDecreasingBy-from_all_adjacent (λ n. n) (old.time ∷ times_of states) (adjacent old.time (times_of states) (times_runs old asked answers states run));
-    }
+runs_are_orderly old asked answers states some run = record {
+  lawful = lawful_runs old asked answers states run;
+  uniques = rises (next_unique old) (uniques_of old states) (uniques_rise_in old asked answers states run some);
+  time = IsNonDecreasingBy-from_all_adjacent (λ n. n) (old.time ∷ times_of states) (adjacent old.time (times_of states) (times_runs old asked answers states run));
+}
 
 -- Other items
 
@@ -178,7 +159,10 @@ runs_leave_others = of_runs (λ old asked answers states. (key : List ℕ) → A
 -- What cas rests on
 
 pub new_is_given : NewIsGiven
-new_is_given index shards capacity given key used is = absurd (let h' = rw (get_nothing key) at is in cc)
+new_is_given index shards budget given limit key used is = absurd (let h' = rw (get_nothing key) at is in cc)
+
+abbrev HasNoToken : Asked → Type 0
+HasNoToken ask = token_of ask.0 ≡ None
 
 -- what a run keeps of the items, and those that it changed
 record Traces (old new : State) : Type 0 where
@@ -187,6 +171,17 @@ record Traces (old new : State) : Type 0 where
 
 not_less : (old new : State) → Gives old new → next_unique old ≤ next_unique new
 not_less old new gives = elim gives.cases [ inl e ↦ (let next = e.1 in omega arith) | inr e ↦ (let next = e.1 in omega arith) ]
+
+-- where the client gives no unique
+plainly : (old new : State) (token : Option ℕ) (item : Item) → token ≡ None → IsNew old new token item → (item.unique ≡ next_unique old) × (new.given ≡ old.given + 1)
+plainly old new token item none (inl fresh) = fresh
+plainly old new token item none (inr is) = absurd (let both : ◌≡◌ {A = Option ℕ} None (Some item.unique) = sym none ∙ is in cc)
+
+tells_plainly : (old new : State) (ask : Asked) (answer : Answer) → IsStep old ask.0 ask.1 answer new → token_of ask.0 ≡ None → (key : List ℕ) (used : Used) → get new.items key ≡ Some used → IsKept old.items key used.item ⊎ ((used.item.unique ≡ next_unique old) × (new.given ≡ old.given + 1))
+tells_plainly old new ask answer step none key used is = elim (uniques_tell old new ask.0 ask.1 answer step key used is) [
+  | inl kept ↦ inl kept
+  | inr fresh ↦ inr (plainly old new (token_of ask.0) used.item none fresh)
+]
 
 given_by : (old new : State) (key : List ℕ) (used : Used) → Gives old new → 0 < old.shards → IsGiven old → IsKept old.items key used.item ⊎ ((used.item.unique ≡ next_unique old) × (new.given ≡ old.given + 1)) → used.item.unique < next_unique new
 given_by old new key used gives some given (inl kept) =
@@ -210,14 +205,15 @@ traced_by old mid key item gives tells (inl kept) =
       | inr fresh ↦ inr (let is = fresh.0 in omega arith)
     ]
 
-traces : (old : State) (asked : List Asked) (answers : List Answer) (states : List State) → Runs old asked answers states → 0 < old.shards → IsGiven old → Traces old (last_of old states)
-traces = of_runs (λ old asked answers states. 0 < old.shards → IsGiven old → Traces old (last_of old states)) (λ old some given. record { given = given; traced = λ key used is. inl (used, is, record { unique = refl; value = refl; flags = refl }) }) (λ old ask rest answer answers new states step after some given.
+traces : (old : State) (asked : List Asked) (answers : List Answer) (states : List State) → Runs old asked answers states → 0 < old.shards → IsGiven old → All HasNoToken asked → Traces old (last_of old states)
+traces = of_runs (λ old asked answers states. 0 < old.shards → IsGiven old → All HasNoToken asked → Traces old (last_of old states)) (λ old some given _. record { given = given; traced = λ key used is. inl (used, is, record { unique = refl; value = refl; flags = refl }) }) (λ old ask rest answer answers new states step after some given plain.
     let gives = gives_of old new ask.0 ask.1 answer step in
     let still : 0 < new.shards = (let same_shards = gives.place.shards in omega arith) in
-    let rest = after still (λ key used is. given_by old new key used gives some given (uniques_tell old new ask.0 ask.1 answer step key used is)) in
+    let none = All-head HasNoToken ask rest plain in
+    let rest = after still (λ key used is. given_by old new key used gives some given (tells_plainly old new ask answer step none key used is)) (All-tail HasNoToken ask rest plain) in
     record {
       given = rest.given;
-      traced = λ key used is. traced_by old new key used.item gives (λ mid there. uniques_tell old new ask.0 ask.1 answer step key mid there) (rest.traced key used is);
+      traced = λ key used is. traced_by old new key used.item gives (λ mid there. tells_plainly old new ask answer step none key mid there) (rest.traced key used is);
     })
 
 tell_apart : (old : State) (key : List ℕ) (before after : Used) → IsGiven old → get old.items key ≡ Some before → after.item.unique ≡ before.item.unique → IsKept old.items key after.item ⊎ (next_unique old ≤ after.item.unique) → (after.item.value ≡ before.item.value) × (after.item.flags ≡ before.item.flags)
@@ -228,8 +224,8 @@ tell_apart old key before after given is same_unique (inl kept) =
 tell_apart old key before after given is same_unique (inr later) = absurd (let below = given key before is in omega arith)
 
 pub same_unique_same_item : SameUniqueSameItem
-same_unique_same_item old asked answers states run some given =
-    let all = traces old asked answers states run some given in
+same_unique_same_item old asked answers states run some given plain =
+    let all = traces old asked answers states run some given plain in
     (all.given, λ key before after is there same_unique. tell_apart old key before after given is same_unique (all.traced key after there))
 
 -- Who is told to recompute

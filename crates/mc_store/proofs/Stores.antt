@@ -1,28 +1,29 @@
 -- The outcomes of storing: which row of the table a look-up leads to.
-use Rattle.std.proofs.Common.{◌≡◌, ℕ, ◌+◌, ℤ, ◌<◌, ◌⊎◌, Bool, true, false, List, length, Option, Some, None, is_some, refl, ◌∙◌, inl, inr, arith, nat_eq, subst, length-append}
+use Rattle.std.proofs.Common.{◌≡◌, ℕ, ◌+◌, ℤ, ◌⊎◌, Bool, true, false, List, length, Option, Some, None, is_some, refl, sym, ◌∙◌, inl, inr, arith, nat_eq, subst, length-append}
 use Rattle.std.specs.Cmp.Lexicographic.{pointwise}
+use Rattle.std.specs.Prelude.{◌||◌, nat_lt}
 use Rattle.std.specs.FinMap.{get}
 use Rattle.std.specs.Map.{lookup, set_value}
 use Rattle.lru.specs.LruCache.{promoted}
-use Rattle.mc_wire.specs.declared.TheConstants.{VALUE_LIMIT}
 use Rattle.mc_command.specs.declared.command.StoreMode.{StoreMode}
 use Rattle.mc_command.specs.declared.meta.MetaMode.{MetaMode}
 use Rattle.mc_command.specs.declared.meta.MetaMode.TheVariants.{Set, Add, Replace, Append, Prepend}
 use Rattle.mc_item.specs.declared.item.Item.{Item}
 use Rattle.mc_item.specs.declared.item.Expiry.{Expiry}
 use Rattle.mc_item.specs.declared.op.Op.TheVariants.{Store, MetaStore}
+use Rattle.mc_item.specs.declared.op.MetaStore as op
 use Rattle.mc_item.specs.declared.answer.Answer.{Answer}
 use Rattle.mc_item.specs.declared.answer.Answer.TheVariants.{Stored, NotFound, NotStored, Exists, TooLarge, MetaDone}
 use Rattle.mc_item.specs.Expiry.{expiry_of}
 use Rattle.mc_item.specs.Value.{joined}
 use Rattle.mc_item.specs.Kind.{kind_of, is_lawful}
-use Rattle.mc_store.specs.Found.{live, joining, is_unconditional}
-use Rattle.mc_store.specs.State.{Used, State, met, first}
+use Rattle.mc_store.specs.internal.Found.{live, joining, is_unconditional}
+use Rattle.mc_store.specs.State.{Used, State, without_dead, first}
 use Rattle.mc_store.specs.Step.{Outcome, Reply, Storing, is_other, writes, stores, joins, absent_store, present_store, store_step, storing, mode_of, compare_of, step_of}
 use Rattle.mc_store.specs.Shard.{Held, Keeps}
 use Rattle.mc_store.proofs.Shards.{with_entries, at_now}
 use Rattle.mc_store.proofs.Changes.{settled_live}
-use Rattle.mc_store.proofs.Writes.{Closes, along, met_time, too_large}
+use Rattle.mc_store.proofs.Writes.{Closes, along, met_time, large_there, too_large}
 use Rattle.mc_store.proofs.Outcomes.{Ends, ends, absent_as, present_as, unchanged_as, uses_as}
 
 abbrev pub fresh : List ℕ → ℕ → Expiry → ℕ → Item
@@ -32,22 +33,22 @@ fresh value flags expiry unique = record { value = value; flags = flags; expiry 
 abbrev pub fresh_of : List ℕ → ℕ → Expiry → Item
 fresh_of value flags expiry = fresh value flags expiry 0
 
-pub made_as : (settled : State) (key : List ℕ) (item made : Item) (reply : Reply) (answer : Answer) (new : Held) → item ≡ made → Closes settled (writes settled key item.value (λ unique. record item { unique = unique }) reply) answer new → Closes settled (writes settled key made.value (λ unique. record made { unique = unique }) reply) answer new
-made_as settled key item made reply answer new is closes = subst (λ i. Closes settled (writes settled key i.value (λ unique. record i { unique = unique }) reply) answer new) is closes
+pub made_as : (settled : State) (key : List ℕ) (token : Option ℕ) (item made : Item) (reply : Reply) (answer : Answer) (new : Held) → item ≡ made → Closes settled (writes settled key token item.value (λ unique. record item { unique = unique }) reply) answer new → Closes settled (writes settled key token made.value (λ unique. record made { unique = unique }) reply) answer new
+made_as settled key token item made reply answer new is closes = subst (λ i. Closes settled (writes settled key token i.value (λ unique. record i { unique = unique }) reply) answer new) is closes
 
 -- What is asked is stored, with the expiry that the shard's time gives.
 stores_is : (held : Held) (state : State) (key : List ℕ) (asked : Storing) (reply : Reply) → Keeps held state →
-    writes (met state (Some key)) key asked.value (λ unique. fresh asked.value asked.flags (expiry_of asked.exptime held.time) unique) reply ≡ stores (met state (Some key)) key asked reply
+    writes (without_dead state (Some key)) key asked.unique asked.value (λ unique. fresh asked.value asked.flags (expiry_of asked.exptime held.time) unique) reply ≡ stores (without_dead state (Some key)) key asked reply
 stores_is held state key asked reply h =
-    let time : (met state (Some key)).time ≡ held.time = met_time state key ∙ h.time in
-    subst (λ t. writes (met state (Some key)) key asked.value (λ unique. fresh asked.value asked.flags (expiry_of asked.exptime t) unique) reply ≡ stores (met state (Some key)) key asked reply) time refl
+    let time : (without_dead state (Some key)).time ≡ held.time = met_time state key ∙ h.time in
+    subst (λ t. writes (without_dead state (Some key)) key asked.unique asked.value (λ unique. fresh asked.value asked.flags (expiry_of asked.exptime t) unique) reply ≡ stores (without_dead state (Some key)) key asked reply) time refl
 
 pub stored_as : (held : Held) (state : State) (key : List ℕ) (asked : Storing) (item : Item) (reply : Reply) (answer : Answer) (new : Held) → Keeps held state → item ≡ fresh_of asked.value asked.flags (expiry_of asked.exptime held.time) →
-    Closes (met state (Some key)) (writes (met state (Some key)) key item.value (λ unique. record item { unique = unique }) reply) answer new → Closes (met state (Some key)) (stores (met state (Some key)) key asked reply) answer new
+    Closes (without_dead state (Some key)) (writes (without_dead state (Some key)) key asked.unique item.value (λ unique. record item { unique = unique }) reply) answer new → Closes (without_dead state (Some key)) (stores (without_dead state (Some key)) key asked reply) answer new
 stored_as held state key asked item reply answer new h made closes =
-    along (met state (Some key)) (writes (met state (Some key)) key asked.value (λ unique. fresh asked.value asked.flags (expiry_of asked.exptime held.time) unique) reply) (stores (met state (Some key)) key asked reply) answer new
+    along (without_dead state (Some key)) (writes (without_dead state (Some key)) key asked.unique asked.value (λ unique. fresh asked.value asked.flags (expiry_of asked.exptime held.time) unique) reply) (stores (without_dead state (Some key)) key asked reply) answer new
     (stores_is held state key asked reply h)
-    (made_as (met state (Some key)) key item (fresh_of asked.value asked.flags (expiry_of asked.exptime held.time)) reply answer new made closes)
+    (made_as (without_dead state (Some key)) key asked.unique item (fresh_of asked.value asked.flags (expiry_of asked.exptime held.time)) reply answer new made closes)
 
 -- Under an absent key
 
@@ -69,7 +70,7 @@ absent_refused settled key asked reply Prepend None h s a = refl
 absent_refused settled key asked reply mode (Some unique) h s a = absurd cc
 
 pub store_misses : (held : Held) (state : State) (key : List ℕ) (asked : Storing) (reply : Reply) → Keeps held state → None ≡ live held.time (lookup (pointwise nat_eq key) held.entries) →
-    absent_store (met state (Some key)) key asked reply asked.mode asked.compare ≡ store_step (met state (Some key)) key asked reply (get (met state (Some key)).items key)
+    absent_store (without_dead state (Some key)) key asked reply asked.mode asked.compare ≡ store_step (without_dead state (Some key)) key asked reply (get (without_dead state (Some key)).items key)
 store_misses held state key asked reply h none =
     absent_as held state key (λ s o. store_step s key asked reply o) (λ s. absent_store s key asked reply asked.mode asked.compare) h none (λ s. refl)
 
@@ -96,7 +97,7 @@ differs s key asked reply item Append a o = rw o
 differs s key asked reply item Prepend a o = rw o
 
 pub store_exists : (held : Held) (state : State) (key : List ℕ) (item : Item) (asked : Storing) (reply : Reply) → Keeps held state → Some item ≡ live held.time (lookup (pointwise nat_eq key) held.entries) →
-    ¬ (asked.mode ≡ Add) → is_other asked.compare item.unique ≡ true → Closes (met state (Some key)) (store_step (met state (Some key)) key asked reply (get (met state (Some key)).items key)) Exists held
+    ¬ (asked.mode ≡ Add) → is_other asked.compare item.unique ≡ true → Closes (without_dead state (Some key)) (store_step (without_dead state (Some key)) key asked reply (get (without_dead state (Some key)).items key)) Exists held
 store_exists held state key item asked reply h is not_add other =
     unchanged_as held state key item (λ s o. store_step s key asked reply o) Exists h is (λ s u i. differs s key asked reply u.item asked.mode not_add (rw i other))
 
@@ -109,12 +110,12 @@ replaces s key asked reply item Prepend a j o = absurd cc
 
 -- a mode that stores what is asked
 pub replaced_is : (held : Held) (state : State) (key : List ℕ) (item : Item) (asked : Storing) (reply : Reply) → Keeps held state → Some item ≡ live held.time (lookup (pointwise nat_eq key) held.entries) →
-    ¬ (asked.mode ≡ Add) → None ≡ joining asked.mode → is_other asked.compare item.unique ≡ false → stores (met state (Some key)) key asked reply ≡ store_step (met state (Some key)) key asked reply (get (met state (Some key)).items key)
+    ¬ (asked.mode ≡ Add) → None ≡ joining asked.mode → is_other asked.compare item.unique ≡ false → stores (without_dead state (Some key)) key asked reply ≡ store_step (without_dead state (Some key)) key asked reply (get (without_dead state (Some key)).items key)
 replaced_is held state key item asked reply h is not_add mode other =
     present_as held state key item (λ s o. store_step s key asked reply o) (λ _ _ s. stores s key asked reply) h is (λ s u i. replaces s key asked reply u.item asked.mode not_add mode (rw i other))
 
 -- a mode that joins
-joint : (s : State) (key : List ℕ) (asked : Storing) (reply : Reply) (item : Item) (after : Bool) (mode : MetaMode) → Some after ≡ joining mode → is_other asked.compare item.unique ≡ false → joins s key item (joined item.value asked.value after) reply ≡ present_store s key asked reply mode item
+joint : (s : State) (key : List ℕ) (asked : Storing) (reply : Reply) (item : Item) (after : Bool) (mode : MetaMode) → Some after ≡ joining mode → is_other asked.compare item.unique ≡ false → joins s key item asked (joined item.value asked.value after) reply ≡ present_store s key asked reply mode item
 joint s key asked reply item after Set j o = absurd cc
 joint s key asked reply item after Add j o = absurd cc
 joint s key asked reply item after Replace j o = absurd cc
@@ -122,55 +123,53 @@ joint s key asked reply item after Append j o = let side : after ≡ true = cc i
 joint s key asked reply item after Prepend j o = let side : after ≡ false = cc in rw (o, side)
 
 pub joined_is : (held : Held) (state : State) (key : List ℕ) (item : Item) (asked : Storing) (reply : Reply) (after : Bool) → Keeps held state → Some item ≡ live held.time (lookup (pointwise nat_eq key) held.entries) →
-    Some after ≡ joining asked.mode → is_other asked.compare item.unique ≡ false → joins (met state (Some key)) key item (joined item.value asked.value after) reply ≡ store_step (met state (Some key)) key asked reply (get (met state (Some key)).items key)
+    Some after ≡ joining asked.mode → is_other asked.compare item.unique ≡ false → joins (without_dead state (Some key)) key item asked (joined item.value asked.value after) reply ≡ store_step (without_dead state (Some key)) key asked reply (get (without_dead state (Some key)).items key)
 joined_is held state key item asked reply after h is mode other =
-    present_as held state key item (λ s o. store_step s key asked reply o) (λ i _ s. joins s key i (joined i.value asked.value after) reply) h is (λ s u i. joint s key asked reply u.item after asked.mode mode (rw i other))
+    present_as held state key item (λ s o. store_step s key asked reply o) (λ i _ s. joins s key i asked (joined i.value asked.value after) reply) h is (λ s u i. joint s key asked reply u.item after asked.mode mode (rw i other))
 
 length_joined : (value block : List ℕ) (after : Bool) → length (joined value block after) ≡ length value + length block
 length_joined value block true = length-append value block
 length_joined value block false = let both = length-append block value in omega arith
 
 pub joined_large : (held : Held) (state : State) (key : List ℕ) (item : Item) (asked : Storing) (reply : Reply) (after : Bool) → Keeps held state → Some item ≡ live held.time (lookup (pointwise nat_eq key) held.entries) →
-    Some after ≡ joining asked.mode → is_other asked.compare item.unique ≡ false → VALUE_LIMIT < length item.value + length asked.value → Closes (met state (Some key)) (store_step (met state (Some key)) key asked reply (get (met state (Some key)).items key)) TooLarge held
-joined_large held state key item asked reply after h is mode other large =
-    let settled = met state (Some key) in
+    Some after ≡ joining asked.mode → is_other asked.compare item.unique ≡ false → (size : ℕ) → size ≡ length item.value + length asked.value → (nat_lt held.limit size || nat_lt held.budget (length key + size + 64)) ≡ true → Closes (without_dead state (Some key)) (store_step (without_dead state (Some key)) key asked reply (get (without_dead state (Some key)).items key)) TooLarge held
+joined_large held state key item asked reply after h is mode other size size_is test =
+    let settled = without_dead state (Some key) in
     let value = joined item.value asked.value after in
-    let long = length_joined item.value asked.value after in
-    along settled (joins settled key item value reply) (store_step settled key asked reply (get settled.items key)) TooLarge held
+    along settled (joins settled key item asked value reply) (store_step settled key asked reply (get settled.items key)) TooLarge held
     (joined_is held state key item asked reply after h is mode other)
-    (too_large settled key value (λ unique. record item { value = value; unique = unique; fetched = false; stale = false; sent = false }) reply held (omega arith) (settled_live held state key item h is))
+    (too_large settled key asked.unique value (λ unique. record item { value = value; unique = unique; fetched = false; stale = false; sent = false }) reply held (large_there held state key value size true h (length_joined item.value asked.value after ∙ sym size_is) test) (settled_live held state key item h is))
 
 pub joined_as : (held : Held) (state : State) (key : List ℕ) (item : Item) (asked : Storing) (reply : Reply) (after : Bool) (made : Item) (answer : Answer) (new : Held) → Keeps held state → Some item ≡ live held.time (lookup (pointwise nat_eq key) held.entries) →
     Some after ≡ joining asked.mode → is_other asked.compare item.unique ≡ false → made ≡ fresh_of (joined item.value asked.value after) item.flags item.expiry →
-    Closes (met state (Some key)) (writes (met state (Some key)) key made.value (λ unique. record made { unique = unique }) reply) answer new → Closes (met state (Some key)) (store_step (met state (Some key)) key asked reply (get (met state (Some key)).items key)) answer new
+    Closes (without_dead state (Some key)) (writes (without_dead state (Some key)) key asked.unique made.value (λ unique. record made { unique = unique }) reply) answer new → Closes (without_dead state (Some key)) (store_step (without_dead state (Some key)) key asked reply (get (without_dead state (Some key)).items key)) answer new
 joined_as held state key item asked reply after made answer new h is mode other made_is closes =
-    let settled = met state (Some key) in
+    let settled = without_dead state (Some key) in
     let value = joined item.value asked.value after in
-    along settled (joins settled key item value reply) (store_step settled key asked reply (get settled.items key)) answer new
+    along settled (joins settled key item asked value reply) (store_step settled key asked reply (get settled.items key)) answer new
     (joined_is held state key item asked reply after h is mode other)
-    (made_as settled key made (fresh_of value item.flags item.expiry) reply answer new made_is closes)
+    (made_as settled key asked.unique made (fresh_of value item.flags item.expiry) reply answer new made_is closes)
 
 -- an add of a key that is there makes the item the first
 adds : (s : State) (key : List ℕ) (asked : Storing) (reply : Reply) (u : Used) (mode : MetaMode) → mode ≡ Add → ◌≡◌ {A = Outcome} (NotStored, first s key u.item) (present_store s key asked reply mode u.item)
 adds s key asked reply u mode is = rw is
 
 pub add_refused : (held : Held) (state : State) (key : List ℕ) (item : Item) (asked : Storing) (reply : Reply) → Keeps held state → Some item ≡ live held.time (lookup (pointwise nat_eq key) held.entries) → asked.mode ≡ Add →
-    Closes (met state (Some key)) (store_step (met state (Some key)) key asked reply (get (met state (Some key)).items key)) NotStored (with_entries held (set_value (pointwise nat_eq key) (promoted (pointwise nat_eq key) held.entries) (at_now item held.time)))
+    Closes (without_dead state (Some key)) (store_step (without_dead state (Some key)) key asked reply (get (without_dead state (Some key)).items key)) NotStored (with_entries held (set_value (pointwise nat_eq key) (promoted (pointwise nat_eq key) held.entries) (at_now item held.time)))
 add_refused held state key item asked reply h is mode =
-    uses_as held state key item (λ s o. store_step s key asked reply o) (λ _ _. NotStored) (λ i _. i) h is (λ s u _. adds s key asked reply u asked.mode mode)
+    uses_as held state key item (λ s o. store_step s key asked reply o) (λ _ _. NotStored) (λ i _. i) (λ _ _. refl) h is (λ s u _. adds s key asked reply u asked.mode mode)
 
 -- From the outcome to the answer of the operation
 
 pub classic_store : (settled : State) (key : List ℕ) (mode : StoreMode) (flags : ℕ) (exptime : ℤ) (value : List ℕ) (meta_mode : MetaMode) (compare : Option ℕ) (answer : Answer) (new : Held) → meta_mode ≡ mode_of mode → compare ≡ compare_of mode →
-    Closes settled (store_step settled key (storing meta_mode compare flags exptime value) (λ _. Stored) (get settled.items key)) answer new → Ends settled (Store key mode flags exptime value) answer new
+    Closes settled (store_step settled key (storing meta_mode compare None flags exptime value) (λ _. Stored) (get settled.items key)) answer new → Ends settled (Store key mode flags exptime value) answer new
 unfolding step_of kind_of is_lawful
 classic_store settled key mode flags exptime value meta_mode compare answer new m u closes =
     ends settled (Store key mode flags exptime value) answer new (λ _. refl)
-    (subst (λ v. Closes settled (store_step settled key (storing (mode_of mode) v flags exptime value) (λ _. Stored) (get settled.items key)) answer new) u
-    (subst (λ n. Closes settled (store_step settled key (storing n compare flags exptime value) (λ _. Stored) (get settled.items key)) answer new) m closes))
+    (subst (λ v. Closes settled (store_step settled key (storing (mode_of mode) v None flags exptime value) (λ _. Stored) (get settled.items key)) answer new) u
+    (subst (λ n. Closes settled (store_step settled key (storing n compare None flags exptime value) (λ _. Stored) (get settled.items key)) answer new) m closes))
 
-pub meta_store : (settled : State) (key : List ℕ) (mode : MetaMode) (compare : Option ℕ) (flags : ℕ) (exptime : ℤ) (value : List ℕ) (answer : Answer) (new : Held) →
-    Closes settled (store_step settled key (storing mode compare flags exptime value) (λ done. MetaDone done) (get settled.items key)) answer new → Ends settled (MetaStore key mode compare flags exptime value) answer new
+pub meta_store : (settled : State) (asked : op.MetaStore) (answer : Answer) (new : Held) →
+    Closes settled (store_step settled asked.key (storing asked.mode asked.compare asked.unique asked.flags asked.exptime asked.value) (λ done. MetaDone done) (get settled.items asked.key)) answer new → Ends settled (MetaStore asked) answer new
 unfolding step_of kind_of is_lawful
-meta_store settled key mode compare flags exptime value answer new closes =
-    ends settled (MetaStore key mode compare flags exptime value) answer new (λ _. refl) closes
+meta_store settled asked answer new closes = ends settled (MetaStore asked) answer new (λ _. refl) closes

@@ -1,93 +1,125 @@
 -- What is written under a key, whatever is there: it gets the next unique.
-use Rattle.std.proofs.Common.{◌≡◌, ℕ, ◌+◌, ◌*◌, ◌^◌, ◌<◌, ◌≤◌, true, false, List, length, Option, Some, None, refl, sym, ◌∙◌, inl, inr, arith, nat_eq, nat_lt, subst}
+use Rattle.std.proofs.Common.{◌≡◌, ℕ, ◌+◌, ◌*◌, ◌^◌, ◌≤◌, Bool, true, false, List, ◌∷◌, length, Option, Some, None, refl, sym, ap, ◌∙◌, inl, inr, arith, nat_eq, nat_lt, subst}
 use Rattle.std.specs.Option.{IsSome, option_map}
 use Rattle.std.specs.Cmp.Lexicographic.{pointwise}
-use Rattle.std.specs.FinMap.{get, remove, len, contains_key}
-use Rattle.std.specs.Map.{lookup}
+use Rattle.std.specs.FinMap.{get, remove}
+use Rattle.std.specs.Map.{lookup, remove_entry}
+use Rattle.std.specs.Prelude.{◌||◌, if◌then◌else◌}
 use Rattle.std.proofs.lemmas.Bool.{cases_Bool}
 use Rattle.std.proofs.lemmas.Bool.Decides.{nat_tests}
-use Rattle.lru.specs.LruCache.{lru_cache, put_entries}
 use Rattle.mc_item.specs.declared.item.Item.{Item}
 use Rattle.mc_item.specs.declared.answer.Answer.{Answer}
 use Rattle.mc_item.specs.declared.answer.Answer.TheVariants.{NoCas, NoMemory, TooLarge}
-use Rattle.mc_wire.specs.declared.TheConstants.{VALUE_LIMIT}
 use Rattle.mc_store.specs.Rows.{done_of}
-use Rattle.mc_store.specs.State.{Used, State, is_dead_at, with_items, met, with_room, first, next_unique, with_given}
-use Rattle.mc_store.specs.Step.{Outcome, Reply, numbered, writes}
-use Rattle.mc_store.specs.Shard.{Held, Keeps, IsOutcome}
-use Rattle.mc_store.proofs.Lists.{used, get_gone, insert-remove, len_removed, lookup-Shows}
-use Rattle.mc_store.proofs.Shards.{at_now, put_first, give_one}
+use Rattle.mc_store.specs.State.{Used, State, is_dead_at, with_items, without_dead, cost, fitting, entered, next_unique, with_given}
+use Rattle.mc_store.specs.internal.Found.{unique_for, given_after}
+use Rattle.mc_store.specs.internal.Listed.{within}
+use Rattle.mc_store.specs.Step.{Outcome, Reply, numbered, is_too_large, writes}
+use Rattle.mc_store.specs.Shard.{Held, Keeps}
+use Rattle.mc_store.specs.internal.Parts.{IsOutcome}
+use Rattle.mc_store.proofs.Lists.{used, insert-remove, lookup-Shows}
+use Rattle.mc_store.proofs.Shards.{at_now, put_first, giving, gives}
 
 -- what is held now shows a state that the outcome may have led to
 abbrev pub Closes : State → Outcome → Answer → Held → Type 0
 Closes settled outcome answer new = (after : State) × IsOutcome settled outcome answer after × Keeps new after
 
 -- The two states that settling a key may lead to
-pub by_met : (P : State → Type 0) (state : State) (key : List ℕ) → P state → ((u : Used) → get state.items key ≡ Some u → P (with_items state (remove state.items key))) → P (met state (Some key))
+pub by_met : (P : State → Type 0) (state : State) (key : List ℕ) → P state → ((u : Used) → get state.items key ≡ Some u → P (with_items state (remove state.items key))) → P (without_dead state (Some key))
 by_met P state key stays goes = go P state key stays goes (get state.items key) refl where
-  go : (P : State → Type 0) (state : State) (key : List ℕ) → P state → ((u : Used) → get state.items key ≡ Some u → P (with_items state (remove state.items key))) → (o : Option Used) → get state.items key ≡ o → P (met state (Some key))
+  go : (P : State → Type 0) (state : State) (key : List ℕ) → P state → ((u : Used) → get state.items key ≡ Some u → P (with_items state (remove state.items key))) → (o : Option Used) → get state.items key ≡ o → P (without_dead state (Some key))
   go P state key stays goes None h = subst P (sym (none state key h)) stays where
-    none : (state : State) (key : List ℕ) → get state.items key ≡ None → met state (Some key) ≡ state
+    none : (state : State) (key : List ℕ) → get state.items key ≡ None → without_dead state (Some key) ≡ state
     none state key h = rw h
   go P state key stays goes (Some u) h = elim (cases_Bool (is_dead_at state.time (Some u))) [
     | inl t ↦ subst P (sym (dead state key u h t)) (goes u h)
     | inr f ↦ subst P (sym (alive state key u h f)) stays
   ] where
-    dead : (state : State) (key : List ℕ) (u : Used) → get state.items key ≡ Some u → is_dead_at state.time (Some u) ≡ true → met state (Some key) ≡ with_items state (remove state.items key)
+    dead : (state : State) (key : List ℕ) (u : Used) → get state.items key ≡ Some u → is_dead_at state.time (Some u) ≡ true → without_dead state (Some key) ≡ with_items state (remove state.items key)
     dead state key u h t = rw (h, t)
 
-    alive : (state : State) (key : List ℕ) (u : Used) → get state.items key ≡ Some u → is_dead_at state.time (Some u) ≡ false → met state (Some key) ≡ state
+    alive : (state : State) (key : List ℕ) (u : Used) → get state.items key ≡ Some u → is_dead_at state.time (Some u) ≡ false → without_dead state (Some key) ≡ state
     alive state key u h f = rw (h, f)
 
-pub met_time : (state : State) (key : List ℕ) → (met state (Some key)).time ≡ state.time
+pub met_time : (state : State) (key : List ℕ) → (without_dead state (Some key)).time ≡ state.time
 met_time state key = by_met (λ s. s.time ≡ state.time) state key refl (λ _ _. refl)
 
-met_unique : (state : State) (key : List ℕ) → next_unique (met state (Some key)) ≡ next_unique state
+met_unique : (state : State) (key : List ℕ) → next_unique (without_dead state (Some key)) ≡ next_unique state
 met_unique state key = by_met (λ s. next_unique s ≡ next_unique state) state key refl (λ _ _. refl)
 
-pub held_unique : (held : Held) (state : State) → Keeps held state → next_unique state ≡ held.index + 1 + held.shards * held.given
-held_unique held state h = rw (h.index, h.shards, h.given)
+met_budget : (state : State) (key : List ℕ) → (without_dead state (Some key)).budget ≡ state.budget
+met_budget state key = by_met (λ s. s.budget ≡ state.budget) state key refl (λ _ _. refl)
 
-pub lt_true : (a b : ℕ) → a < b → nat_lt a b ≡ true
-lt_true a b h = grind (arith, nat_tests)
+met_limit : (state : State) (key : List ℕ) → (without_dead state (Some key)).limit ≡ state.limit
+met_limit state key = by_met (λ s. s.limit ≡ state.limit) state key refl (λ _ _. refl)
 
-pub lt_false : (a b : ℕ) → b ≤ a → nat_lt a b ≡ false
-lt_false a b h = grind (arith, nat_tests)
+-- the unique that the shard gives next, by what it holds
+abbrev pub next_of : Held → ℕ
+next_of held = held.index + 1 + held.shards * held.given
 
-pub not_less : (a b : ℕ) → ¬ (a < b) → b ≤ a
-not_less a b h = omega arith
+held_unique : (held : Held) (state : State) (key : List ℕ) → Keeps held state → next_unique (without_dead state (Some key)) ≡ next_of held
+held_unique held state key h = met_unique state key ∙ rw (h.index, h.shards, h.given)
 
-pub write_refused : (held : Held) (state : State) (key : List ℕ) (new : Held) (outcome : ℕ → State → Outcome) → Keeps held state → ¬ (held.index + 1 + held.shards * held.given < 2 ^ 64) → Keeps new (met state (Some key)) → Closes (met state (Some key)) (numbered (met state (Some key)) outcome) NoCas new
-write_refused held state key new outcome h none after =
-    let unique = held_unique held state h in
-    let test : nat_lt (next_unique (met state (Some key))) (2 ^ 64) ≡ false = rw (met_unique state key, unique) (lt_false _ _ (not_less _ _ none)) in
-    (met state (Some key), inr (rw test), after)
+-- The outcome with a unique, or without one
+
+unique_is : (b : Bool) (next unique : ℕ) → (if b then Some next else None) ≡ Some unique → (b ≡ true) × (next ≡ unique)
+unique_is true next unique h = (refl, cc)
+unique_is false next unique h = absurd cc
+
+no_unique : (b : Bool) (next : ℕ) → (if b then Some next else None) ≡ None → b ≡ false
+no_unique true next h = absurd cc
+no_unique false next h = refl
+
+pub numbered_some : (settled : State) (token : Option ℕ) (unique : ℕ) (outcome : ℕ → State → Outcome) → unique_for token (next_unique settled) ≡ Some unique → numbered settled token outcome ≡ outcome unique (giving token settled)
+numbered_some settled (Some token) unique outcome is = let same_unique : token ≡ unique = cc in ap (λ u. outcome u settled) same_unique
+numbered_some settled None unique outcome is =
+    let fits = unique_is (nat_lt (next_unique settled) (2 ^ 64)) (next_unique settled) unique is in
+    rw fits.0 (ap (λ u. outcome u (with_given settled)) fits.1)
+
+pub numbered_none : (settled : State) (token : Option ℕ) (outcome : ℕ → State → Outcome) → unique_for token (next_unique settled) ≡ None → numbered settled token outcome ≡ (NoCas, settled)
+numbered_none settled (Some token) outcome is = absurd cc
+numbered_none settled None outcome is = rw (no_unique (nat_lt (next_unique settled) (2 ^ 64)) (next_unique settled) is)
+
+-- what is held tells the unique
+pub unique_there : (held : Held) (state : State) (key : List ℕ) (token o : Option ℕ) → Keeps held state → o ≡ unique_for token (next_of held) → unique_for token (next_unique (without_dead state (Some key))) ≡ o
+unique_there held state key token o h is = rw (held_unique held state key h) (sym is)
+
+pub unique_now : (held : Held) (state : State) (token o : Option ℕ) → Keeps held state → o ≡ unique_for token (next_of held) → unique_for token (next_unique state) ≡ o
+unique_now held state token o h is = rw (h.index, h.shards, h.given) (sym is)
+
+pub write_refused : (held : Held) (state : State) (key : List ℕ) (new : Held) (token : Option ℕ) (outcome : ℕ → State → Outcome) → Keeps held state → None ≡ unique_for token (next_of held) → Keeps new (without_dead state (Some key)) → Closes (without_dead state (Some key)) (numbered (without_dead state (Some key)) token outcome) NoCas new
+write_refused held state key new token outcome h none after =
+    (without_dead state (Some key), inr (sym (numbered_none (without_dead state (Some key)) token outcome (unique_there held state key token None h none))), after)
 
 -- to put an item in place of a dead one is to put it where that has gone
-first_removed : (state : State) (key : List ℕ) (item : Item) (u : Used) → len state.items ≤ state.capacity → 0 < state.capacity → get state.items key ≡ Some u → first (with_items state (remove state.items key)) key item ≡ first state key item
-first_removed state key item u fits some is =
-    let there : contains_key state.items key ≡ true = rw is in
-    let gone : contains_key (remove state.items key) key ≡ false = rw (get_gone state.items key) in
-    let fewer = rw there at (len_removed state.items key) in
-    let space : nat_lt (len (remove state.items key)) state.capacity ≡ true = lt_true _ _ (omega arith) in
-    let room : with_room (remove state.items key) state.capacity key ≡ remove state.items key = rw (gone, space) in
-    let old : with_room state.items state.capacity key ≡ state.items = rw there in
-    rw (room, old, insert-remove state.items key (used (at_now item state.time) (state.uses + 1)))
+entered_removed : (state : State) (key : List ℕ) (item : Item) → entered (with_items state (remove state.items key)) key item ≡ entered state key item
+entered_removed state key item = ap (λ m. let after : State = record state { items = fitting m state.budget key; uses = state.uses + 1 } in after) (insert-remove state.items key (used (at_now item state.time) (state.uses + 1)))
 
-first_met : (held : Held) (state : State) (key : List ℕ) (item : Item) → Keeps held state → first (with_given (met state (Some key))) key item ≡ first (with_given state) key item
-first_met held state key item h = by_met (λ s. first (with_given s) key item ≡ first (with_given state) key item) state key refl (λ u is. first_removed (with_given state) key item u h.fits h.positive is)
+giving_removed : (state : State) (key : List ℕ) (item : Item) (token : Option ℕ) → entered (giving token (with_items state (remove state.items key))) key item ≡ entered (giving token state) key item
+giving_removed state key item (Some token) = entered_removed state key item
+giving_removed state key item None = entered_removed (with_given state) key item
 
-pub write_done : (held : Held) (state : State) (key : List ℕ) (item : Item) (unique : ℕ) (reply : ℕ → Answer) → Keeps held state → held.index + 1 + held.shards * held.given < 2 ^ 64 → unique ≡ held.index + 1 + held.shards * held.given →
-    Closes (met state (Some key)) (numbered (met state (Some key)) (λ number given. (reply number, first given key (record item { unique = number })))) (reply unique)
-    (record held { entries = put_entries (pointwise nat_eq) (lru_cache held.entries held.limit) key (record item { unique = unique; last_access = held.time }); given = held.given + 1 })
-write_done held state key item unique reply h fits is =
-    let given = give_one held state h in
-    let number : next_unique (met state (Some key)) ≡ unique = met_unique state key ∙ held_unique held state h ∙ sym is in
-    let test : nat_lt unique (2 ^ 64) ≡ true = lt_true _ _ (omega arith) in
-    let placed = put_first (record held { given = held.given + 1 }) (with_given state) key (record item { unique = unique }) given in (
-      first (with_given state) key (record item { unique = unique }),
-      inr (rw (number, test, first_met held state key (record item { unique = unique }) h)),
-      subst (λ t. Keeps (record held { entries = put_entries (pointwise nat_eq) (lru_cache held.entries held.limit) key (record item { unique = unique; last_access = t }); given = held.given + 1 }) (first (with_given state) key (record item { unique = unique }))) h.time placed,
+entered_met : (state : State) (key : List ℕ) (item : Item) (token : Option ℕ) → entered (giving token (without_dead state (Some key))) key item ≡ entered (giving token state) key item
+entered_met state key item token = by_met (λ s. entered (giving token s) key item ≡ entered (giving token state) key item) state key refl (λ _ _. giving_removed state key item token)
+
+giving_keeps : (state : State) (token : Option ℕ) → ((giving token state).time ≡ state.time) × ((giving token state).budget ≡ state.budget)
+giving_keeps state (Some token) = (refl, refl)
+giving_keeps state None = (refl, refl)
+
+pub write_done : (held : Held) (state : State) (key : List ℕ) (item : Item) (token : Option ℕ) (unique : ℕ) (reply : ℕ → Answer) → Keeps held state → cost key item.value ≤ held.budget → Some unique ≡ unique_for token (next_of held) →
+    Closes (without_dead state (Some key)) (numbered (without_dead state (Some key)) token (λ number after. (reply number, entered after key (record item { unique = number })))) (reply unique)
+    (record held { entries = within held.budget ((key, record item { unique = unique; last_access = held.time }) ∷ remove_entry (pointwise nat_eq key) held.entries); given = given_after token held.given })
+write_done held state key item token unique reply h small is =
+    let new_item : Item = record item { unique = unique } in
+    let same_things = giving_keeps state token in
+    let time : (giving token state).time ≡ held.time = same_things.0 ∙ h.time in
+    let fits : cost key item.value ≤ (giving token state).budget = rw (same_things.1, h.budget) small in
+    let placed = put_first (record held { given = given_after token held.given }) (giving token state) key new_item (gives held state token h) fits in
+    let outcome : ℕ → State → Outcome = λ number after. (reply number, entered after key (record item { unique = number })) in
+    let there = numbered_some (without_dead state (Some key)) token unique outcome (unique_there held state key token (Some unique) h is) in (
+      entered (giving token state) key new_item,
+      inr (sym (there ∙ ap (λ s. (reply unique, s)) (entered_met state key new_item token))),
+      subst (λ t. Keeps (record held { entries = within held.budget ((key, record item { unique = unique; last_access = t }) ∷ remove_entry (pointwise nat_eq key) held.entries); given = given_after token held.given }) (entered (giving token state) key new_item)) time placed,
     )
 
 none_of : (o : Option Item) → (IsSome o → ⊥) → o ≡ None
@@ -98,11 +130,11 @@ not_there : (o : Option Used) → option_map (λ u. u.item) o ≡ None → o ≡
 not_there None h = refl
 not_there (Some u) h = absurd cc
 
--- no memory is wanting where the key is there, so no item under it was dead
-pub write_failed : (held : Held) (state : State) (key : List ℕ) (outcome : Outcome) → Keeps held state → (IsSome (lookup (pointwise nat_eq key) held.entries) → ⊥) → Closes (met state (Some key)) outcome NoMemory held
+-- memory is never refused where the key is there, so no item under it was dead
+pub write_failed : (held : Held) (state : State) (key : List ℕ) (outcome : Outcome) → Keeps held state → (IsSome (lookup (pointwise nat_eq key) held.entries) → ⊥) → Closes (without_dead state (Some key)) outcome NoMemory held
 write_failed held state key outcome h absent =
     let none = not_there (get state.items key) (sym (lookup-Shows held.entries state.items h.order key) ∙ none_of (lookup (pointwise nat_eq key) held.entries) absent) in
-    let same : met state (Some key) ≡ state = rw none in
+    let same : without_dead state (Some key) ≡ state = rw none in
     (state, inl (refl, sym same), h)
 
 -- The same outcome by another name
@@ -113,12 +145,27 @@ along settled o p answer new is closes = subst (λ q. Closes settled q answer ne
 pub as_answer : (settled : State) (outcome : Outcome) (one other : Answer) (new : Held) → one ≡ other → Closes settled outcome one new → Closes settled outcome other new
 as_answer settled outcome one other new is closes = subst (λ a. Closes settled outcome a new) is closes
 
-pub too_large : (settled : State) (key value : List ℕ) (item_of : ℕ → Item) (reply : Reply) (new : Held) → VALUE_LIMIT < length value → Keeps new settled → Closes settled (writes settled key value item_of reply) TooLarge new
-too_large settled key value item_of reply new large h =
-    let test : nat_lt VALUE_LIMIT (length value) ≡ true = lt_true _ _ large in
-    (settled, inr (rw test), h)
+-- what is held tells whether a value is too large
+pub large_there : (held : Held) (state : State) (key value : List ℕ) (size : ℕ) (test : Bool) → Keeps held state → length value ≡ size → (nat_lt held.limit size || nat_lt held.budget (length key + size + 64)) ≡ test → is_too_large (without_dead state (Some key)) key value ≡ test
+large_there held state key value size test h long is = rw (met_limit state key, met_budget state key, h.limit, h.budget, long) is
+
+pub too_large : (settled : State) (key : List ℕ) (token : Option ℕ) (value : List ℕ) (item_of : ℕ → Item) (reply : Reply) (new : Held) → is_too_large settled key value ≡ true → Keeps new settled → Closes settled (writes settled key token value item_of reply) TooLarge new
+too_large settled key token value item_of reply new large h = (settled, inr (rw large), h)
 
 -- an outcome of writing an item, where its value is not too large
-pub writes_is : (settled : State) (key value : List ℕ) (item_of : ℕ → Item) (reply : Reply) → length value ≤ VALUE_LIMIT → numbered settled (λ unique given. (reply (done_of (item_of unique) 0 settled.time), first given key (item_of unique))) ≡ writes settled key value item_of reply
-writes_is settled key value item_of reply small =
-    let test : nat_lt VALUE_LIMIT (length value) ≡ false = lt_false _ _ small in rw test
+pub writes_is : (settled : State) (key : List ℕ) (token : Option ℕ) (value : List ℕ) (item_of : ℕ → Item) (reply : Reply) → is_too_large settled key value ≡ false → numbered settled token (λ unique after. (reply (done_of (item_of unique) 0 settled.time), entered after key (item_of unique))) ≡ writes settled key token value item_of reply
+writes_is settled key token value item_of reply small = rw small
+
+-- a value that is not too large fits the budget
+pub fits_both : (limit size budget total : ℕ) → (nat_lt limit size || nat_lt budget total) ≡ false → (size ≤ limit) × (total ≤ budget)
+fits_both limit size budget total h = (lt_is limit size (first (nat_lt limit size) (nat_lt budget total) h), lt_is budget total (second (nat_lt limit size) (nat_lt budget total) h)) where
+  first : (a b : Bool) → (a || b) ≡ false → a ≡ false
+  first true b h = absurd cc
+  first false b h = refl
+
+  second : (a b : Bool) → (a || b) ≡ false → b ≡ false
+  second true b h = absurd cc
+  second false b h = h
+
+  lt_is : (a b : ℕ) → nat_lt a b ≡ false → b ≤ a
+  lt_is a b h = grind (arith, nat_tests)

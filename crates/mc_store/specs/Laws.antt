@@ -1,16 +1,18 @@
 -- What follows from the step, whatever the operations and their moments.
-use Rattle.std.specs.Prelude.{ℕ, ◌≡◌, ◌+◌, ◌<◌, ◌≤◌, ◌⊎◌, Bool, true, false, max, min, List, Option, Some, None}
+use Rattle.std.specs.Prelude.{ℕ, ◌≡◌, ◌+◌, ◌<◌, ◌⊎◌, Bool, true, false, max, min, List, Option, Some, None}
 use Rattle.std.specs.Option.{option_map_or}
-use Rattle.std.specs.FinMap.{get, contains_key, len}
+use Rattle.std.specs.FinMap.{get}
+use Rattle.mc_wire.specs.declared.TheConstants.{LATEST_MOMENT}
 use Rattle.mc_item.specs.declared.item.Item.{Item}
 use Rattle.mc_item.specs.declared.op.Op.{Op}
+use Rattle.mc_item.specs.declared.op.Op.TheVariants.{MetaStore, MetaDelete, MetaCount}
 use Rattle.mc_item.specs.declared.answer.Kind.{Kind}
 use Rattle.mc_item.specs.declared.answer.Kind.TheVariants as kind
 use Rattle.mc_item.specs.declared.answer.Answer.{Answer}
-use Rattle.mc_item.specs.declared.answer.Answer.TheVariants.{NoMemory, MetaHit}
+use Rattle.mc_item.specs.declared.answer.Answer.TheVariants.{NoCas, NoMemory, MetaHit}
 use Rattle.mc_item.specs.declared.answer.MetaHit as hit
 use Rattle.mc_item.specs.Kind.{kind_of, key_of, is_lawful}
-use Rattle.mc_store.specs.State.{Used, Items, State, latest, is_due, settle, is_least_used, next_unique}
+use Rattle.mc_store.specs.State.{Used, Items, State, is_due, settle, first, costs, used_since, next_unique}
 use Rattle.mc_store.specs.Step.{IsStep}
 
 -- An answer is lawful for the kind of its operation.
@@ -28,13 +30,15 @@ StepsAgree = (old one other : State) (op : Op) (moment : ℕ) (answer second : A
 abbrev pub StaysUnless : Type 0 → Items → Items → List ℕ → Type 0
 StaysUnless reason old new key = (get new key ≡ get old key) ⊎ ((get new key ≡ None) × reason)
 
--- A new key came into a full map, and no item was used longer ago than that under the other key.
+-- An item was stored under the key, and what was used no earlier than that under the other key costs more than the
+-- budget with it.
 abbrev pub IsEvicted : State → Option (List ℕ) → List ℕ → Type 0
-IsEvicted settled key other = (new : List ℕ) × (key ≡ Some new) × (contains_key settled.items new ≡ false) × (settled.capacity ≤ len settled.items) × (is_least_used settled.items other ≡ true)
+IsEvicted settled key other =
+    (stored : List ℕ) × (key ≡ Some stored) × ((item : Item) × (settled.budget < costs (used_since (first settled stored item).items other)))
 
 -- A pending flush was due, or the operation is a flush.
 abbrev pub IsFlushed : State → Op → ℕ → Type 0
-IsFlushed old op moment = (is_due old.flush (max old.time (min moment latest)) ≡ true) ⊎ (kind_of op ≡ kind.Flush)
+IsFlushed old op moment = (is_due old.flush (max old.time (min moment LATEST_MOMENT)) ≡ true) ⊎ (kind_of op ≡ kind.Flush)
 
 -- No operation changes an item under another key, but by a flush or by eviction.
 abbrev pub OthersStay : Type 0
@@ -62,16 +66,33 @@ pub record SameStored (before after : Item) : Type 0 where
 abbrev pub IsKept : Items → List ℕ → Item → Type 0
 IsKept old key item = (before : Used) × (get old key ≡ Some before) × SameStored before.item item
 
--- Whatever a step changes in what an item stores, it gives the item the new unique.
+-- the unique that a client gives, by the flag E
+abbrev pub token_of : Op → Option ℕ
+token_of (MetaStore asked) = asked.unique
+token_of (MetaDelete asked) = asked.unique
+token_of (MetaCount asked) = asked.unique
+token_of _ = None
+
+-- The shard gave a unique, and the item has it; or the client gave one, and the item has that.
+abbrev pub IsNew : State → State → Option ℕ → Item → Type 0
+IsNew old new token item = ((item.unique ≡ next_unique old) × (new.given ≡ old.given + 1)) ⊎ (token ≡ Some item.unique)
+
+-- Whatever a step changes in what an item stores, it gives the item a new unique: the shard's next one, or the
+-- client's.
 abbrev pub UniquesTell : Type 0
 UniquesTell = (old new : State) (op : Op) (moment : ℕ) (answer : Answer) → IsStep old op moment answer new → (key : List ℕ) (used : Used) → get new.items key ≡ Some used →
-    IsKept old.items key used.item ⊎ ((used.item.unique ≡ next_unique old) × (new.given ≡ old.given + 1))
+    IsKept old.items key used.item ⊎ IsNew old new (token_of op) used.item
+
+-- Where the client gives a unique, the shard gives none, and none is wanting.
+abbrev pub TokensAreTaken : Type 0
+TokensAreTaken = (old new : State) (op : Op) (moment : ℕ) (answer : Answer) (token : ℕ) → IsStep old op moment answer new → token_of op ≡ Some token →
+    (new.given ≡ old.given) × ¬ (answer ≡ NoCas)
 
 -- Time
 
 -- The time never goes back, and stays at or below the latest one.
 abbrev pub TimeRises : Type 0
-TimeRises = (old new : State) (op : Op) (moment : ℕ) (answer : Answer) → IsStep old op moment answer new → new.time ≡ max old.time (min moment latest)
+TimeRises = (old new : State) (op : Op) (moment : ℕ) (answer : Answer) → IsStep old op moment answer new → new.time ≡ max old.time (min moment LATEST_MOMENT)
 
 -- Who is told to recompute
 
@@ -89,13 +110,7 @@ abbrev pub may_clear_sent : Kind → Bool
 may_clear_sent kind.Store = true
 may_clear_sent kind.MetaStore = true
 may_clear_sent kind.MetaDelete = true
-may_clear_sent kind.Fetch = false
-may_clear_sent kind.Count = false
-may_clear_sent kind.Delete = false
-may_clear_sent kind.Touch = false
-may_clear_sent kind.Flush = false
-may_clear_sent kind.MetaGet = false
-may_clear_sent kind.MetaCount = false
+may_clear_sent _ = false
 
 -- No other kind takes it away, but with the item.
 abbrev pub SentStays : Type 0

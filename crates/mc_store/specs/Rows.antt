@@ -39,8 +39,8 @@ abbrev pub counter_item : ℕ → ℤ → ℕ → ℕ → Item
 counter_item number exptime time unique = stored_item (number_text number) 0 exptime time unique
 
 -- an item that mg makes of a miss
-abbrev pub recached_item : ℤ → ℕ → ℕ → Item
-recached_item exptime time unique = record (stored_item [] 0 exptime time unique) { sent = true }
+abbrev pub vivified_item : ℤ → ℕ → ℕ → Item
+vivified_item exptime time unique = record (stored_item [] 0 exptime time unique) { sent = true }
 
 -- md with I; it keeps its place in the order
 abbrev pub stale_item : Item → Option ℤ → ℕ → ℕ → Item

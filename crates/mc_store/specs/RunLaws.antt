@@ -5,15 +5,13 @@ use Rattle.mc_wire.specs.SameKey.{same_key}
 use Rattle.mc_item.specs.declared.answer.Answer.{Answer}
 use Rattle.mc_item.specs.declared.answer.Answer.TheVariants.{MetaHit}
 use Rattle.mc_item.specs.Kind.{key_of}
-use Rattle.mc_store.specs.declared.shard.Shard.{Shard}
 use Rattle.mc_store.specs.State.{Used, State, empty_state, settle, next_unique}
-use Rattle.mc_store.specs.Shard.{IsShard}
 use Rattle.mc_store.specs.Runs.{Asked, Runs, last_of, uniques_of, IsOrderly}
-use Rattle.mc_store.specs.Laws.{is_sent}
+use Rattle.mc_store.specs.Laws.{is_sent, token_of}
 
--- Every run from what a shard shows is orderly.
+-- Every run is orderly.
 abbrev pub RunsAreOrderly : Type 0
-RunsAreOrderly = (shard : Shard) (old : State) (asked : List Asked) (answers : List Answer) (states : List State) → IsShard shard old → Runs old asked answers states → IsOrderly old asked answers states
+RunsAreOrderly = (old : State) (asked : List Asked) (answers : List Answer) (states : List State) → 0 < old.shards → Runs old asked answers states → IsOrderly old asked answers states
 
 -- Two shards of one number of shards give no unique both.
 abbrev pub RunsShareNoUnique : Type 0
@@ -34,11 +32,13 @@ IsGiven state = (key : List ℕ) (used : Used) → get state.items key ≡ Some 
 
 -- A new shard has no item.
 abbrev pub NewIsGiven : Type 0
-NewIsGiven = (index shards capacity given : ℕ) → IsGiven (empty_state index shards capacity given)
+NewIsGiven = (index shards budget given limit : ℕ) → IsGiven (empty_state index shards budget given limit)
 
--- What cas rests on: an item that has its unique again, or still, has its value and its flags.
+-- What cas rests on, where no client gives a unique: an item that has its unique again, or still, has its value and its
+-- flags.
 abbrev pub SameUniqueSameItem : Type 0
 SameUniqueSameItem = (old : State) (asked : List Asked) (answers : List Answer) (states : List State) → Runs old asked answers states → 0 < old.shards → IsGiven old →
+    All (λ (ask : Asked). token_of ask.0 ≡ None) asked →
     IsGiven (last_of old states) × ((key : List ℕ) (before after : Used) → get old.items key ≡ Some before → get (last_of old states).items key ≡ Some after →
     after.item.unique ≡ before.item.unique → (after.item.value ≡ before.item.value) × (after.item.flags ≡ before.item.flags))
 

@@ -2,12 +2,11 @@
 use Rattle.std.specs.Prelude.{ℕ, ◌≡◌, ◌≤◌, ◌==◌, true, List, [], ◌∷◌, map, All, if◌then◌else◌}
 use Rattle.std.specs.List.{AllZip}
 use Rattle.std.specs.List.Sorted.{IsStrictlyIncreasing, IsNonDecreasing}
-use Rattle.std.specs.FinMap.{len}
 use Rattle.mc_item.specs.declared.op.Op.{Op}
 use Rattle.mc_item.specs.declared.answer.Answer.{Answer}
 use Rattle.mc_item.specs.Kind.{kind_of, is_lawful}
 use Rattle.mc_store.specs.declared.shard.Shard.{Shard}
-use Rattle.mc_store.specs.State.{State, next_unique}
+use Rattle.mc_store.specs.State.{State, costs, next_unique}
 use Rattle.mc_store.specs.Step.{IsStep}
 use Rattle.mc_store.specs.Shard.{IsShard}
 
@@ -42,12 +41,15 @@ pub record IsOrderly (old : State) (asked : List Asked) (answers : List Answer) 
   pub lawful : AllZip (λ (ask : Asked) (answer : Answer). is_lawful (kind_of ask.0) answer ≡ true) asked answers
   -- the uniques rise
   pub uniques : IsStrictlyIncreasing (uniques_of old states)
-  -- there are never more items than the shard has room for
-  pub room : All (λ (state : State). len state.items ≤ old.capacity) states
   -- the time never goes back
   pub time : IsNonDecreasing (times_of (old ∷ states))
 
--- From whatever state the shard showed, the answers are those of an orderly run, whose last state it shows then.
+-- The items never cost more than the shard's budget.
+abbrev pub KeepsBudget : State → List State → Type 0
+KeepsBudget old states = All (λ (state : State). costs state.items ≤ old.budget) states
+
+-- From whatever state the shard showed, the answers are those of an orderly run within its budget, whose last state it
+-- shows then.
 abbrev pub RunsThrough : Shard → List Asked → List Answer → Shard → Type 0
 RunsThrough old asked answers new =
-    (state : State) → IsShard old state → (states : List State) × Runs state asked answers states × IsOrderly state asked answers states × IsShard new (last_of state states)
+    (state : State) → IsShard old state → (states : List State) × Runs state asked answers states × IsOrderly state asked answers states × KeepsBudget state states × IsShard new (last_of state states)

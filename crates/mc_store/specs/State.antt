@@ -1,11 +1,13 @@
 -- The state of a shard: a finite map from keys to items, each with the number of its last use. The map has
 -- no order of its own.
-use Rattle.std.specs.Prelude.{ℕ, ◌+◌, ◌*◌, Bool, false, not, ◌||◌, max, min, nat_le, nat_lt, List, Option, Some, None, if◌then◌else◌}
+use Rattle.std.specs.Prelude.{ℕ, ◌+◌, ◌*◌, Bool, false, ◌||◌, max, min, nat_le, List, length, Option, Some, None, if◌then◌else◌}
 use Rattle.std.specs.Option.{option_map_or}
-use Rattle.std.specs.List.{list_all}
+use Rattle.std.specs.List.{sum_by}
 use Rattle.std.specs.Ordering.{nat_cmp}
 use Rattle.std.specs.Cmp.Lexicographic.{slice_cmp}
-use Rattle.std.specs.FinMap.{FinMap, empty, get, insert, remove, retain_keys, contains_key, keys, len}
+use Rattle.std.specs.FinMap.{FinMap, empty, get, insert, remove, retain_keys, entries}
+use Rattle.mc_wire.specs.SameKey.{same_key}
+use Rattle.mc_wire.specs.declared.TheConstants.{LATEST_MOMENT}
 use Rattle.mc_item.specs.declared.item.Item.{Item}
 use Rattle.mc_item.specs.Expiry.{is_dead}
 
@@ -29,16 +31,15 @@ pub record State : Type 0 where
   pub given : ℕ
   pub index : ℕ
   pub shards : ℕ
-  pub capacity : ℕ
+  -- what the items may cost together, in bytes
+  pub budget : ℕ
+  -- how many bytes a value may have
+  pub limit : ℕ
 
-abbrev pub empty_state : ℕ → ℕ → ℕ → ℕ → State
-empty_state index shards capacity given = record { items = empty; uses = 0; time = 0; flush = None; given = given; index = index; shards = shards; capacity = capacity }
+abbrev pub empty_state : ℕ → ℕ → ℕ → ℕ → ℕ → State
+empty_state index shards budget given limit = record { items = empty; uses = 0; time = 0; flush = None; given = given; index = index; shards = shards; budget = budget; limit = limit }
 
 -- Settling, which comes before every operation (protocol.txt, "flush_all" and "Expiration times")
-
--- No moment counts as later than this second.
-abbrev pub latest : ℕ
-latest = 1099511627776
 
 -- whether a pending flush runs at the time
 abbrev pub is_due : Option ℕ → ℕ → Bool
@@ -54,7 +55,7 @@ at_time state time = if is_due state.flush time then flushed (record state { tim
 
 -- The time never goes back, and a flush that is due runs.
 abbrev pub arrived : State → ℕ → State
-arrived state moment = at_time state (max state.time (min moment latest))
+arrived state moment = at_time state (max state.time (min moment LATEST_MOMENT))
 
 abbrev pub is_dead_at : ℕ → Option Used → Bool
 is_dead_at time None = false
@@ -64,38 +65,53 @@ is_dead_at time (Some used) = is_dead used.item.expiry time
 abbrev pub with_items : State → Items → State
 with_items state items = record state { items = items }
 
--- The item under the key goes where it is dead.
-abbrev pub met : State → Option (List ℕ) → State
-met state None = state
-met state (Some key) = if is_dead_at state.time (get state.items key) then with_items state (remove state.items key) else state
+-- the state without the item under the key, where that is dead
+abbrev pub without_dead : State → Option (List ℕ) → State
+without_dead state None = state
+without_dead state (Some key) = if is_dead_at state.time (get state.items key) then with_items state (remove state.items key) else state
 
 -- the state in which an operation on the key begins
 abbrev pub settle : State → Option (List ℕ) → ℕ → State
-settle state key moment = met (arrived state moment) key
+settle state key moment = without_dead (arrived state moment) key
 
--- Use, and eviction
+-- Use
 
 abbrev pub number_at : Items → List ℕ → ℕ
 number_at items key = option_map_or (λ used. used.number) (get items key) 0
 
--- No item was last used before that under the key.
-unfoldable pub is_least_used : Items → List ℕ → Bool
-is_least_used items key = list_all (λ other. nat_le (number_at items key) (number_at items other)) (keys items)
-
--- all items but the least recently used one
-unfoldable pub without_least_used : Items → Items
-without_least_used items = retain_keys items (λ key. not (is_least_used items key))
-
--- A new key in a full map drops the least recently used item.
-abbrev pub with_room : Items → ℕ → List ℕ → Items
-with_room items capacity key = if contains_key items key || nat_lt (len items) capacity then items else without_least_used items
-
 -- The item stands under the key and is the most recently used one, accessed now.
 abbrev pub first : State → List ℕ → Item → State
 first state key item = record state {
-  items = insert (with_room state.items state.capacity key) key (record { item = record item { last_access = state.time }; number = state.uses + 1 });
+  items = insert state.items key (record { item = record item { last_access = state.time }; number = state.uses + 1 });
   uses = state.uses + 1;
 }
+
+-- Cost, and eviction
+
+-- what an item costs, in bytes: its key, its value, and 64
+abbrev pub cost : List ℕ → List ℕ → ℕ
+cost key value = length key + length value + 64
+
+abbrev pub cost_of : List ℕ × Used → ℕ
+cost_of entry = cost entry.0 entry.1.item.value
+
+-- what the items cost together
+unfoldable pub costs : Items → ℕ
+costs items = sum_by cost_of (entries items)
+
+-- the items that were used no earlier than that under the key
+unfoldable pub used_since : Items → List ℕ → Items
+used_since items key = retain_keys items (λ other. nat_le (number_at items key) (number_at items other))
+
+-- Eviction for the item under the key, which itself stays: another item stays where all that were used no earlier than
+-- it, with it, cost no more than the budget. So the least recently used go, and no more of them than must.
+unfoldable pub fitting : Items → ℕ → List ℕ → Items
+fitting items budget key = retain_keys items (λ other. same_key key other || nat_le (costs (used_since items other)) budget)
+
+-- The item enters, or changes its size, and is the most recently used one; others go where the costs would pass the
+-- budget.
+abbrev pub entered : State → List ℕ → Item → State
+entered state key item = with_items (first state key item) (fitting (first state key item).items state.budget key)
 
 -- Uniques
 

@@ -1,8 +1,7 @@
 -- What a shard answers to an operation, and what its state is then. Within one operation the tests stand in this
 -- order: absent or present, the unique, the number, the size, whether a unique is left.
-use Rattle.std.specs.Prelude.{ℕ, ◌≡◌, ◌+◌, ◌-◌, ◌%◌, ◌^◌, Bool, true, false, not, IsTrue, ℤ, ◌⊎◌, ◌++◌, List, length, Option, Some, None, nat_le, nat_lt, ◌==◌, if◌then◌else◌}
+use Rattle.std.specs.Prelude.{ℕ, ◌≡◌, ◌+◌, ◌-◌, ◌%◌, ◌^◌, Bool, false, not, IsTrue, ◌||◌, ℤ, ◌⊎◌, ◌++◌, List, length, Option, Some, None, nat_le, nat_lt, ◌==◌, if◌then◌else◌}
 use Rattle.std.specs.FinMap.{get, insert, remove}
-use Rattle.mc_wire.specs.declared.TheConstants.{VALUE_LIMIT}
 use Rattle.mc_command.specs.declared.command.StoreMode.{StoreMode}
 use Rattle.mc_command.specs.declared.command.StoreMode.TheVariants as store
 use Rattle.mc_command.specs.declared.command.Direction.{Direction}
@@ -14,6 +13,7 @@ use Rattle.mc_item.specs.declared.item.Expiry.{Expiry}
 use Rattle.mc_item.specs.declared.item.Expiry.TheVariants.{Never, At}
 use Rattle.mc_item.specs.declared.op.Op.{Op}
 use Rattle.mc_item.specs.declared.op.Op.TheVariants.{Store, Fetch, Count, Delete, Touch, Flush, MetaGet, MetaStore, MetaDelete, MetaCount}
+use Rattle.mc_item.specs.declared.op.MetaDelete as op
 use Rattle.mc_item.specs.declared.op.Vivify.{Vivify}
 use Rattle.mc_item.specs.declared.answer.Answer.{Answer}
 use Rattle.mc_item.specs.declared.answer.MetaDone as done
@@ -21,8 +21,8 @@ use Rattle.mc_item.specs.declared.answer.Answer.TheVariants.{Stored, NotStored, 
 use Rattle.mc_item.specs.Expiry.{expiry_of}
 use Rattle.mc_item.specs.Value.{number_in}
 use Rattle.mc_item.specs.Kind.{kind_of, key_of, is_lawful}
-use Rattle.mc_store.specs.State.{Used, State, settle, flushed, with_items, first, next_unique, with_given}
-use Rattle.mc_store.specs.Rows.{fetched_item, touched_item, stored_item, joined_item, counted_item, counter_item, recached_item, stale_item, shown_item, hit_of, made_hit, done_of}
+use Rattle.mc_store.specs.State.{Used, State, settle, flushed, with_items, first, cost, entered, next_unique, with_given}
+use Rattle.mc_store.specs.Rows.{fetched_item, touched_item, stored_item, joined_item, counted_item, counter_item, vivified_item, stale_item, shown_item, hit_of, made_hit, done_of}
 
 -- an answer, and the state after it
 abbrev pub Outcome : Type 0
@@ -32,9 +32,11 @@ Outcome = Answer × State
 abbrev pub Reply : Type 0
 Reply = done.MetaDone → Answer
 
--- the outcome with the next unique, where that fits 64 bits; else nothing changes
-abbrev pub numbered : State → (ℕ → State → Outcome) → Outcome
-numbered state outcome = if nat_lt (next_unique state) (2 ^ 64) then outcome (next_unique state) (with_given state) else (NoCas, state)
+-- The outcome with the unique that the client gives, or else with the shard's next one, where that fits 64 bits; else
+-- nothing changes.
+abbrev pub numbered : State → Option ℕ → (ℕ → State → Outcome) → Outcome
+numbered state (Some token) outcome = outcome token state
+numbered state None outcome = if nat_lt (next_unique state) (2 ^ 64) then outcome (next_unique state) (with_given state) else (NoCas, state)
 
 -- A unique is asked for, and it is not this one.
 abbrev pub is_other : Option ℕ → ℕ → Bool
@@ -56,9 +58,9 @@ fetch_step state key exptime (Some used) =
 abbrev pub absent_meta_get : State → List ℕ → Option ℤ → Outcome
 absent_meta_get state key None = (Miss, state)
 absent_meta_get state key (Some exptime) =
-    numbered state (λ unique given. (
-      MetaHit (made_hit (recached_item exptime state.time unique) state.time),
-      first given key (recached_item exptime state.time unique),
+    numbered state None (λ unique given. (
+      MetaHit (made_hit (vivified_item exptime state.time unique) state.time),
+      entered given key (vivified_item exptime state.time unique),
     ))
 
 abbrev pub meta_get_step : State → List ℕ → Option ℤ → Option ℤ → Option ℤ → Option Used → Outcome
@@ -68,27 +70,33 @@ meta_get_step state key touch vivify recache (Some used) =
 
 -- Storing
 
--- what a storage command asks: in which mode, at which unique, and what is to be stored
+-- what a storage command asks: in which mode, at which unique, the unique that the item is given, and what is to be
+-- stored
 pub record Storing : Type 0 where
   pub mode : MetaMode
   pub compare : Option ℕ
+  pub unique : Option ℕ
   pub flags : ℕ
   pub exptime : ℤ
   pub value : List ℕ
 
--- The item with this value and a new unique is the most recently used one, unless the value is too large.
-abbrev pub writes : State → List ℕ → List ℕ → (ℕ → Item) → Reply → Outcome
-writes state key value item_of reply =
-    if nat_lt VALUE_LIMIT (length value) then (TooLarge, state)
-    else numbered state (λ unique given. (reply (done_of (item_of unique) 0 state.time), first given key (item_of unique)))
+-- A value is too large where it passes the limit, or where its item would cost more than the budget alone.
+abbrev pub is_too_large : State → List ℕ → List ℕ → Bool
+is_too_large state key value = nat_lt state.limit (length value) || nat_lt state.budget (cost key value)
+
+-- The item with this value and a new unique enters, unless the value is too large.
+abbrev pub writes : State → List ℕ → Option ℕ → List ℕ → (ℕ → Item) → Reply → Outcome
+writes state key given value item_of reply =
+    if is_too_large state key value then (TooLarge, state)
+    else numbered state given (λ unique after. (reply (done_of (item_of unique) 0 state.time), entered after key (item_of unique)))
 
 -- what is asked is stored
 abbrev pub stores : State → List ℕ → Storing → Reply → Outcome
-stores state key asked reply = writes state key asked.value (stored_item asked.value asked.flags asked.exptime state.time) reply
+stores state key asked reply = writes state key asked.unique asked.value (stored_item asked.value asked.flags asked.exptime state.time) reply
 
 -- what is asked is joined to the value that is there
-abbrev pub joins : State → List ℕ → Item → List ℕ → Reply → Outcome
-joins state key item value reply = writes state key value (joined_item item value) reply
+abbrev pub joins : State → List ℕ → Item → Storing → List ℕ → Reply → Outcome
+joins state key item asked value reply = writes state key asked.unique value (joined_item item value) reply
 
 -- under an absent key
 abbrev pub absent_store : State → List ℕ → Storing → Reply → MetaMode → Option ℕ → Outcome
@@ -104,8 +112,8 @@ abbrev pub present_store : State → List ℕ → Storing → Reply → MetaMode
 present_store state key asked reply Add item = (NotStored, first state key item)
 present_store state key asked reply Set item = compared state asked.compare item (stores state key asked reply)
 present_store state key asked reply Replace item = compared state asked.compare item (stores state key asked reply)
-present_store state key asked reply Append item = compared state asked.compare item (joins state key item (item.value ++ asked.value) reply)
-present_store state key asked reply Prepend item = compared state asked.compare item (joins state key item (asked.value ++ item.value) reply)
+present_store state key asked reply Append item = compared state asked.compare item (joins state key item asked (item.value ++ asked.value) reply)
+present_store state key asked reply Prepend item = compared state asked.compare item (joins state key item asked (asked.value ++ item.value) reply)
 
 abbrev pub store_step : State → List ℕ → Storing → Reply → Option Used → Outcome
 store_step state key asked reply None = absent_store state key asked reply asked.mode asked.compare
@@ -128,8 +136,8 @@ compare_of store.Replace = None
 compare_of store.Append = None
 compare_of store.Prepend = None
 
-abbrev pub storing : MetaMode → Option ℕ → ℕ → ℤ → List ℕ → Storing
-storing mode compare flags exptime value = record { mode = mode; compare = compare; flags = flags; exptime = exptime; value = value }
+abbrev pub storing : MetaMode → Option ℕ → Option ℕ → ℕ → ℤ → List ℕ → Storing
+storing mode compare unique flags exptime value = record { mode = mode; compare = compare; unique = unique; flags = flags; exptime = exptime; value = value }
 
 -- Counting (protocol.txt, "Increment/Decrement")
 
@@ -138,40 +146,43 @@ abbrev pub counted : Direction → ℕ → ℕ → ℕ
 counted Increment number amount = (number + amount) % 2 ^ 64
 counted Decrement number amount = number - amount
 
--- what counting asks: at which unique, in which direction, by how much, and the exptime that it sets
+-- what counting asks: at which unique, the unique that the item is given, in which direction, by how much, and the
+-- exptime that it sets
 pub record Counting : Type 0 where
   pub compare : Option ℕ
+  pub unique : Option ℕ
   pub direction : Direction
   pub amount : ℕ
   pub exptime : Option ℤ
 
-abbrev pub changes : State → List ℕ → Item → Option ℤ → ℕ → Reply → Outcome
-changes state key item exptime number reply =
-    numbered state (λ unique given. (
-      reply (done_of (counted_item item number exptime state.time unique) number state.time),
-      first given key (counted_item item number exptime state.time unique),
+-- the item with its new number and a new unique
+abbrev pub changes : State → List ℕ → Item → Counting → ℕ → Reply → Outcome
+changes state key item asked number reply =
+    numbered state asked.unique (λ unique after. (
+      reply (done_of (counted_item item number asked.exptime state.time unique) number state.time),
+      entered after key (counted_item item number asked.exptime state.time unique),
     ))
 
 abbrev pub counts : State → List ℕ → Item → Counting → Reply → Option ℕ → Outcome
 counts state key item asked reply None = (NonNumeric, state)
-counts state key item asked reply (Some number) = changes state key item asked.exptime (counted asked.direction number asked.amount) reply
+counts state key item asked reply (Some number) = changes state key item asked (counted asked.direction number asked.amount) reply
 
 -- under an absent key
-abbrev pub absent_count : State → List ℕ → Reply → Option Vivify → Outcome
-absent_count state key reply None = (NotFound, state)
-absent_count state key reply (Some made) =
-    numbered state (λ unique given. (
+abbrev pub absent_count : State → List ℕ → Option ℕ → Reply → Option Vivify → Outcome
+absent_count state key given reply None = (NotFound, state)
+absent_count state key given reply (Some made) =
+    numbered state given (λ unique after. (
       reply (done_of (counter_item made.initial made.exptime state.time unique) made.initial state.time),
-      first given key (counter_item made.initial made.exptime state.time unique),
+      entered after key (counter_item made.initial made.exptime state.time unique),
     ))
 
 abbrev pub count_step : State → List ℕ → Counting → Reply → Option Vivify → Option Used → Outcome
-count_step state key asked reply vivify None = absent_count state key reply vivify
+count_step state key asked reply vivify None = absent_count state key asked.unique reply vivify
 count_step state key asked reply vivify (Some used) =
     compared state asked.compare used.item (counts state key used.item asked reply (number_in used.item.value))
 
-abbrev pub counting : Option ℕ → Direction → ℕ → Option ℤ → Counting
-counting compare direction amount exptime = record { compare = compare; direction = direction; amount = amount; exptime = exptime }
+abbrev pub counting : Option ℕ → Option ℕ → Direction → ℕ → Option ℤ → Counting
+counting compare unique direction amount exptime = record { compare = compare; unique = unique; direction = direction; amount = amount; exptime = exptime }
 
 -- Touching, deleting and flushing
 
@@ -187,14 +198,14 @@ delete_step state key None = (NotFound, state)
 delete_step state key (Some used) = deletes state key
 
 -- md with I: the item becomes stale where it stands
-abbrev pub stales : State → List ℕ → Used → Option ℤ → Outcome
-stales state key used exptime =
-    numbered state (λ unique given. (Done, with_items given (insert state.items key (record used { item = stale_item used.item exptime state.time unique }))))
+abbrev pub stales : State → op.MetaDelete → Used → Outcome
+stales state asked used =
+    numbered state asked.unique (λ unique after. (Done, with_items after (insert state.items asked.key (record used { item = stale_item used.item asked.exptime state.time unique }))))
 
-abbrev pub meta_delete_step : State → List ℕ → Option ℕ → Bool → Option ℤ → Option Used → Outcome
-meta_delete_step state key compare invalidate exptime None = (NotFound, state)
-meta_delete_step state key compare true exptime (Some used) = compared state compare used.item (stales state key used exptime)
-meta_delete_step state key compare false exptime (Some used) = compared state compare used.item (deletes state key)
+abbrev pub meta_delete_step : State → op.MetaDelete → Option Used → Outcome
+meta_delete_step state asked None = (NotFound, state)
+meta_delete_step state asked (Some used) =
+    compared state asked.compare used.item (if asked.invalidate then stales state asked used else deletes state asked.key)
 
 -- the second at which a flush is to come, if that is in the future
 abbrev pub coming : Expiry → ℕ → Option ℕ
@@ -212,19 +223,18 @@ flush_step state (Some second) = record state { flush = Some second }
 unfoldable pub step_of : State → Op → Outcome
 step_of state (Fetch key touch) = fetch_step state key touch (get state.items key)
 step_of state (Store key mode flags exptime value) =
-    store_step state key (storing (mode_of mode) (compare_of mode) flags exptime value) (λ done. Stored) (get state.items key)
+    store_step state key (storing (mode_of mode) (compare_of mode) None flags exptime value) (λ done. Stored) (get state.items key)
 step_of state (Count key direction amount) =
-    count_step state key (counting None direction amount None) (λ done. Number done.number) None (get state.items key)
+    count_step state key (counting None None direction amount None) (λ done. Number done.number) None (get state.items key)
 step_of state (Delete key) = delete_step state key (get state.items key)
 step_of state (Touch key exptime) = touch_step state key exptime (get state.items key)
 step_of state (Flush delay) = (Done, flush_step state (coming (expiry_of delay state.time) state.time))
-step_of state (MetaGet key touch vivify recache) = meta_get_step state key touch vivify recache (get state.items key)
-step_of state (MetaStore key mode compare flags exptime value) =
-    store_step state key (storing mode compare flags exptime value) (λ done. MetaDone done) (get state.items key)
-step_of state (MetaDelete key compare invalidate exptime) =
-    meta_delete_step state key compare invalidate exptime (get state.items key)
-step_of state (MetaCount key compare direction amount exptime vivify) =
-    count_step state key (counting compare direction amount exptime) (λ done. MetaDone done) vivify (get state.items key)
+step_of state (MetaGet asked) = meta_get_step state asked.key asked.touch asked.vivify asked.recache (get state.items asked.key)
+step_of state (MetaStore asked) =
+    store_step state asked.key (storing asked.mode asked.compare asked.unique asked.flags asked.exptime asked.value) (λ done. MetaDone done) (get state.items asked.key)
+step_of state (MetaDelete asked) = meta_delete_step state asked (get state.items asked.key)
+step_of state (MetaCount asked) =
+    count_step state asked.key (counting asked.compare asked.unique asked.direction asked.amount asked.exptime) (λ done. MetaDone done) asked.vivify (get state.items asked.key)
 
 -- What a settled shard may answer, and its state then: memory may be wanting where the kind of the operation can
 -- want it, and nothing changes; else all is determined.

@@ -1,18 +1,50 @@
-//! The items of a shard, in the order of their last use.
-ghost use Rattle.std.specs.Prelude.{◌≡◌, true, false, Some};
-ghost use Rattle.std.specs.Map.{lookup, set_value};
+//! The items of a shard, in the order of their last use, and what they cost.
+ghost use Rattle.std.specs.Prelude.{◌≡◌, ◌+◌, ◌≤◌, ◌^◌, ◌∷◌, [], List, ℕ, true, false, length, None, Some, IfOk, OnOk, OnErr, IsOk};
+ghost use Rattle.std.specs.Option.{option_copied, IsSome};
+ghost use Rattle.std.specs.Map.{lookup, remove_entry, set_value};
 ghost use Rattle.lru.specs.LruCache.{lru_cache, promoted};
 ghost use Rattle.mc_wire.specs.SameKey.{same_key};
-ghost use Rattle.mc_store.specs.Step.{is_other};
 ghost use Rattle.mc_item.specs.declared.item.Item.{Item as TheItem};
+ghost use Rattle.mc_store.specs.State.{cost};
+ghost use Rattle.mc_store.specs.Step.{is_other};
+ghost use Rattle.mc_store.specs.internal.Listed.{Fits, freed_by, listed_cost, within};
 
+use crate::{GREATEST_BUDGET, ITEM_OVERHEAD, LEAST_BUDGET};
 use lru::LruCache;
-use mc_item::{Expiry, Item};
+use mc_item::{Expiry, Item, NoMemory};
 use mc_wire::Key;
+use std::alloc::{AllocError, Global};
 use std::hash::RandomState;
+use std::marker::Model;
+use std::num::NonZeroUsize;
 
 /// Items by key, the most recently used first.
-pub type Items = LruCache<Key, Item, RandomState>;
+type Cache = LruCache<Key, Item, RandomState>;
+
+/// No item costs less: its key has a byte.
+const LEAST_COST: usize = ITEM_OVERHEAD + 1;
+
+/// The items of a shard, the most recently used first, which cost no more than its budget together.
+#[derive(Drop)]
+pub struct Items {
+    cache: Cache,
+    /// What they cost together, in bytes.
+    cost: usize,
+    /// What they may cost together, in bytes.
+    budget: usize,
+}
+
+impl Model for Items {
+    ghost use Rattle.std.specs.Prelude.{◌≡◌, ◌+◌, ◌/◌, ◌≤◌};
+    ghost use Rattle.mc_store.specs.Shelf.{Shelf};
+    ghost use Rattle.mc_store.specs.internal.Listed.{IsCounted};
+
+    ghost Value = { Shelf };
+
+    ghost view = { λ items. record { entries = items.cache.entries; budget = items.budget } };
+
+    ghost invariant = { λ items. IsCounted items.cache.entries items.cache.cap items.cost items.budget };
+}
 
 /// What an item becomes when it is made the most recently used one in its place.
 #[derive(Clone, Copy)]
@@ -22,6 +54,13 @@ pub struct Use {
     pub expiry: Expiry,
     pub fetched: bool,
     pub sent: bool,
+}
+
+/// What an item becomes when it is marked stale where it stands.
+#[derive(Clone, Copy)]
+pub struct Staling {
+    pub unique: u64,
+    pub expiry: Expiry,
 }
 
 /// Whether a unique is asked for that is not this one.
@@ -34,11 +73,47 @@ pub fn is_other(compare: Option<u64>, unique: u64) -> bool
     }
 }
 
-/// Makes the item under the key the most recently used one, and what it becomes by that.
-pub fn use_item(items: &mut Items, key: &Key, new: Use)
-    ensures { (item : TheItem) → lookup (same_key key.now) items.old.entries ≡ Some item → items.new ≡ lru_cache (set_value (same_key key.now) (promoted (same_key key.now) items.old.entries) (record item { last_access = new.time; expiry = new.expiry; fetched = new.fetched; sent = new.sent })) items.old.cap }
+/// What an item costs with so many bytes of a key and of a value, in bytes.
+pub fn cost_of(key_length: usize, value_length: usize) -> usize
+    requires { key_length + value_length ≤ 2 ^ 32 }
+    ensures { result ≡ key_length + value_length + 64 }
 {
-    if let Some(item) = items.get_mut(key) {
+    key_length + value_length + ITEM_OVERHEAD
+}
+
+/// What an item under a key of so many bytes cost, in bytes; nothing where there was none.
+fn freed_by(old: &Option<Item>, key_length: usize) -> usize
+    requires { key_length ≤ 250 }
+    ensures { result ≡ freed_by old.now key_length }
+{
+    match old {
+        Some(item) => cost_of(key_length, item.value.len()),
+        None => 0,
+    }
+}
+
+/// Takes out the least recently used items, as long as the rest cost more than the budget; gives what the rest cost.
+fn evict(cache: &mut Cache, cost: usize, budget: usize) -> usize
+    requires { cost ≡ listed_cost cache.old.entries }
+    ensures left { cache.new ≡ lru_cache (within budget cache.old.entries) cache.old.cap }
+    ensures counted { result ≡ listed_cost (within budget cache.old.entries) }
+{
+    let mut left = cost;
+    while left > budget {
+        let Some((key, item)) = cache.pop_lru() else {
+            break;
+        };
+        left -= cost_of(key.bytes().len(), item.value.len());
+    }
+    left
+}
+
+/// Makes the item under the key the most recently used one, and what it becomes by that.
+fn use_item(cache: &mut Cache, key: &Key, new: Use)
+    ensures used { (item : TheItem) → lookup (same_key key.now) cache.old.entries ≡ Some item → cache.new ≡ lru_cache (set_value (same_key key.now) (promoted (same_key key.now) cache.old.entries) (record item { last_access = new.time; expiry = new.expiry; fetched = new.fetched; sent = new.sent })) cache.old.cap }
+    ensures none { lookup (same_key key.now) cache.old.entries ≡ None → cache.new ≡ cache.old }
+{
+    if let Some(item) = cache.get_mut(key) {
         item.last_access = new.time;
         item.expiry = new.expiry;
         item.fetched = new.fetched;
@@ -47,13 +122,115 @@ pub fn use_item(items: &mut Items, key: &Key, new: Use)
 }
 
 /// Marks the item under the key stale where it stands.
-pub fn mark_stale(items: &mut Items, key: &Key, unique: u64, expiry: Expiry)
-    ensures { (item : TheItem) → lookup (same_key key.now) items.old.entries ≡ Some item → items.new ≡ lru_cache (set_value (same_key key.now) items.old.entries (record item { unique = unique; expiry = expiry; stale = true; sent = false })) items.old.cap }
+fn mark_stale(cache: &mut Cache, key: &Key, new: Staling)
+    ensures marked { (item : TheItem) → lookup (same_key key.now) cache.old.entries ≡ Some item → cache.new ≡ lru_cache (set_value (same_key key.now) cache.old.entries (record item { unique = new.unique; expiry = new.expiry; stale = true; sent = false })) cache.old.cap }
+    ensures none { lookup (same_key key.now) cache.old.entries ≡ None → cache.new ≡ cache.old }
 {
-    if let Some(item) = items.peek_mut(key) {
-        item.unique = unique;
-        item.expiry = expiry;
+    if let Some(item) = cache.peek_mut(key) {
+        item.unique = new.unique;
+        item.expiry = new.expiry;
         item.stale = true;
         item.sent = false;
+    }
+}
+
+impl Items {
+    /// No items, which may cost so many bytes together. It takes no room for them before they come.
+    pub fn new(alloc: Global, hasher: RandomState, budget: usize) -> Result<Items, AllocError>
+        requires least { LEAST_BUDGET ≤ budget }
+        requires most { budget ≤ GREATEST_BUDGET }
+        ensures { IfOk result (λ items. items ≡ record { entries = []; budget = budget }) }
+    {
+        let capacity = NonZeroUsize::new(budget / LEAST_COST + 1).unwrap();
+        let mut cache = LruCache::unbounded_with_hasher(alloc, hasher)?;
+        cache.resize(capacity);
+        Ok(Items {
+            cache,
+            cost: 0,
+            budget,
+        })
+    }
+
+    /// How many items there are.
+    pub fn len(&self) -> usize
+        ensures { result ≡ length self.now.entries }
+    {
+        self.cache.len()
+    }
+
+    /// What the items cost together, in bytes.
+    pub fn cost(&self) -> usize
+        ensures cost { result ≡ listed_cost self.now.entries }
+        ensures room { result ≤ self.now.budget }
+    {
+        self.cost
+    }
+
+    /// What the items may cost together, in bytes.
+    pub fn budget(&self) -> usize
+        ensures budget { result ≡ self.now.budget }
+        ensures least { LEAST_BUDGET ≤ result }
+        ensures most { result ≤ GREATEST_BUDGET }
+    {
+        self.budget
+    }
+
+    /// The item under the key.
+    pub fn peek(&self, key: &Key) -> Option<&Item>
+        ensures { option_copied result ≡ lookup (same_key key.now) self.now.entries }
+    {
+        self.cache.peek(key)
+    }
+
+    /// Takes the item under the key out.
+    pub fn remove(&mut self, key: &Key) -> Option<Item>
+        ensures item { result ≡ lookup (same_key key.now) self.old.entries }
+        ensures left { self.new ≡ record self.old { entries = remove_entry (same_key key.now) self.old.entries } }
+    {
+        let item = self.cache.pop(key)?;
+        self.cost -= cost_of(key.bytes().len(), item.value.len());
+        Some(item)
+    }
+
+    /// Takes all items out.
+    pub fn clear(&mut self)
+        ensures { self.new ≡ record self.old { entries = [] } }
+    {
+        self.cache.clear();
+        self.cost = 0;
+    }
+
+    /// Puts the item under the key as the most recently used one. Then the least recently used ones go, as long as the
+    /// items cost more than the budget. Where memory is refused nothing changes; over an item that is there it never
+    /// is.
+    pub fn put(&mut self, key: Key, item: Item) -> Result<(), NoMemory>
+        requires fits { Fits self.old.budget key item.value }
+        ensures put { OnOk result (self.new ≡ record self.old { entries = within self.old.budget ((key, item) ∷ remove_entry (same_key key) self.old.entries) }) }
+        ensures small { OnOk result (cost key item.value ≤ self.old.budget) }
+        ensures err { OnErr result (self.new ≡ self.old) }
+        ensures succeeds { IsSome (lookup (same_key key) self.old.entries) → IsOk result }
+    {
+        let key_length = key.bytes().len();
+        let added = cost_of(key_length, item.value.len());
+        let Ok(old) = self.cache.put(key, item) else {
+            return Err(NoMemory);
+        };
+        let freed = freed_by(&old, key_length);
+        self.cost = evict(&mut self.cache, self.cost + added - freed, self.budget);
+        Ok(())
+    }
+
+    /// Makes the item under the key the most recently used one, and what it becomes by that.
+    pub fn make_first(&mut self, key: &Key, new: Use)
+        ensures { (item : TheItem) → lookup (same_key key.now) self.old.entries ≡ Some item → self.new ≡ record self.old { entries = set_value (same_key key.now) (promoted (same_key key.now) self.old.entries) (record item { last_access = new.time; expiry = new.expiry; fetched = new.fetched; sent = new.sent }) } }
+    {
+        use_item(&mut self.cache, key, new);
+    }
+
+    /// Marks the item under the key stale where it stands.
+    pub fn mark_stale(&mut self, key: &Key, new: Staling)
+        ensures { (item : TheItem) → lookup (same_key key.now) self.old.entries ≡ Some item → self.new ≡ record self.old { entries = set_value (same_key key.now) self.old.entries (record item { unique = new.unique; expiry = new.expiry; stale = true; sent = false }) } }
+    {
+        mark_stale(&mut self.cache, key, new);
     }
 }

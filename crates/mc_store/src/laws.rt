@@ -1,5 +1,5 @@
 //! The laws of the step, for whoever reasons about runs of one shard or of several.
-ghost use Rattle.mc_store.specs.Laws.{AnswersAreLawful, StepsAgree, OthersStay, UniquesRise, UniquesDiffer, UniquesTell, TimeRises, WinnersAreFirst, SentStays};
+ghost use Rattle.mc_store.specs.Laws.{AnswersAreLawful, StepsAgree, OthersStay, UniquesRise, UniquesDiffer, UniquesTell, TokensAreTaken, TimeRises, WinnersAreFirst, SentStays};
 ghost use Rattle.mc_store.specs.RunLaws.{RunsAreOrderly, RunsShareNoUnique, RunsLeaveOthers, NewIsGiven, SameUniqueSameItem, ToldAlone};
 
 /// Does nothing: its contract states what follows from the step, whatever the operations and their moments.
@@ -10,6 +10,7 @@ pub fn every_step()
     ensures uniques_rise { UniquesRise }
     ensures uniques_differ { UniquesDiffer }
     ensures uniques_tell { UniquesTell }
+    ensures tokens_are_taken { TokensAreTaken }
     ensures time { TimeRises }
     ensures winners_are_first { WinnersAreFirst }
     ensures sent_stays { SentStays }

@@ -1,12 +1,15 @@
-//! The shard: what it holds, how it settles, and which kind of operation goes where.
+//! The shard: what it holds, how its time moves, and which kind of operation goes where.
 ghost use Rattle.std.specs.FinMap;
-ghost use Rattle.std.specs.Prelude.{◌≡◌, ◌+◌, ◌*◌, ◌^◌, ◌<◌, ◌≤◌, ◌⊎◌, ℕ, true, false, IfOk, IfErr, SomeIff, option_copied};
+ghost use Rattle.std.specs.Prelude.{◌≡◌, ◌+◌, ◌*◌, ◌^◌, ◌<◌, ◌≤◌, ◌⊎◌, ◌||◌, ℕ, length, nat_lt, true, false, IfOk, IfErr, None};
+ghost use Rattle.std.specs.Option.{option_copied, IsSome};
 ghost use Rattle.std.specs.Map.{lookup};
 ghost use Rattle.mc_wire.specs.SameKey.{same_key};
+ghost use Rattle.mc_wire.specs.declared.TheConstants.{GREATEST_VALUE_LIMIT, LATEST_MOMENT};
 ghost use Rattle.mc_item.specs.declared.answer.Answer.{Answer as TheAnswer};
 ghost use Rattle.mc_item.specs.declared.answer.MetaDone.{MetaDone as TheDone};
 ghost use Rattle.mc_item.specs.Kind.{kind_of, is_lawful};
-ghost use Rattle.mc_store.specs.Found.{live};
+ghost use Rattle.mc_store.specs.internal.Found.{live, unique_for, given_after};
+ghost use Rattle.mc_store.specs.internal.Listed.{Fits};
 ghost use Rattle.mc_store.specs.Rows.{expiry_from, done_of};
 
 mod counting;
@@ -15,16 +18,12 @@ mod reading;
 mod running;
 mod storing;
 
-use crate::items::Items;
-use lru::LruCache;
+use crate::items::{Items, cost_of};
+use crate::{GREATEST_BUDGET, LEAST_BUDGET};
 use mc_item::{Answer, Expiry, Item, MetaDone, Op, Value, expiry};
-use mc_wire::Key;
+use mc_wire::{GREATEST_VALUE_LIMIT, Key, LATEST_MOMENT};
 use std::alloc::{AllocError, Global};
 use std::hash::RandomState;
-use std::num::NonZeroUsize;
-
-/// No moment counts as later than this second.
-const LATEST: u64 = 1_099_511_627_776;
 
 /// Why there is no shard.
 #[derive(Clone, Copy, Debug, PartialEq, Eq)]
@@ -46,42 +45,49 @@ impl From<AllocError> for StoreFault {
 #[derive(Drop)]
 pub struct Shard {
     items: Items,
+    /// A value has at most this many bytes.
+    limit: usize,
     /// The greatest moment so far.
     time: u64,
     /// When the pending flush runs.
     flush: Option<u64>,
-    /// How many uniques were given.
+    /// How many uniques it gave.
     given: u64,
     index: u64,
     shards: u64,
-    ghost timely: { time ≤ 1099511627776 },
+    ghost limited: { limit ≤ GREATEST_VALUE_LIMIT },
+    ghost timely: { time ≤ LATEST_MOMENT },
     ghost place: { index < shards },
 }
 
 impl Shard {
-    ghost use Rattle.mc_store.specs.State.{State, empty_state, arrived, is_due, flushed, met, first};
+    ghost use Rattle.mc_store.specs.State.{State, empty_state, arrived, is_due, flushed, without_dead, costs, entered};
     ghost use Rattle.mc_store.specs.Step.{numbered};
-    ghost use Rattle.mc_store.specs.Shard.{IsShard, Steps, Does, answered};
+    ghost use Rattle.mc_store.specs.Shard.{IsShard, Steps, held_of};
+    ghost use Rattle.mc_store.specs.internal.Parts.{Does, answered};
 
-    /// An empty shard with room for so many items, which has given so many uniques. It takes no room for its items
+    /// An empty shard: the one with this index of so many shards. Its items may cost `budget` bytes together, its
+    /// values have at most `limit` bytes each, and so many uniques were given before. It takes no room for its items
     /// before they come.
     pub fn new(
         alloc: Global,
         hasher: RandomState,
         index: usize,
         shards: usize,
-        capacity: usize,
+        budget: usize,
         given: u64,
+        limit: usize,
     ) -> Result<Shard, StoreFault>
         requires place { index < shards }
-        requires room { 0 < capacity }
-        ensures { IfOk result (λ shard. IsShard shard (empty_state index shards capacity given)) }
+        requires least_budget { LEAST_BUDGET ≤ budget }
+        requires most_budget { budget ≤ GREATEST_BUDGET }
+        requires most_limit { limit ≤ GREATEST_VALUE_LIMIT }
+        ensures { IfOk result (λ shard. IsShard shard (empty_state index shards budget given limit)) }
     {
-        let capacity = NonZeroUsize::new(capacity).unwrap();
-        let mut items = LruCache::unbounded_with_hasher(alloc, hasher)?;
-        items.resize(capacity);
+        let items = Items::new(alloc, hasher, budget)?;
         Ok(Shard {
             items,
+            limit,
             time: 0,
             flush: None,
             given,
@@ -114,34 +120,10 @@ impl Shard {
             Op::Delete { key } => self.delete(&key),
             Op::Touch { key, exptime } => self.touch(&key, exptime),
             Op::Flush { delay } => self.flush_at(delay),
-            Op::MetaGet {
-                key,
-                touch,
-                vivify,
-                recache,
-            } => self.meta_get(alloc, key, touch, vivify, recache),
-            Op::MetaStore {
-                key,
-                mode,
-                compare,
-                flags,
-                exptime,
-                value,
-            } => self.meta_store(alloc, key, mode, compare, flags, exptime, value),
-            Op::MetaDelete {
-                key,
-                compare,
-                invalidate,
-                exptime,
-            } => self.meta_delete(&key, compare, invalidate, exptime),
-            Op::MetaCount {
-                key,
-                compare,
-                direction,
-                amount,
-                exptime,
-                vivify,
-            } => self.meta_count(alloc, key, compare, direction, amount, exptime, vivify),
+            Op::MetaGet(asked) => self.meta_get(asked),
+            Op::MetaStore(asked) => self.meta_store(alloc, asked),
+            Op::MetaDelete(asked) => self.meta_delete(&asked),
+            Op::MetaCount(asked) => self.meta_count(alloc, asked),
         }
     }
 
@@ -154,17 +136,24 @@ impl Shard {
 
     /// How many items it holds.
     pub fn len(&self) -> usize
-        ensures count { (state : State) → IsShard self.now state → result ≡ FinMap.len state.items }
-        ensures room { (state : State) → IsShard self.now state → result ≤ state.capacity }
+        ensures { (state : State) → IsShard self.now state → result ≡ FinMap.len state.items }
     {
         self.items.len()
+    }
+
+    /// What its items cost together, in bytes.
+    pub fn cost(&self) -> usize
+        ensures cost { (state : State) → IsShard self.now state → result ≡ costs state.items }
+        ensures room { (state : State) → IsShard self.now state → result ≤ state.budget }
+    {
+        self.items.cost()
     }
 
     /// Moves the time to the moment, unless that is past, and runs a flush that is due.
     fn arrive(&mut self, moment: u64)
         ensures { (state : State) → IsShard self.old state → IsShard self.new (arrived state moment) }
     {
-        self.time = self.time.max(moment.min(LATEST));
+        self.time = self.time.max(moment.min(LATEST_MOMENT));
         if self.is_flush_due() {
             self.remove_all();
         }
@@ -201,21 +190,46 @@ impl Shard {
     }
 
     /// Removes the item under the key where it is dead.
-    fn settle(&mut self, key: &Key)
-        ensures { (state : State) → IsShard self.old state → IsShard self.new (met state (Some key.now)) }
+    fn remove_dead(&mut self, key: &Key)
+        ensures { (state : State) → IsShard self.old state → IsShard self.new (without_dead state (Some key.now)) }
     {
-        let Some(_) = self.find(key) else {
-            self.items.pop(key);
-            return;
-        };
+        match self.find(key) {
+            Some(_) => {}
+            None => {
+                self.items.remove(key);
+            }
+        }
     }
 
-    /// The unique that it gives next, where that fits 64 bits.
-    fn next_unique(&self) -> Option<u64>
-        ensures { SomeIff result (self.now.index + 1 + self.now.shards * self.now.given < 2 ^ 64) (self.now.index + 1 + self.now.shards * self.now.given) }
+    /// The unique that an item is given: the client's, or else the shard's next one, where that fits 64 bits.
+    fn unique_for(&self, token: Option<u64>) -> Option<u64>
+        ensures unique { result ≡ unique_for token (self.now.index + 1 + self.now.shards * self.now.given) }
+        ensures room { IsSome result → token ≡ None → self.now.given + 1 < 2 ^ 64 }
     {
+        if token.is_some() {
+            return token;
+        }
         let given = self.shards.checked_mul(self.given)?;
         given.checked_add(self.index + 1)
+    }
+
+    /// Counts a unique that the shard gave.
+    fn count_given(&mut self, token: Option<u64>)
+        requires { token ≡ None → self.old.given + 1 < 2 ^ 64 }
+        ensures { held_of self.new ≡ record (held_of self.old) { given = given_after token self.old.given } }
+    {
+        if token.is_none() {
+            self.given += 1;
+        }
+    }
+
+    /// Whether a value of so many bytes is too large: it passes the limit, or its item would cost more than the
+    /// budget alone.
+    fn is_too_large(&self, key: &Key, size: usize) -> bool
+        requires { size ≤ 2 * GREATEST_VALUE_LIMIT }
+        ensures { result ≡ (nat_lt self.now.limit size || nat_lt self.now.items.budget (length key.now + size + 64)) }
+    {
+        self.limit < size || self.items.budget() < cost_of(key.bytes().len(), size)
     }
 
     /// The expiry that an exptime sets now; where none is given, the old one.
@@ -229,33 +243,39 @@ impl Shard {
     }
 
     /// Puts the item under the key as the most recently used one, with a new unique, which it answers.
-    fn write(&mut self, key: Key, mut item: Item) -> Result<u64, Answer>
-        ensures does { (reply : ℕ → TheAnswer) → Does self.old key (λ settled. numbered settled (λ unique given. (reply unique, first given key (record item { unique = unique })))) (answered reply result) self.new }
+    fn write(&mut self, key: Key, mut item: Item, token: Option<u64>) -> Result<u64, Answer>
+        requires fits { Fits self.old.items.budget key item.value }
+        ensures does { (reply : ℕ → TheAnswer) → Does self.old key (λ settled. numbered settled token (λ unique after. (reply unique, entered after key (record item { unique = unique })))) (answered reply result) self.new }
         ensures refused { IfErr result (λ answer. (answer ≡ Answer.NoCas) ⊎ (answer ≡ Answer.NoMemory)) }
     {
-        let Some(unique) = self.next_unique() else {
-            self.settle(&key);
+        let Some(unique) = self.unique_for(token) else {
+            self.remove_dead(&key);
             return Err(Answer::NoCas);
         };
         item.unique = unique;
         item.last_access = self.time;
-        match self.items.put(key, item) {
-            Ok(_) => {
-                self.given += 1;
-                Ok(unique)
-            }
-            Err(_) => Err(Answer::NoMemory),
-        }
+        let Ok(()) = self.items.put(key, item) else {
+            return Err(Answer::NoMemory);
+        };
+        self.count_given(token);
+        Ok(unique)
     }
 
     /// The same, and what `ms` and `ma` show of it; the number is what they tell of the value.
-    fn write_done(&mut self, key: Key, item: Item, number: u64) -> Result<MetaDone, Answer>
-        ensures does { (reply : TheDone → TheAnswer) → Does self.old key (λ settled. numbered settled (λ unique given. (reply (done_of (record item { unique = unique }) number settled.time), first given key (record item { unique = unique })))) (answered reply result) self.new }
+    fn write_done(
+        &mut self,
+        key: Key,
+        item: Item,
+        token: Option<u64>,
+        number: u64,
+    ) -> Result<MetaDone, Answer>
+        requires fits { Fits self.old.items.budget key item.value }
+        ensures does { (reply : TheDone → TheAnswer) → Does self.old key (λ settled. numbered settled token (λ unique after. (reply (done_of (record item { unique = unique }) number settled.time), entered after key (record item { unique = unique })))) (answered reply result) self.new }
         ensures refused { IfErr result (λ answer. (answer ≡ Answer.NoCas) ⊎ (answer ≡ Answer.NoMemory)) }
     {
         let size = item.value.len() as u64;
         let left = item.expiry.seconds_left(self.time);
-        let unique = self.write(key, item)?;
+        let unique = self.write(key, item, token)?;
         Ok(MetaDone {
             unique,
             size,

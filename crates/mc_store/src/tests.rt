@@ -1,5 +1,5 @@
 //! A shard that is asked one operation after another, with what the protocol's worked rows have it answer.
-ghost use Rattle.std.specs.Prelude.{◌<◌};
+ghost use Rattle.std.specs.Prelude.{◌≤◌};
 
 mod asked;
 mod shown;
@@ -14,6 +14,14 @@ use std::alloc::{AllocError, Global};
 use std::hash::RandomState;
 use std::process::Abort;
 use std::test::Fail;
+
+/// The first of two shards, whose items may cost so many bytes.
+fn new_shard(rt: &HostRuntime, alloc: Global, budget: usize) -> Result<Shard, Fail>
+    requires least { 1024 ≤ budget }
+    requires most { budget ≤ 1073741824 }
+{
+    Ok(Shard::new(alloc, RandomState::new(rt)?, 0, 2, budget, 0, 1_048_576)?)
+}
 
 /// Asks it, and says whether the answer is shown like this.
 fn answers(alloc: Global, shard: &mut Shard, row: Row) -> Result<bool, Fail> {
@@ -48,7 +56,7 @@ static EXPIRY: [(i64, u64, u64, &str); 8] = [
 fn an_item_dies_at_its_second(rt: HostRuntime) -> Result<(), Fail> {
     let a = rt.alloc();
     for (exptime, set_at, get_at, want) in &EXPIRY {
-        let mut shard = Shard::new(a, RandomState::new(&rt)?, 0, 2, 65_536, 0)?;
+        let mut shard = new_shard(&rt, a, 16_777_216)?;
         let rows = [
             (*set_at, "a", Ask::SetFor(*exptime, "x"), "stored"),
             (*get_at, "a", Ask::Get, *want),
@@ -58,7 +66,7 @@ fn an_item_dies_at_its_second(rt: HostRuntime) -> Result<(), Fail> {
     Ok(())
 }
 
-static LAST_UNIQUE: [Row; 6] = [
+static LAST_UNIQUE: [Row; 9] = [
     (1000, "a", Ask::Set("x"), "stored"),
     (1000, "a", Ask::Get, "0 18446744073709551615 x"),
     (1000, "a", Ask::Set("y"), "no cas"),
@@ -70,13 +78,17 @@ static LAST_UNIQUE: [Row; 6] = [
         "non-numeric",
     ),
     (1000, "a", Ask::Get, "0 18446744073709551615 x"),
+    // A client's unique may still be given.
+    (1000, "a", Ask::MsAs(3, "z"), "c3 s1 t99 0"),
+    (1000, "a", Ask::MdAs(5, true), "done"),
+    (1000, "a", Ask::Set("y"), "no cas"),
 ];
 
 #[test]
 fn the_last_unique(rt: HostRuntime) -> Result<(), Fail> {
     let a = rt.alloc();
     let hasher = RandomState::new(&rt)?;
-    let mut shard = Shard::new(a, hasher, 0, 2, 4, 9_223_372_036_854_775_807)?;
+    let mut shard = Shard::new(a, hasher, 0, 2, 1_024, 9_223_372_036_854_775_807, 1_024)?;
     ask_all(&rt, a, &mut shard, &LAST_UNIQUE)
 }
 
@@ -103,7 +115,7 @@ static FLUSH_AT_ONCE: [Row; 4] = [
 #[test]
 fn a_delayed_flush(rt: HostRuntime) -> Result<(), Fail> {
     let a = rt.alloc();
-    let mut shard = Shard::new(a, RandomState::new(&rt)?, 0, 2, 65_536, 0)?;
+    let mut shard = new_shard(&rt, a, 16_777_216)?;
     ask_all(&rt, a, &mut shard, &FLUSH_LATER)?;
     assert_eq!(rt; shard.len(), 0);
     ask_all(&rt, a, &mut shard, &FLUSH_AT_ONCE)
@@ -147,65 +159,192 @@ static LATE_SHARD: [Row; 14] = [
 #[test]
 fn two_shards_at_their_times(rt: HostRuntime) -> Result<(), Fail> {
     let a = rt.alloc();
-    let mut early = Shard::new(a, RandomState::new(&rt)?, 0, 2, 65_536, 0)?;
+    let mut early = new_shard(&rt, a, 16_777_216)?;
     ask_all(&rt, a, &mut early, &EARLY_SHARD)?;
-    let mut late = Shard::new(a, RandomState::new(&rt)?, 1, 2, 65_536, 0)?;
+    let mut late = Shard::new(a, RandomState::new(&rt)?, 1, 2, 1_024, 0, 1_024)?;
     ask_all(&rt, a, &mut late, &LATE_SHARD)
 }
 
+// Two items of some 300 bytes fit a budget of 1,024, and three don't.
 static LEAST_USED: [Row; 15] = [
-    (1000, "a", Ask::Set("1"), "stored"),
-    (1000, "c", Ask::Set("2"), "stored"),
-    (1000, "a", Ask::Get, "0 1 1"),
-    (1000, "e", Ask::Set("3"), "stored"),
+    (1000, "a", Ask::Long(300), "stored"),
+    (1000, "c", Ask::Long(301), "stored"),
+    (1000, "a", Ask::Get, "0 1 300 bytes"),
+    (1000, "e", Ask::Long(302), "stored"),
     (1000, "c", Ask::Get, "miss"),
-    (1000, "e", Ask::Get, "0 5 3"),
+    (1000, "e", Ask::Get, "0 5 302 bytes"),
     // A refused add makes its item the first, a refused cas or replace does not.
     (1000, "a", Ask::Put(StoreMode::Add, "y"), "not stored"),
     (1000, "e", Ask::Put(StoreMode::Cas(99), "y"), "exists"),
     (1000, "c", Ask::Put(StoreMode::Replace, "y"), "not stored"),
-    (1000, "g", Ask::Set("4"), "stored"),
+    (1000, "g", Ask::Long(303), "stored"),
     (1000, "e", Ask::Get, "miss"),
-    (1000, "a", Ask::Get, "0 1 1"),
+    (1000, "a", Ask::Get, "0 1 300 bytes"),
     // An item marked stale keeps its place.
     (1000, "g", Ask::Md(None, true), "done"),
-    (1000, "e", Ask::Set("5"), "stored"),
+    (1000, "e", Ask::Long(304), "stored"),
     (1000, "g", Ask::Mg(None, None, None), "miss"),
 ];
 
 #[test]
 fn the_least_recently_used_item_goes(rt: HostRuntime) -> Result<(), Fail> {
     let a = rt.alloc();
-    let mut shard = Shard::new(a, RandomState::new(&rt)?, 0, 2, 2, 0)?;
+    let mut shard = new_shard(&rt, a, 1_024)?;
     ask_all(&rt, a, &mut shard, &LEAST_USED)?;
     assert_eq!(rt; shard.len(), 2);
     Ok(())
 }
 
 static DEAD_ITEM: [Row; 2] = [
-    (1000, "a", Ask::Set("x"), "stored"),
-    (1000, "c", Ask::SetFor(-1, "x"), "stored"),
+    (1000, "a", Ask::Long(400), "stored"),
+    (1000, "c", Ask::LongFor(-1, 400), "stored"),
 ];
 
 static DEAD_ITEM_MET: [Row; 7] = [
     // Under its own key it goes first.
-    (1000, "c", Ask::SetFor(-1, "x"), "stored"),
-    (1000, "a", Ask::Get, "0 1 x"),
-    (1000, "c", Ask::SetFor(5, "x"), "stored"),
+    (1000, "c", Ask::LongFor(-1, 400), "stored"),
+    (1000, "a", Ask::Get, "0 1 400 bytes"),
+    (1000, "c", Ask::LongFor(5, 400), "stored"),
     // Under another key it goes as the least recently used one alone.
-    (2000, "a", Ask::Get, "0 1 x"),
-    (2000, "e", Ask::Set("x"), "stored"),
-    (2000, "a", Ask::Get, "0 1 x"),
-    (2000, "e", Ask::Get, "0 9 x"),
+    (2000, "a", Ask::Get, "0 1 400 bytes"),
+    (2000, "e", Ask::Long(400), "stored"),
+    (2000, "a", Ask::Get, "0 1 400 bytes"),
+    (2000, "e", Ask::Get, "0 9 400 bytes"),
 ];
 
 #[test]
 fn a_dead_item_takes_room(rt: HostRuntime) -> Result<(), Fail> {
     let a = rt.alloc();
-    let mut shard = Shard::new(a, RandomState::new(&rt)?, 0, 2, 2, 0)?;
+    let mut shard = new_shard(&rt, a, 1_024)?;
     ask_all(&rt, a, &mut shard, &DEAD_ITEM)?;
     assert_eq!(rt; shard.len(), 2);
     ask_all(&rt, a, &mut shard, &DEAD_ITEM_MET)
+}
+
+// An item of 959 bytes under one byte of a key costs 1,024.
+static WHOLE_BUDGET: [Row; 8] = [
+    (1000, "a", Ask::Long(300), "stored"),
+    (1000, "c", Ask::Long(300), "stored"),
+    (1000, "a", Ask::Long(960), "too large"),
+    (1000, "a", Ask::Get, "0 1 300 bytes"),
+    (1000, "a", Ask::Long(959), "stored"),
+    (1000, "c", Ask::Get, "miss"),
+    (1000, "a", Ask::Put(StoreMode::Append, "y"), "too large"),
+    (1000, "a", Ask::Get, "0 5 959 bytes"),
+];
+
+#[test]
+fn an_item_of_the_whole_budget(rt: HostRuntime) -> Result<(), Fail> {
+    let a = rt.alloc();
+    let mut shard = new_shard(&rt, a, 1_024)?;
+    ask_all(&rt, a, &mut shard, &WHOLE_BUDGET)?;
+    assert_eq!(rt; shard.cost(), 1_024);
+    Ok(())
+}
+
+// Items that cost 365, 366 and 293 together: the budget.
+static FULL: [Row; 3] = [
+    (1000, "a", Ask::Long(300), "stored"),
+    (1000, "c", Ask::Long(301), "stored"),
+    (1000, "e", Ask::Long(228), "stored"),
+];
+
+static GROWS_BY_ONE: [Row; 4] = [
+    (1000, "c", Ask::Put(StoreMode::Append, "y"), "stored"),
+    (1000, "a", Ask::Get, "miss"),
+    (1000, "c", Ask::Get, "0 7 302 bytes"),
+    (1000, "e", Ask::Get, "0 5 228 bytes"),
+];
+
+static COUNTS_TO_TEN: [Row; 7] = [
+    // 9 grows by one byte: the items cost the budget before.
+    (1000, "c", Ask::Put(StoreMode::Replace, "9"), "stored"),
+    (1000, "e", Ask::Long(893), "stored"),
+    (1000, "c", Ask::Count(Direction::Increment, 0), "9"),
+    (1000, "e", Ask::Get, "0 11 893 bytes"),
+    (1000, "c", Ask::Count(Direction::Increment, 1), "10"),
+    (1000, "e", Ask::Get, "miss"),
+    (1000, "c", Ask::Get, "0 15 10"),
+];
+
+#[test]
+fn growth_makes_others_go(rt: HostRuntime) -> Result<(), Fail> {
+    let a = rt.alloc();
+    let mut shard = new_shard(&rt, a, 1_024)?;
+    ask_all(&rt, a, &mut shard, &FULL)?;
+    assert_eq!(rt; shard.cost(), 1_024);
+    ask_all(&rt, a, &mut shard, &GROWS_BY_ONE)?;
+    ask_all(&rt, a, &mut shard, &COUNTS_TO_TEN)
+}
+
+static GROWS_TO_ALL: [Row; 4] = [
+    (1000, "e", Ask::Long(700), "stored"),
+    (1000, "a", Ask::Get, "miss"),
+    (1000, "c", Ask::Get, "miss"),
+    (1000, "e", Ask::Get, "0 7 700 bytes"),
+];
+
+#[test]
+fn growth_makes_all_others_go(rt: HostRuntime) -> Result<(), Fail> {
+    let a = rt.alloc();
+    let mut shard = new_shard(&rt, a, 1_024)?;
+    ask_all(&rt, a, &mut shard, &FULL)?;
+    ask_all(&rt, a, &mut shard, &GROWS_TO_ALL)?;
+    assert_eq!(rt; shard.len(), 1);
+    Ok(())
+}
+
+static CLIENTS_UNIQUES: [Row; 11] = [
+    (1000, "a", Ask::MsAs(77, "x"), "c77 s1 t99 0"),
+    (1000, "a", Ask::Put(StoreMode::Cas(76), "y"), "exists"),
+    (1000, "a", Ask::Put(StoreMode::Cas(77), "y"), "stored"),
+    (1000, "a", Ask::Get, "0 1 y"),
+    (1000, "a", Ask::MdAs(0, true), "done"),
+    (
+        1000,
+        "a",
+        Ask::Mg(None, None, None),
+        "f0 c0 h1 l0 t-1 W X y",
+    ),
+    (1000, "a", Ask::MdAs(9, false), "deleted"),
+    (
+        1000,
+        "c",
+        Ask::MaAs(
+            u64::MAX,
+            Some(Vivify {
+                exptime: 0,
+                initial: 13,
+            }),
+        ),
+        "c18446744073709551615 s2 t-1 13",
+    ),
+    (1000, "c", Ask::MaAs(4, None), "c4 s2 t-1 14"),
+    (1000, "c", Ask::Ma(None, 1, None), "c3 s2 t-1 15"),
+    (1000, "e", Ask::MaAs(8, None), "not found"),
+];
+
+#[test]
+fn clients_give_uniques(rt: HostRuntime) -> Result<(), Fail> {
+    let a = rt.alloc();
+    let mut shard = new_shard(&rt, a, 1_024)?;
+    ask_all(&rt, a, &mut shard, &CLIENTS_UNIQUES)
+}
+
+#[test]
+fn an_answer_keeps_its_value(rt: HostRuntime) -> Result<(), Fail> {
+    let a = rt.alloc();
+    let mut shard = new_shard(&rt, a, 1_024)?;
+    ask_all(&rt, a, &mut shard, &[(1000, "a", Ask::Set("x"), "stored")])?;
+    let fetch = op_of(a, "a", Ask::Get)?;
+    let earlier = shard.run(a, fetch, 1000);
+    let rows = [
+        (1000, "a", Ask::Put(StoreMode::Append, "y"), "stored"),
+        (1000, "a", Ask::Get, "0 3 xy"),
+    ];
+    ask_all(&rt, a, &mut shard, &rows)?;
+    assert_eq!(rt; shown(a, &earlier)?.as_str(), "0 1 x");
+    Ok(())
 }
 
 static TIME_BACK: [Row; 2] = [
@@ -228,7 +367,7 @@ static LATEST_TIME: [Row; 4] = [
 #[test]
 fn time_never_goes_back(rt: HostRuntime) -> Result<(), Fail> {
     let a = rt.alloc();
-    let mut shard = Shard::new(a, RandomState::new(&rt)?, 0, 2, 65_536, 0)?;
+    let mut shard = new_shard(&rt, a, 16_777_216)?;
     ask_all(&rt, a, &mut shard, &TIME_BACK)?;
     assert_eq!(rt; shard.now(), 1020);
     ask_all(&rt, a, &mut shard, &TIME_AFTER)?;
@@ -258,7 +397,7 @@ static NUMBERS: [(&str, Direction, u64, &str, &str); 8] = [
 fn numbers_are_counted(rt: HostRuntime) -> Result<(), Fail> {
     let a = rt.alloc();
     for (held, direction, amount, want, then) in &NUMBERS {
-        let mut shard = Shard::new(a, RandomState::new(&rt)?, 0, 2, 65_536, 0)?;
+        let mut shard = new_shard(&rt, a, 16_777_216)?;
         let rows = [
             (1000, "c", Ask::Set(*held), "stored"),
             (1000, "c", Ask::Count(*direction, *amount), *want),
@@ -293,11 +432,11 @@ static CLASSIC: [Row; 17] = [
 #[test]
 fn classic_commands(rt: HostRuntime) -> Result<(), Fail> {
     let a = rt.alloc();
-    let mut shard = Shard::new(a, RandomState::new(&rt)?, 0, 2, 65_536, 0)?;
+    let mut shard = new_shard(&rt, a, 16_777_216)?;
     ask_all(&rt, a, &mut shard, &CLASSIC)
 }
 
-static LARGEST_VALUE: [Row; 8] = [
+static LIMIT: [Row; 8] = [
     (1000, "a", Ask::Long(1_048_577), "too large"),
     (1000, "a", Ask::Long(1_048_575), "stored"),
     (1000, "a", Ask::Put(StoreMode::Append, "y"), "stored"),
@@ -311,8 +450,8 @@ static LARGEST_VALUE: [Row; 8] = [
 #[test]
 fn the_largest_value(rt: HostRuntime) -> Result<(), Fail> {
     let a = rt.alloc();
-    let mut shard = Shard::new(a, RandomState::new(&rt)?, 0, 2, 65_536, 0)?;
-    ask_all(&rt, a, &mut shard, &LARGEST_VALUE)
+    let mut shard = new_shard(&rt, a, 16_777_216)?;
+    ask_all(&rt, a, &mut shard, &LIMIT)
 }
 
 static TIME_LEFT: [Row; 9] = [
@@ -350,7 +489,7 @@ static TIME_LEFT: [Row; 9] = [
 #[test]
 fn fetched_access_and_time_left(rt: HostRuntime) -> Result<(), Fail> {
     let a = rt.alloc();
-    let mut shard = Shard::new(a, RandomState::new(&rt)?, 0, 2, 65_536, 0)?;
+    let mut shard = new_shard(&rt, a, 16_777_216)?;
     ask_all(&rt, a, &mut shard, &TIME_LEFT)
 }
 
@@ -411,7 +550,7 @@ static MARKS: [Row; 16] = [
 #[test]
 fn recache_and_stale_marks(rt: HostRuntime) -> Result<(), Fail> {
     let a = rt.alloc();
-    let mut shard = Shard::new(a, RandomState::new(&rt)?, 0, 2, 65_536, 0)?;
+    let mut shard = new_shard(&rt, a, 16_777_216)?;
     ask_all(&rt, a, &mut shard, &MARKS)
 }
 
@@ -430,7 +569,7 @@ fn list_of(alloc: Global, rows: &[Row]) -> Result<Vec<(Op, u64)>, WireFault> {
 #[test]
 fn a_list_of_operations(rt: HostRuntime) -> Result<(), Fail> {
     let a = rt.alloc();
-    let mut shard = Shard::new(a, RandomState::new(&rt)?, 0, 2, 65_536, 0)?;
+    let mut shard = new_shard(&rt, a, 16_777_216)?;
     let asked = list_of(a, &MARKS)?;
     let answers = shard.run_all(a, asked)?;
     assert_eq!(rt; answers.len(), MARKS.len());
@@ -483,7 +622,7 @@ static META_NUMBERS: [Row; 7] = [
 #[test]
 fn meta_arithmetic(rt: HostRuntime) -> Result<(), Fail> {
     let a = rt.alloc();
-    let mut shard = Shard::new(a, RandomState::new(&rt)?, 0, 2, 65_536, 0)?;
+    let mut shard = new_shard(&rt, a, 16_777_216)?;
     ask_all(&rt, a, &mut shard, &META_NUMBERS)
 }
 
@@ -523,7 +662,7 @@ static SHORT: [(Row, bool); 16] = [
         ),
         false,
     ),
-    ((1000, "a", Ask::Get, "miss"), true),
+    ((1000, "g", Ask::Get, "miss"), true),
     ((1000, "c", Ask::Ma(None, 2, None), "c13 s1 t99 7"), false),
     ((1000, "c", Ask::Md(None, true), "done"), true),
     (
@@ -547,7 +686,7 @@ fn op_in_the_end(alloc: Global, row: Row) -> Result<Op, WireFault> {
     }
 }
 
-/// Asks it, and once more where the answer is that memory was wanting, as far as the operation may want any.
+/// Asks it, and once more where it was out of memory, as far as the operation takes any.
 fn answer_in_the_end(
     alloc: Global,
     shard: &mut Shard,
@@ -571,12 +710,10 @@ fn shown_in_the_end(alloc: Global, answer: &Answer) -> Result<String, AllocError
     }
 }
 
-fn shard_in_the_end(rt: &HostRuntime, alloc: Global, capacity: usize) -> Result<Shard, Fail>
-    requires { 0 < capacity }
-{
-    match Shard::new(alloc, RandomState::new(rt)?, 0, 2, capacity, 0) {
+fn shard_in_the_end(rt: &HostRuntime, alloc: Global) -> Result<Shard, Fail> {
+    match Shard::new(alloc, RandomState::new(rt)?, 0, 2, 1_024, 0, 1_024) {
         Ok(shard) => Ok(shard),
-        Err(_) => Ok(Shard::new(alloc, RandomState::new(rt)?, 0, 2, capacity, 0)?),
+        Err(_) => Ok(Shard::new(alloc, RandomState::new(rt)?, 0, 2, 1_024, 0, 1_024)?),
     }
 }
 
@@ -585,7 +722,7 @@ fn shard_in_the_end(rt: &HostRuntime, alloc: Global, capacity: usize) -> Result<
 #[test]
 fn memory_may_be_refused_once(rt: HostRuntime) -> Result<(), Fail> {
     let a = rt.alloc();
-    let mut shard = shard_in_the_end(&rt, a, 2)?;
+    let mut shard = shard_in_the_end(&rt, a)?;
     for (place, (row, is_free)) in SHORT.iter().enumerate() {
         let answer = answer_in_the_end(a, &mut shard, *row, *is_free)?;
         let shown = shown_in_the_end(a, &answer)?;

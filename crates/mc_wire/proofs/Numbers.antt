@@ -6,7 +6,8 @@ use Rattle.std.specs.Char.{digit_value, is_ascii_digit}
 use Rattle.std.specs.Option.{option_map, ok_or}
 use Rattle.std.specs.Str.Parse.{digits_value, digits_value_after, starts_with_minus}
 use Rattle.std.proofs.lemmas.Bool.Decides.{nat_tests}
-use Rattle.mc_wire.specs.Number.{is_digits, number_of, integer_of, with_digit, negative, positive}
+use Rattle.mc_wire.specs.Number.{is_digits, number_of, integer_of}
+use Rattle.mc_wire.specs.internal.Steps.{with_digit, negative, positive}
 use Rattle.mc_wire.specs.declared.fault.WireFault.{WireFault}
 use Rattle.mc_wire.specs.declared.fault.WireFault.TheVariants.{NotNumber}
 

@@ -1,31 +1,63 @@
 -- Bytes taken one piece after another.
-use Rattle.std.proofs.Common.{◌≡◌, ℕ, ◌+◌, ◌<◌, length, arith, List, [], ◌++◌, take, drop, Option, Some, None, refl, sym, ap, ◌∙◌, append_assoc, append-nil}
+use Rattle.std.proofs.Common.{◌≡◌, ℕ, ◌+◌, ◌<◌, ◌≤◌, length, arith, List, [], ◌++◌, take, drop, refl, sym, ap, ◌∙◌, append_assoc, append-nil, Result, Ok, Err}
+use Rattle.std.specs.Result.{IsErr}
 use Rattle.std.proofs.Common.{length-append, get_or}
 use Rattle.std.proofs.lemmas.List.{take-append-le, take-append-drop, at_drop_more}
 use Rattle.std.proofs.lemmas.Grind.{flat_map-append}
 use Rattle.std.specs.List.{flat_map}
 use Rattle.std.proofs.Math.Seq.{take-add, take-append-add}
-use Rattle.mc_wire.specs.Outlet.{with_bytes, TookFront}
+use Rattle.mc_wire.specs.Outlet.{BreaksOff, Sight, Trace, Untold, Counted, Listed, Writes, broke, took, with_bytes}
 
-pub with_bytes-append : (taken : Option (List ℕ)) (a b : List ℕ) → with_bytes (with_bytes taken a) b ≡ with_bytes taken (a ++ b)
-with_bytes-append None a b = refl
-with_bytes-append (Some taken) a b = ap (λ xs. Some xs) (append_assoc taken a b)
+pub with_bytes-append : (trace : Trace) (a b : List ℕ) → with_bytes (with_bytes trace a) b ≡ with_bytes trace (a ++ b)
+with_bytes-append Untold a b = refl
+with_bytes-append (Counted count) a b = ap (λ n. Counted n) (omega (arith, length-append a b))
+with_bytes-append (Listed before) a b = ap (λ xs. Listed xs) (append_assoc before a b)
 
-pub with_bytes-nil : (taken : Option (List ℕ)) → with_bytes taken [] ≡ taken
-with_bytes-nil None = refl
-with_bytes-nil (Some taken) = ap (λ xs. Some xs) (append-nil taken)
+pub with_bytes-nil : (trace : Trace) → with_bytes trace [] ≡ trace
+with_bytes-nil Untold = refl
+with_bytes-nil (Counted count) = ap (λ n. Counted n) (omega arith)
+with_bytes-nil (Listed before) = ap (λ xs. Listed xs) (append-nil before)
 
-pub took_more : (old mid new : Option (List ℕ)) (bytes : List ℕ) (i n : ℕ) → mid ≡ with_bytes old (take i bytes) → new ≡ with_bytes mid (take n (drop i bytes)) → new ≡ with_bytes old (take (i + n) bytes)
-took_more old mid new bytes i n first more = more ∙ (ap (λ t. with_bytes t (take n (drop i bytes))) first ∙ (with_bytes-append old (take i bytes) (take n (drop i bytes)) ∙ ap (λ xs. with_bytes old xs) (sym (take-add i n bytes))))
+-- Nothing was read, and a front of the bytes was taken.
+pub record TookFront (bytes : List ℕ) (old new : Sight) : Type 0 where
+  pub count : ℕ
+  pub within : count ≤ length bytes
+  pub sight : new ≡ took (take count bytes) old
 
--- bytes in the midst of a text, of which a beginning was taken
-pub took_after : (old mid new : Option (List ℕ)) (before bytes after : List ℕ) → mid ≡ with_bytes old before → TookFront mid new bytes → TookFront old new (before ++ (bytes ++ after))
-took_after old mid new before bytes after first front =
-    let within = front.within in
+pub took-append : (old : Sight) (a b : List ℕ) → took b (took a old) ≡ took (a ++ b) old
+took-append old a b = ap (λ t. record old { taken = t }) (with_bytes-append old.taken a b)
+
+pub took-nil : (old : Sight) → took [] old ≡ old
+took-nil old = ap (λ t. record old { taken = t }) (with_bytes-nil old.taken)
+
+-- and a further piece of them
+pub took_more : (old mid new : Sight) (bytes : List ℕ) (i n : ℕ) → mid ≡ took (take i bytes) old → new ≡ took (take n (drop i bytes)) mid → new ≡ took (take (i + n) bytes) old
+took_more old mid new bytes i n first more =
+    more ∙ (ap (took (take n (drop i bytes))) first ∙ (took-append old (take i bytes) (take n (drop i bytes)) ∙ ap (λ xs. took xs old) (sym (take-add i n bytes))))
+
+-- one text, and then another
+pub writes_on : (old mid new : Sight) (a b : List ℕ) → mid ≡ took a old → new ≡ took b mid → new ≡ took (a ++ b) old
+writes_on old mid new a b first more = more ∙ (ap (took b) first ∙ took-append old a b)
+
+-- a call that hands on a fault
+pub breaks : {X E : Type 0} (text : List ℕ) (result : Result X E) (old new : Sight) → IsErr result → BreaksOff text old new → Writes text result old new
+breaks text (Ok done) old new failed off = absurd cc
+breaks text (Err fault) old new failed off = off
+
+-- a text that breaks off at its first part
+pub breaks_first : (old new : Sight) (a b : List ℕ) → BreaksOff a old new → BreaksOff (a ++ b) old new
+breaks_first old new a b off =
+    let within = off.within in
+    record { count = off.count; within = omega (arith, within, length-append a b); sight = off.sight ∙ ap (λ xs. broke (took xs old)) (sym (take-append-le off.count a b within)) }
+
+-- and one that does so behind it
+pub breaks_later : (old mid new : Sight) (a b : List ℕ) → mid ≡ took a old → BreaksOff b mid new → BreaksOff (a ++ b) old new
+breaks_later old mid new a b first off =
+    let within = off.within in
     record {
-      count = length before + front.count;
-      within = omega (arith, length-append before (bytes ++ after), length-append bytes after);
-      taken = front.taken ∙ (ap (λ t. with_bytes t (take front.count bytes)) first ∙ (with_bytes-append old before (take front.count bytes) ∙ rw (take-append-add before (bytes ++ after) front.count, take-append-le front.count bytes after within)));
+      count = length a + off.count;
+      within = omega (arith, within, length-append a b);
+      sight = off.sight ∙ ap broke (ap (took (take off.count b)) first ∙ (took-append old a (take off.count b) ∙ ap (λ xs. took xs old) (sym (take-append-add a b off.count))));
     }
 
 -- the texts of some parts, around one of them

@@ -5,3 +5,4 @@ pub mod Outlet
 pub mod Key
 pub mod Base64Key
 pub mod SameKey
+pub mod internal

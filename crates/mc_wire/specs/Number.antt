@@ -1,13 +1,14 @@
 -- The numbers that words spell (protocol.txt, Protocol).
-use Rattle.std.specs.Prelude.{ℕ, ◌+◌, ◌*◌, ◌^◌, Bool, ◌&&◌, List, drop, length, Option, Some, None, nat_lt, nat_le, if◌then◌else◌, ℤ, pos, neg_ℤ}
+use Rattle.std.specs.Prelude.{ℕ, ◌+◌, ◌^◌, Bool, ◌&&◌, List, drop, length, Option, Some, None, nat_lt, nat_le, if◌then◌else◌, ℤ, pos, neg_ℤ}
 use Rattle.std.specs.List.{list_all}
-use Rattle.std.specs.Char.{digit_value, is_ascii_digit}
+use Rattle.std.specs.Char.{is_ascii_digit}
 use Rattle.std.specs.Option.{option_map}
 use Rattle.std.specs.Str.Parse.{digits_value, starts_with_minus}
+use Rattle.mc_wire.specs.declared.TheConstants.{DIGIT_LIMIT}
 
--- 1 to 20 digits
+-- 1 to 20 digits, leading zeros among them
 abbrev pub is_digits : List ℕ → Bool
-is_digits word = nat_lt 0 (length word) && nat_le (length word) 20 && list_all is_ascii_digit word
+is_digits word = nat_lt 0 (length word) && nat_le (length word) DIGIT_LIMIT && list_all is_ascii_digit word
 
 -- the number below the bound that a word spells
 unfoldable pub number_of : ℕ → List ℕ → Option ℕ
@@ -19,16 +20,3 @@ integer_of word =
     if starts_with_minus word
     then option_map (λ size. neg_ℤ (pos size)) (number_of (2 ^ 63 + 1) (drop 1 word))
     else option_map pos (number_of (2 ^ 63) word)
-
--- the value of one more digit, where it is one and 64 bits have room
-abbrev pub with_digit : ℕ → ℕ → Option ℕ
-with_digit value digit =
-    if is_ascii_digit digit && nat_lt (value * 10 + digit_value digit) (2 ^ 64)
-    then Some (value * 10 + digit_value digit) else None
-
--- the integer so far below zero, and above, where signed 64 bits have room
-abbrev pub negative : ℕ → Option ℤ
-negative size = if nat_lt size (2 ^ 63 + 1) then Some (neg_ℤ (pos size)) else None
-
-abbrev pub positive : ℕ → Option ℤ
-positive size = if nat_lt size (2 ^ 63) then Some (pos size) else None

@@ -1,6 +1,7 @@
 -- The words of a line (protocol.txt, Protocol).
 use Rattle.std.specs.Prelude.{ℕ, Bool, false, true, List, [], ◌∷◌, filter, ◌==◌}
 use Rattle.std.specs.List.{slice_split}
+use Rattle.mc_wire.specs.declared.walk.WordWalk.{WordWalk}
 
 -- words are parted by spaces
 abbrev pub is_space : ℕ → Bool
@@ -14,7 +15,6 @@ is_filled (byte ∷ bytes) = true
 unfoldable pub words_of : List ℕ → List (List ℕ)
 words_of text = filter is_filled (slice_split is_space text)
 
--- the words, with this one in front unless it is empty
-abbrev pub with_word : List ℕ → List (List ℕ) → List (List ℕ)
-with_word [] words = words
-with_word (byte ∷ bytes) words = (byte ∷ bytes) ∷ words
+-- the words that a walk has not given yet
+abbrev pub words_left : WordWalk → List (List ℕ)
+words_left walk = words_of walk.rest.now

@@ -31,12 +31,13 @@ pub struct Key {
 
 impl Model for Key {
     ghost use Rattle.std.specs.Prelude.{ℕ, ◌<◌, ◌≤◌, List, length};
+    ghost use Rattle.mc_wire.specs.declared.TheConstants.{KEY_LIMIT};
 
     ghost Value = { List ℕ };
 
     ghost view = { λ key. key.bytes.items };
 
-    ghost invariant = { λ key. (0 < length key.bytes.items) × (length key.bytes.items ≤ 250) };
+    ghost invariant = { λ key. (0 < length key.bytes.items) × (length key.bytes.items ≤ KEY_LIMIT) };
 }
 
 impl Clone for Key {
@@ -151,7 +152,7 @@ impl Key {
     pub fn bytes(&self) -> &[u8]
         ensures value { result.now ≡ self.now }
         ensures some { 0 < length result.now }
-        ensures short { length result.now ≤ 250 }
+        ensures short { length result.now ≤ KEY_LIMIT }
     {
         self.bytes.as_slice()
     }
@@ -175,8 +176,8 @@ impl Key {
 /// writes them.
 fn decode(word: &[u8], room: &mut [u8]) -> Option<usize>
     requires some { 0 < length word.now }
-    requires short { length word.now ≤ 250 }
-    requires enough { 189 ≤ length room.old }
+    requires short { length word.now ≤ KEY_LIMIT }
+    requires enough { DECODE_ROOM ≤ length room.old }
     ensures within { IfSome result (λ len. len ≤ length room.new) }
     ensures key { IfSome result (λ len. base64_key word.now ≡ Some (take len room.new)) }
     ensures text { IfSome result (λ len. IsBase64Of word.now (take len room.new)) }

@@ -4,12 +4,14 @@
 
 mod fault;
 mod key;
+mod laws;
 mod number;
 mod outlet;
 mod walk;
 
 pub use fault::{OutFault, WireFault};
 pub use key::Key;
+pub use laws::base64_is_text;
 pub use number::{number_i64, number_u64};
 pub use outlet::{Outlet, put_all, put_parts};
 pub use walk::{WordWalk, words};
@@ -36,11 +38,14 @@ pub const BASE64_LIMIT: usize = 336;
 /// The token behind a meta command's flag `O` has at most this many bytes.
 pub const OPAQUE_LIMIT: usize = 32;
 
-/// A value has at most this many bytes.
-pub const VALUE_LIMIT: usize = 1_048_576;
+/// A value has at most this many bytes where nothing else is said.
+pub const DEFAULT_VALUE_LIMIT: usize = 1_048_576;
 
-/// A storage line announces at most this many bytes; a larger number is no count.
-pub const ANNOUNCED_LIMIT: u64 = 4_294_967_295;
+/// The value limit of a server is at least this many bytes.
+pub const LEAST_VALUE_LIMIT: usize = 1_024;
+
+/// The value limit of a server is at most this many bytes.
+pub const GREATEST_VALUE_LIMIT: usize = 8_388_608;
 
 /// The latest moment, in seconds: 2^40. A later one counts as this one.
 pub const LATEST_MOMENT: u64 = 1_099_511_627_776;

@@ -2,8 +2,9 @@
 ghost use Rattle.std.specs.Prelude.{◌≡◌, ◌^◌, true, false, drop, MatchOption};
 ghost use Rattle.std.specs.Option.{ok_or};
 ghost use Rattle.std.specs.Str.Parse.{starts_with_minus};
-ghost use Rattle.mc_wire.specs.Number.{number_of, integer_of, with_digit};
-ghost use Rattle.mc_wire.specs.Number as spec;
+ghost use Rattle.mc_wire.specs.Number.{number_of, integer_of};
+ghost use Rattle.mc_wire.specs.internal.Steps.{with_digit};
+ghost use Rattle.mc_wire.specs.internal.Steps as step;
 
 use crate::DIGIT_LIMIT;
 use crate::fault::WireFault;
@@ -61,14 +62,14 @@ fn behind_minus(word: &[u8]) -> Option<&[u8]>
 
 /// The number that lies so far below zero.
 fn negative(size: u64) -> Result<i64, WireFault>
-    ensures { result ≡ ok_or (spec.negative size) WireFault.NotNumber }
+    ensures { result ≡ ok_or (step.negative size) WireFault.NotNumber }
 {
     0i64.checked_sub_unsigned(size).ok_or(WireFault::NotNumber)
 }
 
 /// The number that lies so far above zero.
 fn positive(size: u64) -> Result<i64, WireFault>
-    ensures { result ≡ ok_or (spec.positive size) WireFault.NotNumber }
+    ensures { result ≡ ok_or (step.positive size) WireFault.NotNumber }
 {
     0i64.checked_add_unsigned(size).ok_or(WireFault::NotNumber)
 }

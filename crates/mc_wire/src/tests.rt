@@ -1,6 +1,6 @@
 //! What no clause says: values from outside, success where memory is ample, and outlets that take a
 //! byte at a time and fail in the middle of a text.
-ghost use Rattle.std.specs.Prelude.{Some};
+ghost use Rattle.mc_wire.specs.Outlet.{Listed, sight_out};
 
 use super::*;
 use std::test::Fail;
@@ -14,9 +14,7 @@ struct Dripping {
 }
 
 impl Outlet for Dripping {
-    ghost has_failed = { λ out. out.failed };
-
-    ghost taken = { λ out. Some out.store.items };
+    ghost sight = { λ out. sight_out (Listed out.store.items) out.failed };
 
     fn write(&mut self, bytes: &[u8]) -> Result<usize, OutFault> {
         if bytes.is_empty() && !self.failed {
@@ -115,6 +113,7 @@ fn base64_keys_are_shown_as_they_were_read(rt: HostRuntime) -> Result<(), Fail> 
         assert_eq!(rt; key.to_base64(&mut [0; BASE64_LIMIT]), word, "of {bytes:?}");
     }
     let longest = Key::from_base64(rt.alloc(), &[b'A'; 248])?;
+    base64_is_text();
     assert_eq!(rt; longest.bytes(), [0; DECODED_KEY_LIMIT].as_slice());
     let long = Key::from_word(rt.alloc(), &[b'k'; KEY_LIMIT])?;
     assert_eq!(rt; long.to_base64(&mut [0; BASE64_LIMIT]).len(), BASE64_LIMIT);

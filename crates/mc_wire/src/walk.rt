@@ -2,7 +2,8 @@
 ghost use Rattle.std.specs.Prelude.{◌≡◌, ◌+◌, ◌<◌, ◌≤◌, false, length, take, drop};
 ghost use Rattle.std.specs.Iterator.{YieldsFirstRef, item_count};
 ghost use Rattle.std.specs.List.{position, list_any};
-ghost use Rattle.mc_wire.specs.Words.{words_of, with_word, is_space};
+ghost use Rattle.mc_wire.specs.Words.{words_of, words_left, is_space};
+ghost use Rattle.mc_wire.specs.internal.Steps.{with_word};
 
 /// So many bytes are searched for a space at once.
 const RUN: usize = 16;
@@ -16,7 +17,7 @@ pub struct WordWalk<'a> {
 /// Walks the words of a text: the longest runs of bytes other than the space. Any other byte, a tab
 /// or a `\r` too, belongs to a word. Takes no memory.
 pub fn words(text: &[u8]) -> WordWalk<'_>
-    ensures { words_of result.rest.now ≡ words_of text.now }
+    ensures { words_left result ≡ words_of text.now }
 {
     WordWalk { rest: text }
 }
@@ -24,9 +25,9 @@ pub fn words(text: &[u8]) -> WordWalk<'_>
 impl<'a> Iterator for WordWalk<'a> {
     type Item = &'a [u8];
 
-    ghost next_gives = { YieldsFirstRef (λ walk. words_of walk.rest.now) };
+    ghost next_gives = { YieldsFirstRef words_left };
 
-    ghost remaining = { item_count (λ walk. words_of walk.rest.now) };
+    ghost remaining = { item_count words_left };
 
     #[tactic(auto, unfolding(crate::specs::Words::words_of))]
     #[inline(always)]
@@ -86,8 +87,8 @@ fn front_without_space(text: &[u8]) -> usize
 /// Whether a space is among the 16 bytes from there. No byte ends the scan, so that it is compiled to
 /// test all of them at once.
 fn has_space(text: &[u8], from: usize) -> bool
-    requires { from + 16 ≤ length text.now }
-    ensures { result ≡ list_any is_space (take 16 (drop from text.now)) }
+    requires { from + RUN ≤ length text.now }
+    ensures { result ≡ list_any is_space (take RUN (drop from text.now)) }
 {
     let mut found = false;
     for i in 0..RUN {

@@ -1,18 +1,18 @@
-//! The program: serves one line over standard input and output.
+//! The program: serves TCP, or one line over standard input and output.
 #![tactic(auto)]
 
 mod standard;
+mod tcp;
+mod tcp_options;
 
-use mc_server::{
-    Gathered, MachineClock, Options, ServeRefusal, Served, StillClock, gathering_room,
-    read_options, serve_one,
-};
+use mc_server::{MachineClock, ServeRefusal, StillClock, read_options, serve_one};
 use standard::Standard;
 use std::alloc::Global;
 use std::env::Env;
 use std::io::Eprint;
 use std::process::ExitCode;
 use std::{env, io};
+use tcp::serve_sockets;
 
 /// The words of the command line, the program's name among them.
 fn words<R: Env + Alloc<A = Global>>(rt: &R) -> io::Result<Vec<String>> {
@@ -30,6 +30,9 @@ fn main(rt: HostRuntime) -> ExitCode {
     let Ok(words) = words(&rt) else {
         return out_of_memory(&rt);
     };
+    if !words.iter().any(|word| word.as_str() == "--stdio") {
+        return serve_sockets(&rt, words.as_slice());
+    }
     let options = match read_options(rt.alloc(), words.as_slice()) {
         Ok(options) => options,
         Err(fault) => {
@@ -37,10 +40,7 @@ fn main(rt: HostRuntime) -> ExitCode {
             return ExitCode::from(fault.status());
         }
     };
-    let Ok(room) = gathering_room(rt.alloc()) else {
-        return out_of_memory(&rt);
-    };
-    let mut line = Gathered::new(Standard::new(rt.stdin(), rt.stdout()), room);
+    let mut line = Standard::new(rt.stdin(), rt.stdout());
     let served = match options.at {
         Some(moment) => serve_one(
             &rt,

@@ -3,6 +3,7 @@ use crate::command::{Command, Direction};
 use crate::line::{Line, read_line};
 use crate::meta::{MetaMode, Opaque, ReturnFlag, Returned};
 use crate::refusal::Refusal;
+use mc_wire::DEFAULT_VALUE_LIMIT;
 
 /// The command of a line, with or without a block.
 fn command_of(line: Line) -> Option<Command> {
@@ -15,7 +16,8 @@ fn command_of(line: Line) -> Option<Command> {
 #[test]
 fn a_get_asks_what_its_flags_say(rt: HostRuntime) {
     let line = b"mg key s c O123 t kxyz f h l q v T30 N-1 R60".as_slice();
-    let Some(Command::MetaGet(get)) = command_of(read_line(rt.alloc(), line)) else {
+    let Some(Command::MetaGet(get)) = command_of(read_line(rt.alloc(), line, DEFAULT_VALUE_LIMIT))
+    else {
         assert!(rt; false, "no mg");
         return;
     };
@@ -58,7 +60,11 @@ fn the_modes_of_ms_in_either_case(rt: HostRuntime) {
         (b"ms YQ== 1 b".as_slice(), MetaMode::Set),
     ];
     for (line, mode) in modes {
-        let Some(Command::MetaSet(set)) = command_of(read_line(rt.alloc(), line)) else {
+        let Some(Command::MetaSet(set)) = command_of(read_line(
+            rt.alloc(),
+            line,
+            DEFAULT_VALUE_LIMIT,
+        )) else {
             assert!(rt; false, "no ms: {mode:?}");
             return;
         };
@@ -95,7 +101,11 @@ fn the_defaults_of_ma_and_its_flags(rt: HostRuntime) {
         ),
     ];
     for (line, direction, amount, initial, vivify) in lines {
-        let Some(Command::MetaArithmetic(asked)) = command_of(read_line(rt.alloc(), line)) else {
+        let Some(Command::MetaArithmetic(asked)) = command_of(read_line(
+            rt.alloc(),
+            line,
+            DEFAULT_VALUE_LIMIT,
+        )) else {
             assert!(rt; false, "no ma");
             return;
         };
@@ -108,7 +118,11 @@ fn the_defaults_of_ma_and_its_flags(rt: HostRuntime) {
 #[test]
 fn a_delete_compares_and_marks(rt: HostRuntime) {
     let line = b"md a I T30 C18446744073709551615 q".as_slice();
-    let Some(Command::MetaDelete(delete)) = command_of(read_line(rt.alloc(), line)) else {
+    let Some(Command::MetaDelete(delete)) = command_of(read_line(
+        rt.alloc(),
+        line,
+        DEFAULT_VALUE_LIMIT,
+    )) else {
         assert!(rt; false, "no md");
         return;
     };
@@ -145,7 +159,7 @@ fn the_first_fault_is_told(rt: HostRuntime) {
         (b"ms a x".as_slice(), Refusal::BadFormat),
     ];
     for (line, want) in refused {
-        match read_line(rt.alloc(), line) {
+        match read_line(rt.alloc(), line, DEFAULT_VALUE_LIMIT) {
             Line::Refused(refusal) => assert_eq!(rt; refusal, want),
             _ => assert!(rt; false, "not refused: {want:?}"),
         }
@@ -171,7 +185,7 @@ fn a_refused_ms_skips_its_block(rt: HostRuntime) {
         ),
     ];
     for (line, want, count) in skipped {
-        match read_line(rt.alloc(), line) {
+        match read_line(rt.alloc(), line, DEFAULT_VALUE_LIMIT) {
             Line::Skip(refusal, skip) => assert_eq!(rt; (refusal, skip), (want, count)),
             _ => assert!(rt; false, "not skipped: {want:?}"),
         }

@@ -10,7 +10,7 @@ ghost use Rattle.mc_store.specs.Step.{counted};
 use crate::items::is_other;
 use crate::shard::{Shard, fresh_item};
 use mc_command::Direction;
-use mc_item::{Answer, Item, Kind, MetaDone, Value, Vivify, expiry};
+use mc_item::{Answer, Item, Kind, MetaCount, MetaDone, Value, Vivify, expiry};
 use mc_wire::Key;
 use std::alloc::Global;
 
@@ -19,6 +19,8 @@ use std::alloc::Global;
 struct Counting {
     /// The unique that the item must have.
     compare: Option<u64>,
+    /// The unique that the item is given.
+    unique: Option<u64>,
     direction: Direction,
     amount: u64,
     /// The exptime that it sets.
@@ -37,7 +39,7 @@ fn counted(direction: Direction, number: u64, amount: u64) -> u64
 
 impl Shard {
     ghost use Rattle.mc_store.specs.Step.{absent_count, count_step, counting};
-    ghost use Rattle.mc_store.specs.Shard.{Acts, Does, answered};
+    ghost use Rattle.mc_store.specs.internal.Parts.{Acts, Does, answered};
 
     /// `incr`, `decr`.
     #[tactic(auto, unfolding(mc_item::specs::Kind::is_lawful))]
@@ -53,6 +55,7 @@ impl Shard {
     {
         let asked = Counting {
             compare: None,
+            unique: None,
             direction,
             amount,
             exptime: None,
@@ -65,26 +68,18 @@ impl Shard {
 
     /// `ma`.
     #[tactic(auto, unfolding(mc_item::specs::Kind::is_lawful))]
-    pub(super) fn meta_count(
-        &mut self,
-        alloc: Global,
-        key: Key,
-        compare: Option<u64>,
-        direction: Direction,
-        amount: u64,
-        exptime: Option<i64>,
-        vivify: Option<Vivify>,
-    ) -> Answer
-        ensures acts { Acts self.old (op.MetaCount key compare direction amount exptime vivify) result self.new }
+    pub(super) fn meta_count(&mut self, alloc: Global, asked: MetaCount) -> Answer
+        ensures acts { Acts self.old (op.MetaCount asked) result self.new }
         ensures lawful { is_lawful Kind.MetaCount result ≡ true }
     {
-        let asked = Counting {
-            compare,
-            direction,
-            amount,
-            exptime,
+        let counting = Counting {
+            compare: asked.compare,
+            unique: asked.unique,
+            direction: asked.direction,
+            amount: asked.amount,
+            exptime: asked.exptime,
         };
-        match self.count(alloc, key, asked, vivify) {
+        match self.count(alloc, asked.key, counting, asked.vivify) {
             Ok(done) => Answer::MetaDone(done),
             Err(answer) => answer,
         }
@@ -99,12 +94,12 @@ impl Shard {
         asked: Counting,
         vivify: Option<Vivify>,
     ) -> Result<MetaDone, Answer>
-        ensures does { (reply : TheDone → TheAnswer) → Does self.old key (λ settled. count_step settled key (counting asked.compare asked.direction asked.amount asked.exptime) reply vivify (get settled.items key)) (answered reply result) self.new }
+        ensures does { (reply : TheDone → TheAnswer) → Does self.old key (λ settled. count_step settled key (counting asked.compare asked.unique asked.direction asked.amount asked.exptime) reply vivify (get settled.items key)) (answered reply result) self.new }
         ensures refused { asked.compare ≡ None → IfErr result (λ answer. is_lawful Kind.Count answer ≡ true) }
         ensures meta_refused { IfErr result (λ answer. is_lawful Kind.MetaCount answer ≡ true) }
     {
         let Some(item) = self.find(&key) else {
-            return self.count_absent(alloc, key, vivify);
+            return self.count_absent(alloc, key, asked.unique, vivify);
         };
         if is_other(asked.compare, item.unique) {
             return Err(Answer::Exists);
@@ -126,7 +121,7 @@ impl Shard {
             stale: item.stale,
             sent: item.sent,
         };
-        self.write_done(key, new, number)
+        self.write_done(key, new, asked.unique, number)
     }
 
     /// Makes an item under a key that is not there, if that is asked.
@@ -135,21 +130,22 @@ impl Shard {
         &mut self,
         alloc: Global,
         key: Key,
+        token: Option<u64>,
         vivify: Option<Vivify>,
     ) -> Result<MetaDone, Answer>
-        ensures does { (reply : TheDone → TheAnswer) → Does self.old key (λ settled. absent_count settled key reply vivify) (answered reply result) self.new }
+        ensures does { (reply : TheDone → TheAnswer) → Does self.old key (λ settled. absent_count settled key token reply vivify) (answered reply result) self.new }
         ensures refused { IfErr result (λ answer. is_lawful Kind.Count answer ≡ true) }
         ensures meta_refused { IfErr result (λ answer. is_lawful Kind.MetaCount answer ≡ true) }
     {
         let Some(made) = vivify else {
-            self.settle(&key);
+            self.remove_dead(&key);
             return Err(Answer::NotFound);
         };
         let Ok(value) = Value::of_number(alloc, made.initial) else {
-            self.settle(&key);
+            self.remove_dead(&key);
             return Err(Answer::NoMemory);
         };
         let item = fresh_item(value, 0, expiry(made.exptime, self.time));
-        self.write_done(key, item, made.initial)
+        self.write_done(key, item, token, made.initial)
     }
 }

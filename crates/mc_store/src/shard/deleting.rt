@@ -5,13 +5,13 @@ ghost use Rattle.mc_item.specs.Kind.{is_lawful};
 ghost use Rattle.mc_item.specs.declared.op.Op.TheVariants as op;
 ghost use Rattle.mc_store.specs.Step.{coming};
 
-use crate::items::{is_other, mark_stale};
+use crate::items::{Staling, is_other};
 use crate::shard::Shard;
-use mc_item::{Answer, Expiry, Kind, expiry};
+use mc_item::{Answer, Expiry, Kind, MetaDelete, expiry};
 use mc_wire::Key;
 
 impl Shard {
-    ghost use Rattle.mc_store.specs.Shard.{Acts};
+    ghost use Rattle.mc_store.specs.internal.Parts.{Acts};
 
     /// `delete`.
     #[tactic(auto, unfolding(mc_item::specs::Kind::is_lawful))]
@@ -19,7 +19,7 @@ impl Shard {
         ensures acts { Acts self.old (op.Delete key.now) result self.new }
         ensures lawful { is_lawful Kind.Delete result ≡ true }
     {
-        let Some(item) = self.items.pop(key) else {
+        let Some(item) = self.items.remove(key) else {
             return Answer::NotFound;
         };
         if item.is_dead(self.time) {
@@ -30,33 +30,28 @@ impl Shard {
 
     /// `md`; with `invalidate` the item is marked stale in place of going.
     #[tactic(auto, unfolding(mc_item::specs::Kind::is_lawful))]
-    pub(super) fn meta_delete(
-        &mut self,
-        key: &Key,
-        compare: Option<u64>,
-        invalidate: bool,
-        exptime: Option<i64>,
-    ) -> Answer
-        ensures acts { Acts self.old (op.MetaDelete key.now compare invalidate exptime) result self.new }
+    pub(super) fn meta_delete(&mut self, asked: &MetaDelete) -> Answer
+        ensures acts { Acts self.old (op.MetaDelete asked.now) result self.new }
         ensures lawful { is_lawful Kind.MetaDelete result ≡ true }
     {
-        let Some(item) = self.find(key) else {
-            self.items.pop(key);
+        let Some(item) = self.find(&asked.key) else {
+            self.items.remove(&asked.key);
             return Answer::NotFound;
         };
-        if is_other(compare, item.unique) {
+        if is_other(asked.compare, item.unique) {
             return Answer::Exists;
         }
-        if !invalidate {
-            self.items.pop(key);
+        if !asked.invalidate {
+            self.items.remove(&asked.key);
             return Answer::Deleted;
         }
-        let Some(unique) = self.next_unique() else {
+        let Some(unique) = self.unique_for(asked.unique) else {
             return Answer::NoCas;
         };
-        let expiry = self.expiry_from(exptime, item.expiry);
-        mark_stale(&mut self.items, key, unique, expiry);
-        self.given += 1;
+        let expiry = self.expiry_from(asked.exptime, item.expiry);
+        self.items
+            .mark_stale(&asked.key, Staling { unique, expiry });
+        self.count_given(asked.unique);
         Answer::Done
     }
 

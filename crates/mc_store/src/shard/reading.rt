@@ -5,11 +5,10 @@ ghost use Rattle.mc_item.specs.Kind.{is_lawful};
 ghost use Rattle.mc_item.specs.declared.op.Op.TheVariants as op;
 ghost use Rattle.mc_store.specs.Rows.{is_won, has_fewer_left, marks_of};
 
-use crate::items::{Use, use_item};
+use crate::items::Use;
 use crate::shard::Shard;
-use mc_item::{Answer, Expiry, Item, Kind, Marks, MetaHit, Value, expiry};
+use mc_item::{Answer, Expiry, Item, Kind, Marks, MetaGet, MetaHit, Value, expiry};
 use mc_wire::Key;
-use std::alloc::Global;
 
 /// Whether fewer seconds are left than the token of `R`; an item that never dies has none left.
 fn has_fewer_left(left: Option<u64>, recache: Option<i64>) -> bool
@@ -62,11 +61,11 @@ fn hit_of(found: &Item, value: Value, expiry: Expiry, marks: Marks, time: u64) -
 }
 
 /// An empty item that a client is told to fill. It has no unique yet.
-fn empty_item(alloc: Global, expiry: Expiry) -> Item
+fn empty_item(expiry: Expiry) -> Item
     ensures { result ≡ record { value = []; flags = 0; expiry = expiry; unique = 0; last_access = 0; fetched = false; stale = false; sent = true } }
 {
     Item {
-        value: Value::new(Vec::new(alloc)),
+        value: Value::empty(),
         flags: 0,
         expiry,
         unique: 0,
@@ -78,11 +77,11 @@ fn empty_item(alloc: Global, expiry: Expiry) -> Item
 }
 
 /// What is shown of an empty item that this command made.
-fn made_hit(alloc: Global, unique: u64, left: Option<u64>) -> MetaHit
+fn made_hit(unique: u64, left: Option<u64>) -> MetaHit
     ensures { result ≡ record { value = []; flags = 0; unique = unique; fetched = false; idle = 0; left = left; marks = record { won = true; stale = false; sent = false } } }
 {
     MetaHit {
-        value: Value::new(Vec::new(alloc)),
+        value: Value::empty(),
         flags: 0,
         unique,
         fetched: false,
@@ -98,7 +97,7 @@ fn made_hit(alloc: Global, unique: u64, left: Option<u64>) -> MetaHit
 
 impl Shard {
     ghost use Rattle.mc_store.specs.Step.{absent_meta_get};
-    ghost use Rattle.mc_store.specs.Shard.{Acts, Does};
+    ghost use Rattle.mc_store.specs.internal.Parts.{Acts, Does};
 
     /// `get`, `gets`; with an exptime `gat` and `gats`.
     #[tactic(auto, unfolding(mc_item::specs::Kind::is_lawful))]
@@ -107,7 +106,7 @@ impl Shard {
         ensures lawful { is_lawful Kind.Fetch result ≡ true }
     {
         let Some(item) = self.find(key) else {
-            self.items.pop(key);
+            self.items.remove(key);
             return Answer::Miss;
         };
         let Ok(value) = item.value.clone() else {
@@ -120,7 +119,7 @@ impl Shard {
             fetched: true,
             sent: item.sent,
         };
-        use_item(&mut self.items, key, new);
+        self.items.make_first(key, new);
         Answer::Hit {
             flags,
             unique,
@@ -135,7 +134,7 @@ impl Shard {
         ensures lawful { is_lawful Kind.Touch result ≡ true }
     {
         let Some(item) = self.find(key) else {
-            self.items.pop(key);
+            self.items.remove(key);
             return Answer::NotFound;
         };
         let new = Use {
@@ -144,31 +143,24 @@ impl Shard {
             fetched: item.fetched,
             sent: item.sent,
         };
-        use_item(&mut self.items, key, new);
+        self.items.make_first(key, new);
         Answer::Touched
     }
 
     /// `mg`.
     #[tactic(auto, unfolding(mc_item::specs::Kind::is_lawful))]
-    pub(super) fn meta_get(
-        &mut self,
-        alloc: Global,
-        key: Key,
-        touch: Option<i64>,
-        vivify: Option<i64>,
-        recache: Option<i64>,
-    ) -> Answer
-        ensures acts { Acts self.old (op.MetaGet key touch vivify recache) result self.new }
+    pub(super) fn meta_get(&mut self, asked: MetaGet) -> Answer
+        ensures acts { Acts self.old (op.MetaGet asked) result self.new }
         ensures lawful { is_lawful Kind.MetaGet result ≡ true }
     {
-        let Some(item) = self.find(&key) else {
-            return self.meta_get_absent(alloc, key, vivify);
+        let Some(item) = self.find(&asked.key) else {
+            return self.meta_get_absent(asked.key, asked.vivify);
         };
         let Ok(value) = item.value.clone() else {
             return Answer::NoMemory;
         };
-        let marks = marks_of(item, recache, self.time);
-        let expiry = self.expiry_from(touch, item.expiry);
+        let marks = marks_of(item, asked.recache, self.time);
+        let expiry = self.expiry_from(asked.touch, item.expiry);
         let hit = hit_of(item, value, expiry, marks, self.time);
         let new = Use {
             time: self.time,
@@ -176,24 +168,24 @@ impl Shard {
             fetched: true,
             sent: is_sent_after(marks),
         };
-        use_item(&mut self.items, &key, new);
+        self.items.make_first(&asked.key, new);
         Answer::MetaHit(hit)
     }
 
     /// `mg` of a key that is not there: with an exptime it makes an empty item, and this client is told to fill it.
     #[tactic(auto, unfolding(mc_item::specs::Kind::is_lawful))]
-    fn meta_get_absent(&mut self, alloc: Global, key: Key, vivify: Option<i64>) -> Answer
+    fn meta_get_absent(&mut self, key: Key, vivify: Option<i64>) -> Answer
         ensures does { Does self.old key (λ settled. absent_meta_get settled key vivify) result self.new }
         ensures lawful { is_lawful Kind.MetaGet result ≡ true }
     {
         let Some(exptime) = vivify else {
-            self.settle(&key);
+            self.remove_dead(&key);
             return Answer::Miss;
         };
-        let item = empty_item(alloc, expiry(exptime, self.time));
+        let item = empty_item(expiry(exptime, self.time));
         let left = item.expiry.seconds_left(self.time);
-        match self.write(key, item) {
-            Ok(unique) => Answer::MetaHit(made_hit(alloc, unique, left)),
+        match self.write(key, item, None) {
+            Ok(unique) => Answer::MetaHit(made_hit(unique, left)),
             Err(answer) => answer,
         }
     }

@@ -5,14 +5,14 @@ ghost use Rattle.mc_item.specs.declared.answer.Answer.{Answer as TheAnswer};
 ghost use Rattle.mc_item.specs.declared.answer.MetaDone.{MetaDone as TheDone};
 ghost use Rattle.mc_item.specs.Kind.{is_lawful};
 ghost use Rattle.mc_item.specs.declared.op.Op.TheVariants as op;
-ghost use Rattle.mc_store.specs.Found.{joining, is_unconditional};
+ghost use Rattle.mc_store.specs.internal.Found.{joining, is_unconditional};
 ghost use Rattle.mc_store.specs.Step.{mode_of, compare_of};
 
-use crate::items::{Use, is_other, use_item};
+use crate::items::{Use, is_other};
 use crate::shard::{Shard, fresh_item};
 use mc_command::{MetaMode, StoreMode};
-use mc_item::{Answer, Item, Kind, MetaDone, Value, expiry};
-use mc_wire::{Key, VALUE_LIMIT};
+use mc_item::{Answer, Item, Kind, MetaDone, MetaStore, Value, expiry};
+use mc_wire::Key;
 use std::alloc::Global;
 
 /// What a storage command asks.
@@ -21,6 +21,8 @@ pub(super) struct Storing {
     pub(super) mode: MetaMode,
     /// The unique that the item must have.
     pub(super) compare: Option<u64>,
+    /// The unique that the item is given.
+    pub(super) unique: Option<u64>,
     pub(super) flags: u32,
     pub(super) exptime: i64,
     pub(super) value: Value,
@@ -72,7 +74,7 @@ fn is_unconditional(mode: MetaMode, compare: Option<u64>) -> bool
 
 impl Shard {
     ghost use Rattle.mc_store.specs.Step.{writes, stores, store_step, storing, absent_store};
-    ghost use Rattle.mc_store.specs.Shard.{Acts, Does, answered};
+    ghost use Rattle.mc_store.specs.internal.Parts.{Acts, Does, answered};
 
     /// The classic storage commands.
     #[tactic(auto, unfolding(mc_item::specs::Kind::is_lawful))]
@@ -91,6 +93,7 @@ impl Shard {
         let asked = Storing {
             mode: meta_mode(mode),
             compare: compared_unique(mode),
+            unique: None,
             flags,
             exptime,
             value,
@@ -103,27 +106,19 @@ impl Shard {
 
     /// `ms`.
     #[tactic(auto, unfolding(mc_item::specs::Kind::is_lawful))]
-    pub(super) fn meta_store(
-        &mut self,
-        alloc: Global,
-        key: Key,
-        mode: MetaMode,
-        compare: Option<u64>,
-        flags: u32,
-        exptime: i64,
-        value: Value,
-    ) -> Answer
-        ensures acts { Acts self.old (op.MetaStore key mode compare flags exptime value) result self.new }
+    pub(super) fn meta_store(&mut self, alloc: Global, asked: MetaStore) -> Answer
+        ensures acts { Acts self.old (op.MetaStore asked) result self.new }
         ensures lawful { is_lawful Kind.MetaStore result ≡ true }
     {
-        let asked = Storing {
-            mode,
-            compare,
-            flags,
-            exptime,
-            value,
+        let storing = Storing {
+            mode: asked.mode,
+            compare: asked.compare,
+            unique: asked.unique,
+            flags: asked.flags,
+            exptime: asked.exptime,
+            value: asked.value,
         };
-        match self.store(alloc, key, asked) {
+        match self.store(alloc, asked.key, storing) {
             Ok(done) => Answer::MetaDone(done),
             Err(answer) => answer,
         }
@@ -132,7 +127,7 @@ impl Shard {
     /// Stores in the mode that is asked.
     #[tactic(auto, unfolding(mc_item::specs::Kind::is_lawful))]
     fn store(&mut self, alloc: Global, key: Key, asked: Storing) -> Result<MetaDone, Answer>
-        ensures does { (reply : TheDone → TheAnswer) → Does self.old key (λ settled. store_step settled key (storing asked.mode asked.compare asked.flags asked.exptime asked.value) reply (get settled.items key)) (answered reply result) self.new }
+        ensures does { (reply : TheDone → TheAnswer) → Does self.old key (λ settled. store_step settled key (storing asked.mode asked.compare asked.unique asked.flags asked.exptime asked.value) reply (get settled.items key)) (answered reply result) self.new }
         ensures refused { IfErr result (λ answer. is_lawful Kind.Store answer ≡ true) }
         ensures meta_refused { IfErr result (λ answer. is_lawful Kind.MetaStore answer ≡ true) }
     {
@@ -149,7 +144,7 @@ impl Shard {
                 fetched: item.fetched,
                 sent: item.sent,
             };
-            use_item(&mut self.items, &key, new);
+            self.items.make_first(&key, new);
             return Err(Answer::NotStored);
         }
         if is_other(asked.compare, item.unique) {
@@ -158,41 +153,42 @@ impl Shard {
         let Some(after) = joining(asked.mode) else {
             return self.store_asked(key, asked);
         };
-        if item.value.len() + asked.value.len() > VALUE_LIMIT {
+        let size = item.value.len() + asked.value.len();
+        if self.is_too_large(&key, size) {
             return Err(Answer::TooLarge);
         }
         let Ok(value) = item.joined(alloc, &asked.value, after) else {
             return Err(Answer::NoMemory);
         };
         let joined = fresh_item(value, item.flags, item.expiry);
-        self.write_value(key, joined)
+        self.write_value(key, joined, asked.unique)
     }
 
     /// Stores what is asked, whatever is there.
     fn store_asked(&mut self, key: Key, asked: Storing) -> Result<MetaDone, Answer>
-        ensures does { (reply : TheDone → TheAnswer) → Does self.old key (λ settled. stores settled key (storing asked.mode asked.compare asked.flags asked.exptime asked.value) reply) (answered reply result) self.new }
+        ensures does { (reply : TheDone → TheAnswer) → Does self.old key (λ settled. stores settled key (storing asked.mode asked.compare asked.unique asked.flags asked.exptime asked.value) reply) (answered reply result) self.new }
         ensures refused { IfErr result (λ answer. is_lawful Kind.Store answer ≡ true) }
         ensures meta_refused { IfErr result (λ answer. is_lawful Kind.MetaStore answer ≡ true) }
     {
         let item = fresh_item(asked.value, asked.flags, expiry(asked.exptime, self.time));
-        self.write_value(key, item)
+        self.write_value(key, item, asked.unique)
     }
 
     /// Stores what is asked under a key that is not there, if its mode does so.
     #[tactic(auto, unfolding(mc_item::specs::Kind::is_lawful))]
     fn store_absent(&mut self, key: Key, asked: Storing) -> Result<MetaDone, Answer>
-        ensures does { (reply : TheDone → TheAnswer) → Does self.old key (λ settled. absent_store settled key (storing asked.mode asked.compare asked.flags asked.exptime asked.value) reply asked.mode asked.compare) (answered reply result) self.new }
+        ensures does { (reply : TheDone → TheAnswer) → Does self.old key (λ settled. absent_store settled key (storing asked.mode asked.compare asked.unique asked.flags asked.exptime asked.value) reply asked.mode asked.compare) (answered reply result) self.new }
         ensures refused { IfErr result (λ answer. is_lawful Kind.Store answer ≡ true) }
         ensures meta_refused { IfErr result (λ answer. is_lawful Kind.MetaStore answer ≡ true) }
     {
         if asked.compare.is_some() {
-            self.settle(&key);
+            self.remove_dead(&key);
             return Err(Answer::NotFound);
         }
         match asked.mode {
             MetaMode::Set | MetaMode::Add => self.store_asked(key, asked),
             _ => {
-                self.settle(&key);
+                self.remove_dead(&key);
                 Err(Answer::NotStored)
             }
         }
@@ -200,15 +196,15 @@ impl Shard {
 
     /// Puts the item under the key, unless its value is too large.
     #[tactic(auto, unfolding(mc_item::specs::Kind::is_lawful))]
-    fn write_value(&mut self, key: Key, item: Item) -> Result<MetaDone, Answer>
-        ensures does { (reply : TheDone → TheAnswer) → Does self.old key (λ settled. writes settled key item.value (λ unique. record item { unique = unique }) reply) (answered reply result) self.new }
+    fn write_value(&mut self, key: Key, item: Item, token: Option<u64>) -> Result<MetaDone, Answer>
+        ensures does { (reply : TheDone → TheAnswer) → Does self.old key (λ settled. writes settled key token item.value (λ unique. record item { unique = unique }) reply) (answered reply result) self.new }
         ensures refused { IfErr result (λ answer. is_lawful Kind.Store answer ≡ true) }
         ensures meta_refused { IfErr result (λ answer. is_lawful Kind.MetaStore answer ≡ true) }
     {
-        if item.value.len() > VALUE_LIMIT {
-            self.settle(&key);
+        if self.is_too_large(&key, item.value.len()) {
+            self.remove_dead(&key);
             return Err(Answer::TooLarge);
         }
-        self.write_done(key, item, 0)
+        self.write_done(key, item, token, 0)
     }
 }

@@ -1,6 +1,6 @@
 //! What a row of a test asks of a shard, as plain data.
 use mc_command::{Direction, MetaMode, StoreMode};
-use mc_item::{Op, Value, Vivify};
+use mc_item::{MetaCount, MetaDelete, MetaGet, MetaStore, NoMemory, Op, Value, Vivify};
 use mc_wire::{Key, WireFault};
 use std::alloc::{AllocError, Global};
 
@@ -15,6 +15,8 @@ pub enum Ask {
     Flagged(&'static str),
     /// `set` of so many bytes `x`.
     Long(usize),
+    /// The same with an exptime.
+    LongFor(i64, usize),
     Put(StoreMode, &'static str),
     Get,
     Gat(i64),
@@ -27,10 +29,16 @@ pub enum Ask {
     Mg(Option<i64>, Option<i64>, Option<i64>),
     /// `ms` with the flags 9 and the exptime 99, with its flag `C`.
     Ms(MetaMode, Option<u64>, &'static str),
+    /// `ms` with its flag `E`.
+    MsAs(u64, &'static str),
     /// `md`, with its flag `C`, and whether `I` stands.
     Md(Option<u64>, bool),
+    /// `md` with its flag `E`, and whether `I` stands.
+    MdAs(u64, bool),
     /// `ma` that adds, with its flags `C`, `D`, and `N` with `J`.
     Ma(Option<u64>, u64, Option<Vivify>),
+    /// `ma` that adds 1, with its flag `E`, and with `N` and `J`.
+    MaAs(u64, Option<Vivify>),
 }
 
 /// A moment, a key, what is asked then, and what is shown of the answer.
@@ -43,25 +51,26 @@ fn text_of(ask: Ask) -> &'static str {
         | Ask::SetFor(_, text)
         | Ask::Flagged(text)
         | Ask::Put(_, text)
-        | Ask::Ms(_, _, text) => text,
+        | Ask::Ms(_, _, text)
+        | Ask::MsAs(_, text) => text,
         _ => "",
     }
 }
 
-fn long_value(alloc: Global, length: usize) -> Result<Value, AllocError> {
+fn long_value(alloc: Global, length: usize) -> Result<Value, NoMemory> {
     let bytes = vec![in alloc; b'x'; length.min(2_000_000)]?;
-    Ok(Value::new(bytes))
+    Value::new(bytes)
 }
 
-fn value_of(alloc: Global, ask: Ask) -> Result<Value, AllocError> {
-    if let Ask::Long(length) = ask {
+fn value_of(alloc: Global, ask: Ask) -> Result<Value, NoMemory> {
+    if let Ask::Long(length) | Ask::LongFor(_, length) = ask {
         return long_value(alloc, length);
     }
     let bytes = Vec::from_slice(alloc, text_of(ask).as_bytes())?;
     if bytes.len() > 40 {
-        return Ok(Value::new(Vec::new(alloc)));
+        return Ok(Value::empty());
     }
-    Ok(Value::new(bytes))
+    Value::new(bytes)
 }
 
 fn stored(key: Key, value: Value, mode: StoreMode, flags: u32, exptime: i64) -> Op {
@@ -74,23 +83,66 @@ fn stored(key: Key, value: Value, mode: StoreMode, flags: u32, exptime: i64) -> 
     }
 }
 
+/// `ms` with the flags 9 and the exptime 99.
+fn meta_stored(
+    key: Key,
+    value: Value,
+    mode: MetaMode,
+    compare: Option<u64>,
+    unique: Option<u64>,
+) -> Op {
+    Op::MetaStore(MetaStore {
+        key,
+        mode,
+        compare,
+        unique,
+        flags: 9,
+        exptime: 99,
+        value,
+    })
+}
+
 /// An operation that stores a value; any other one gives its key back.
 fn storing(key: Key, value: Value, ask: Ask) -> Result<Op, Key> {
     match ask {
         Ask::Set(_) | Ask::Long(_) => Ok(stored(key, value, StoreMode::Set, 0, 0)),
-        Ask::SetFor(exptime, _) => Ok(stored(key, value, StoreMode::Set, 0, exptime)),
+        Ask::SetFor(exptime, _) | Ask::LongFor(exptime, _) => {
+            Ok(stored(key, value, StoreMode::Set, 0, exptime))
+        }
         Ask::Flagged(_) => Ok(stored(key, value, StoreMode::Set, 3, 30)),
         Ask::Put(mode, _) => Ok(stored(key, value, mode, 0, 0)),
-        Ask::Ms(mode, compare, _) => Ok(Op::MetaStore {
-            key,
-            mode,
-            compare,
-            flags: 9,
-            exptime: 99,
-            value,
-        }),
+        Ask::Ms(mode, compare, _) => Ok(meta_stored(key, value, mode, compare, None)),
+        Ask::MsAs(token, _) => Ok(meta_stored(key, value, MetaMode::Set, None, Some(token))),
         _ => Err(key),
     }
+}
+
+fn meta_deleted(key: Key, compare: Option<u64>, unique: Option<u64>, invalidate: bool) -> Op {
+    Op::MetaDelete(MetaDelete {
+        key,
+        compare,
+        unique,
+        invalidate,
+        exptime: None,
+    })
+}
+
+fn meta_counted(
+    key: Key,
+    compare: Option<u64>,
+    unique: Option<u64>,
+    amount: u64,
+    vivify: Option<Vivify>,
+) -> Op {
+    Op::MetaCount(MetaCount {
+        key,
+        compare,
+        unique,
+        direction: Direction::Increment,
+        amount,
+        exptime: None,
+        vivify,
+    })
 }
 
 /// An operation that takes no value.
@@ -108,26 +160,16 @@ fn reading(key: Key, ask: Ask) -> Op {
         Ask::Delete => Op::Delete { key },
         Ask::Touch(exptime) => Op::Touch { key, exptime },
         Ask::Flush(delay) => Op::Flush { delay },
-        Ask::Mg(touch, vivify, recache) => Op::MetaGet {
+        Ask::Mg(touch, vivify, recache) => Op::MetaGet(MetaGet {
             key,
             touch,
             vivify,
             recache,
-        },
-        Ask::Md(compare, invalidate) => Op::MetaDelete {
-            key,
-            compare,
-            invalidate,
-            exptime: None,
-        },
-        Ask::Ma(compare, amount, vivify) => Op::MetaCount {
-            key,
-            compare,
-            direction: Direction::Increment,
-            amount,
-            exptime: None,
-            vivify,
-        },
+        }),
+        Ask::Md(compare, invalidate) => meta_deleted(key, compare, None, invalidate),
+        Ask::MdAs(token, invalidate) => meta_deleted(key, None, Some(token), invalidate),
+        Ask::Ma(compare, amount, vivify) => meta_counted(key, compare, None, amount, vivify),
+        Ask::MaAs(token, vivify) => meta_counted(key, None, Some(token), 1, vivify),
         _ => Op::Fetch { key, touch: None },
     }
 }
@@ -135,7 +177,7 @@ fn reading(key: Key, ask: Ask) -> Op {
 /// The operation, with its own key and value.
 pub fn op_of(alloc: Global, word: &str, ask: Ask) -> Result<Op, WireFault> {
     let key = Key::from_word(alloc, word.as_bytes())?;
-    let value = value_of(alloc, ask)?;
+    let value = value_of(alloc, ask).map_err(|_| AllocError)?;
     match storing(key, value, ask) {
         Ok(op) => Ok(op),
         Err(key) => Ok(reading(key, ask)),

@@ -1,6 +1,6 @@
 use Rattle.std.proofs.Common.{◌≡◌}
 use Rattle.mc_wire.specs.Words.{words_of}
-use Rattle.mc_command.specs.MetaReading.{IsCounted}
+use Rattle.mc_command.specs.internal.FlagReading.{IsCounted}
 use Rattle.mc_command.proofs.MetaWalks.{read_from}
 use Rattle.mc_command.proofs.meta_flags.read_flags.Given as goal
 

@@ -1,32 +1,50 @@
-use Rattle.std.proofs.Common.{refl, ◌<◌, length}
-use Rattle.mc_server.specs.Lines.{Sight}
-use Rattle.mc_server.proofs.Turns.{no_story, starts}
+-- Each turn takes a command, or answers all that were taken and goes on.
+use Rattle.std.proofs.Common.{false, true}
+use Rattle.mc_conn.specs.declared.conn.Taken.TheVariants as took
+use Rattle.mc_server.specs.Sizes.{line_sizes}
+use Rattle.mc_seat.specs.declared.seat.Turn.TheVariants.{Goes, Ends, Broke}
+use Rattle.mc_server.proofs.Turning.{answers_stop, can_answer, stops_take, turn_ends, turn_said, turns_first, turns_go, turns_take}
 use Rattle.mc_server.proofs.serve.serve_one.Goals as goal
 
 pub loop-init : goal.loop-init
 loop-init g c =
-    let now : Sight = record { input = g.L.Outlet.input c.args.line.now; taken = g.L.Outlet.taken c.args.line.now } in
-    let made = c.in-Ok-Ok-Ok-Ok.ensures in
-    let some : 0 < length c.in-Ok-Ok-Ok-Ok.shards.items = rw made.len c.requires.shards in (
+    let made = c.in-Ok-Ok-Ok.ensures in (
       tt,
       tt,
-      some,
-      (
-        no_story,
-        starts c.args.sizes.shards c.args.sizes.items (record { reader = c.in-Ok-Ok-Ok-Ok.reader; shards = c.in-Ok-Ok-Ok-Ok.shards; joiner = c.in-Ok-Ok-Ok-Ok.joiner; unread = c.in-Ok-Ok-Ok-Ok.unread; commands = 0 }) now
-            c.in-Ok-Ok-Ok-Ok.ensures' c.in-Ok-Ok-Ok-Ok.ensures''' made.len made.empty refl c.in-Ok-Ok-Ok-Ok.ensures''.held,
-        tt,
-      ),
+      turns_first (line_sizes c.args.sizes) (g.K.Clock.may_answer c.args.clock.now) (g.L.Outlet.sight c.args.line.now) c.in-Ok-Ok-Ok.seat.unread c.in-Ok-Ok-Ok.conn c.in-Ok-Ok-Ok.shards.items c.args.sizes.window c.requires.shards made.len made.empty c.in-Ok-Ok-Ok.ensures'' c.in-Ok-Ok-Ok.ensures',
     )
+
+pub loop-preserved-in-Opened : goal.loop-preserved-in-Opened
+loop-preserved-in-Opened g c = (
+  tt,
+  tt,
+  turns_take (line_sizes c.args.sizes) (g.K.Clock.may_answer c.args.clock.now) _ _ _ _ _ _ _ _ c.now.result c.in-Opened.ticket c.now.ensures c.in-Opened.ensures.says c.saturating_add-commands.ensures c.loop.invariant.2,
+)
+
+pub answer-requires : goal.answer-requires
+answer-requires g c =
+    can_answer _ _ _ _ _ _ _ _ _ (stops_take _ _ _ _ _ _ _ _ _ c.now.result c.take-stop.result c.take-stop.ensures.says c.in_default-stop.not-Opened c.loop.invariant.2)
 
 pub loop-preserved : goal.loop-preserved
 loop-preserved g c =
-    let so_far = c.loop.invariant.3 in
-    let some = c.loop.invariant.2 in
-    (tt, tt, rw c.in-Goes.ensures.len some, c.in-Goes.ensures.says _ _ _ so_far.0 so_far.1 so_far.2)
+    let stops = stops_take _ _ _ _ _ _ _ _ _ c.now.result c.take-stop.result c.take-stop.ensures.says c.in_default-stop.not-Opened c.loop.invariant.2 in
+    let answered = answers_stop _ _ _ _ _ _ _ _ _ _ _ c.answer.ensures stops in
+    let goes = turn_said _ _ _ _ _ _ c.go_on.new.self.unread _ _ _ _ _ Goes answered c.in-Goes.ensures in (
+      tt,
+      tt,
+      turns_go _ _ _ _ _ _ _ _ _ answered.stopped.turns _ _ goes,
+    )
 
-pub returns-in-Ends-clause-explained : goal.returns-in-Ends-clause-explained
-returns-in-Ends-clause-explained g c = let so_far = c.loop.invariant.3 in c.in-Ends.ensures.says _ _ _ so_far.0 so_far.1 so_far.2
+pub returns-in-Ends : goal.returns-in-Ends
+returns-in-Ends g c =
+    let stops = stops_take _ _ _ _ _ _ _ _ _ c.now.result c.take-stop.result c.take-stop.ensures.says c.in_default-stop.not-Opened c.loop.invariant.2 in
+    let answered = answers_stop _ _ _ _ _ _ _ _ _ _ _ c.answer.ensures stops in
+    let served = turn_said _ _ _ _ _ _ c.go_on.new.self.unread _ _ _ _ _ Ends answered c.in-Ends.ensures in
+    record { explained = turn_ends _ _ _ _ _ _ _ _ _ _ _ false answered served; refused = tt }
 
-pub returns-in-Broke-clause-explained : goal.returns-in-Broke-clause-explained
-returns-in-Broke-clause-explained g c = let so_far = c.loop.invariant.3 in c.in-Broke.ensures.says _ _ _ so_far.0 so_far.1 so_far.2
+pub returns-in-Broke : goal.returns-in-Broke
+returns-in-Broke g c =
+    let stops = stops_take _ _ _ _ _ _ _ _ _ c.now.result c.take-stop.result c.take-stop.ensures.says c.in_default-stop.not-Opened c.loop.invariant.2 in
+    let answered = answers_stop _ _ _ _ _ _ _ _ _ _ _ c.answer.ensures stops in
+    let served = turn_said _ _ _ _ _ _ c.go_on.new.self.unread _ _ _ _ _ Broke answered c.in-Broke.ensures in
+    record { explained = turn_ends _ _ _ _ _ _ _ _ _ _ _ true answered served; refused = tt }

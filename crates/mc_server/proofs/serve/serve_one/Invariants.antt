@@ -1,11 +1,9 @@
-use Rattle.std.proofs.Common.{◌<◌, length}
-use Rattle.mc_server.specs.Stands.{Story, Stands, HasMoments}
+-- What stands between the turns.
+use Rattle.mc_server.specs.Sizes.{line_sizes}
+use Rattle.mc_server.specs.internal.Turns.{Turns}
 use Rattle.mc_server.proofs.serve.serve_one.Given as goal
 
 abbrev pub invariant-loop : goal.invariant-loop
 invariant-loop g l =
     (goal.iterator-loop g).can_next l.iterator' × (goal.iterator-loop g).is_finite l.iterator'
-    × (0 < length l.service.shards.items)
-    × ((story : Story)
-    × Stands l.fn.sizes.shards l.fn.sizes.items (record { input = g.L.Outlet.input l.fn.line; taken = g.L.Outlet.taken l.fn.line }) l.service (record { input = g.L.Outlet.input l.line; taken = g.L.Outlet.taken l.line }) story
-    × HasMoments (g.K.Clock.may_answer l.fn.clock) story.history)
+    × Turns (line_sizes l.fn.sizes) (g.K.Clock.may_answer l.fn.clock) (g.L.Outlet.sight l.fn.line) (g.L.Outlet.sight l.line) l.seat.unread l.conn l.shards.items l.commands

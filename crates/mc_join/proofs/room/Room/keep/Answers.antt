@@ -7,4 +7,4 @@ pub returns-clause-refused : goal.returns-clause-refused
 returns-clause-refused c =
     let old = c.args.self.now.bytes in
     let whole : c.len-before.result ≡ length old.items = omega (arith, c.len-before.ensures, old.ok.0) in
-    λ _. c.truncate.ensures.items ∙ kept_front old.items c.put_due.new.out.bytes.items (form_text c.args.form.now) c.len-before.result whole c.in_default.ensures.err
+    λ _. c.truncate.ensures.items ∙ kept_front old.items c.put_due.new.out.bytes.items (form_text c.args.form.now) _ _ c.len-before.result whole c.in_default.ensures

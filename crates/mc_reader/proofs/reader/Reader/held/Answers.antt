@@ -1,10 +1,22 @@
-use Rattle.std.proofs.Common.{arith}
+use Rattle.std.proofs.Common.{ap, length, arith}
 use Rattle.mc_reader.specs.Reader.{IsReader}
-use Rattle.mc_reader.proofs.Readers.{nothing_in_blocks}
+use Rattle.mc_reader.proofs.Readers.{held_unread, held_within, nothing_in_blocks}
 use Rattle.mc_reader.proofs.reader.Reader.held.Goals as goal
 
 pub returns-clause-skipped : goal.returns-clause-skipped
 unfolding IsReader
-returns-clause-skipped c fed ended given h amid =
-    let none = nothing_in_blocks c.args.self.now fed ended given h amid in
+returns-clause-skipped c limit fed ended given h amid =
+    let none = nothing_in_blocks limit c.args.self.now fed ended given h amid in
     omega (arith, none, c.held.ensures.value, c.unread.ensures.fits)
+
+pub returns-clause-most : goal.returns-clause-most
+unfolding IsReader
+returns-clause-most c limit fed ended given h =
+    let most = held_within limit c.args.self.now fed ended given h in
+    omega (arith, most, c.held.ensures.value, c.unread.ensures.fits)
+
+pub returns-clause-unread : goal.returns-clause-unread
+unfolding IsReader
+returns-clause-unread c limit fed ended given rest h goes_on front =
+    let within = held_unread limit c.args.self.now fed ended given rest h goes_on front in
+    omega (arith, within, c.held.ensures.value, ap length c.unread.ensures.bytes)

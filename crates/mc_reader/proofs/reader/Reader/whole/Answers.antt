@@ -1,7 +1,11 @@
 use Rattle.mc_reader.specs.Reader.{IsReader}
-use Rattle.mc_reader.proofs.Readers.{whole_is}
+use Rattle.mc_reader.proofs.Readers.{all_given_is, whole_is}
 use Rattle.mc_reader.proofs.reader.Reader.whole.Goals as goal
 
-pub returns : goal.returns
+pub returns-clause-whole : goal.returns-clause-whole
 unfolding IsReader
-returns c fed ended given h = whole_is c.args.self.now fed ended given c.is_whole.result c.is_whole.ensures.whole c.is_whole.ensures.closed h
+returns-clause-whole c limit fed ended given h = whole_is limit c.args.self.now fed ended given c.is_whole.result (c.is_whole.ensures.whole limit) c.is_whole.ensures.closed h
+
+pub returns-clause-all : goal.returns-clause-all
+unfolding IsReader
+returns-clause-all c limit fed ended given h = all_given_is limit c.args.self.now fed ended given c.is_whole.result (c.is_whole.ensures.whole limit) c.is_whole.ensures.closed h

@@ -1,33 +1,44 @@
-use Rattle.std.proofs.Common.{◌∙◌, ap, take}
-use Rattle.mc_command.proofs.Sizes.{data_small}
+use Rattle.std.proofs.Common.{◌∙◌, ap, take, arith}
 use Rattle.mc_wire.specs.Words.{words_of}
+use Rattle.mc_command.proofs.Sizes.{data_small}
 use Rattle.mc_reader.specs.Spelling.{without_return}
+use Rattle.mc_reader.specs.internal.State.{Holds, IsWhole}
 use Rattle.mc_reader.specs.declared.state.State.TheVariants as state
 use Rattle.mc_reader.proofs.States.{read_head, read_refused, read_whole}
 use Rattle.mc_reader.proofs.state.State.read_line.Goals as goal
-use Rattle.mc_reader.proofs.state.State.read_line.Goals.{in-Data+in-Block-1, in-Data+in-Line-self-open_block, in-Skip+in-Block-1, in-Skip+in-Line-self-open_skip}
+use Rattle.mc_reader.proofs.state.State.read_line.Goals.{in-Data+else-has_block+in-Block-1, in-Data+else-has_block+in-Line-self-open_block, in-Skip+in-Block-1, in-Skip+in-Line-self-open_skip}
 
 pub returns-in-Whole-clause-some : goal.returns-in-Whole-clause-some
 returns-in-Whole-clause-some c unread h =
     let is = c.in-Line-Some.is ∙ ap (λ x. state.Line x) c.in-Line-Some.field-0-is in
-    read_whole c.args.self.now c.args.buffer.now c.take_line.new.buffer unread c.in-Line-Some.long c.in-Whole.command is c.take_line.ensures.rest c.in-Whole.ensures.says h
+    read_whole c.args.limit c.args.self.now c.args.buffer.now c.take_line.new.buffer unread c.in-Line-Some.long c.in-Whole.command is c.take_line.ensures.rest c.in-Whole.ensures.says h
 
 pub returns-in-Refused-clause-some : goal.returns-in-Refused-clause-some
 returns-in-Refused-clause-some c unread h =
     let is = c.in-Line-Some.is ∙ ap (λ x. state.Line x) c.in-Line-Some.field-0-is in
-    read_refused c.args.self.now c.args.buffer.now c.take_line.new.buffer unread c.in-Line-Some.long c.in-Refused.refusal is c.take_line.ensures.rest c.in-Refused.ensures.says h
+    read_refused c.args.limit c.args.self.now c.args.buffer.now c.take_line.new.buffer unread c.in-Line-Some.long c.in-Refused.refusal is c.take_line.ensures.rest c.in-Refused.ensures.says h
+
+pub returns-then-has_block-clause-some : goal.returns-then-has_block-clause-some
+returns-then-has_block-clause-some c unread h =
+    let is = c.in-Line-Some.is ∙ ap (λ x. state.Line x) c.in-Line-Some.field-0-is in
+    let line = take c.in-Line-Some.long c.args.buffer.now in
+    read_head c.args.limit (IsWhole c.args.limit c.take_block.result c.take_block.new.buffer) c.args.self.now c.args.buffer.now c.take_line.new.buffer unread c.in-Line-Some.long is c.take_line.ensures.rest
+    (λ none short. c.take_block.ensures c.args.limit line none short c.in-Data.ensures.says) h
+
+pub open_block-requires : goal.open_block-requires
+open_block-requires c =
+    let small = data_small c.args.limit (words_of (without_return (take c.in-Line-Some.long c.args.buffer.now))) c.in-Data.command c.in-Data.count c.in-Data.ensures.says in
+    omega (arith, small, c.requires.small)
 
 pub returns-clause-none : goal.returns-clause-none
 returns-clause-none c unread h =
     let is = c.in-Line-Some.is ∙ ap (λ x. state.Line x) c.in-Line-Some.field-0-is in
+    let limit = c.args.limit in
     let long = c.in-Line-Some.long in
     let line = take long c.args.buffer.now in
     elim c.match-take_line.branch [
-      | in-Data+in-Block-1 w ↦ rw (w.self-is, w.buffer-is) (read_head c.args.self.now w.open_block.result c.args.buffer.now c.take_line.new.buffer w.open_block.new.buffer unread long is c.take_line.ensures.rest (λ none short. w.open_block.ensures.holds line none short w.in-Data.ensures.says) h)
-      | in-Data+in-Line-self-open_block w ↦ rw (w.self-is, w.buffer-is) (read_head c.args.self.now w.open_block.result c.args.buffer.now c.take_line.new.buffer w.open_block.new.buffer unread long is c.take_line.ensures.rest (λ none short. w.open_block.ensures.holds line none short w.in-Data.ensures.says) h)
-      | in-Skip+in-Block-1 w ↦ rw (w.self-is, w.buffer-is) (read_head c.args.self.now w.open_skip.result c.args.buffer.now c.take_line.new.buffer w.open_skip.new.buffer unread long is c.take_line.ensures.rest (λ none short. w.open_skip.ensures.holds line none short w.in-Skip.ensures.says) h)
-      | in-Skip+in-Line-self-open_skip w ↦ rw (w.self-is, w.buffer-is) (read_head c.args.self.now w.open_skip.result c.args.buffer.now c.take_line.new.buffer w.open_skip.new.buffer unread long is c.take_line.ensures.rest (λ none short. w.open_skip.ensures.holds line none short w.in-Skip.ensures.says) h)
+      | in-Data+else-has_block+in-Block-1 w ↦ rw (w.self-is, w.buffer-is) (read_head limit (Holds limit w.open_block.result w.open_block.new.buffer) c.args.self.now c.args.buffer.now c.take_line.new.buffer unread long is c.take_line.ensures.rest (λ none short. w.open_block.ensures.holds limit line none short w.in-Data.ensures.says) h)
+      | in-Data+else-has_block+in-Line-self-open_block w ↦ rw (w.self-is, w.buffer-is) (read_head limit (Holds limit w.open_block.result w.open_block.new.buffer) c.args.self.now c.args.buffer.now c.take_line.new.buffer unread long is c.take_line.ensures.rest (λ none short. w.open_block.ensures.holds limit line none short w.in-Data.ensures.says) h)
+      | in-Skip+in-Block-1 w ↦ rw (w.self-is, w.buffer-is) (read_head limit (Holds limit w.open_skip.result w.open_skip.new.buffer) c.args.self.now c.args.buffer.now c.take_line.new.buffer unread long is c.take_line.ensures.rest (λ none short. w.open_skip.ensures.holds limit line none short w.in-Skip.ensures.says) h)
+      | in-Skip+in-Line-self-open_skip w ↦ rw (w.self-is, w.buffer-is) (read_head limit (Holds limit w.open_skip.result w.open_skip.new.buffer) c.args.self.now c.args.buffer.now c.take_line.new.buffer unread long is c.take_line.ensures.rest (λ none short. w.open_skip.ensures.holds limit line none short w.in-Skip.ensures.says) h)
     ]
-
-pub open_block-requires : goal.open_block-requires
-open_block-requires c = data_small (words_of (without_return (take c.in-Line-Some.long c.args.buffer.now))) c.in-Data.command c.in-Data.count c.in-Data.ensures.says

@@ -3,9 +3,10 @@ use Rattle.std.specs.Prelude.{FitsSigned}
 use Rattle.std.proofs.lemmas.Int.{to_z-of_z}
 use Rattle.mc_item.specs.Expiry.{expiry_of}
 use Rattle.mc_item.specs.Value.{number_text}
-use Rattle.mc_store.specs.State.{met}
+use Rattle.mc_store.specs.State.{without_dead}
 use Rattle.mc_store.specs.Step.{absent_count}
-use Rattle.mc_store.specs.Shard.{IsShard, held_of, answered}
+use Rattle.mc_store.specs.Shard.{IsShard, held_of}
+use Rattle.mc_store.specs.internal.Parts.{answered}
 use Rattle.mc_store.proofs.Stores.{fresh_of}
 use Rattle.mc_store.proofs.Counts.{counter_as, vivified_as}
 use Rattle.mc_store.proofs.shard.Shard.count_absent.Goals as goal
@@ -13,21 +14,21 @@ use Rattle.mc_store.proofs.shard.Shard.count_absent.Goals as goal
 pub returns-in_default-clause-does : goal.returns-in_default-clause-does
 unfolding IsShard
 returns-in_default-clause-does c = λ reply state h.
-    let settled = met state (Some c.args.key) in
-    (settled, inr (ap (λ v. absent_count settled c.args.key reply v) (sym c.in_default.is)), c.settle.ensures state h)
+    let settled = without_dead state (Some c.args.key) in
+    (settled, inr (ap (λ v. absent_count settled c.args.key c.args.token reply v) (sym c.in_default.is)), c.remove_dead.ensures state h)
 
 pub returns-in_default-of_number-clause-does : goal.returns-in_default-of_number-clause-does
 unfolding IsShard
-returns-in_default-of_number-clause-does c = λ reply state h. (met state (Some c.args.key), inl (refl, refl), c.settle-in_default-of_number.ensures state h)
+returns-in_default-of_number-clause-does c = λ reply state h. (without_dead state (Some c.args.key), inl (refl, refl), c.remove_dead-in_default-of_number.ensures state h)
 
 pub returns-clause-does : goal.returns-clause-does
 unfolding IsShard
 returns-clause-does c = λ reply state h.
-    let settled = met state (Some c.args.key) in
+    let settled = without_dead state (Some c.args.key) in
     let made = c.in-Some.made in
     let fits : FitsSigned w64 made.exptime = search rules in
     let expiry : c.expiry.result ≡ expiry_of made.exptime c.args.self.now.time = rw (to_z-of_z w64 made.exptime fits) at c.expiry.ensures in
     let fresh_is : c.fresh_item-item.result ≡ fresh_of c.in-Ok.value 0 c.expiry.result = c.fresh_item-item.ensures in
-    let is : c.fresh_item-item.result ≡ fresh_of (number_text made.initial) 0 (expiry_of made.exptime c.args.self.now.time) = fresh_is ∙ ap (λ v. fresh_of v 0 c.expiry.result) c.in-Ok.ensures ∙ ap (λ e. fresh_of (number_text made.initial) 0 e) expiry in
-    vivified_as settled c.args.key c.args.vivify made reply (answered reply c.write_done.result) (held_of c.write_done.new.self) c.in-Some.is
-    (counter_as (held_of c.args.self.now) state c.args.key made c.fresh_item-item.result reply (answered reply c.write_done.result) (held_of c.write_done.new.self) h is (c.write_done.ensures.does reply state h))
+    let is : c.fresh_item-item.result ≡ fresh_of (number_text made.initial) 0 (expiry_of made.exptime c.args.self.now.time) = fresh_is ∙ ap (λ v. fresh_of v 0 c.expiry.result) c.in-Ok.ensures.text ∙ ap (λ e. fresh_of (number_text made.initial) 0 e) expiry in
+    vivified_as settled c.args.key c.args.token c.args.vivify made reply (answered reply c.write_done.result) (held_of c.write_done.new.self) c.in-Some.is
+    (counter_as (held_of c.args.self.now) state c.args.key c.args.token made c.fresh_item-item.result reply (answered reply c.write_done.result) (held_of c.write_done.new.self) h is (c.write_done.ensures.does reply state h))

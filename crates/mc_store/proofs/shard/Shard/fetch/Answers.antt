@@ -6,7 +6,7 @@ use Rattle.mc_store.proofs.shard.Shard.fetch.Goals as goal
 
 pub returns-in_default-clause-acts : goal.returns-in_default-clause-acts
 unfolding IsShard key_of
-returns-in_default-clause-acts c = λ state h. rw c.pop.ensures.entries (fetch_miss (held_of c.args.self.now) state c.args.key.now c.args.touch h c.in_default.ensures)
+returns-in_default-clause-acts c = λ state h. rw c.remove.ensures.left (fetch_miss (held_of c.args.self.now) state c.args.key.now c.args.touch h c.in_default.ensures)
 
 pub returns-in_default-clone-clause-acts : goal.returns-in_default-clone-clause-acts
 unfolding IsShard key_of
@@ -16,4 +16,4 @@ pub returns-clause-acts : goal.returns-clause-acts
 unfolding IsShard key_of
 returns-clause-acts c = λ state h.
     let there = (live_item c.args.self.now.time _ c.in-Some.item.now c.in-Some.ensures).0 in
-    rw (c.use_item.ensures c.in-Some.item.now there, c.expiry_from.ensures, c.in-Ok.ensures.cases) (fetch_hit (held_of c.args.self.now) state c.args.key.now c.args.touch c.in-Some.item.now h c.in-Some.ensures)
+    rw (c.make_first.ensures c.in-Some.item.now there, c.expiry_from.ensures, c.in-Ok.ensures.cases) (fetch_hit (held_of c.args.self.now) state c.args.key.now c.args.touch c.in-Some.item.now h c.in-Some.ensures)

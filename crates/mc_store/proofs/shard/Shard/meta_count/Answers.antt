@@ -1,15 +1,15 @@
 use Rattle.std.proofs.Common.{Some}
 use Rattle.mc_item.specs.declared.answer.Answer.TheVariants.{MetaDone}
 use Rattle.mc_item.specs.Kind.{key_of}
-use Rattle.mc_store.specs.State.{met}
+use Rattle.mc_store.specs.State.{without_dead}
 use Rattle.mc_store.specs.Shard.{IsShard, held_of}
 use Rattle.mc_store.proofs.Counts.{meta_count}
 use Rattle.mc_store.proofs.shard.Shard.meta_count.Goals as goal
 
 pub returns-in-Ok-clause-acts : goal.returns-in-Ok-clause-acts
 unfolding IsShard key_of
-returns-in-Ok-clause-acts c = λ state h. meta_count (met state (Some c.args.key)) c.args.key c.args.compare c.args.direction c.args.amount c.args.exptime c.args.vivify (MetaDone c.in-Ok.done) (held_of c.count.new.self) (c.in-Ok.ensures.does (λ done. MetaDone done) state h)
+returns-in-Ok-clause-acts c = λ state h. meta_count (without_dead state (Some c.args.asked.key)) c.args.asked (MetaDone c.in-Ok.done) (held_of c.count.new.self) (c.in-Ok.ensures.does (λ done. MetaDone done) state h)
 
 pub returns-in-Err-clause-acts : goal.returns-in-Err-clause-acts
 unfolding IsShard key_of
-returns-in-Err-clause-acts c = λ state h. meta_count (met state (Some c.args.key)) c.args.key c.args.compare c.args.direction c.args.amount c.args.exptime c.args.vivify c.in-Err.answer (held_of c.count.new.self) (c.in-Err.ensures.does (λ done. MetaDone done) state h)
+returns-in-Err-clause-acts c = λ state h. meta_count (without_dead state (Some c.args.asked.key)) c.args.asked c.in-Err.answer (held_of c.count.new.self) (c.in-Err.ensures.does (λ done. MetaDone done) state h)

@@ -4,24 +4,24 @@ use Rattle.std.proofs.lemmas.Int.{to_z-of_z}
 use Rattle.mc_item.specs.declared.answer.Answer.{Answer}
 use Rattle.mc_item.specs.declared.answer.Answer.TheVariants.{MetaHit}
 use Rattle.mc_item.specs.Expiry.{expiry_of}
-use Rattle.mc_store.specs.State.{met}
+use Rattle.mc_store.specs.State.{without_dead}
 use Rattle.mc_store.specs.Rows.{made_hit}
 use Rattle.mc_store.specs.Step.{absent_meta_get}
 use Rattle.mc_store.specs.Shard.{IsShard, held_of}
 use Rattle.mc_store.proofs.Writes.{as_answer}
-use Rattle.mc_store.proofs.Gets.{empty_item, recached_as, vivified_as, made_hit_is}
+use Rattle.mc_store.proofs.Gets.{empty_item, vivified_item_as, vivified_as, made_hit_is}
 use Rattle.mc_store.proofs.shard.Shard.meta_get_absent.Goals as goal
 
 pub returns-in_default-clause-does : goal.returns-in_default-clause-does
 unfolding IsShard
 returns-in_default-clause-does c = λ state h.
-    let settled = met state (Some c.args.key) in
-    (settled, inr (ap (λ v. absent_meta_get settled c.args.key v) (sym c.in_default.is)), c.settle.ensures state h)
+    let settled = without_dead state (Some c.args.key) in
+    (settled, inr (ap (λ v. absent_meta_get settled c.args.key v) (sym c.in_default.is)), c.remove_dead.ensures state h)
 
 pub returns-in-Ok-clause-does : goal.returns-in-Ok-clause-does
 unfolding IsShard
 returns-in-Ok-clause-does c = λ state h.
-    let settled = met state (Some c.args.key) in
+    let settled = without_dead state (Some c.args.key) in
     let time = c.args.self.now.time in
     let item = c.empty_item-item.result in
     let said : ℕ → Answer = λ unique. MetaHit (made_hit (record item { unique = unique }) time) in
@@ -32,12 +32,12 @@ returns-in-Ok-clause-does c = λ state h.
     let hit : made_hit (record item { unique = c.in-Ok.unique }) time ≡ c.made_hit.result = made_hit_is item c.expiry.result c.in-Ok.unique time c.seconds_left-left.result made c.seconds_left-left.ensures ∙ sym c.made_hit.ensures in
     as_answer settled (absent_meta_get settled c.args.key c.args.vivify) (said c.in-Ok.unique) (MetaHit c.made_hit.result) (held_of c.write.new.self) (ap (λ m. MetaHit m) hit)
     (vivified_as settled c.args.key c.args.vivify c.in-Some.exptime (said c.in-Ok.unique) (held_of c.write.new.self) c.in-Some.is
-    (recached_as (held_of c.args.self.now) state c.args.key c.in-Some.exptime item (said c.in-Ok.unique) (held_of c.write.new.self) h is (c.in-Ok.ensures.does said state h)))
+    (vivified_item_as (held_of c.args.self.now) state c.args.key c.in-Some.exptime item (said c.in-Ok.unique) (held_of c.write.new.self) h is (c.in-Ok.ensures.does said state h)))
 
 pub returns-in-Err-clause-does : goal.returns-in-Err-clause-does
 unfolding IsShard
 returns-in-Err-clause-does c = λ state h.
-    let settled = met state (Some c.args.key) in
+    let settled = without_dead state (Some c.args.key) in
     let time = c.args.self.now.time in
     let item = c.empty_item-item.result in
     let said : ℕ → Answer = λ unique. MetaHit (made_hit (record item { unique = unique }) time) in
@@ -46,4 +46,4 @@ returns-in-Err-clause-does c = λ state h.
     let made : item ≡ empty_item c.expiry.result 0 = c.empty_item-item.ensures in
     let is : item ≡ empty_item (expiry_of c.in-Some.exptime time) 0 = made ∙ ap (λ e. empty_item e 0) expiry in
     vivified_as settled c.args.key c.args.vivify c.in-Some.exptime c.in-Err.answer (held_of c.write.new.self) c.in-Some.is
-    (recached_as (held_of c.args.self.now) state c.args.key c.in-Some.exptime item c.in-Err.answer (held_of c.write.new.self) h is (c.in-Err.ensures.does said state h))
+    (vivified_item_as (held_of c.args.self.now) state c.args.key c.in-Some.exptime item c.in-Err.answer (held_of c.write.new.self) h is (c.in-Err.ensures.does said state h))

@@ -1,16 +1,21 @@
-use Rattle.std.proofs.Common.{Some, w64}
+use Rattle.std.proofs.Common.{Some, w64, rules}
+use Rattle.std.specs.Prelude.{FitsSigned}
 use Rattle.std.proofs.lemmas.Int.{to_z-of_z}
 use Rattle.mc_item.specs.declared.answer.Answer.TheVariants.{MetaDone}
 use Rattle.mc_item.specs.Kind.{key_of}
-use Rattle.mc_store.specs.State.{met}
+use Rattle.mc_store.specs.State.{without_dead}
 use Rattle.mc_store.specs.Shard.{IsShard, held_of}
 use Rattle.mc_store.proofs.Stores.{meta_store}
 use Rattle.mc_store.proofs.shard.Shard.meta_store.Goals as goal
 
 pub returns-in-Ok-clause-acts : goal.returns-in-Ok-clause-acts
 unfolding IsShard key_of
-returns-in-Ok-clause-acts c = λ state h. meta_store (met state (Some c.args.key)) c.args.key c.args.mode c.args.compare c.args.flags c.args.exptime c.args.value (MetaDone c.in-Ok.done) (held_of c.store.new.self) (rw (to_z-of_z w64 c.args.exptime c.ranges.exptime) at (c.in-Ok.ensures.does (λ done. MetaDone done) state h))
+returns-in-Ok-clause-acts c = λ state h.
+    let fits : FitsSigned w64 c.args.asked.exptime = search rules in
+    meta_store (without_dead state (Some c.args.asked.key)) c.args.asked (MetaDone c.in-Ok.done) (held_of c.store.new.self) (rw (to_z-of_z w64 c.args.asked.exptime fits) at (c.in-Ok.ensures.does (λ done. MetaDone done) state h))
 
 pub returns-in-Err-clause-acts : goal.returns-in-Err-clause-acts
 unfolding IsShard key_of
-returns-in-Err-clause-acts c = λ state h. meta_store (met state (Some c.args.key)) c.args.key c.args.mode c.args.compare c.args.flags c.args.exptime c.args.value c.in-Err.answer (held_of c.store.new.self) (rw (to_z-of_z w64 c.args.exptime c.ranges.exptime) at (c.in-Err.ensures.does (λ done. MetaDone done) state h))
+returns-in-Err-clause-acts c = λ state h.
+    let fits : FitsSigned w64 c.args.asked.exptime = search rules in
+    meta_store (without_dead state (Some c.args.asked.key)) c.args.asked c.in-Err.answer (held_of c.store.new.self) (rw (to_z-of_z w64 c.args.asked.exptime fits) at (c.in-Err.ensures.does (λ done. MetaDone done) state h))

@@ -41,9 +41,7 @@ returns-in-MetaGet-clause-step c = λ state h. rw c.in-MetaGet.is (c.meta_get.en
 
 pub returns-in-MetaStore-clause-step : goal.returns-in-MetaStore-clause-step
 unfolding IsStep
-returns-in-MetaStore-clause-step c = λ state h.
-    let fits : FitsSigned w64 c.in-MetaStore.exptime = search rules in
-    rw (c.in-MetaStore.is, ← to_z-of_z w64 c.in-MetaStore.exptime fits) (c.meta_store.ensures.acts (arrived state c.args.moment) (c.arrive.ensures state h))
+returns-in-MetaStore-clause-step c = λ state h. rw c.in-MetaStore.is (c.meta_store.ensures.acts (arrived state c.args.moment) (c.arrive.ensures state h))
 
 pub returns-in-MetaDelete-clause-step : goal.returns-in-MetaDelete-clause-step
 unfolding IsStep

@@ -1,10 +1,10 @@
-use Rattle.std.proofs.Common.{◌≡◌, ◌+◌, ◌<◌, ap, sym, ◌∙◌, Some, arith, length}
-use Rattle.mc_wire.specs.declared.TheConstants.{VALUE_LIMIT}
+use Rattle.std.proofs.Common.{◌≡◌, ◌+◌, ap, sym, ◌∙◌, Some}
 use Rattle.mc_item.specs.Value.{joined}
-use Rattle.mc_store.specs.State.{met}
+use Rattle.mc_store.specs.State.{without_dead}
 use Rattle.mc_store.specs.Step.{storing, stores, absent_store, store_step}
 use Rattle.std.specs.FinMap.{get}
-use Rattle.mc_store.specs.Shard.{IsShard, held_of, answered}
+use Rattle.mc_store.specs.Shard.{IsShard, held_of}
+use Rattle.mc_store.specs.internal.Parts.{answered}
 use Rattle.mc_store.proofs.Shards.{live_item}
 use Rattle.mc_store.proofs.Writes.{along}
 use Rattle.mc_store.proofs.Outcomes.{lacks_as}
@@ -14,44 +14,43 @@ use Rattle.mc_store.proofs.shard.Shard.store.Goals as goal
 pub returns-then-is_unconditional-clause-does : goal.returns-then-is_unconditional-clause-does
 unfolding IsShard
 returns-then-is_unconditional-clause-does c = λ reply state h.
-    let asked = storing c.args.asked.mode c.args.asked.compare c.args.asked.flags c.args.asked.exptime c.args.asked.value in
-    let settled = met state (Some c.args.key) in
+    let asked = storing c.args.asked.mode c.args.asked.compare c.args.asked.unique c.args.asked.flags c.args.asked.exptime c.args.asked.value in
+    let settled = without_dead state (Some c.args.key) in
     along settled (stores settled c.args.key asked reply) (store_step settled c.args.key asked reply (get settled.items c.args.key)) (answered reply c.store_asked.result) (held_of c.store_asked.new.self) (set_is settled c.args.key asked reply c.if-is_unconditional.ensures) (c.store_asked.ensures.does reply state h)
 
 pub returns-in_default-clause-does : goal.returns-in_default-clause-does
 unfolding IsShard
 returns-in_default-clause-does c = λ reply state h.
-    let asked = storing c.args.asked.mode c.args.asked.compare c.args.asked.flags c.args.asked.exptime c.args.asked.value in
-    let settled = met state (Some c.args.key) in
+    let asked = storing c.args.asked.mode c.args.asked.compare c.args.asked.unique c.args.asked.flags c.args.asked.exptime c.args.asked.value in
+    let settled = without_dead state (Some c.args.key) in
     along settled (absent_store settled c.args.key asked reply asked.mode asked.compare) (store_step settled c.args.key asked reply (get settled.items c.args.key)) (answered reply c.store_absent.result) (held_of c.store_absent.new.self) (store_misses (held_of c.args.self.now) state c.args.key asked reply h c.in_default.ensures) (c.store_absent.ensures.does reply state h)
 
 pub returns-in-Add-clause-does : goal.returns-in-Add-clause-does
 unfolding IsShard
 returns-in-Add-clause-does c = λ reply state h.
-    let asked = storing c.args.asked.mode c.args.asked.compare c.args.asked.flags c.args.asked.exptime c.args.asked.value in
+    let asked = storing c.args.asked.mode c.args.asked.compare c.args.asked.unique c.args.asked.flags c.args.asked.exptime c.args.asked.value in
     let there = (live_item c.args.self.now.time _ c.in-Some.item.now c.in-Some.ensures).0 in
-    rw (c.use_item.ensures c.in-Some.item.now there) (add_refused (held_of c.args.self.now) state c.args.key c.in-Some.item.now asked reply h c.in-Some.ensures c.in-Add.is)
+    rw (c.make_first.ensures c.in-Some.item.now there) (add_refused (held_of c.args.self.now) state c.args.key c.in-Some.item.now asked reply h c.in-Some.ensures c.in-Add.is)
 
 pub returns-then-is_other-clause-does : goal.returns-then-is_other-clause-does
 unfolding IsShard
 returns-then-is_other-clause-does c = λ reply state h.
-    let asked = storing c.args.asked.mode c.args.asked.compare c.args.asked.flags c.args.asked.exptime c.args.asked.value in
+    let asked = storing c.args.asked.mode c.args.asked.compare c.args.asked.unique c.args.asked.flags c.args.asked.exptime c.args.asked.value in
     store_exists (held_of c.args.self.now) state c.args.key c.in-Some.item.now asked reply h c.in-Some.ensures c.in_default-mode.not-Add (sym c.if-is_other.ensures)
 
 pub returns-in_default-joining-clause-does : goal.returns-in_default-joining-clause-does
 unfolding IsShard
 returns-in_default-joining-clause-does c = λ reply state h.
-    let asked = storing c.args.asked.mode c.args.asked.compare c.args.asked.flags c.args.asked.exptime c.args.asked.value in
-    let settled = met state (Some c.args.key) in
+    let asked = storing c.args.asked.mode c.args.asked.compare c.args.asked.unique c.args.asked.flags c.args.asked.exptime c.args.asked.value in
+    let settled = without_dead state (Some c.args.key) in
     along settled (stores settled c.args.key asked reply) (store_step settled c.args.key asked reply (get settled.items c.args.key)) (answered reply c.store_asked-in_default-joining.result) (held_of c.store_asked-in_default-joining.new.self)
     (replaced_is (held_of c.args.self.now) state c.args.key c.in-Some.item.now asked reply h c.in-Some.ensures c.in_default-mode.not-Add c.in_default-joining.ensures (sym c.if-is_other.ensures)) (c.store_asked-in_default-joining.ensures.does reply state h)
 
-pub returns-then-len-gt-VALUE_LIMIT-clause-does : goal.returns-then-len-gt-VALUE_LIMIT-clause-does
+pub returns-then-is_too_large-clause-does : goal.returns-then-is_too_large-clause-does
 unfolding IsShard
-returns-then-len-gt-VALUE_LIMIT-clause-does c = λ reply state h.
-    let asked = storing c.args.asked.mode c.args.asked.compare c.args.asked.flags c.args.asked.exptime c.args.asked.value in
-    let large : VALUE_LIMIT < length c.in-Some.item.now.value + length c.args.asked.value = (let t = c.if-len-gt-VALUE_LIMIT.true in let one = c.len.ensures.value in let two = c.len-2.ensures.value in omega arith) in
-    joined_large (held_of c.args.self.now) state c.args.key c.in-Some.item.now asked reply c.in-Some-joining.after h c.in-Some.ensures c.in-Some-joining.ensures (sym c.if-is_other.ensures) large
+returns-then-is_too_large-clause-does c = λ reply state h.
+    let asked = storing c.args.asked.mode c.args.asked.compare c.args.asked.unique c.args.asked.flags c.args.asked.exptime c.args.asked.value in
+    joined_large (held_of c.args.self.now) state c.args.key c.in-Some.item.now asked reply c.in-Some-joining.after h c.in-Some.ensures c.in-Some-joining.ensures (sym c.if-is_other.ensures) (c.len.result + c.len-2.result) (rw (c.len.ensures.value, c.len-2.ensures.value)) (sym c.is_too_large.ensures ∙ c.if-is_too_large.true)
 
 pub returns-in_default-joined-clause-does : goal.returns-in_default-joined-clause-does
 unfolding IsShard
@@ -60,7 +59,7 @@ returns-in_default-joined-clause-does c = λ reply state h. lacks_as (held_of c.
 pub returns-clause-does : goal.returns-clause-does
 unfolding IsShard
 returns-clause-does c = λ reply state h.
-    let asked = storing c.args.asked.mode c.args.asked.compare c.args.asked.flags c.args.asked.exptime c.args.asked.value in
+    let asked = storing c.args.asked.mode c.args.asked.compare c.args.asked.unique c.args.asked.flags c.args.asked.exptime c.args.asked.value in
     let item = c.in-Some.item.now in
     let fresh_is : c.fresh_item-joined.result ≡ fresh_of c.in-Ok.value item.flags item.expiry = c.fresh_item-joined.ensures in
     let value : c.in-Ok.value ≡ joined item.value c.args.asked.value c.in-Some-joining.after = c.in-Ok.ensures in

@@ -1,0 +1,338 @@
+"""Drives a server by the Python clients pymemcache, pylibmc and python-memcache (Debian's packages), each through the
+same checks, and by a plain socket. Prints a line for each check: `ok NAME` or `FAILED NAME: WHY`.
+
+    /usr/bin/python3 checks_python.py CLIENT HOST PORT      CLIENT is pymemcache, pylibmc, memcache or socket
+"""
+import base64
+import socket
+import sys
+import threading
+import time
+
+
+class Pymemcache:
+    def __init__(self, host, port):
+        from pymemcache.client.base import Client
+
+        self.client = Client((host, port), default_noreply=False)
+
+    def set(self, key, value, expire=0):
+        return self.client.set(key, value, expire=expire)
+
+    def get(self, key):
+        return self.client.get(key)
+
+    def get_many(self, keys):
+        return self.client.get_many(keys)
+
+    def swap(self, key, value):
+        _, unique = self.client.gets(key)
+        self.client.set(key, b"between")
+        return self.client.cas(key, value, unique), self.client.cas(key, value, self.client.gets(key)[1])
+
+    def incr(self, key, by):
+        return self.client.incr(key, by)
+
+    def decr(self, key, by):
+        return self.client.decr(key, by)
+
+    def touch(self, key, expire):
+        return self.client.touch(key, expire)
+
+    def delete(self, key):
+        return self.client.delete(key)
+
+    def add(self, key, value):
+        return self.client.add(key, value)
+
+    def replace(self, key, value):
+        return self.client.replace(key, value)
+
+    def append(self, key, value):
+        return self.client.append(key, value)
+
+    def flood(self, count):
+        for number in range(count):
+            self.client.set(b"flood%d" % (number % 100), b"%d" % number, noreply=True)
+
+    def flush(self):
+        return self.client.flush_all()
+
+
+class Pylibmc:
+    def __init__(self, host, port):
+        import pylibmc
+
+        self.client = pylibmc.Client([f"{host}:{port}"], binary=False, behaviors={"cas": True, "tcp_nodelay": True})
+        self.missing = pylibmc.NotFound
+
+    def set(self, key, value, expire=0):
+        return self.client.set(key.decode(), value, time=expire)
+
+    def get(self, key):
+        return self.client.get(key.decode())
+
+    def get_many(self, keys):
+        return {key.encode(): value for key, value in self.client.get_multi([key.decode() for key in keys]).items()}
+
+    def swap(self, key, value):
+        _, unique = self.client.gets(key.decode())
+        self.client.set(key.decode(), b"between")
+        first = self.client.cas(key.decode(), value, unique)
+        return first, self.client.cas(key.decode(), value, self.client.gets(key.decode())[1])
+
+    def incr(self, key, by):
+        return self.client.incr(key.decode(), by)
+
+    def decr(self, key, by):
+        return self.client.decr(key.decode(), by)
+
+    def touch(self, key, expire):
+        return self.client.touch(key.decode(), expire)
+
+    def delete(self, key):
+        return self.client.delete(key.decode())
+
+    def add(self, key, value):
+        return self.client.add(key.decode(), value)
+
+    def replace(self, key, value):
+        return self.client.replace(key.decode(), value)
+
+    def append(self, key, value):
+        return self.client.append(key.decode(), value)
+
+    def flood(self, count):
+        for number in range(count):
+            self.client.set("flood%d" % (number % 100), b"%d" % number)
+
+    def flush(self):
+        return self.client.flush_all()
+
+
+class Memcache:
+    def __init__(self, host, port):
+        import memcache
+
+        self.client = memcache.Client([f"{host}:{port}"], cache_cas=True)
+
+    def set(self, key, value, expire=0):
+        return bool(self.client.set(key.decode(), value, time=expire))
+
+    def get(self, key):
+        return self.client.get(key.decode())
+
+    def get_many(self, keys):
+        return {key.encode(): value for key, value in self.client.get_multi([key.decode() for key in keys]).items()}
+
+    def swap(self, key, value):
+        # The client keeps the cas uniques itself, by the bytes of the key.
+        name = key.decode()
+        self.client.gets(name)
+        unique = self.client.cas_ids[key]
+        self.client.set(name, b"between")
+        self.client.cas_ids[key] = unique
+        first = bool(self.client.cas(name, value))
+        self.client.gets(name)
+        return first, bool(self.client.cas(name, value))
+
+    def incr(self, key, by):
+        return self.client.incr(key.decode(), by)
+
+    def decr(self, key, by):
+        return self.client.decr(key.decode(), by)
+
+    def touch(self, key, expire):
+        return bool(self.client.touch(key.decode(), expire))
+
+    def delete(self, key):
+        return bool(self.client.delete(key.decode()))
+
+    def add(self, key, value):
+        return bool(self.client.add(key.decode(), value))
+
+    def replace(self, key, value):
+        return bool(self.client.replace(key.decode(), value))
+
+    def append(self, key, value):
+        return bool(self.client.append(key.decode(), value))
+
+    def flood(self, count):
+        for number in range(count):
+            self.client.set("flood%d" % (number % 100), b"%d" % number, noreply=True)
+
+    def flush(self):
+        self.client.flush_all()
+        return True
+
+
+def equal(found, wanted):
+    if found != wanted:
+        raise AssertionError(f"{found!r:.120} in place of {wanted!r:.120}")
+
+
+def stores_and_fetches(it):
+    equal(it.set(b"a", b"one"), True)
+    equal(it.get(b"a"), b"one")
+    equal(it.get(b"never stored"[:5]), None)
+
+
+def fetches_2000_keys(it):
+    keys = [b"many%04d" % number for number in range(2000)]
+    for key in keys:
+        it.set(key, b"value of " + key)
+    equal(it.get_many(keys), {key: b"value of " + key for key in keys})
+
+
+def compares_and_swaps(it):
+    it.set(b"swapped", b"first")
+    equal(it.swap(b"swapped", b"last"), (False, True))
+    equal(it.get(b"swapped"), b"last")
+
+
+def counts(it):
+    it.set(b"count", b"40")
+    equal(int(it.incr(b"count", 2)), 42)
+    equal(int(it.decr(b"count", 50)), 0)
+
+
+def expires(it):
+    it.set(b"brief", b"x", 2)
+    equal(it.get(b"brief"), b"x")
+    it.set(b"touched", b"y", 2)
+    equal(bool(it.touch(b"touched", 100)), True)
+    time.sleep(3.1)
+    equal(it.get(b"brief"), None)
+    equal(it.get(b"touched"), b"y")
+
+
+def deletes_adds_and_replaces(it):
+    it.set(b"gone", b"x")
+    equal(bool(it.delete(b"gone")), True)
+    equal(it.get(b"gone"), None)
+    equal(bool(it.add(b"gone", b"new")), True)
+    equal(bool(it.add(b"gone", b"newer")), False)
+    equal(bool(it.replace(b"gone", b"newest")), True)
+    equal(bool(it.append(b"gone", b"!")), True)
+    equal(it.get(b"gone"), b"newest!")
+
+
+def keeps_large_values(it):
+    for size in (1, 1000, 65_536, 1_000_000):
+        value = bytes(number * 7 % 251 for number in range(1000)) * (size // 1000 + 1)
+        equal(it.set(b"large", value[:size]), True)
+        equal(it.get(b"large"), value[:size])
+
+
+def takes_a_flood(it):
+    it.flood(20_000)
+    equal(it.get(b"flood99"), b"19999")
+
+
+def forgets_all(it):
+    it.set(b"a", b"one")
+    it.flush()
+    equal(it.get(b"a"), None)
+
+
+CHECKS = [
+    stores_and_fetches, fetches_2000_keys, compares_and_swaps, counts, expires, deletes_adds_and_replaces,
+    keeps_large_values, takes_a_flood, forgets_all,
+]
+
+
+class Plain:
+    """A plain socket that sends bytes and reads as many as are wanted."""
+
+    def __init__(self, host, port):
+        self.line = socket.create_connection((host, port), timeout=30)
+
+    def asked(self, sent, wanted):
+        sender = threading.Thread(target=self.line.sendall, args=(sent,))
+        sender.start()
+        found = b""
+        while len(found) < len(wanted):
+            got = self.line.recv(1 << 16)
+            if not got:
+                break
+            found += got
+        sender.join()
+        equal(found, wanted)
+
+
+def binary_keys_by_base64(host, port):
+    it = Plain(host, port)
+    for key in (b"\0\r\n \xff", bytes(range(186))):
+        word = base64.b64encode(key)
+        it.asked(b"ms %s 3 b\r\nabc\r\nmg %s b k v\r\nmd %s b\r\nmg %s b v\r\n" % (word, word, word, word),
+                 b"HD\r\nVA 3 k%s b\r\nabc\r\nHD\r\nEN\r\n" % word)
+
+
+def pipelines_10000_commands(host, port):
+    it = Plain(host, port)
+    count = 10_000
+    it.asked(b"set p 0 0 1\r\n0\r\n" + b"incr p 1\r\nmg p v\r\n" * count,
+             b"STORED\r\n" + b"".join(b"%d\r\nVA %d\r\n%d\r\n" % (n, len(str(n)), n) for n in range(1, count + 1)))
+
+
+def half_closes(host, port):
+    it = Plain(host, port)
+    it.line.sendall(b"set h 0 0 1\r\nx\r\nget h\r\n")
+    it.line.shutdown(socket.SHUT_WR)
+    it.asked(b"", b"STORED\r\nVALUE h 0 1\r\nx\r\nEND\r\n")
+    equal(it.line.recv(10), b"")
+
+
+def quits_with_the_last_reply(host, port):
+    it = Plain(host, port)
+    it.line.sendall(b"mn\r\nquit\r\n" + b"get a\r\n" * 20_000)
+    found = b""
+    while got := it.line.recv(1 << 16):
+        found += got
+    equal(found, b"MN\r\n")
+
+
+def serves_64_at_once_and_then_the_65th(host, port):
+    lines = [Plain(host, port) for _ in range(64)]
+    for number, it in enumerate(lines):
+        it.asked(b"set s%d 0 0 2\r\n%02d\r\nget s%d\r\n" % (number, number, number),
+                 b"STORED\r\nVALUE s%d 0 2\r\n%02d\r\nEND\r\n" % (number, number))
+    waits = Plain(host, port)
+    waits.line.sendall(b"mn\r\n")
+    waits.line.settimeout(0.3)
+    try:
+        raise AssertionError(f"a 65th connection was served beside 64: {waits.line.recv(10)!r}")
+    except TimeoutError:
+        pass
+    lines[7].line.close()
+    waits.line.settimeout(30)
+    waits.asked(b"", b"MN\r\n")
+
+
+PLAIN = [
+    binary_keys_by_base64, pipelines_10000_commands, half_closes, quits_with_the_last_reply,
+    serves_64_at_once_and_then_the_65th,
+]
+
+
+def tried(name, check, *given):
+    try:
+        check(*given)
+        print(f"ok {name}", flush=True)
+    except Exception as why:
+        print(f"FAILED {name}: {type(why).__name__}: {why}", flush=True)
+
+
+def main():
+    client, host, port = sys.argv[1], sys.argv[2], int(sys.argv[3])
+    if client == "socket":
+        for check in PLAIN:
+            tried(check.__name__, check, host, port)
+        return
+    it = {"pymemcache": Pymemcache, "pylibmc": Pylibmc, "memcache": Memcache}[client](host, port)
+    for check in CHECKS:
+        tried(check.__name__, check, it)
+
+
+if __name__ == "__main__":
+    main()

@@ -1,0 +1,278 @@
+-- What each call makes of what a connection was told.
+use Rattle.std.proofs.Common.{◌≡◌, ℕ, zero, suc, ◌+◌, ◌<◌, ◌==◌, ◌↔◌, Bool, true, false, not, inl, inr, List, [], ◌∷◌, ◌++◌, length, drop, Some, None, IsTrue, refl, sym, ap, subst, ◌∙◌, arith, length-drop}
+use Rattle.std.specs.Prelude.{Option, Result, Ok, Err, OnOk, OnErr, IfSome, is_some}
+use Rattle.std.specs.Option.{option_to_list}
+use Rattle.std.specs.List.{slice_get}
+use Rattle.std.proofs.lemmas.Bool.{false≢true}
+use Rattle.std.proofs.lemmas.Bool.Decides.{nat_tests}
+use Rattle.std.proofs.lemmas.Option.{slice_get_within}
+use Rattle.mc_command.specs.declared.command.Command.{Command}
+use Rattle.mc_reader.specs.Reader.{IsAmidSkipped, IsClosedLine, IsReader, entries_of}
+use Rattle.mc_reader.specs.Spelling.{Given, SpellsFront, is_closed}
+use Rattle.mc_ring.specs.Reply.{Shown}
+use Rattle.mc_split.specs.declared.form.Form.{Form}
+use Rattle.mc_split.specs.declared.plan.Piece.{Piece}
+use Rattle.mc_join.specs.Held.{Held, TakesIn}
+use Rattle.mc_join.specs.Joined.{IsJoiner}
+use Rattle.mc_join.specs.Replies.{replies}
+use Rattle.mc_join.proofs.Joins.{opened_length}
+use Rattle.mc_conn.specs.declared.conn.Conn.{Conn}
+use Rattle.mc_conn.specs.internal.Inside.{HasBeenTold, put_first}
+use Rattle.mc_join.specs.Expects.{Expects}
+use Rattle.mc_conn.specs.Told.{Told, IsAllTaken, IsAtRest, IsOver, IsShut, IsSkipping, LeavesUnread, all_forms, all_pieces, all_texts}
+use Rattle.mc_conn.proofs.Forms.{length-forms}
+
+-- A reply is accepted.
+pub accepts : {A B : Type 0} (result : Result A B) (old new : Conn) (reply : Shown) →
+    new.reader ≡ old.reader → new.unsent ≡ old.unsent → new.put_back ≡ old.put_back → new.shards ≡ old.shards → new.broken ≡ old.broken →
+    OnOk result ((opened : List Form) (accepted : List Shown) (handed : List (List ℕ)) → IsJoiner old.joiner opened accepted handed → Expects opened accepted reply) → OnOk result (TakesIn old.joiner new.joiner reply) →
+    OnOk result ((opened : List Form) (accepted : List Shown) (handed : List (List ℕ)) → IsJoiner old.joiner opened accepted handed → IsJoiner new.joiner opened (accepted ++ reply ∷ []) handed) →
+    OnOk result ((told : Told) → HasBeenTold old told → Expects (all_forms told) told.accepted reply × HasBeenTold new (record told { accepted = told.accepted ++ reply ∷ [] }))
+accepts (Ok done) old new reply reader unsent put_back shards broken expected takes joins = λ told h. (
+  expected (all_forms told) told.accepted h.texts h.joined,
+  record {
+    given = h.given;
+    texts = h.texts;
+    shards = shards ∙ h.shards;
+    window = ap (λ (held : Held). held.window) takes.after ∙ h.window;
+    broken = broken ∙ h.broken;
+    read = rw reader h.read;
+    spelled = h.spelled;
+    may = h.may;
+    joined = joins (all_forms told) told.accepted h.texts h.joined;
+    handed = h.handed;
+    bounded = h.bounded;
+    works = λ whole. ap (λ (held : Held). held.gone) takes.after ∙ h.works (sym broken ∙ whole);
+    within = h.within;
+    unsent = rw (put_back, unsent) h.unsent;
+    lent = rw put_back h.lent;
+  },
+)
+accepts (Err fault) old new reply reader unsent put_back shards broken expected takes joins = tt
+
+-- A stranger changes nothing.
+pub refuses : {A B : Type 0} (result : Result A B) (old new : Conn) (reply : Shown) →
+    new.reader ≡ old.reader → new.unsent ≡ old.unsent → new.put_back ≡ old.put_back → new.shards ≡ old.shards → new.broken ≡ old.broken →
+    OnErr result ((opened : List Form) (accepted : List Shown) (handed : List (List ℕ)) → IsJoiner old.joiner opened accepted handed → ¬ Expects opened accepted reply) → OnErr result (new.joiner ≡ old.joiner) →
+    OnErr result ((told : Told) → HasBeenTold old told → (¬ Expects (all_forms told) told.accepted reply) × HasBeenTold new told)
+refuses (Ok done) old new reply reader unsent put_back shards broken unexpected same = tt
+refuses (Err fault) old new reply reader unsent put_back shards broken unexpected same = λ told h. (
+  unexpected (all_forms told) told.accepted h.texts h.joined,
+  record {
+    given = h.given;
+    texts = h.texts;
+    shards = shards ∙ h.shards;
+    window = rw same h.window;
+    broken = broken ∙ h.broken;
+    read = rw reader h.read;
+    spelled = h.spelled;
+    may = h.may;
+    joined = rw same h.joined;
+    handed = h.handed;
+    bounded = h.bounded;
+    works = λ whole. rw same (h.works (sym broken ∙ whole));
+    within = h.within;
+    unsent = rw (put_back, unsent) h.unsent;
+    lent = rw put_back h.lent;
+  },
+)
+
+drop_at : {X : Type 0} (n : ℕ) (xs : List X) (x : X) → slice_get xs n ≡ Some x → drop n xs ≡ x ∷ drop (n + 1) xs
+drop_at n [] x here = absurd cc
+drop_at zero (first ∷ xs) x here = let e : first ≡ x = cc in ap (λ y. y ∷ xs) e
+drop_at (suc n) (first ∷ xs) x here =
+    let e : suc (n + 1) ≡ suc n + 1 = omega arith in
+    drop_at n xs x here ∙ ap (λ k. x ∷ drop k (first ∷ xs)) e
+
+get_drop : {X : Type 0} (n : ℕ) (xs : List X) (x : X) (rest : List X) → drop n xs ≡ x ∷ rest → (slice_get xs n ≡ Some x) × (rest ≡ drop (n + 1) xs)
+get_drop n [] x rest here = absurd (nothing n here) where
+  nothing : {X : Type 0} {x : X} {rest : List X} (n : ℕ) → drop n [] ≡ x ∷ rest → ⊥
+  nothing zero e = cc
+  nothing (suc n) e = cc
+get_drop zero (first ∷ xs) x rest here = (let e : first ≡ x = cc in ap Some e, let e : xs ≡ rest = cc in sym e)
+get_drop (suc n) (first ∷ xs) x rest here =
+    let e : suc (n + 1) ≡ suc n + 1 = omega arith in
+    let found = get_drop n xs x rest here in
+    (found.0, found.1 ∙ ap (λ k. drop k (first ∷ xs)) e)
+
+-- The oldest piece is taken out.
+pub gives : (old new : Conn) (piece : ℕ × Piece) →
+    new.reader ≡ old.reader → new.joiner ≡ old.joiner → new.shards ≡ old.shards → new.broken ≡ old.broken → new.put_back ≡ None →
+    put_first old.put_back old.unsent.items ≡ piece ∷ new.unsent.items →
+    (told : Told) → HasBeenTold old told → (slice_get (all_pieces told) told.out ≡ Some piece) × HasBeenTold new (record told { out = told.out + 1; lent = true })
+gives old new piece reader joiner shards broken none left told h =
+    let at = get_drop told.out (all_pieces told) piece new.unsent.items (sym h.unsent ∙ left) in
+    let below = slice_get_within (all_pieces told) told.out piece at.0 in (
+      at.0,
+      record {
+        given = h.given;
+        texts = h.texts;
+        shards = shards ∙ h.shards;
+        window = rw joiner h.window;
+        broken = broken ∙ h.broken;
+        read = rw reader h.read;
+        spelled = h.spelled;
+        may = h.may;
+        joined = rw joiner h.joined;
+        handed = h.handed;
+        bounded = h.bounded;
+        works = λ whole. rw joiner (h.works (sym broken ∙ whole));
+        within = omega (arith, below);
+        unsent = rw none at.1;
+        lent = λ _. (none, omega arith);
+      },
+    )
+
+-- The same where none was put back.
+pub gives_front : (result : Option (ℕ × Piece)) (old new : Conn) →
+    new.reader ≡ old.reader → new.joiner ≡ old.joiner → new.shards ≡ old.shards → new.broken ≡ old.broken → new.put_back ≡ None → old.put_back ≡ None →
+    old.unsent.items ≡ option_to_list result ++ new.unsent.items →
+    IfSome result (λ piece. (told : Told) → HasBeenTold old told → (slice_get (all_pieces told) told.out ≡ Some piece) × HasBeenTold new (record told { out = told.out + 1; lent = true }))
+gives_front None old new reader joiner shards broken none before left = tt
+gives_front (Some piece) old new reader joiner shards broken none before left =
+    gives old new piece reader joiner shards broken none (rw before left)
+
+-- The piece that was taken out last is put back.
+pub takes_back : (old new : Conn) (piece : ℕ × Piece) →
+    new.reader ≡ old.reader → new.joiner ≡ old.joiner → new.shards ≡ old.shards → new.broken ≡ old.broken → new.put_back ≡ Some piece → new.unsent ≡ old.unsent →
+    (told : Told) (before : ℕ) → HasBeenTold old told → IsTrue told.lent → told.out ≡ before + 1 → slice_get (all_pieces told) before ≡ Some piece →
+    HasBeenTold new (record told { out = before; lent = false })
+takes_back old new piece reader joiner shards broken back unsent told before h lent out here =
+    let within = h.within in
+    let none = (h.lent lent).0 in
+    let items : old.unsent.items ≡ drop told.out (all_pieces told) = rw none at h.unsent in
+    record {
+      given = h.given;
+      texts = h.texts;
+      shards = shards ∙ h.shards;
+      window = rw joiner h.window;
+      broken = broken ∙ h.broken;
+      read = rw reader h.read;
+      spelled = h.spelled;
+      may = h.may;
+      joined = rw joiner h.joined;
+      handed = h.handed;
+      bounded = h.bounded;
+      works = λ whole. rw joiner (h.works (sym broken ∙ whole));
+      within = omega (arith, within, out);
+      unsent = rw (back, unsent) (ap (λ rest. piece ∷ rest) (items ∙ ap (λ n. drop n (all_pieces told)) out) ∙ sym (drop_at before (all_pieces told) piece here));
+      lent = λ yes. absurd (false≢true yes);
+    }
+
+-- how many tickets are open
+pub waiting_is : (conn : Conn) (told : Told) → HasBeenTold conn told → told.handed + length conn.joiner.forms ≡ length told.taken
+waiting_is conn told h =
+    let opened = opened_length conn.joiner (all_forms told) told.accepted h.texts h.joined in
+    let long = length-forms told.shards 0 told.taken in
+    let count = h.joined.count in
+    let handed = h.handed in
+    omega (arith, opened, long, count, handed)
+
+-- no piece is left
+nothing_left : (conn : Conn) (told : Told) → HasBeenTold conn told → conn.put_back ≡ None → length conn.unsent.items ≡ 0 → told.out ≡ length (all_pieces told)
+nothing_left conn told h none empty =
+    let items : conn.unsent.items ≡ drop told.out (all_pieces told) = rw none at h.unsent in
+    let within = h.within in
+    omega (arith, within, empty, ap length items, length-drop told.out (all_pieces told))
+
+same_number : (a b : ℕ) → IsTrue (a == b) ↔ (a ≡ b)
+same_number a b = (λ e. grind (arith, nat_tests), λ e. grind (arith, nat_tests))
+
+-- when a broken connection is at rest
+pub rest_broken : (conn : Conn) (told : Told) (passes waiting : ℕ) → conn.put_back ≡ None → length conn.unsent.items ≡ 0 → conn.broken ≡ true →
+    ((opened : List Form) (accepted : List Shown) (handed : List (List ℕ)) → IsJoiner conn.joiner opened accepted handed → length handed + passes ≡ length (replies opened accepted)) →
+    waiting ≡ length conn.joiner.forms → HasBeenTold conn told → IsTrue (passes == waiting) ↔ IsAtRest told
+rest_broken conn told passes waiting none empty broken passed tickets h =
+    let told_broken : told.broken ≡ true = sym h.broken ∙ broken in
+    let texts = passed (all_forms told) told.accepted h.texts h.joined in
+    let handed = h.handed in
+    let forms = waiting_is conn told h in (
+      λ same.
+          let e = (same_number passes waiting).0 same in
+          let all : length (all_texts told) ≡ length told.taken = omega (arith, texts, handed, forms, tickets, e) in
+          record { sent = nothing_left conn told h none empty; done = rw told_broken all },
+      λ rest.
+          let all : length (all_texts told) ≡ length told.taken = rw told_broken at rest.done in
+          (same_number passes waiting).1 (omega (arith, texts, handed, forms, tickets, all)),
+    )
+
+-- when an unbroken one is
+pub rest_whole : (conn : Conn) (told : Told) (waiting : ℕ) → conn.put_back ≡ None → length conn.unsent.items ≡ 0 → conn.broken ≡ false → IsAllTaken told →
+    waiting ≡ length conn.joiner.forms → HasBeenTold conn told → IsTrue (waiting == 0) ↔ IsAtRest told
+rest_whole conn told waiting none empty broken all tickets h =
+    let told_broken : told.broken ≡ false = sym h.broken ∙ broken in
+    let forms = waiting_is conn told h in (
+      λ same.
+          let e = (same_number waiting 0).0 same in
+          let handed : told.handed ≡ length told.taken = omega (arith, forms, tickets, e) in
+          record { sent = nothing_left conn told h none empty; done = rw told_broken (all, handed) },
+      λ rest.
+          let done : IsAllTaken told × (told.handed ≡ length told.taken) = rw told_broken at rest.done in
+          let handed = done.1 in
+          (same_number waiting 0).1 (omega (arith, forms, tickets, handed)),
+    )
+
+pub none_there : {X : Type 0} (value : Option X) → is_some value ≡ false → value ≡ None
+none_there None e = refl
+none_there (Some x) e = absurd cc
+
+pub empty_is : (len n : ℕ) → true ≡ (len == 0) → len ≡ n → n ≡ 0
+empty_is len n e same =
+    let none = (same_number len 0).0 (sym e) in
+    omega (arith, none, same)
+
+pub filled_is : (len n : ℕ) → false ≡ (len == 0) → len ≡ n → 0 < n
+filled_is len n e same = grind (arith, nat_tests)
+
+-- what the reader's test tells of the last command taken
+pub shut_is : (conn : Conn) (closed : Bool) → ((limit : ℕ) (fed : List ℕ) (ended : Bool) (given : List Given) → IsReader conn.reader limit fed ended given → IsTrue closed ↔ IsClosedLine given) →
+    (told : Told) → HasBeenTold conn told → IsTrue closed ↔ IsShut told
+shut_is conn closed says told h =
+    let P : List Command → Type 0 = λ entries. IsTrue closed ↔ IsTrue (is_closed entries) in
+    subst P h.spelled (says told.limit told.fed told.ended h.given h.read)
+
+-- An ended connection goes on only while some command is not taken.
+pub over_at_end : (told : Told) (whole : Bool) → told.broken ≡ false → ¬ IsShut told → IsTrue told.ended → ((whole ≡ false) ↔ IsAllTaken told) → IsTrue (not whole) ↔ IsOver told
+over_at_end told true unbroken on ended says = (
+  λ none. absurd (false≢true none),
+  λ over. elim over [
+    | inl broken ↦ absurd (false≢true (sym unbroken ∙ broken))
+    | inr closed ↦ elim closed [
+      | inl shut ↦ absurd (on shut)
+      | inr done ↦ absurd (false≢true (sym (says.1 done.1)))
+    ]
+  ],
+)
+over_at_end told false unbroken on ended says = (λ _. inr (inr (ended, says.0 refl)), λ _. refl)
+
+-- A connection with a command that is not taken is not at rest.
+pub rest_unread : (told : Told) (whole : Bool) → told.broken ≡ false → not whole ≡ false → ((whole ≡ false) ↔ IsAllTaken told) → IsTrue (not whole) ↔ IsAtRest told
+rest_unread told whole unbroken unread says = (
+  λ none. absurd (false≢true (sym unread ∙ none)),
+  λ rest.
+      let done : IsAllTaken told × (told.handed ≡ length told.taken) = rw unbroken at rest.done in
+      absurd (false≢true (sym unread ∙ ap not (says.1 done.0))),
+)
+
+-- What is skipped behind the commands taken is skipped behind those that the reader gave.
+pub amid_skipped : (conn : Conn) (told : Told) (h : HasBeenTold conn told) → IsSkipping told → IsAmidSkipped told.limit told.fed h.given
+amid_skipped conn told h skips =
+    let Front : List Command → Type 0 = λ entries. SpellsFront told.limit 0 told.fed entries (skips.line ++ 10 ∷ skips.skipped) in
+    let On : List Command → Type 0 = λ entries. is_closed entries ≡ false in
+    record {
+      line = skips.line;
+      skipped = skips.skipped;
+      refusal = skips.refusal;
+      count = skips.count;
+      front = subst Front (sym h.spelled) skips.front;
+      goes_on = subst On (sym h.spelled) skips.goes_on;
+      no_end = skips.no_end;
+      says = skips.says;
+      behind = skips.behind;
+    }
+
+-- What is unread behind the commands taken is unread behind those that the reader gave.
+pub unread_behind : (conn : Conn) (told : Told) (h : HasBeenTold conn told) (unread : List ℕ) → LeavesUnread told unread → SpellsFront told.limit 0 told.fed (entries_of h.given) unread × (is_closed (entries_of h.given) ≡ false)
+unread_behind conn told h unread leaves =
+    let P : List Command → Type 0 = λ entries. SpellsFront told.limit 0 told.fed entries unread × (is_closed entries ≡ false) in
+    subst P (sym h.spelled) (leaves.used, leaves.goes_on)

@@ -1,0 +1,50 @@
+-- The forms of the commands that were taken: their kinds, and their slots once answers have come.
+use Rattle.std.proofs.Common.{◌≡◌, ℕ, zero, suc, ◌+◌, List, [], ◌∷◌, ◌++◌, length, Some, refl, sym, ap, ◌∙◌, arith}
+use Rattle.std.specs.List.{slice_get}
+use Rattle.std.proofs.lemmas.Option.{same_Some}
+use Rattle.mc_command.specs.declared.command.Command.{Command}
+use Rattle.mc_item.specs.Kind.{kind_of}
+use Rattle.mc_ring.specs.Reply.{Shown}
+use Rattle.mc_split.specs.declared.plan.Ticket.{Ticket}
+use Rattle.mc_split.specs.Pieces.{Asked, pieces_of}
+use Rattle.mc_split.specs.Plan.{form_kind, form_of, no_answers}
+use Rattle.mc_split.proofs.Shards.{pieces_alike}
+use Rattle.mc_join.specs.Replies.{answer_to, slots_after}
+use Rattle.mc_conn.specs.History.{Taken, planned}
+use Rattle.mc_conn.specs.Due.{forms_from, ticket_at}
+use Rattle.mc_conn.proofs.Gets.{all_at}
+
+pub kind_at : (shards : ℕ) (command : Command) (part : ℕ) (asked : Asked) → slice_get (pieces_of shards command) part ≡ Some asked → form_kind (pieces_of shards command) ≡ kind_of asked.op
+kind_at shards command part asked here =
+    sym (all_at (λ one. kind_of one.op ≡ form_kind (pieces_of shards command)) (pieces_of shards command) part asked (pieces_alike shards command) here)
+
+-- the form of the command at a place
+pub form_at : (shards number : ℕ) (taken : List Taken) (k : ℕ) (one : Taken) → slice_get taken k ≡ Some one → slice_get (forms_from shards number taken) k ≡ Some (form_of shards (ticket_at (number + k)) (planned one))
+form_at shards number [] k one here = absurd (cc)
+form_at shards number (first ∷ taken) zero one here =
+    let same : first ≡ one = same_Some first one here in
+    let at : number ≡ number + 0 = omega arith in
+    ap (λ n. Some (form_of shards (ticket_at n) (planned first))) at ∙ ap (λ t. Some (form_of shards (ticket_at (number + 0)) (planned t))) same
+form_at shards number (first ∷ taken) (suc k) one here =
+    let at : number + 1 + k ≡ number + suc k = omega arith in
+    form_at shards (number + 1) taken k one here ∙ ap (λ n. Some (form_of shards (ticket_at n) (planned one))) at
+
+pub length-forms : (shards number : ℕ) (taken : List Taken) → length (forms_from shards number taken) ≡ length taken
+length-forms shards number [] = refl
+length-forms shards number (one ∷ taken) = ap suc (length-forms shards (number + 1) taken)
+
+-- a slot holds what was accepted for its part
+pub slot_at : (accepted : List Shown) (ticket : Ticket) (first : ℕ) (asked : List Asked) (i : ℕ) (one : Asked) → slice_get asked i ≡ Some one → slice_get (slots_after accepted ticket first (no_answers asked)) i ≡ Some (answer_to accepted ticket (first + i))
+slot_at accepted ticket first [] i one here = absurd (cc)
+slot_at accepted ticket first (a ∷ asked) zero one here =
+    let at : first ≡ first + 0 = omega arith in ap (λ k. Some (answer_to accepted ticket k)) at
+slot_at accepted ticket first (a ∷ asked) (suc i) one here =
+    let at : first + 1 + i ≡ first + suc i = omega arith in
+    slot_at accepted ticket (first + 1) asked i one here ∙ ap (λ k. Some (answer_to accepted ticket k)) at
+
+-- one command more
+pub forms-push : (shards number : ℕ) (taken : List Taken) (one : Taken) → forms_from shards number (taken ++ one ∷ []) ≡ forms_from shards number taken ++ form_of shards (ticket_at (number + length taken)) (planned one) ∷ []
+forms-push shards number [] one = let at : number ≡ number + 0 = omega arith in ap (λ n. form_of shards (ticket_at n) (planned one) ∷ []) at
+forms-push shards number (first ∷ taken) one =
+    let at : number + 1 + length taken ≡ number + suc (length taken) = omega arith in
+    ap (λ fs. form_of shards (ticket_at number) (planned first) ∷ fs) (forms-push shards (number + 1) taken one ∙ ap (λ n. forms_from shards (number + 1) taken ++ form_of shards (ticket_at n) (planned one) ∷ []) at)

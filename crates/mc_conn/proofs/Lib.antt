@@ -1,0 +1,13 @@
+pub mod Gets
+pub mod Places
+pub mod Forms
+pub mod Fitting
+pub mod Counting
+pub mod Telling
+pub mod Serving
+pub mod Rows
+pub mod Calls
+pub mod GivenUp
+pub mod Takes
+pub mod Staying
+pub mod Handing

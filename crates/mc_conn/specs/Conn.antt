@@ -1,0 +1,80 @@
+-- What a connection is, by what it was told and what it told; and what its calls answer.
+use Rattle.std.specs.Prelude.{ℕ, ◌≡◌, ◌+◌, ◌<◌, true, false, [], ◌∷◌, ◌++◌, length}
+use Rattle.mc_wire.specs.Outlet.{Sight, took}
+use Rattle.mc_wire.specs.Outlet as outlet
+use Rattle.mc_reader.specs.Reader.{IsWaiting}
+use Rattle.mc_reader.specs.Spelling.{BeginCommands, is_closed}
+use Rattle.mc_split.specs.declared.plan.Ticket.{Ticket}
+use Rattle.mc_conn.specs.declared.conn.Conn.{Conn}
+use Rattle.mc_conn.specs.declared.conn.Taken.{Taken as Took}
+use Rattle.mc_conn.specs.declared.conn.Taken.TheVariants as took
+use Rattle.mc_conn.specs.History.{Taken, MayBeTaken}
+use Rattle.mc_conn.specs.Told.{Told, IsAllTaken, IsClosed, IsOver, all_texts, commands_of, handed_text, waiting_text}
+use Rattle.mc_conn.specs.internal.Inside.{HasBeenTold}
+
+-- The connection was told all this, and told all this.
+unfoldable pub IsConn : Conn → Told → Type 0
+IsConn conn told = HasBeenTold conn told
+
+-- The connection has just found that it needs more bytes for the next command, and has room for some.
+unfoldable pub IsAwaiting : Conn → Type 0
+IsAwaiting conn = IsWaiting conn.reader
+
+-- One command more was taken, at this moment.
+pub record Opens (told : Told) (moment : ℕ) (ticket : Ticket) (new : Conn) : Type 0 where
+  pub one : Taken
+  pub moment_is : one.moment ≡ moment
+  -- It is given up only where it may be.
+  pub may : MayBeTaken one
+  -- It is the next command that the bytes fed spell.
+  pub next : BeginCommands told.limit told.fed (commands_of (told.taken ++ one ∷ []))
+  pub number : ticket.0 ≡ length told.taken
+  pub room : length told.taken < told.handed + told.window
+  pub whole : told.broken ≡ false
+  pub now : IsConn new (record told { taken = told.taken ++ one ∷ [] })
+
+-- More bytes are needed: all commands were taken, more may come, and the window has room.
+pub record NeedsMore (told : Told) (new : Conn) : Type 0 where
+  pub all : IsAllTaken told
+  pub comes : told.ended ≡ false
+  pub whole : told.broken ≡ false
+  pub goes_on : is_closed (commands_of told.taken) ≡ false
+  pub room : length told.taken < told.handed + told.window
+  pub waits : IsAwaiting new
+  pub now : IsConn new told
+
+-- As many commands are open as may be, and the connection is neither closed nor broken.
+pub record FillsWindow (told : Told) (new : Conn) : Type 0 where
+  pub full : length told.taken ≡ told.handed + told.window
+  pub whole : told.broken ≡ false
+  pub goes_on : ¬ IsClosed told
+  pub now : IsConn new told
+
+-- What taking a command answers, and what the connection is then.
+abbrev pub TakeSays : Conn → ℕ → Took → Conn → Type 0
+TakeSays old moment (took.Opened ticket) new = (told : Told) → IsConn old told → Opens told moment ticket new
+TakeSays old moment took.NeedMore new = (told : Told) → IsConn old told → NeedsMore told new
+TakeSays old moment took.Full new = (told : Told) → IsConn old told → FillsWindow told new
+TakeSays old moment took.Closed new = (told : Told) → IsConn old told → IsOver told × IsConn new told
+
+-- The replies to so many commands more were handed out: all whose turn has come.
+pub record HandsOut (told : Told) (count : ℕ) (new : Conn) (before after : Sight) : Type 0 where
+  pub whole : told.broken ≡ false
+  pub all : told.handed + count ≡ length (all_texts told)
+  pub written : after ≡ took (waiting_text told) before
+  pub now : IsConn new (record told { handed = told.handed + count })
+  -- With what was handed out before these are all replies whose turn has come, and none waits.
+  pub together : handed_text (record told { handed = told.handed + count }) ≡ handed_text told ++ waiting_text told
+  pub none_waits : waiting_text (record told { handed = told.handed + count }) ≡ []
+
+-- The outlet failed: it took a beginning of what was due, and the connection is broken.
+pub record BreaksOff (told : Told) (new : Conn) (before after : Sight) : Type 0 where
+  pub whole : told.broken ≡ false
+  pub cut : outlet.BreaksOff (waiting_text told) before after
+  pub now : IsConn new (record told { broken = true })
+
+-- A broken connection hands out nothing.
+pub record StaysSilent (told : Told) (count : ℕ) (new : Conn) (before after : Sight) : Type 0 where
+  pub none : count ≡ 0
+  pub same : after ≡ before
+  pub now : IsConn new told

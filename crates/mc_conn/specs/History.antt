@@ -1,0 +1,56 @@
+-- The history of a connection: the commands that it took, and what became of each.
+use Rattle.std.specs.Prelude.{ℕ, ◌≡◌, Bool, List, [], map, length, IsTrue, MatchBool, if◌then◌else◌}
+use Rattle.std.specs.List.{flat_map}
+use Rattle.mc_command.specs.declared.command.Command.{Command}
+use Rattle.mc_command.specs.declared.command.Command.TheVariants.{Refused}
+use Rattle.mc_command.specs.declared.refusal.Refusal.TheVariants.{Memory}
+use Rattle.mc_command.specs.Command.{can_give_up}
+use Rattle.mc_item.specs.declared.answer.Answer.{Answer}
+use Rattle.mc_split.specs.Pieces.{pieces_of}
+use Rattle.mc_split.specs.Text.{memory_line, text_of}
+
+-- a command that was taken
+pub record Taken : Type 0 where
+  -- what the bytes read spell
+  pub entry : Command
+  -- when it was taken, in seconds since 1970
+  pub moment : ℕ
+  -- whether it was given up because memory ran out, before a shard was asked
+  pub given_up : Bool
+
+-- what is carried out: the command, or the refusal "out of memory" where it was given up
+abbrev pub planned : Taken → Command
+planned taken = if taken.given_up then Refused Memory else taken.entry
+
+-- A command is given up only where it may be: it asks a shard, or is refused and more of it is read.
+abbrev pub MayBeTaken : Taken → Type 0
+MayBeTaken taken = IsTrue taken.given_up → IsTrue (can_give_up taken.entry)
+
+-- a command that was taken, with its answers
+pub record Done : Type 0 where
+  pub entry : Command
+  pub moment : ℕ
+  pub given_up : Bool
+  -- what the shards answered to its pieces, in their order; none where it was given up
+  pub answers : List Answer
+
+abbrev pub taken_of : Done → Taken
+taken_of done = record { entry = done.entry; moment = done.moment; given_up = done.given_up }
+
+abbrev pub entries_of : List Done → List Command
+entries_of history = map (λ done. done.entry) history
+
+-- the reply to a command that was taken; to one that was given up it is the line "out of memory", also where the command is
+-- itself a refusal (protocol.txt, "Error strings")
+abbrev pub text_done : Done → List ℕ
+text_done done = if done.given_up then memory_line else text_of done.entry done.answers
+
+abbrev pub texts_of : List Done → List ℕ
+texts_of history = flat_map text_done history
+
+-- A command that was given up may be, and asks no shard; each piece of any other has its answer.
+abbrev pub IsAnswered : ℕ → Done → Type 0
+IsAnswered shards done =
+    MatchBool done.given_up
+    (IsTrue (can_give_up done.entry) × (done.answers ≡ []))
+    (length done.answers ≡ length (pieces_of shards done.entry))

@@ -1,0 +1,3 @@
+-- Definitions that only private contracts name.
+pub mod Inside
+pub mod Plans

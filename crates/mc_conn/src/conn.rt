@@ -1,0 +1,285 @@
+//! One connection: the bytes that come in, the pieces that go to the shards and come back answered, and the replies that go
+//! out.
+ghost use Rattle.std.specs.Prelude.{◌≡◌, ◌+◌, ◌<◌, ◌≤◌, ◌++◌, ◌∷◌, ◌↔◌, ℕ, List, [], Some, true, false, IfOk, IfErr, IfSome, IfNone, OnOk, OnErr, IsTrue, length, take};
+ghost use Rattle.std.specs.List.{slice_get};
+ghost use Rattle.mc_ring.specs.Reply.{shown};
+ghost use Rattle.mc_reader.specs.Spelling.{most_commands};
+ghost use Rattle.mc_join.specs.Length.{capped};
+ghost use Rattle.mc_join.specs.Expects.{Expects};
+ghost use Rattle.mc_conn.specs.Told.{Told, IsAtRest, IsNotAllTaken, IsAllTaken, IsOpen, IsOver, IsShut, IsSkipping, IsUsedUp, LeavesUnread, all_forms, all_pieces, told_nothing, waiting_text};
+
+use crate::planning::plan;
+use mc_join::{Gone, Joiner, Stranger};
+use mc_reader::{Memory, Next, Reader};
+use mc_ring::Reply;
+use mc_split::{Piece, Ticket};
+use mc_wire::{GREATEST_VALUE_LIMIT, LINE_LIMIT, Outlet};
+use std::alloc::Global;
+use std::collections::VecDeque;
+
+/// What `Conn::take` answers.
+#[derive(Clone, Copy, Debug, PartialEq, Eq)]
+pub enum Taken {
+    /// A command was taken, and has this ticket.
+    Opened(Ticket),
+    /// All commands that the bytes fed spell were taken.
+    NeedMore,
+    /// As many commands are open as the window has room for.
+    Full,
+    /// No command comes any more: the connection is closed or broken.
+    Closed,
+}
+
+/// One connection. A command is open from when it is taken until its reply is handed out; at most a window of them are open
+/// at a time.
+///
+/// The contracts speak of a connection by the lists of what it was told and what it told, `Told`: `IsConn conn told` says
+/// that the connection is what these make of it, and each call says how they grow.
+#[derive(Drop)]
+pub struct Conn {
+    reader: Reader,
+    joiner: Joiner,
+    /// The pieces that have not left, but for one that was put back.
+    unsent: VecDeque<(usize, Piece)>,
+    /// The piece that was put back. It is the oldest, and has a place of its own so that putting it back takes no memory.
+    put_back: Option<(usize, Piece)>,
+    shards: usize,
+    broken: bool,
+    ghost some_shards: { 0 < shards },
+}
+
+impl Conn {
+    ghost use Rattle.mc_conn.specs.Conn.{IsConn, IsAwaiting, TakeSays, HandsOut, BreaksOff, StaysSilent};
+
+    /// A new connection over so many shards, for values of at most `limit` bytes and with this window. It takes the room for
+    /// the longest line and for the open commands. `Memory`: memory ran out.
+    #[tactic(auto, unfolding(crate::specs::Conn::IsConn))]
+    pub fn new(alloc: Global, shards: usize, limit: usize, window: usize) -> Result<Conn, Memory>
+        requires shards { 0 < shards }
+        requires limit { limit ≤ GREATEST_VALUE_LIMIT }
+        requires window { 0 < window }
+        ensures { IfOk result (λ conn. IsConn conn (told_nothing shards limit window)) }
+    {
+        Ok(Conn {
+            reader: Reader::new(alloc, limit)?,
+            joiner: Joiner::new(alloc, window)?,
+            unsent: VecDeque::new(alloc),
+            put_back: None,
+            shards,
+            broken: false,
+        })
+    }
+
+    /// Takes a front of the piece, and tells how many bytes that is; of an ended or broken connection none. It takes no
+    /// memory.
+    #[tactic(auto, unfolding(crate::specs::Conn::IsConn, crate::specs::Conn::IsAwaiting))]
+    pub fn feed(&mut self, piece: &[u8]) -> usize
+        ensures within { result ≤ length piece.now }
+        ensures fed { (told : Told) → IsConn self.old told →
+            IsConn self.new (record told { fed = told.fed ++ take result piece.now }) }
+        // Some byte is taken right after `take` answered `NeedMore`.
+        ensures progress { (told : Told) → IsConn self.old told → IsOpen told → IsAllTaken told → IsAwaiting self.old →
+            0 < length piece.now → 0 < result }
+        // The whole of a piece that isn't too long is taken where every byte before it is part of a command taken.
+        ensures whole { (told : Told) → IsConn self.old told → IsOpen told → IsUsedUp told →
+            length piece.now ≤ LINE_LIMIT → result ≡ length piece.now }
+        // After the last command everything is taken, and dropped.
+        ensures shut { (told : Told) → IsConn self.old told → IsOpen told → IsShut told → result ≡ length piece.now }
+        ensures ended { (told : Told) → IsConn self.old told → IsTrue told.ended → result ≡ 0 }
+        ensures broken { (told : Told) → IsConn self.old told → IsTrue told.broken → result ≡ 0 }
+    {
+        if self.broken {
+            return 0;
+        }
+        self.reader.feed(piece)
+    }
+
+    /// Tells that no more bytes come. It takes no memory.
+    #[tactic(auto, unfolding(crate::specs::Conn::IsConn))]
+    pub fn end(&mut self)
+        ensures { (told : Told) → IsConn self.old told → IsConn self.new (record told { ended = true }) }
+    {
+        self.reader.end();
+    }
+
+    /// Whether the connection is closed or broken.
+    #[tactic(auto, unfolding(crate::specs::Conn::IsConn))]
+    fn is_over(&self) -> bool
+        ensures over { (told : Told) → IsConn self.now told → IsTrue result ↔ IsOver told }
+        // A stream has only so many commands.
+        ensures most { (told : Told) → IsConn self.now told → told.broken ≡ false → length told.taken ≤ most_commands }
+    {
+        if self.broken {
+            return true;
+        }
+        self.reader.is_closed() || (self.reader.is_ended() && !self.whole())
+    }
+
+    /// Takes the next command, at this moment in seconds since 1970. Tickets count from 0. A command for which memory runs
+    /// out is taken all the same: its reply is "out of memory" (protocol.txt, "Error strings"), and no shard is asked.
+    #[tactic(auto, unfolding(crate::specs::Conn::IsConn, crate::specs::Conn::IsAwaiting))]
+    pub fn take(&mut self, alloc: Global, moment: u64) -> Taken
+        ensures says { TakeSays self.old moment result self.new }
+        ensures over { (told : Told) → IsConn self.old told → IsOver told → result ≡ Taken.Closed }
+    {
+        if self.is_over() {
+            return Taken::Closed;
+        }
+        if self.joiner.is_full() {
+            return Taken::Full;
+        }
+        let Some(ticket) = self.joiner.next_ticket() else {
+            // The reader gives no more commands than there are tickets, so this is never reached.
+            return Taken::Full;
+        };
+        let command = match self.reader.next(alloc) {
+            Next::Command(command) => command,
+            Next::NeedMore => return Taken::NeedMore,
+            Next::Closed => return Taken::Closed,
+        };
+        let form = plan(
+            alloc,
+            command,
+            ticket,
+            moment,
+            self.shards,
+            &mut self.unsent,
+        );
+        let Ok(()) = self.joiner.open(form) else {
+            unreachable!()
+        };
+        Taken::Opened(ticket)
+    }
+
+    /// Takes out the oldest piece that has not left, with its shard. It takes no memory.
+    #[tactic(auto, unfolding(crate::specs::Conn::IsConn))]
+    pub fn next_piece(&mut self) -> Option<(usize, Piece)>
+        ensures some { IfSome result (λ piece. (told : Told) → IsConn self.old told →
+            (slice_get (all_pieces told) told.out ≡ Some piece) × IsConn self.new (record told { out = told.out + 1; lent = true })) }
+        ensures none { IfNone result ((told : Told) → IsConn self.old told →
+            (told.out ≡ length (all_pieces told)) × IsConn self.new told) }
+    {
+        match self.put_back.take() {
+            Some(piece) => Some(piece),
+            None => self.unsent.pop_front(),
+        }
+    }
+
+    /// Puts the piece that was taken out last back in front, with its shard. It takes no memory.
+    #[tactic(auto, unfolding(crate::specs::Conn::IsConn))]
+    pub fn not_sent(&mut self, shard: usize, piece: Piece)
+        ensures { (told : Told) (before : ℕ) → IsConn self.old told → IsTrue told.lent → told.out ≡ before + 1 →
+            slice_get (all_pieces told) before ≡ Some (shard, piece) →
+            IsConn self.new (record told { out = before; lent = false }) }
+    {
+        self.put_back = Some((shard, piece));
+    }
+
+    /// Accepts the answer to a piece, whichever open command and part it belongs to; of a broken connection too.
+    /// `Stranger`: no such answer is awaited, and the reply is handed back unchanged. It takes no memory.
+    #[tactic(auto, unfolding(crate::specs::Conn::IsConn))]
+    pub fn accept(&mut self, reply: Reply) -> Result<(), Stranger>
+        ensures ok { OnOk result ((told : Told) → IsConn self.old told →
+            Expects (all_forms told) told.accepted (shown reply) × IsConn self.new (record told { accepted = told.accepted ++ shown reply ∷ [] })) }
+        ensures stranger { IfErr result (λ stranger. shown stranger.reply ≡ shown reply) }
+        ensures err { OnErr result ((told : Told) → IsConn self.old told →
+            (¬ Expects (all_forms told) told.accepted (shown reply)) × IsConn self.new told) }
+    {
+        self.joiner.accept(reply)
+    }
+
+    /// How many bytes `hand` would write, `u64::MAX` where they are more; of a broken connection 0. It takes no memory.
+    #[tactic(auto, unfolding(crate::specs::Conn::IsConn))]
+    pub fn ready(&self) -> u64
+        ensures whole { (told : Told) → IsConn self.now told → told.broken ≡ false → result ≡ capped (length (waiting_text told)) }
+        ensures broken { (told : Told) → IsConn self.now told → IsTrue told.broken → result ≡ 0 }
+    {
+        if self.broken {
+            return 0;
+        }
+        self.joiner.ready()
+    }
+
+    /// Writes the replies whose turn has come, a silent one as nothing, and tells to how many commands they are; of a broken
+    /// connection nothing, and 0. It takes no memory. `Gone`: the outlet failed. It took a beginning of what was due, and the
+    /// connection is broken.
+    #[tactic(auto, using(crate::proofs::Handing::none_waits, crate::proofs::Handing::all_together), unfolding(crate::specs::Conn::IsConn))]
+    pub fn hand<O: Outlet>(&mut self, out: &mut O) -> Result<u64, Gone>
+        ensures ok { IfOk result (λ count. (told : Told) → IsConn self.old told → told.broken ≡ false →
+            HandsOut told count self.new (O.sight out.old) (O.sight out.new)) }
+        ensures gone { OnErr result ((told : Told) → IsConn self.old told →
+            BreaksOff told self.new (O.sight out.old) (O.sight out.new)) }
+        ensures silent { IfOk result (λ count. (told : Told) → IsConn self.old told → IsTrue told.broken →
+            StaysSilent told count self.new (O.sight out.old) (O.sight out.new)) }
+    {
+        if self.broken {
+            return Ok(0);
+        }
+        let handed = self.joiner.hand(out);
+        self.broken = handed.is_err();
+        handed
+    }
+
+    /// Breaks the connection: no byte is read or written any more, while the pieces of the commands taken still leave and
+    /// their answers are accepted. It takes no memory.
+    #[tactic(auto, unfolding(crate::specs::Conn::IsConn))]
+    pub fn broken(&mut self)
+        ensures { (told : Told) → IsConn self.old told → IsConn self.new (record told { broken = true }) }
+    {
+        self.broken = true;
+    }
+
+    /// Whether a command that the bytes fed spell is not taken yet. It takes no memory.
+    #[tactic(auto, unfolding(crate::specs::Conn::IsConn))]
+    pub fn whole(&self) -> bool
+        ensures whole { (told : Told) → IsConn self.now told → IsTrue result ↔ IsNotAllTaken told }
+        ensures all { (told : Told) → IsConn self.now told → (result ≡ false) ↔ IsAllTaken told }
+    {
+        self.reader.whole()
+    }
+
+    /// How many bytes are held that are not part of a command taken: those that are unread, and those of a data block that is
+    /// being read. It takes no memory.
+    #[tactic(auto, unfolding(crate::specs::Conn::IsConn))]
+    pub fn held(&self) -> usize
+        ensures most { (told : Told) → IsConn self.now told → result ≤ LINE_LIMIT + told.limit + 2 }
+        // No more than the bytes fed that are not part of a command taken, until the last command is taken.
+        ensures unread { (told : Told) (unread : List ℕ) → IsConn self.now told → LeavesUnread told unread → result ≤ length unread }
+        // A block that is skipped is not held.
+        ensures skipping { (told : Told) → IsConn self.now told → IsSkipping told → result ≤ LINE_LIMIT }
+    {
+        self.reader.held()
+    }
+
+    /// Whether nothing is under way: no command unread, no piece unsent and no command open; of a broken connection, no piece
+    /// unsent and none unanswered. It takes no memory.
+    #[tactic(auto, unfolding(crate::specs::Conn::IsConn))]
+    pub fn is_at_rest(&self) -> bool
+        ensures { (told : Told) → IsConn self.now told → IsTrue result ↔ IsAtRest told }
+    {
+        if self.put_back.is_some() || !self.unsent.is_empty() {
+            return false;
+        }
+        if self.broken {
+            return self.joiner.passes() == self.joiner.waiting();
+        }
+        !self.whole() && self.joiner.waiting() == 0
+    }
+
+    /// Begins the next connection in the same room, where this one is at rest and closed or broken, and tells whether it did;
+    /// else nothing changes. It takes no memory.
+    #[tactic(auto, unfolding(crate::specs::Conn::IsConn))]
+    pub fn renew(&mut self) -> bool
+        ensures when { (told : Told) → IsConn self.old told → IsTrue result ↔ (IsAtRest told × IsOver told) }
+        ensures new { IsTrue result → (told : Told) → IsConn self.old told → IsConn self.new (told_nothing told.shards told.limit told.window) }
+        ensures same { result ≡ false → self.new ≡ self.old }
+    {
+        if !self.is_at_rest() || !self.is_over() {
+            return false;
+        }
+        self.reader.reset();
+        self.joiner.reset();
+        self.broken = false;
+        true
+    }
+}

@@ -1,0 +1,13 @@
+pub mod Lists
+pub mod Logs
+pub mod Links
+pub mod Worlds
+pub mod Follows
+pub mod Every
+pub mod Growing
+pub mod Rows
+pub mod Alone
+pub mod Served
+pub mod Desks
+pub mod Steps
+pub mod Turning

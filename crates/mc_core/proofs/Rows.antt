@@ -1,0 +1,203 @@
+-- A worked row: one connection flushes one shard, ends and is renewed, and the next one breaks. Each of the ten kinds of
+-- event is done.
+use Rattle.std.proofs.Common.{◌≡◌, ℕ, zero, suc, ◌<◌, ◌≤◌, Bool, true, false, ◌||◌, inl, inr, List, [], ◌∷◌, length, Some, refl, arith, codes, pos, lit<, ◌==◌, subst}
+use Rattle.std.specs.List.{slice_get}
+use Rattle.std.proofs.lemmas.Bool.Decides.{eqb_tells}
+use Rattle.mc_wire.specs.Number.{number_of}
+use Rattle.mc_wire.specs.Words.{words_of}
+use Rattle.mc_command.specs.declared.command.Command.{Command}
+use Rattle.mc_command.specs.declared.command.Command.TheVariants as command
+use Rattle.mc_command.specs.Name.{name_of}
+use Rattle.mc_command.specs.Table.{line_of}
+use Rattle.mc_item.specs.declared.answer.Answer.TheVariants as answer
+use Rattle.mc_item.specs.declared.op.Op.TheVariants as op
+use Rattle.mc_item.specs.Expiry.{expiry_of}
+use Rattle.mc_item.specs.Kind.{key_of, kind_of}
+use Rattle.mc_split.specs.declared.plan.Piece.{Piece}
+use Rattle.mc_split.specs.Pieces.{pieces_of}
+use Rattle.mc_split.specs.Shape.{shape_of}
+use Rattle.mc_split.specs.Text.{shape_text}
+use Rattle.mc_reader.specs.Spelling.{AreCommands, BeginCommands, HasNoEnd, Spells}
+use Rattle.mc_reader.proofs.Machine.{lined}
+use Rattle.mc_reader.proofs.Texts.{nothing_without_end}
+use Rattle.mc_store.specs.State.{empty_state}
+use Rattle.mc_store.specs.Step.{Answers, IsStep, step_of}
+use Rattle.mc_conn.specs.History.{Taken}
+use Rattle.mc_conn.specs.Due.{due, ticket_at}
+use Rattle.mc_conn.specs.Fits.{HasCome}
+use Rattle.mc_core.specs.Sizes.{Sizes}
+use Rattle.mc_core.specs.Log.{Entry}
+use Rattle.mc_core.specs.World.{IsAt, Link, World, new_link}
+use Rattle.mc_core.specs.Rest.{AtRest}
+use Rattle.mc_core.specs.Events.{RunsNext, one_more}
+use Rattle.mc_core.specs.Events.Event.{Open, Feed, Take, Send, Pop, Give, Receive, Hand, End, Break}
+use Rattle.mc_core.specs.Schedule.{Schedule}
+use Rattle.mc_core.specs.Schedule.StepReply.{Done}
+use Rattle.mc_core.specs.Headline.{handed_bytes}
+
+abbrev one_each : Sizes
+one_each = record { seats = 1; shards = 1; bytes = 1024; ring = 1; value = 1024; window = 1 }
+
+abbrev line : List ℕ
+line = codes "flush_all\r\n"
+
+abbrev flush : Command
+flush = command.FlushAll (pos 0) false
+
+abbrev one : Taken
+one = record { entry = flush; moment = 1000; given_up = false }
+
+abbrev piece : Piece
+piece = record { ticket = ticket_at 0; part = 0; op = op.Flush (pos 0); moment = 1000 }
+
+abbrev entry : Entry
+entry = record { shard = 0; asker = 0; piece = piece; answer = answer.Done }
+
+abbrev counted : ℕ → ℕ
+counted = one_more (λ _. 0) 0
+
+abbrev fed : Link
+fed = record (new_link 0) { fed = line }
+
+abbrev taken : Link
+taken = record fed { taken = one ∷ [] }
+
+abbrev sent : Link
+sent = record taken { sent = 1 }
+
+abbrev given : Link
+given = record sent { given = counted }
+
+abbrev received : Link
+received = record given { received = counted }
+
+abbrev handed : Link
+handed = record received { handed = 1 }
+
+abbrev ended : Link
+ended = record handed { ended = true }
+
+-- the world of one connection
+abbrev alone : List Entry → Link → World
+alone log link = record { log = log; links = link ∷ [] }
+
+-- and of two
+abbrev both : Link → World
+both link = record { log = entry ∷ []; links = ended ∷ link ∷ [] }
+
+abbrev broken : Link
+broken = record (new_link 0) { broken = true }
+
+only : (x y : Link) (j : ℕ) → 0 < j → slice_get (x ∷ []) j ≡ Some y → ⊥
+only x y zero less here = absurd (omega (arith, less))
+only x y (suc j) less here = absurd (cc)
+
+only_two : (x z y : Link) (j : ℕ) → 1 < j → slice_get (x ∷ z ∷ []) j ≡ Some y → ⊥
+only_two x z y zero less here = absurd (omega (arith, less))
+only_two x z y (suc j) less here = only z y j (omega (arith, less)) here
+
+abbrev has_end : List ℕ → Bool
+has_end [] = false
+has_end (x ∷ xs) = (x == 10) || has_end xs
+
+both_false : (a b : Bool) → (a || b) ≡ false → (a ≡ false) × (b ≡ false)
+both_false false b e = (refl, e)
+both_false true b e = absurd cc
+
+no_end : (bytes : List ℕ) → has_end bytes ≡ false → HasNoEnd bytes
+no_end [] e = tt
+no_end (x ∷ xs) e = let parts = both_false (x == 10) (has_end xs) e in (parts.0, no_end xs parts.1)
+
+spells_flush : Spells one_each.value line flush
+unfolding line_of words_of name_of number_of
+spells_flush = lined one_each.value (codes "flush_all\r") [] flush (no_end (codes "flush_all\r") refl) (lit< tt) refl refl
+
+begins : BeginCommands one_each.value line (flush ∷ [])
+begins = ([], (line, [], refl, spells_flush, refl))
+
+all_taken : AreCommands one_each.value line (flush ∷ [])
+all_taken = ([], (line, [], refl, spells_flush, refl), nothing_without_end one_each.value [] tt (lit< tt))
+
+come : HasCome 1 (one ∷ []) counted 1
+unfolding pieces_of
+come s = elim (eqb_tells 0 s) [
+  | inl here ↦ subst (λ t. length (due 1 t (one ∷ [])) ≤ counted t) here.1 (omega arith)
+  | inr other ↦ rw other.0 (omega arith)
+]
+
+runs : RunsNext one_each (alone [] sent) 0 0 sent entry
+unfolding IsStep Answers step_of pieces_of expiry_of kind_of key_of
+runs = record {
+  shard_is = refl;
+  asker_is = refl;
+  next = refl;
+  before = empty_state 0 1 1024 0 1024;
+  after = record (empty_state 0 1 1024 0 1024) { time = 1000 };
+  left = refl;
+  step = inr refl;
+}
+
+at_rest : AtRest one_each ended
+unfolding pieces_of
+at_rest = (all_taken, refl, refl)
+
+-- all ten kinds of event are done
+goes : Schedule one_each (Open 0 ∷ Feed 0 line ∷ Take 0 1000 ∷ Send 0 ∷ Pop 0 0 ∷ Give 0 ∷ Receive 0 0 ∷ Hand 0 ∷ End 0 ∷ Open 0 ∷ Break 0 ∷ []) (both broken)
+unfolding pieces_of
+goes =
+    let at : (log : List Entry) (link : Link) → link.seat ≡ 0 → IsAt (alone log link) 0 0 link = λ log link seat. record { here = refl; seat_is = seat; last = λ j other less here same. only link other j less here } in (
+      Done,
+      alone [] (new_link 0),
+      (0, new_link 0, (refl, refl), (lit< tt, inl (λ k link here same. absurd (cc))), refl),
+      (
+        Done,
+        alone [] fed,
+        (0, new_link 0, at [] (new_link 0) refl, (refl, refl, lit< tt), (11, record { within = omega arith; whole = λ used short. refl; some = λ all room some. lit< tt }, lit< tt, refl)),
+        (
+          Done,
+          alone [] taken,
+          (0, fed, at [] fed refl, ((flush, begins), lit< tt, refl), (one, record { next = begins; moment_is = refl; may = λ gone. absurd (cc) }, refl)),
+          (
+            Done,
+            alone [] sent,
+            (0, taken, at [] taken refl, record { piece = (0, piece); next = refl; room = lit< tt }, refl),
+            (
+              Done,
+              alone (entry ∷ []) sent,
+              (0, sent, at [] sent refl, (λ k link here. omega arith, lit< tt), (entry, runs, refl)),
+              (
+                Done,
+                alone (entry ∷ []) given,
+                (0, sent, record { here = refl; ungiven = lit< tt }, lit< tt, refl),
+                (
+                  Done,
+                  alone (entry ∷ []) received,
+                  (0, given, at (entry ∷ []) given refl, lit< tt, refl),
+                  (
+                    Done,
+                    alone (entry ∷ []) handed,
+                    (0, received, at (entry ∷ []) received refl, (lit< tt, come, refl), (1, record { within = omega arith; come = come; most = λ more within has. within }, refl)),
+                    (
+                      Done,
+                      alone (entry ∷ []) ended,
+                      (0, handed, at (entry ∷ []) handed refl, refl, refl),
+                      (
+                        Done,
+                        both (new_link 0),
+                        (1, new_link 0, (refl, refl), (lit< tt, inr (0, ended, at (entry ∷ []) ended refl, (at_rest, inl (inr (refl, all_taken))))), refl),
+                        (Done, both broken, (1, new_link 0, record { here = refl; seat_is = refl; last = λ j other less here same. only_two ended (new_link 0) other j less here }, refl, refl), refl),
+                      ),
+                    ),
+                  ),
+                ),
+              ),
+            ),
+          ),
+        ),
+      ),
+    )
+
+-- and the first connection, followed by another, has its reply
+replied : handed_bytes one_each (both broken) 0 ended ≡ codes "OK\r\n"
+unfolding pieces_of shape_of shape_text kind_of
+replied = refl

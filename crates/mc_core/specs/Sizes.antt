@@ -1,0 +1,28 @@
+-- How large a server is, and between which limits.
+use Rattle.std.specs.Prelude.{ℕ, ◌≤◌}
+use Rattle.mc_core.specs.declared.sizes.TheConstants.{LEAST, LEAST_BYTES, LEAST_VALUE, MOST_BYTES, MOST_RING, MOST_SEATS, MOST_SHARDS, MOST_VALUE, MOST_WINDOW}
+
+pub record Sizes : Type 0 where
+  -- how many connections there are at a time
+  pub seats : ℕ
+  pub shards : ℕ
+  -- how many bytes the items of a shard may cost together
+  pub bytes : ℕ
+  -- how many pieces, or answers, one ring holds at most
+  pub ring : ℕ
+  -- how many bytes a value has at most
+  pub value : ℕ
+  -- how many commands of a connection may be open: taken, and their replies not handed out
+  pub window : ℕ
+
+abbrev pub IsFrom : ℕ → ℕ → ℕ → Type 0
+IsFrom least most n = (least ≤ n) × (n ≤ most)
+
+-- The sizes are those that a server may have.
+pub record AreWithin (sizes : Sizes) : Type 0 where
+  pub seats : IsFrom LEAST MOST_SEATS sizes.seats
+  pub shards : IsFrom LEAST MOST_SHARDS sizes.shards
+  pub bytes : IsFrom LEAST_BYTES MOST_BYTES sizes.bytes
+  pub ring : IsFrom LEAST MOST_RING sizes.ring
+  pub value : IsFrom LEAST_VALUE MOST_VALUE sizes.value
+  pub window : IsFrom LEAST MOST_WINDOW sizes.window

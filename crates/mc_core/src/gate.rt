@@ -1,0 +1,16 @@
+//! A gate that a worker passes before each piece.
+use mc_split::Ticket;
+
+/// Is called before a shard runs a piece. Whoever wants to hold workers up, or to see what they run, gives one of their own.
+pub trait Gate {
+    /// The shard of this number is about to run a piece of the command of this ticket.
+    fn before(&self, shard: usize, ticket: Ticket);
+}
+
+/// A gate that lets every piece through at once.
+#[derive(Clone, Copy, Debug)]
+pub struct OpenGate;
+
+impl Gate for OpenGate {
+    fn before(&self, _shard: usize, _ticket: Ticket) {}
+}

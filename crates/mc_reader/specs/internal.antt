@@ -1,0 +1,3 @@
+-- Definitions that only private contracts name, and what a reader is inside.
+pub mod State
+pub mod Inside

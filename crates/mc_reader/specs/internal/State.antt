@@ -1,0 +1,96 @@
+-- What the unread bytes of a stream are, by the state of its reader.
+use Rattle.std.specs.Prelude.{ℕ, ◌≡◌, ◌+◌, ◌<◌, ◌≤◌, Bool, true, false, List, [], ◌∷◌, ◌++◌, length, Option, Some, None, nat_lt}
+use Rattle.mc_wire.specs.declared.TheConstants.{LINE_LIMIT}
+use Rattle.mc_command.specs.declared.command.Command.{Command}
+use Rattle.mc_command.specs.declared.refusal.Refusal.{Refusal}
+use Rattle.mc_command.specs.declared.line.Line.TheVariants.{Data, Skip}
+use Rattle.mc_command.specs.Line.{Says}
+use Rattle.mc_reader.specs.declared.state.State.{State}
+use Rattle.mc_reader.specs.declared.state.State.TheVariants as state
+use Rattle.mc_reader.specs.Spelling.{Given, IsGiven, HasNoEnd, Spells, line_says}
+
+-- so many bytes stand before the first line feed
+pub record IsFirstLine (bytes : List ℕ) (long : ℕ) : Type 0 where
+  pub line : List ℕ
+  pub rest : List ℕ
+  pub bytes_are : bytes ≡ line ++ 10 ∷ rest
+  pub no_end : HasNoEnd line
+  pub long_is : length line ≡ long
+
+-- where the first line of the bytes ends, if it does
+abbrev pub EndsAt : List ℕ → Option ℕ → Type 0
+EndsAt bytes None = HasNoEnd bytes
+EndsAt bytes (Some long) = IsFirstLine bytes long
+
+-- The unread bytes spell what is shown, and then come the others.
+pub record IsWhole (limit : ℕ) (shown : Command) (others unread : List ℕ) : Type 0 where
+  pub text : List ℕ
+  pub one : Given
+  pub unread_are : unread ≡ text ++ others
+  pub spelled : Spells limit text one.entry
+  pub given : IsGiven shown one
+
+-- A beginning of the bytes spells something.
+abbrev pub SpellsSomething : ℕ → List ℕ → Type 0
+SpellsSomething limit bytes = (text after : List ℕ) × (entry : Command) × (bytes ≡ text ++ after) × Spells limit text entry
+
+-- The unread bytes are a storage line, these bytes of its block and the block's end, and then the others.
+pub record IsInBlock (limit : ℕ) (asked : Command) (count : ℕ) (bytes others unread : List ℕ) : Type 0 where
+  pub line : List ℕ
+  pub no_end : HasNoEnd line
+  pub short : length line < LINE_LIMIT
+  pub says : line_says limit line ≡ Data asked count
+  pub unread_are : unread ≡ line ++ 10 ∷ (bytes ++ others)
+  pub behind : length bytes < count + 2 → others ≡ []
+
+-- The unread bytes are a line that is refused, all but so many of the bytes that are skipped, and then the others.
+pub record IsInSkip (limit : ℕ) (refusal : Refusal) (left : ℕ) (others unread : List ℕ) : Type 0 where
+  pub line : List ℕ
+  pub skipped : List ℕ
+  pub no_end : HasNoEnd line
+  pub short : length line < LINE_LIMIT
+  pub says : Says (line_says limit line) (Skip refusal (length skipped + left))
+  pub unread_are : unread ≡ line ++ 10 ∷ (skipped ++ others)
+  pub behind : 0 < left → others ≡ []
+
+-- What is unread, by the state and the bytes of the buffer.
+abbrev pub Holds : ℕ → State → List ℕ → List ℕ → Type 0
+Holds limit (state.Line long) buffer unread = (unread ≡ buffer) × (length buffer ≤ LINE_LIMIT) × EndsAt buffer long
+Holds limit (state.Block block) buffer unread = IsInBlock limit block.command block.count block.bytes.items buffer unread
+Holds limit (state.Skip skipped) buffer unread = IsInSkip limit skipped.refusal skipped.left buffer unread
+Holds limit state.Closed buffer unread = ⊥
+
+-- a line end that was found stands in the bytes
+abbrev pub fits_in : Option ℕ → List ℕ → Bool
+fits_in None bytes = true
+fits_in (Some long) bytes = nat_lt long (length bytes)
+
+-- the line that was found stands in the buffer
+abbrev pub line_fits : State → List ℕ → Bool
+line_fits (state.Line long) buffer = fits_in long buffer
+line_fits other buffer = true
+
+-- More bytes are needed: no line is whole, or the bytes behind it have not all come.
+abbrev pub Waits : State → List ℕ → Type 0
+Waits (state.Line None) buffer = length buffer < LINE_LIMIT
+Waits (state.Line (Some long)) buffer = ⊥
+Waits (state.Block block) buffer = length block.bytes.items < block.count + 2
+Waits (state.Skip skipped) buffer = 0 < skipped.left
+Waits state.Closed buffer = ⊥
+
+-- What is awaited is no line that was found already.
+abbrev pub is_opened : State → Bool
+is_opened (state.Line (Some long)) = false
+is_opened other = true
+
+-- All that a state awaits has come, or a line is too long.
+abbrev pub Completes : State → List ℕ → Type 0
+Completes (state.Line long) buffer = length buffer ≡ LINE_LIMIT
+Completes (state.Block block) buffer = block.count + 2 ≤ length block.bytes.items
+Completes (state.Skip skipped) buffer = skipped.left ≡ 0
+Completes state.Closed buffer = ⊥
+
+-- how many bytes of a block have come
+abbrev pub held_in : State → ℕ
+held_in (state.Block block) = length block.bytes.items
+held_in other = 0

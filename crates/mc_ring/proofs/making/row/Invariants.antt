@@ -1,0 +1,5 @@
+use Rattle.mc_ring.proofs.Rows.{JoinsFirst}
+use Rattle.mc_ring.proofs.making.row.Given as goal
+
+abbrev pub invariant-loop-shard : goal.invariant-loop-shard
+invariant-loop-shard l = JoinsFirst l.capacity l.shard-index l.fn.shards.items l.shard-items l.row.items

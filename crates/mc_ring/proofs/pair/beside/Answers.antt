@@ -1,0 +1,50 @@
+use Rattle.std.proofs.Common.{◌≡◌, ap, rules, map, Some}
+use Rattle.std.specs.List.{slice_get}
+use Rattle.mc_ring.specs.Lane.{Far, Near}
+use Rattle.mc_ring.proofs.SameEnds.{read_here, same_ends_here}
+use Rattle.mc_ring.proofs.pair.beside.Goals as goal
+
+pub returns-clause-looked : goal.returns-clause-looked
+returns-clause-looked c =
+    let s_is : c.number-shard_number.result ≡ c.shard.inside.number = search rules in
+    let c_is : c.number-seat_number.result ≡ c.seat.inside.number = search rules in
+    let near_lane : slice_get (map (λ (end : Near). end.past.lane) c.seat.inside.lanes.items) c.shard.inside.number ≡ Some c.requires.lane = rw (← c.seat.view_is, ← c.shard.view_is) at c.requires.near in
+    let far_lane : slice_get (map (λ (end : Far). end.past.lane) c.shard.inside.lanes.items) c.seat.inside.number ≡ Some c.requires.lane = rw (← c.seat.view_is, ← c.shard.view_is) at c.requires.far in
+    rw (← c.seat.view_is, ← c.shard.view_is) (record {
+      near = record {
+        before = c.index_mut-near.result.now;
+        after = c.lane_beside.new.near;
+        here = read_here (λ (end : Near). end.past.lane) c.seat.inside.lanes.items c.shard.inside.number c.index_mut-near.result.now c.requires.lane (rw s_is at c.index_mut-near.ensures.value) near_lane;
+        set = cc;
+        said = c.lane_beside.ensures.near;
+      };
+      far = record {
+        before = c.index_mut-far.result.now;
+        after = c.lane_beside.new.far;
+        here = read_here (λ (end : Far). end.past.lane) c.shard.inside.lanes.items c.seat.inside.number c.index_mut-far.result.now c.requires.lane (rw c_is at c.index_mut-far.ensures.value) far_lane;
+        set = cc;
+        said = c.lane_beside.ensures.far;
+      };
+      parcels_wait = c.lane_beside.ensures.parcels;
+      replies_wait = c.lane_beside.ensures.replies;
+      parcel_count = c.lane_beside.ensures.counts.0;
+      reply_count = c.lane_beside.ensures.counts.1;
+      parcel_room = c.lane_beside.ensures.parcel_room;
+      reply_room = c.lane_beside.ensures.reply_room;
+    })
+
+pub returns-clause-seat : goal.returns-clause-seat
+returns-clause-seat c =
+    let s_is : c.number-shard_number.result ≡ c.shard.inside.number = search rules in
+    let near_lane : slice_get (map (λ (end : Near). end.past.lane) c.seat.inside.lanes.items) c.shard.inside.number ≡ Some c.requires.lane = rw (← c.seat.view_is, ← c.shard.view_is) at c.requires.near in
+    rw (← c.seat.view_is) (same_ends_here c.seat.inside.number c.seat.inside.lanes.items c.number-shard_number.result c.index_mut-near.result.now c.lane_beside.new.near
+    (read_here (λ (end : Near). end.past.lane) c.seat.inside.lanes.items c.number-shard_number.result c.index_mut-near.result.now c.requires.lane c.index_mut-near.ensures.value (rw s_is near_lane))
+    (ap (λ past. past.lane) c.lane_beside.ensures.near.past))
+
+pub returns-clause-shard : goal.returns-clause-shard
+returns-clause-shard c =
+    let c_is : c.number-seat_number.result ≡ c.seat.inside.number = search rules in
+    let far_lane : slice_get (map (λ (end : Far). end.past.lane) c.shard.inside.lanes.items) c.seat.inside.number ≡ Some c.requires.lane = rw (← c.seat.view_is, ← c.shard.view_is) at c.requires.far in
+    rw (← c.shard.view_is) (same_ends_here c.shard.inside.number c.shard.inside.lanes.items c.number-seat_number.result c.index_mut-far.result.now c.lane_beside.new.far
+    (read_here (λ (end : Far). end.past.lane) c.shard.inside.lanes.items c.number-seat_number.result c.index_mut-far.result.now c.requires.lane c.index_mut-far.ensures.value (rw c_is far_lane))
+    (ap (λ past. past.lane) c.lane_beside.ensures.far.past))

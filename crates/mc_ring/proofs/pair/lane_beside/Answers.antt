@@ -1,0 +1,18 @@
+use Rattle.std.proofs.Common.{rules, arith}
+use Rattle.mc_ring.specs.Reply.{shown}
+use Rattle.mc_ring.proofs.Prefixes.{map_longer, longer_trans}
+use Rattle.mc_ring.proofs.pair.lane_beside.Goals as goal
+
+pub returns-clause-near : goal.returns-clause-near
+returns-clause-near c = rw (← c.near.view_is) (record {
+  past = search rules;
+  ahead = map_longer shown _ _ (longer_trans _ _ _ c.slots_beside-2.ensures.consumer.2 c.slots_beside-replies.ensures.looked.2);
+  free = omega arith;
+})
+
+pub returns-clause-far : goal.returns-clause-far
+returns-clause-far c = rw (← c.far.view_is) (record {
+  past = search rules;
+  ahead = longer_trans _ _ _ c.slots_beside.ensures.consumer.2 c.slots_beside-parcels.ensures.looked.2;
+  free = omega arith;
+})

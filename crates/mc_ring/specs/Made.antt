@@ -1,0 +1,56 @@
+-- The lanes between seats and shards, as they are made, and when a seat's ends and a shard's ends have one lane.
+use Rattle.std.specs.Prelude.{◌≡◌, ℕ, ◌≤◌, ◌+◌, List, [], ◌++◌, length, slice_get, Some}
+use Rattle.std.specs.List.{AllByRecursion}
+use Rattle.mc_ring.specs.declared.TheConstants.{SEAT_LIMIT, SHARD_LIMIT, RING_LIMIT}
+use Rattle.mc_ring.specs.Lane.{Far, Lane, Near, Side}
+use Rattle.mc_ring.specs.Ends.{AtLane, Ends, Looks, lanes_of}
+
+-- Nothing has passed on the lane, and all its room is known.
+pub record IsUnused {Out In : Type 0} (end : Side Out In) : Type 0 where
+  pub sent : end.past.sent ≡ []
+  pub received : end.past.received ≡ []
+  pub ahead : end.ahead ≡ []
+  pub free : end.free ≡ end.past.lane.capacity
+
+-- The ends of a seat or of a shard, of so many lanes, on which nothing has passed.
+pub record AreNewEnds {Out In : Type 0} (number count capacity : ℕ) (ends : Ends (Side Out In)) : Type 0 where
+  pub number_is : ends.number ≡ number
+  pub counted : length ends.lanes ≡ count
+  pub unused : AllByRecursion IsUnused ends.lanes
+  pub holds : AllByRecursion (λ lane. lane.capacity ≡ capacity) (lanes_of ends)
+
+-- The seat and the shard have this lane, each by the other's number.
+pub record IsLane (seat : Ends Near) (shard : Ends Far) : Type 0 where
+  pub lane : Lane
+  pub near : slice_get (lanes_of seat) shard.number ≡ Some lane
+  pub far : slice_get (lanes_of shard) seat.number ≡ Some lane
+
+-- New ends of so many seats and shards: a lane between each seat and each shard.
+pub record AreLanes (seats shards capacity : ℕ) (near : List (Ends Near)) (far : List (Ends Far)) : Type 0 where
+  pub seat_count : length near ≡ seats
+  pub shard_count : length far ≡ shards
+  pub each_seat : (number : ℕ) (seat : Ends Near) → slice_get near number ≡ Some seat → AreNewEnds number shards capacity seat
+  pub each_shard : (number : ℕ) (shard : Ends Far) → slice_get far number ≡ Some shard → AreNewEnds number seats capacity shard
+  pub each_lane : (c s : ℕ) (seat : Ends Near) (shard : Ends Far) → slice_get near c ≡ Some seat → slice_get far s ≡ Some shard → IsLane seat shard
+
+-- There may be so many seats, shards and places in a ring.
+pub record IsSize (seats shards capacity : ℕ) : Type 0 where
+  pub some_seat : 1 ≤ seats
+  pub seat_limit : seats ≤ SEAT_LIMIT
+  pub some_shard : 1 ≤ shards
+  pub shard_limit : shards ≤ SHARD_LIMIT
+  pub some_place : 1 ≤ capacity
+  pub ring_limit : capacity ≤ RING_LIMIT
+
+-- Both ends of a lane were looked at in one thread: so many parcels and so many replies wait, and in each direction what
+-- was received, then what waits, is what was sent.
+pub record LooksAtBoth (seat seat' : Ends Near) (shard shard' : Ends Far) (parcels replies : ℕ) : Type 0 where
+  pub near : AtLane Looks shard.number seat seat'
+  pub far : AtLane Looks seat.number shard shard'
+  pub parcels_wait : far.after.past.received ++ far.after.ahead ≡ near.after.past.sent
+  pub replies_wait : near.after.past.received ++ near.after.ahead ≡ far.after.past.sent
+  pub parcel_count : parcels ≡ length far.after.ahead
+  pub reply_count : replies ≡ length near.after.ahead
+  -- all room is known
+  pub parcel_room : near.after.past.lane.capacity + length far.after.past.received ≤ near.after.free + length near.after.past.sent
+  pub reply_room : far.after.past.lane.capacity + length near.after.past.received ≤ far.after.free + length far.after.past.sent

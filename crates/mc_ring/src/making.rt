@@ -1,0 +1,125 @@
+//! Making the lanes between seats and shards.
+ghost use Rattle.std.specs.Prelude.{◌≡◌, ◌≢◌, ◌↔◌, ◌≤◌, ℕ, [], IfOk, IsErrOf, IsTrue, Err};
+ghost use Rattle.mc_ring.specs.Made.{AreLanes, IsSize, IsUnused};
+ghost use Rattle.mc_ring.specs.internal.Joined.{Joins};
+
+#[cfg(test)]
+mod tests;
+
+use crate::seat::{SeatEnds, SeatLane};
+use crate::shard::{ShardEnds, ShardLane};
+use crate::{RING_LIMIT, SEAT_LIMIT, SHARD_LIMIT};
+use rtrb::RingBuffer;
+use std::alloc::{AllocError, Global};
+
+/// Why there are no lanes.
+#[derive(Clone, Copy, Debug, PartialEq, Eq)]
+pub enum RingRefusal {
+    /// A number is out of its range.
+    Size,
+    /// There is no memory for the rings.
+    Memory,
+}
+
+impl From<AllocError> for RingRefusal {
+    ghost use Rattle.mc_ring.specs.declared.making.RingRefusal.TheVariants.{Memory};
+
+    ghost from_gives = { λ _ refusal. refusal ≡ Memory };
+
+    fn from(_error: AllocError) -> RingRefusal {
+        RingRefusal::Memory
+    }
+}
+
+/// The ends of a lane between each seat and each shard, with rings of this capacity. There are 1 to 64 seats, 1 to 16
+/// shards and 1 to 1,024 places in a ring; `Size` where a number is outside these, which is tested first.
+pub fn lanes(
+    alloc: Global,
+    seats: usize,
+    shards: usize,
+    capacity: usize,
+) -> Result<(Vec<SeatEnds>, Vec<ShardEnds>), RingRefusal>
+    ensures made { IfOk result (λ ends. AreLanes seats shards capacity ends.0.items ends.1.items) }
+    ensures size { IsErrOf result RingRefusal.Size → ¬ (IsSize seats shards capacity) }
+    ensures tested { result ≢ Err RingRefusal.Size → IsSize seats shards capacity }
+{
+    if !is_size(seats, shards, capacity) {
+        return Err(RingRefusal::Size);
+    }
+    Ok(all_lanes(alloc, seats, shards, capacity)?)
+}
+
+/// Whether there may be so many seats, shards and places in a ring.
+fn is_size(seats: usize, shards: usize, capacity: usize) -> bool
+    ensures { IsTrue result ↔ IsSize seats shards capacity }
+{
+    (1..=SEAT_LIMIT).contains(&seats)
+        && (1..=SHARD_LIMIT).contains(&shards)
+        && (1..=RING_LIMIT).contains(&capacity)
+}
+
+/// The ends of all lanes, of whatever numbers.
+fn all_lanes(
+    alloc: Global,
+    seats: usize,
+    shards: usize,
+    capacity: usize,
+) -> Result<(Vec<SeatEnds>, Vec<ShardEnds>), AllocError>
+    ensures { IfOk result (λ ends. AreLanes seats shards capacity ends.0.items ends.1.items) }
+{
+    let mut far = shards_without_lanes(alloc, shards)?;
+    let mut near = Vec::with_capacity(alloc, seats)?;
+    for number in 0..seats {
+        let lanes = row(alloc, capacity, &mut far)?;
+        near.push(SeatEnds::new(number, lanes))?;
+    }
+    Ok((near, far))
+}
+
+/// The ends of so many shards, with no lane yet.
+fn shards_without_lanes(alloc: Global, shards: usize) -> Result<Vec<ShardEnds>, AllocError>
+    ensures { (capacity : ℕ) → IfOk result (λ ends. AreLanes 0 shards capacity [] ends.items) }
+{
+    let mut far = Vec::with_capacity(alloc, shards)?;
+    for number in 0..shards {
+        far.push(ShardEnds::new(alloc, number))?;
+    }
+    Ok(far)
+}
+
+/// One lane more for each shard: the other ends are those of one seat.
+fn row(
+    alloc: Global,
+    capacity: usize,
+    shards: &mut Vec<ShardEnds>,
+) -> Result<Vec<SeatLane>, AllocError>
+    ensures { IfOk result (λ row. Joins capacity shards.old.items shards.new.items row.items) }
+{
+    let mut row = Vec::with_capacity(alloc, shards.len())?;
+    for shard in shards.iter_mut() {
+        let (near, far) = lane(alloc, capacity)?;
+        shard.add(far)?;
+        row.push(near)?;
+    }
+    Ok(row)
+}
+
+/// Both ends of a new lane.
+fn lane(alloc: Global, capacity: usize) -> Result<(SeatLane, ShardLane), AllocError>
+    ensures near { IfOk result (λ ends. IsUnused ends.0) }
+    ensures far { IfOk result (λ ends. IsUnused ends.1) }
+    ensures lane { IfOk result (λ ends. ends.1.past.lane ≡ ends.0.past.lane) }
+    ensures capacity { IfOk result (λ ends. ends.0.past.lane.capacity ≡ capacity) }
+{
+    let (send, take) = RingBuffer::new(alloc, capacity)?;
+    let (give, receive) = RingBuffer::new(alloc, capacity)?;
+    let near = SeatLane {
+        parcels: send,
+        replies: receive,
+    };
+    let far = ShardLane {
+        parcels: take,
+        replies: give,
+    };
+    Ok((near, far))
+}

@@ -1,0 +1,4 @@
+pub mod Reads
+pub mod Story
+pub mod LineServed
+pub mod internal

@@ -1,0 +1,30 @@
+-- What became of a line, by the commands taken and the texts of their replies.
+use Rattle.std.specs.Prelude.{ℕ, ◌≡◌, Bool, true, false, ◌⊎◌, List, ◌++◌, IsTrue, MatchBool}
+use Rattle.std.specs.List.{AllByRecursion, concat}
+use Rattle.mc_wire.specs.Outlet.{with_bytes}
+use Rattle.mc_reader.specs.Spelling.{AreCommands, BeginCommands, is_closed}
+use Rattle.mc_conn.specs.History.{Taken, MayBeTaken}
+use Rattle.mc_conn.specs.Told.{commands_of}
+use Rattle.mc_wire.specs.Outlet.{Sight}
+
+-- The commands taken are all that the bytes read spell; of a line that broke, a beginning of them.
+abbrev pub Covers : ℕ → Bool → List ℕ → List Taken → Type 0
+Covers limit broke read taken = MatchBool broke (BeginCommands limit read (commands_of taken)) (AreCommands limit read (commands_of taken))
+
+-- The line took all texts; one that broke, a beginning of them.
+abbrev pub Writes : Bool → List ℕ → List (List ℕ) → Type 0
+Writes broke written texts = MatchBool broke ((rest : List ℕ) × (written ++ rest ≡ concat texts)) (written ≡ concat texts)
+
+-- What became of a line between begin and now.
+pub record Story (limit : ℕ) (begin now : Sight) (broke : Bool) (taken : List Taken) (texts : List (List ℕ)) : Type 0 where
+  -- the bytes read of it, and written to it
+  pub read : List ℕ
+  pub written : List ℕ
+  pub read_is : now.given ≡ with_bytes begin.given read
+  pub written_is : now.taken ≡ with_bytes begin.taken written
+  pub covers : Covers limit broke read taken
+  pub writes : Writes broke written texts
+  pub may : AllByRecursion MayBeTaken taken
+  -- Its input came to its end, or a command was taken after which nothing is read.
+  pub finished : broke ≡ false → IsTrue now.ended ⊎ IsTrue (is_closed (commands_of taken))
+  pub failed : broke ≡ true → now.failed ≡ true

@@ -1,0 +1,68 @@
+-- The steps of a seat, by what its connection was told.
+use Rattle.std.specs.Prelude.{ℕ, ◌≡◌, Bool, true, false, List, length}
+use Rattle.mc_conn.specs.declared.conn.Conn.{Conn}
+use Rattle.mc_conn.specs.declared.conn.Taken.{Taken as Took}
+use Rattle.mc_conn.specs.declared.conn.Taken.TheVariants as took
+use Rattle.mc_conn.specs.Conn.{IsConn}
+use Rattle.mc_ring.specs.Reply.{Shown}
+use Rattle.mc_conn.specs.Fits.{KeysFit}
+use Rattle.mc_conn.specs.Told.{Told, IsAllTaken, IsOver, all_texts, commands_of}
+use Rattle.mc_seat.specs.declared.seat.Turn.{Turn}
+use Rattle.mc_seat.specs.declared.seat.Turn.TheVariants.{Goes, Ends, Broke}
+use Rattle.mc_wire.specs.Outlet.{Sight}
+use Rattle.mc_seat.specs.internal.Stands.{Serving}
+use Rattle.mc_seat.specs.Reads.{ReadsOwingNothing}
+use Rattle.mc_seat.specs.Story.{Story}
+
+-- why no further command was taken
+abbrev pub StopsAt : Took → Told → Type 0
+StopsAt (took.Opened ticket) told = Unit {0}
+StopsAt took.NeedMore told = IsAllTaken told × (told.ended ≡ false)
+StopsAt took.Full told = Unit {0}
+StopsAt took.Closed told = IsOver told
+
+-- what is told once the replies whose turn has come are handed out
+abbrev pub all_handed : Told → Told
+all_handed told = record told { handed = length (all_texts told) }
+
+-- The connection was told of the commands taken as before, and more bytes were fed and more replies handed out.
+pub record GoesOn (received : ℕ → List Shown) (begin now : Sight) (told : Told) (conn : Conn) (unread : List ℕ) : Type 0 where
+  pub fed : List ℕ
+  pub ended : Bool
+  pub conn_is : IsConn conn (record (all_handed told) { fed = fed; ended = ended })
+  pub serving : Serving received begin now unread (record (all_handed told) { fed = fed; ended = ended })
+
+-- The line was served: what became of it, and what its connection was told.
+pub record IsServed (received : ℕ → List Shown) (begin now : Sight) (told : Told) (broke : Bool) (conn : Conn) : Type 0 where
+  pub handed : ℕ
+  pub conn_is : IsConn conn (record told { broken = broke; handed = handed })
+  pub story : Story told.limit begin now broke told.taken (all_texts told)
+  pub reads : KeysFit told.shards told.taken received → ReadsOwingNothing told.limit begin now (commands_of told.taken) (all_texts told)
+
+abbrev pub TurnSays : Turn → (ℕ → List Shown) → Sight → Sight → Told → Conn → List ℕ → Type 0
+TurnSays Goes received begin now told conn unread = GoesOn received begin now told conn unread
+TurnSays Ends received begin now told conn unread = IsServed received begin now told false conn
+TurnSays Broke received begin now told conn unread = IsServed received begin now told true conn
+
+-- What handing out and reading on does, once all commands taken are answered.
+abbrev pub GoOnSays : Turn → Took → Conn → List ℕ → Sight → Conn → List ℕ → Sight → Type 0
+GoOnSays turn stop old unread before new left now =
+    (received : ℕ → List Shown) (begin : Sight) (told : Told) →
+    IsConn old told → Serving received begin before unread told → told.broken ≡ false → StopsAt stop told →
+    (KeysFit told.shards told.taken received → length (all_texts told) ≡ length told.taken) →
+    TurnSays turn received begin now told new left
+
+-- What reading on does, once all replies are handed out and more bytes are needed.
+abbrev pub ReadOnSays : Turn → Conn → List ℕ → Sight → Conn → List ℕ → Sight → Type 0
+ReadOnSays turn old unread before new left now =
+    (received : ℕ → List Shown) (begin : Sight) (told : Told) →
+    IsConn old (all_handed told) → Serving received begin before unread (all_handed told) → IsAllTaken told → told.ended ≡ false →
+    (KeysFit told.shards told.taken received → length (all_texts told) ≡ length told.taken) →
+    TurnSays turn received begin now told new left
+
+-- What feeding does of what was read, once all replies are handed out.
+abbrev pub FeedSays : Conn → List ℕ → Conn → List ℕ → Type 0
+FeedSays old unread new left =
+    (received : ℕ → List Shown) (begin now : Sight) (told : Told) →
+    IsConn old (all_handed told) → Serving received begin now unread (all_handed told) → told.ended ≡ false →
+    GoesOn received begin now told new left

@@ -1,0 +1,30 @@
+//! Where commands come from and replies go, and what tells the time.
+ghost use Rattle.std.specs.Prelude.{◌<◌, ◌≤◌, ℕ, IfOk, length};
+ghost use Rattle.mc_wire.specs.Outlet.{Reads};
+
+use mc_wire::Outlet;
+
+/// A line gives no more bytes: it has failed.
+#[derive(Clone, Copy, Debug, PartialEq, Eq)]
+pub struct LineFault;
+
+/// A line of bytes in both directions, over memory, a stream or a socket. What it gave and took it tells, if it does, by what
+/// is seen of it as an outlet.
+pub trait Line: Outlet {
+    /// Reads some bytes into the front of the room, and gives how many: none only at the end of the input. At a fault it gives
+    /// none, and has failed.
+    fn read(&mut self, room: &mut [u8]) -> Result<usize, LineFault>
+        requires { 0 < length room.old }
+        ensures within { IfOk result (λ count. count ≤ length room.old) }
+        ensures read { Reads room.new result (Self.sight self.old) (Self.sight self.new) };
+}
+
+/// Tells the time in seconds since 1970.
+pub trait Clock {
+    /// The moments that it may answer.
+    ghost may_answer: { Self → ℕ → Type 0 };
+
+    /// The moment at which it is asked.
+    fn now(&self) -> u64
+        ensures { may_answer self.now result };
+}

@@ -1,0 +1,90 @@
+//! The steps of a seat: once the commands taken are answered, it hands out their replies and reads on.
+ghost use Rattle.std.specs.Prelude.{◌≡◌, [], IfOk};
+
+use crate::lines::Line;
+use crate::unread::Unread;
+use mc_conn::{Conn, Taken};
+use std::alloc::{AllocError, Global};
+
+/// What became of a line.
+#[derive(Clone, Copy, Debug, PartialEq, Eq)]
+pub struct Served {
+    /// How many commands it took.
+    pub commands: u64,
+    /// Whether it has failed.
+    pub broke: bool,
+}
+
+/// What comes after a turn.
+#[derive(Clone, Copy, Debug, PartialEq, Eq)]
+pub enum Turn {
+    /// Another turn.
+    Goes,
+    /// Nothing: the line has ended, or was closed.
+    Ends,
+    /// Nothing: the line has failed.
+    Broke,
+}
+
+/// What a seat keeps of the line that it serves: the bytes that its connection did not take yet.
+#[derive(Drop)]
+pub struct Seat {
+    unread: Unread,
+}
+
+impl Seat {
+    ghost use Rattle.mc_seat.specs.internal.Steps.{FeedSays, GoOnSays, ReadOnSays};
+
+    /// A seat before its first line.
+    pub fn new(alloc: Global) -> Result<Seat, AllocError>
+        ensures { IfOk result (λ seat. seat.unread ≡ []) }
+    {
+        Ok(Seat {
+            unread: Unread::new(alloc)?,
+        })
+    }
+
+    /// Hands out the replies to the commands taken, all of which are answered; where no further command was taken because more
+    /// bytes are needed, it reads on.
+    pub fn go_on<L: Line>(&mut self, conn: &mut Conn, line: &mut L, stop: Taken) -> Turn
+        ensures { GoOnSays result stop conn.old self.old.unread (L.sight line.old) conn.new self.new.unread (L.sight line.new) }
+    {
+        if let Err(_gone) = conn.hand(line) {
+            return Turn::Broke;
+        }
+        match stop {
+            Taken::NeedMore => self.read_on(conn, line),
+            Taken::Closed => Turn::Ends,
+            Taken::Opened(_) | Taken::Full => Turn::Goes,
+        }
+    }
+
+    /// Reads on, once all replies are handed out: what was read is fed to the connection as far as it takes it, and where all
+    /// of it was fed, more is read first.
+    fn read_on<L: Line>(&mut self, conn: &mut Conn, line: &mut L) -> Turn
+        ensures { ReadOnSays result conn.old self.old.unread (L.sight line.old) conn.new self.new.unread (L.sight line.new) }
+    {
+        if !self.unread.is_empty() {
+            self.feed(conn);
+            return Turn::Goes;
+        }
+        if let Err(_fault) = self.unread.refill(line) {
+            conn.broken();
+            return Turn::Broke;
+        }
+        if self.unread.is_empty() {
+            conn.end();
+            return Turn::Goes;
+        }
+        self.feed(conn);
+        Turn::Goes
+    }
+
+    /// Feeds what was read to the connection, as far as it takes it.
+    fn feed(&mut self, conn: &mut Conn)
+        ensures { FeedSays conn.old self.old.unread conn.new self.new.unread }
+    {
+        let count = conn.feed(self.unread.bytes());
+        self.unread.advance(count);
+    }
+}

@@ -1,0 +1,62 @@
+-- How the shards of one line answer its commands.
+use Rattle.std.specs.Prelude.{ℕ, ◌≡◌, ◌<◌, Bool, List, ◌++◌, length, map, take, Some}
+use Rattle.std.specs.List.{AllByRecursion, slice_get}
+use Rattle.mc_ring.specs.Reply.{Shown}
+use Rattle.mc_split.specs.declared.plan.Piece.{Piece}
+use Rattle.mc_store.specs.declared.shard.Shard.{Shard}
+use Rattle.mc_store.specs.State.{State}
+use Rattle.mc_store.specs.Shard.{IsShard}
+use Rattle.mc_conn.specs.declared.conn.Conn.{Conn}
+use Rattle.mc_conn.specs.Conn.{IsConn}
+use Rattle.mc_conn.specs.Fits.{Fits}
+use Rattle.mc_conn.specs.Told.{KeepsHanded, Told, all_pieces}
+use Rattle.mc_core.specs.Sizes.{Sizes}
+use Rattle.mc_core.specs.Log.{Entry, Leaves, on_shard, replies_in}
+
+-- Each shard is what its part of the log leads to, from the empty state.
+abbrev pub Backs : Sizes → List Shard → List Entry → Type 0
+Backs sizes shards log =
+    (shard : ℕ) (kept : Shard) → slice_get shards shard ≡ Some kept → (state : State) × Leaves sizes shard log state × IsShard kept state
+
+-- the piece of an entry, with its shard
+abbrev pub piece_in : Entry → ℕ × Piece
+piece_in entry = (entry.shard, entry.piece)
+
+-- the replies that each shard gave
+abbrev pub replies_on : List Entry → ℕ → List Shown
+replies_on log shard = replies_in (on_shard shard log)
+
+-- The shards ran the pieces that are out, for the one line, and their answers were accepted.
+pub record Answers (sizes : Sizes) (told : Told) (shards : List Shard) (log : List Entry) : Type 0 where
+  pub some : 0 < sizes.shards
+  pub same : told.shards ≡ sizes.shards
+  pub limit : told.limit ≡ sizes.value
+  pub count : length shards ≡ sizes.shards
+  pub backs : Backs sizes shards log
+  pub mine : AllByRecursion (λ entry. entry.asker ≡ 0) log
+  pub ran : map piece_in log ≡ take told.out (all_pieces told)
+  pub fits : Fits told.shards told.taken told.accepted (replies_on log)
+
+-- what is known before pieces are run
+pub record CanAnswer (conn : Conn) (shards : List Shard) : Type 0 where
+  pub sizes : Sizes
+  pub told : Told
+  pub log : List Entry
+  pub conn_is : IsConn conn told
+  pub answers : Answers sizes told shards log
+
+-- So many pieces are out now, and all of them were run and answered.
+pub record AnswersMore (sizes : Sizes) (told : Told) (conn : Conn) (shards : List Shard) : Type 0 where
+  pub out : ℕ
+  pub lent : Bool
+  pub accepted : List Shown
+  pub log : List Entry
+  pub conn_is : IsConn conn (record told { out = out; lent = lent; accepted = accepted })
+  pub answers : Answers sizes (record told { out = out; lent = lent; accepted = accepted }) shards log
+  pub handed : KeepsHanded told (record told { out = out; lent = lent; accepted = accepted })
+
+-- Whatever the shards had answered, they answered the rest of what is due.
+abbrev pub AnswersAll : Conn → List Shard → Conn → List Shard → Type 0
+AnswersAll old before new after =
+    (sizes : Sizes) (told : Told) (log : List Entry) → IsConn old told → Answers sizes told before log →
+    (more : AnswersMore sizes told new after) × (more.out ≡ length (all_pieces told))

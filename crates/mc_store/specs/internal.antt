@@ -1,0 +1,4 @@
+-- Definitions that only the contracts of private functions name: no public contract rests on them.
+pub mod Found
+pub mod Listed
+pub mod Parts

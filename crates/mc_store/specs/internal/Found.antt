@@ -1,0 +1,38 @@
+-- What the parts of a step find out.
+use Rattle.std.specs.Prelude.{ℕ, ◌+◌, ◌^◌, nat_lt, Bool, true, false, Option, Some, None, if◌then◌else◌}
+use Rattle.mc_item.specs.declared.item.Item.{Item}
+use Rattle.mc_command.specs.declared.meta.MetaMode.{MetaMode}
+use Rattle.mc_command.specs.declared.meta.MetaMode.TheVariants.{Set, Add, Replace, Append, Prepend}
+use Rattle.mc_item.specs.Expiry.{is_dead}
+
+-- an item that is dead counts as none
+abbrev pub live : ℕ → Option Item → Option Item
+live time None = None
+live time (Some item) = if is_dead item.expiry time then None else Some item
+
+-- whether a mode of ms joins values, and then whether the new one goes after the old
+abbrev pub joining : MetaMode → Option Bool
+joining Append = Some true
+joining Prepend = Some false
+joining Set = None
+joining Add = None
+joining Replace = None
+
+-- whether ms stores in this mode and at this unique whatever is there
+abbrev pub is_unconditional : MetaMode → Option ℕ → Bool
+is_unconditional Set None = true
+is_unconditional Set (Some unique) = false
+is_unconditional Add compare = false
+is_unconditional Replace compare = false
+is_unconditional Append compare = false
+is_unconditional Prepend compare = false
+
+-- the unique that an item is given: the client's, or else the shard's next one, where that fits 64 bits
+abbrev pub unique_for : Option ℕ → ℕ → Option ℕ
+unique_for (Some token) next = Some token
+unique_for None next = if nat_lt next (2 ^ 64) then Some next else None
+
+-- how many uniques a shard has given after that
+abbrev pub given_after : Option ℕ → ℕ → ℕ
+given_after (Some token) given = given
+given_after None given = given + 1

@@ -1,0 +1,46 @@
+-- A shard's items as a list, the most recently used first, and what they cost.
+use Rattle.std.specs.Prelude.{ℕ, ◌≡◌, ◌+◌, ◌-◌, ◌/◌, ◌<◌, ◌≤◌, ◌⊎◌, List, [], ◌∷◌, length, All, Option, Some, None, nat_le, if◌then◌else◌}
+use Rattle.std.specs.List.{sum_by}
+use Rattle.mc_item.specs.declared.item.Item.{Item}
+use Rattle.mc_wire.specs.declared.TheConstants.{DIGIT_LIMIT}
+use Rattle.mc_store.specs.declared.TheConstants.{LEAST_BUDGET, GREATEST_BUDGET}
+use Rattle.mc_store.specs.State.{cost}
+
+abbrev pub Entry : Type 0
+Entry = List ℕ × Item
+
+abbrev pub entry_cost : Entry → ℕ
+entry_cost entry = cost entry.0 entry.1.value
+
+-- what the items of a list cost together
+abbrev pub listed_cost : List Entry → ℕ
+listed_cost entries = sum_by entry_cost entries
+
+-- what an item under a key of so many bytes cost; nothing where there was none
+abbrev pub freed_by : Option Item → ℕ → ℕ
+freed_by None key_length = 0
+freed_by (Some item) key_length = key_length + length item.value + 64
+
+-- the items from the front on, as many as cost no more than the room together
+abbrev pub within : ℕ → List Entry → List Entry
+within room [] = []
+within room (entry ∷ entries) =
+    if nat_le (entry_cost entry) room then entry ∷ within (room - entry_cost entry) entries else []
+
+-- No key is empty.
+abbrev pub HaveKeys : List Entry → Type 0
+HaveKeys entries = All (λ (entry : Entry). 0 < length entry.0) entries
+
+-- An item fits the budget. That of a number does, whatever the budget: a key has at most 250 bytes, and a number 20.
+abbrev pub Fits : ℕ → List ℕ → List ℕ → Type 0
+Fits budget key value = (length value ≤ DIGIT_LIMIT) ⊎ (cost key value ≤ budget)
+
+-- What is known of the items of a shard: the list, how many it may have, what they cost, and their budget.
+pub record IsCounted (entries : List Entry) (capacity cost budget : ℕ) : Type 0 where
+  pub counted : cost ≡ listed_cost entries
+  pub fits : cost ≤ budget
+  pub keys : HaveKeys entries
+  -- each item costs 65 at least, so that there is always room for one more in the list
+  pub room : capacity ≡ budget / 65 + 1
+  pub least : LEAST_BUDGET ≤ budget
+  pub most : budget ≤ GREATEST_BUDGET

@@ -1,0 +1,4 @@
+pub mod Fresh
+pub mod Tying
+pub mod Joined
+pub mod Line

@@ -1,0 +1,22 @@
+-- What a seat did on its lanes, and how its ends and a worker's tell of one lane.
+use Rattle.std.specs.Prelude.{ℕ, ◌≡◌, List, [], ◌∷◌, ◌++◌, length, map}
+use Rattle.mc_conn.specs.History.{Taken}
+use Rattle.mc_conn.specs.Due.{due}
+use Rattle.mc_ring.specs.declared.parcel.Parcel.{Parcel}
+use Rattle.mc_ring.specs.declared.parcel.Parcel.TheVariants as parcel
+use Rattle.mc_ring.specs.Reply.{Shown}
+use Rattle.mc_ring.specs.Lane.{Far, Near}
+use Rattle.mc_ring.specs.Ends.{Ends, received_on, sent_on}
+
+-- On each new lane what is due for these commands was sent, and then End; as many replies were received, and these are they.
+pub record HasAsked (shards : ℕ) (ends : Ends Near) (taken : List Taken) (got : ℕ → List Shown) : Type 0 where
+  pub sent : (shard : ℕ) → sent_on ends shard ≡ map parcel.Piece (due shards shard taken) ++ parcel.End ∷ []
+  pub received : (shard : ℕ) → received_on ends shard ≡ got shard
+  pub as_many : (shard : ℕ) → length (got shard) ≡ length (due shards shard taken)
+
+-- On the lane of the seat and the shard what was received, and then something, is what was sent, in both directions.
+pub record IsTied (seat : Ends Near) (shard : Ends Far) : Type 0 where
+  pub parcels : List Parcel
+  pub parcels_wait : received_on shard seat.number ++ parcels ≡ sent_on seat shard.number
+  pub replies : List Shown
+  pub replies_wait : received_on seat shard.number ++ replies ≡ sent_on shard seat.number

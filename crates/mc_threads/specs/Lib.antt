@@ -1,0 +1,5 @@
+pub mod Sizes
+pub mod Workers
+pub mod Working
+pub mod Asking
+pub mod Logs

@@ -1,0 +1,22 @@
+//! Seats and shards in threads of their own: lines are served over rings, and sockets too.
+#![tactic(auto)]
+
+mod courier;
+mod door;
+mod sizes;
+mod tcp;
+mod tcp_line;
+mod tcp_seat;
+#[cfg(test)]
+mod tests;
+mod workers;
+mod working;
+
+pub use courier::Courier;
+pub use door::Door;
+pub use sizes::{ServeRefusal, Sizes};
+pub use tcp::serve_tcp;
+pub use tcp_line::TcpLine;
+pub use tcp_seat::TcpSeat;
+pub use workers::{make_sleepers, make_workers, start_workers};
+pub use working::Working;

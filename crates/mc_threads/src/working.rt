@@ -1,0 +1,94 @@
+//! The thread of a shard's worker.
+ghost use Rattle.std.specs.Prelude.{◌≡◌, IfOk, length};
+ghost use Rattle.mc_threads.specs.Working.{Finishes};
+
+use mc_core::{Gate, Worker};
+use mc_crew::Task;
+use mc_wake::{Sleeper, Wakers};
+use std::alloc::{AllocError, Global};
+use std::sync::{Arc, Wait};
+use std::thread;
+
+/// A worker, with all that its thread needs.
+#[derive(Drop)]
+pub struct Working<G> {
+    pub worker: Worker,
+    gate: Arc<G, Global>,
+    sleeper: Sleeper,
+    seats: Wakers,
+    /// Of each seat, whether a reply was given to it since it was woken last.
+    given: Vec<bool>,
+    alloc: Global,
+    ghost each_seat: { length given.items ≡ length worker.ends.lanes },
+}
+
+impl<G: Gate + Drop> Working<G> {
+    /// The task of the worker's thread: to run what the seats send, until the End of every lane has come. The sleeper is the
+    /// thread's own, the wakers are those of the seats.
+    pub fn new(
+        alloc: Global,
+        worker: Worker,
+        gate: Arc<G, Global>,
+        sleeper: Sleeper,
+        seats: Wakers,
+    ) -> Result<Working<G>, AllocError>
+        ensures { IfOk result (λ working. working.worker ≡ worker) }
+    {
+        let given = vec![in alloc; false; worker.seats()]?;
+        Ok(Working {
+            worker,
+            gate,
+            sleeper,
+            seats,
+            given,
+            alloc,
+        })
+    }
+
+    /// Runs what the seats send, until the End of every lane has come.
+    fn run<R: Wait>(&mut self, rt: &R)
+        ensures { Finishes self.old.worker self.new.worker }
+    {
+        for _ in rt.forever() {
+            if self.worker.sweep(self.alloc, &*self.gate, &mut self.given) {
+                self.sleeper.found();
+                if !self.wake_seats() {
+                    // A reply waits for room on its ring, which its seat makes.
+                    thread::yield_now();
+                }
+            } else if self.worker.ended() {
+                return;
+            } else {
+                self.sleeper.wait(rt);
+            }
+        }
+        unreachable!()
+    }
+
+    /// Wakes the seats that a reply was given to, and tells whether there was one.
+    fn wake_seats(&mut self) -> bool
+        ensures { self.new.worker ≡ self.old.worker }
+    {
+        let mut woken = false;
+        for (seat, given) in self.given.iter_mut().enumerate() {
+            if *given {
+                *given = false;
+                woken = true;
+                self.seats.wake(seat);
+            }
+        }
+        woken
+    }
+}
+
+impl<G: Gate + Drop> Task for Working<G> {
+    ghost is_ready = { λ _. Unit {0} };
+
+    ghost does = { λ begun ended. Finishes begun.worker ended.worker };
+
+    fn work<R: Wait>(self, rt: &R) -> Working<G> {
+        let mut working = self;
+        working.run(rt);
+        working
+    }
+}

@@ -1,0 +1,67 @@
+//! Two threads wake each other, and none is left asleep.
+use crate::{Patience, Sleeper, Waker};
+use std::alloc::{AllocError, Global};
+use std::sync::atomic::{AtomicU64, Ordering};
+use std::sync::{Arc, Wait};
+use std::test::Fail;
+use std::thread;
+use std::thread::Threads;
+
+/// So often each of the threads waits for the other.
+const ROUNDS: u64 = 20_000;
+
+/// Adds to the count whenever it is this thread's turn: even counts are the first thread's, odd ones the second's.
+fn take_turns<R: Wait>(rt: &R, sleeper: &Sleeper, other: &Waker, count: &AtomicU64, mine: u64) {
+    for _ in rt.forever() {
+        let now = count.load(Ordering::SeqCst);
+        if now >= 2 * ROUNDS {
+            return;
+        }
+        if now % 2 == mine {
+            sleeper.found();
+            count.store(now + 1, Ordering::SeqCst);
+            other.wake();
+        } else {
+            sleeper.wait(rt);
+        }
+    }
+}
+
+/// Has two threads take turns with this patience, and gives how many turns they took.
+fn turns_of_two<R: Threads + Wait + Copy + Send + 'static>(
+    rt: &R,
+    alloc: Global,
+    patience: Patience,
+) -> Result<u64, AllocError> {
+    let count = Arc::new(alloc, AtomicU64::new(0))?;
+    let shared = Arc::try_clone(&count)?;
+    let first = Sleeper::new(alloc, patience)?;
+    let second = Sleeper::new(alloc, patience)?;
+    let wakes_first = first.waker()?;
+    let wakes_second = second.waker()?;
+    let own = *rt;
+    let thread = thread::spawn(rt, move || {
+        take_turns(&own, &second, &wakes_first, &shared, 1)
+    })?;
+    take_turns(rt, &first, &wakes_second, &count, 0);
+    thread.join(rt);
+    Ok(count.load(Ordering::SeqCst))
+}
+
+#[test]
+fn both_end_where_they_sleep_at_once(rt: HostRuntime) -> Result<(), Fail> {
+    let patience = Patience {
+        looks: 0,
+        yields: 0,
+    };
+    let turns = turns_of_two(&rt, rt.alloc(), patience)?;
+    assert_eq!(rt; turns, 2 * ROUNDS);
+    Ok(())
+}
+
+#[test]
+fn both_end_where_they_look_again_first(rt: HostRuntime) -> Result<(), Fail> {
+    let turns = turns_of_two(&rt, rt.alloc(), Patience::among(&rt, 2))?;
+    assert_eq!(rt; turns, 2 * ROUNDS);
+    Ok(())
+}
