@@ -9,7 +9,7 @@ mod row;
 
 use line::{Cutting, MemoryLine};
 use mc_seat::{Line, Served};
-use mc_server::{DEFAULT_RING, DEFAULT_WINDOW, Sizes, StillClock, serve_one};
+use mc_server::{DEFAULT_RING, Sizes, StillClock, serve_one};
 use mc_store::{GREATEST_BUDGET, LEAST_BUDGET};
 use mc_wire::DEFAULT_VALUE_LIMIT;
 use row::{Row, split_at_tab};
@@ -53,7 +53,7 @@ fn served<R: Wait + RandomSource, L: Line>(
         bytes: row.bytes,
         ring: DEFAULT_RING,
         value: DEFAULT_VALUE_LIMIT,
-        window: DEFAULT_WINDOW,
+        window: 256,
     };
     serve_one(rt, alloc, line, sizes, &StillClock(row.moment)).ok()
 }

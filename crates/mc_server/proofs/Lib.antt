@@ -3,4 +3,3 @@ pub mod Answering
 pub mod Explaining
 pub mod Turning
 pub mod Shards
-pub mod Calls

@@ -1,4 +1,3 @@
-pub mod Options
 pub mod Sizes
 pub mod Explains
 pub mod internal

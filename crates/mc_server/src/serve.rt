@@ -14,6 +14,9 @@ use std::hash::RandomState;
 use std::random::RandomSource;
 use std::sync::Wait;
 
+/// So many pieces, or replies, a ring of the program holds.
+pub const DEFAULT_RING: usize = 64;
+
 /// How large a server is.
 #[derive(Clone, Copy, Debug, PartialEq, Eq)]
 pub struct Sizes {

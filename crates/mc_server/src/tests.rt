@@ -1,11 +1,8 @@
-//! A line that tells what it gave and took, the memory that a service asks for, and the command line. The worked
-//! rows stand in the crate mc_rows.
+//! A line that tells what it gave and took, and the memory that a service asks for. The worked rows stand in the
+//! crate mc_rows.
 ghost use Rattle.std.specs.Prelude.{◌≡◌, ◌≤◌, None, IsTrue, length, take};
 
-use crate::{
-    DEFAULT_RING, DEFAULT_WINDOW, OptionFault, ServeRefusal, Sizes, StillClock, read_options,
-    serve_one,
-};
+use crate::{DEFAULT_RING, ServeRefusal, Sizes, StillClock, serve_one};
 use mc_seat::{Clock, Line, LineFault, Served};
 use mc_wire::{DEFAULT_VALUE_LIMIT, OutFault, Outlet};
 use std::alloc::{AllocError, Global};
@@ -80,7 +77,7 @@ const SIZES: Sizes = Sizes {
     bytes: 1_024,
     ring: DEFAULT_RING,
     value: DEFAULT_VALUE_LIMIT,
-    window: DEFAULT_WINDOW,
+    window: 256,
 };
 
 #[test]
@@ -172,56 +169,6 @@ fn a_refused_allocation(rt: HostRuntime) -> Result<(), Fail> {
                 }
             }
             assert!(rt; is_known);
-        }
-    }
-    Ok(())
-}
-
-#[test]
-fn options(rt: HostRuntime) -> Result<(), Fail> {
-    let alloc = rt.alloc();
-    let mut words = Vec::new(alloc);
-    for word in [
-        "mcd", "--stdio", "--at", "1000", "--shards", "016", "--bytes", "1024",
-    ] {
-        words.push(String::from_str(alloc, word)?)?;
-    }
-    let options = read_options(alloc, words.as_slice())?;
-    assert_eq!(rt; options.at, Some(1000));
-    assert_eq!(rt;
-        options.sizes,
-        Sizes {
-            shards: 16,
-            bytes: 1_024,
-            ring: DEFAULT_RING,
-            value: DEFAULT_VALUE_LIMIT,
-            window: DEFAULT_WINDOW,
-        }
-    );
-    Ok(())
-}
-
-#[test]
-fn options_in_fault(rt: HostRuntime) -> Result<(), Fail> {
-    let alloc = rt.alloc();
-    let calls = [
-        ("", 2),
-        ("--stdio --shards 17", 2),
-        ("--stdio --bytes 1023", 2),
-        ("--stdio --at x", 2),
-        ("--stdio --listen 127.0.0.1:0", 2),
-        ("--stdio --at 1 --at 1", 2),
-        ("--help", 0),
-    ];
-    for (call, status) in calls {
-        let mut words = Vec::new(alloc);
-        words.push(String::from_str(alloc, "mcd")?)?;
-        for word in call.split_whitespace() {
-            words.push(String::from_str(alloc, word)?)?;
-        }
-        match read_options(alloc, words.as_slice()) {
-            Ok(_) => assert!(rt; false, "{call}"),
-            Err(fault) => assert_eq!(rt; fault.status(), status, "{call}"),
         }
     }
     Ok(())

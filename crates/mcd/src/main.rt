@@ -1,18 +1,23 @@
 //! The program: serves TCP, or one line over standard input and output.
 #![tactic(auto)]
 
+ghost use Rattle.mc_options.specs.Numbers.{AreWithin};
+
 mod standard;
 mod tcp;
-mod tcp_options;
 
-use mc_server::{MachineClock, ServeRefusal, StillClock, read_options, serve_one};
+use mc_options::{Limits, Options, read_options};
+use mc_seat::Line;
+use mc_server::{DEFAULT_RING, MachineClock, ServeRefusal, Sizes, StillClock, serve_one};
 use standard::Standard;
 use std::alloc::Global;
 use std::env::Env;
 use std::io::Eprint;
 use std::process::ExitCode;
-use std::{env, io};
-use tcp::serve_sockets;
+use std::random::RandomSource;
+use std::sync::Wait;
+use std::{env, io, time};
+use tcp::listen;
 
 /// The words of the command line, the program's name among them.
 fn words<R: Env + Alloc<A = Global>>(rt: &R) -> io::Result<Vec<String>> {
@@ -20,45 +25,59 @@ fn words<R: Env + Alloc<A = Global>>(rt: &R) -> io::Result<Vec<String>> {
     Ok(words)
 }
 
-/// Tells that there is no memory; the status with which the program ends.
-fn out_of_memory(rt: &impl Eprint) -> ExitCode {
-    let _ = eprintln!(rt; "mcd: out of memory");
+/// Tells on standard error why the program ends; its status.
+fn refuse(rt: &impl Eprint, reason: &str) -> ExitCode {
+    let _ = eprintln!(rt; "mcd: {reason}");
     ExitCode::FAILURE
 }
 
 fn main(rt: HostRuntime) -> ExitCode {
     let Ok(words) = words(&rt) else {
-        return out_of_memory(&rt);
+        return refuse(&rt, "out of memory");
     };
-    if !words.iter().any(|word| word.as_str() == "--stdio") {
-        return serve_sockets(&rt, words.as_slice());
-    }
-    let options = match read_options(rt.alloc(), words.as_slice()) {
-        Ok(options) => options,
+    match read_options(rt.alloc(), words.as_slice()) {
+        Ok(
+            Options::Listen {
+                address,
+                seats,
+                connections,
+                limits,
+            },
+        ) => listen(&rt, address, seats, connections, limits),
+        Ok(Options::Stdio { at, limits }) => {
+            let mut line = Standard::new(rt.stdin(), rt.stdout());
+            serve_line(&rt, &mut line, at, limits)
+        }
+        Ok(Options::Replay { file }) => refuse(&rt, file),
         Err(fault) => {
             let _ = fault.print(&rt);
-            return ExitCode::from(fault.status());
+            ExitCode::from(fault.status())
         }
+    }
+}
+
+/// Serves one line; the status with which the program ends.
+fn serve_line<R: Wait + RandomSource + time::Clock + Eprint + Alloc<A = Global>, L: Line>(
+    rt: &R,
+    line: &mut L,
+    at: Option<u64>,
+    limits: Limits,
+) -> ExitCode
+    requires { AreWithin limits }
+{
+    let sizes = Sizes {
+        shards: limits.shards,
+        bytes: limits.bytes,
+        ring: DEFAULT_RING,
+        value: limits.value,
+        window: limits.window,
     };
-    let mut line = Standard::new(rt.stdin(), rt.stdout());
-    let served = match options.at {
-        Some(moment) => serve_one(
-            &rt,
-            rt.alloc(),
-            &mut line,
-            options.sizes,
-            &StillClock(moment),
-        ),
-        None => serve_one(
-            &rt,
-            rt.alloc(),
-            &mut line,
-            options.sizes,
-            &MachineClock(&rt),
-        ),
+    let served = match at {
+        Some(moment) => serve_one(rt, rt.alloc(), line, sizes, &StillClock(moment)),
+        None => serve_one(rt, rt.alloc(), line, sizes, &MachineClock(rt)),
     };
     match served {
         Ok(_) => ExitCode::SUCCESS,
-        Err(ServeRefusal::Memory) => out_of_memory(&rt),
+        Err(ServeRefusal::Memory) => refuse(rt, "out of memory"),
     }
 }

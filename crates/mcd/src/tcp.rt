@@ -1,11 +1,14 @@
 //! Serves TCP, as the command line says.
-ghost use Rattle.mc_threads.specs.Sizes.{MayServe};
+ghost use Rattle.std.specs.Prelude.{◌≤◌};
+ghost use Rattle.mc_core.specs.declared.sizes.TheConstants.{LEAST, MOST_SEATS};
+ghost use Rattle.mc_options.specs.Numbers.{AreWithin};
 
-use crate::tcp_options::{TcpOptions, tcp_call, tcp_options};
-use mc_server::{MachineClock, OptionFault};
-use mc_threads::{ServeRefusal, serve_tcp};
+use crate::refuse;
+use mc_options::Limits;
+use mc_server::{DEFAULT_RING, MachineClock};
+use mc_threads::{ServeRefusal, Sizes, serve_tcp};
 use std::alloc::Global;
-use std::io::{Eprint, Print};
+use std::io::Eprint;
 use std::net::{Net, TcpListener, TcpStream};
 use std::process::ExitCode;
 use std::random::RandomSource;
@@ -13,41 +16,8 @@ use std::sync::Wait;
 use std::thread::Threads;
 use std::time;
 
-/// The address that is listened on where no other is given.
-const DEFAULT_ADDRESS: &str = "127.0.0.1:11211";
-
-/// Serves TCP as the words of the command line say; the status with which the program ends.
-pub fn serve_sockets<
-    R: Threads
-        + Wait
-        + RandomSource
-        + time::Clock
-        + Net<Listener = TcpListener, Stream = TcpStream>
-        + Print
-        + Eprint
-        + Alloc<A = Global>
-        + Copy
-        + Send
-        + Drop
-        + 'static,
->(rt: &R, words: &[String]) -> ExitCode {
-    let Ok(call) = tcp_call(rt.alloc()) else {
-        return refuse(rt, "out of memory");
-    };
-    let matches = match call.try_get_matches_from(words) {
-        Ok(matches) => matches,
-        Err(error) => return refuse_call(rt, &OptionFault::Call(error)),
-    };
-    let options = match tcp_options(&matches) {
-        Ok(options) => options,
-        Err(fault) => return refuse_call(rt, &fault),
-    };
-    let address = matches.get_str("listen").unwrap_or(DEFAULT_ADDRESS);
-    listen(rt, address, options)
-}
-
 /// Listens on the address, and serves who connects; the status with which the program ends.
-fn listen<
+pub fn listen<
     R: Threads
         + Wait
         + RandomSource
@@ -59,8 +29,10 @@ fn listen<
         + Send
         + Drop
         + 'static,
->(rt: &R, address: &str, options: TcpOptions) -> ExitCode
-    requires { MayServe options.seats options.sizes }
+>(rt: &R, address: &str, seats: usize, connections: Option<u64>, limits: Limits) -> ExitCode
+    requires least { LEAST ≤ seats }
+    requires most { seats ≤ MOST_SEATS }
+    requires limits { AreWithin limits }
 {
     let Ok(listener) = TcpListener::bind(rt, address) else {
         return refuse(rt, "cannot listen");
@@ -69,13 +41,20 @@ fn listen<
         return refuse(rt, "cannot listen");
     };
     let _ = eprintln!(rt; "listening {local}");
+    let sizes = Sizes {
+        shards: limits.shards,
+        bytes: limits.bytes,
+        ring: DEFAULT_RING,
+        value: limits.value,
+        window: limits.window,
+    };
     let ended = serve_tcp(
         rt,
         rt.alloc(),
         listener,
-        options.seats,
-        options.sizes,
-        options.connections,
+        seats,
+        sizes,
+        connections,
         MachineClock(*rt),
     );
     match ended {
@@ -84,16 +63,4 @@ fn listen<
         Err(ServeRefusal::Thread) => refuse(rt, "cannot start a thread"),
         Err(ServeRefusal::Bind) => refuse(rt, "cannot listen"),
     }
-}
-
-/// Tells on standard error why the program ends; its status.
-fn refuse(rt: &impl Eprint, reason: &str) -> ExitCode {
-    let _ = eprintln!(rt; "mcd: {reason}");
-    ExitCode::FAILURE
-}
-
-/// Tells what is wrong with the command line, or gives the help that it asks for; the status of the program.
-fn refuse_call<R: Print + Eprint>(rt: &R, fault: &OptionFault) -> ExitCode {
-    let _ = fault.print(rt);
-    ExitCode::from(fault.status())
 }

@@ -1,0 +1,4 @@
+pub mod Program
+pub mod Numbers
+pub mod Calls
+pub mod Faults

@@ -1,0 +1,11 @@
+//! The command line: how the program is called, and with which sizes.
+#![tactic(auto)]
+
+mod fault;
+mod options;
+mod program;
+#[cfg(test)]
+mod tests;
+
+pub use fault::OptionFault;
+pub use options::{DEFAULT_WINDOW, Limits, Options, read_options};

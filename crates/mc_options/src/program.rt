@@ -1,0 +1,96 @@
+//! The options of the program, as its help shows them.
+ghost use Rattle.std.specs.Prelude.{◌≡◌, codes, IfOk};
+ghost use Rattle.clap.specs.Words.{app_of, with_rule};
+ghost use Rattle.mc_options.specs.Program.{flag_rule, limit_rules, option_rule, program, with_rules};
+
+use clap::{Arg, ArgAction, Command};
+use std::alloc::{AllocError, Global};
+
+/// The calls of the program, below the list of its options.
+const CALLS: &str = "\
+mcd [--listen ADDRESS] [--seats N] [--connections N] [limits]   serves TCP
+mcd --stdio [--at SECONDS] [limits]                             serves one connection
+mcd --replay FILE                                               runs a schedule
+limits: --shards, --bytes, --value-limit, --window";
+
+/// The program with its options.
+#[tactic(auto, unfolding(crate::specs::Program::program))]
+pub fn program_options<'a>(alloc: Global) -> Result<Command<'a>, AllocError>
+    ensures { IfOk result (λ command. app_of command ≡ program) }
+{
+    let command = Command::new(alloc, "mcd").after_help(CALLS);
+    let listen = "Where to listen [default: 127.0.0.1:11211]";
+    let command = with_value(alloc, command, "listen", "ADDRESS", listen)?;
+    let stdio = "Serves one connection over standard input and output";
+    let command = with_flag(alloc, command, "stdio", stdio)?;
+    let replay = "Runs the schedule in a file, and shows what came of it";
+    let command = with_value(alloc, command, "replay", "FILE", replay)?;
+    let at = "Every moment is this, in seconds since 1970";
+    let command = with_value(alloc, command, "at", "SECONDS", at)?;
+    with_limits(alloc, command)
+}
+
+/// The program with the options that take numbers.
+fn with_limits<'a>(alloc: Global, command: Command<'a>) -> Result<Command<'a>, AllocError>
+    ensures { IfOk result (λ limited. app_of limited ≡ with_rules (app_of command.entry) limit_rules) }
+{
+    let shards = "How many threads own items, 1 to 16 [default: 2]";
+    let command = with_value(alloc, command, "shards", "N", shards)?;
+    let seats = "How many connections are served at a time, 1 to 64 [default: 16]";
+    let command = with_value(alloc, command, "seats", "N", seats)?;
+    let bytes = "What a shard's items may cost, 1024 to 1073741824 [default: 16777216]";
+    let command = with_value(alloc, command, "bytes", "N", bytes)?;
+    let value = "The bytes of a value at most, 1024 to 8388608 [default: 1048576]";
+    let command = with_value(alloc, command, "value-limit", "N", value)?;
+    let window = "How many commands a connection has open, 1 to 4096 [default: 256]";
+    let command = with_value(alloc, command, "window", "N", window)?;
+    let connections = "Ends after so many connections, 1 to 4294967295";
+    let command = with_value(alloc, command, "connections", "N", connections)?;
+    with_items(alloc, command)
+}
+
+/// The program with an option that is given or not.
+fn with_flag<'a>(
+    alloc: Global,
+    command: Command<'a>,
+    name: &'a str,
+    help: &'a str,
+) -> Result<Command<'a>, AllocError>
+    ensures { IfOk result (λ more. app_of more ≡ with_rule (app_of command.entry) (flag_rule name.entry.now)) }
+{
+    let flag = Arg::new(alloc, name)
+        .long(name)
+        .action(ArgAction::SetTrue)
+        .help(help);
+    command.arg(flag)
+}
+
+/// The program with an option that has a value.
+fn with_value<'a>(
+    alloc: Global,
+    command: Command<'a>,
+    name: &'a str,
+    value: &'a str,
+    help: &'a str,
+) -> Result<Command<'a>, AllocError>
+    ensures { IfOk result (λ more. app_of more ≡ with_rule (app_of command.entry) (option_rule name.entry.now)) }
+{
+    let option = Arg::new(alloc, name)
+        .long(name)
+        .action(ArgAction::Set)
+        .value_name(value)
+        .help(help);
+    command.arg(option)
+}
+
+/// The program with `--items`, which it knows only to name the option that took its place.
+fn with_items<'a>(alloc: Global, command: Command<'a>) -> Result<Command<'a>, AllocError>
+    ensures { IfOk result (λ more. app_of more ≡ with_rule (app_of command.entry) (option_rule (codes "items"))) }
+{
+    let items = Arg::new(alloc, "items")
+        .long("items")
+        .action(ArgAction::Set)
+        .value_name("N")
+        .hide(true);
+    command.arg(items)
+}

@@ -1,0 +1,105 @@
+//! The calls of the program, read from their words.
+use crate::{Limits, OptionFault, Options, read_options};
+use std::alloc::{AllocError, Global};
+
+/// Why a test fails without an assertion.
+#[derive(Debug, Drop)]
+enum Fail {
+    Memory,
+    Options(OptionFault),
+}
+
+impl From<AllocError> for Fail {
+    fn from(_error: AllocError) -> Fail {
+        Fail::Memory
+    }
+}
+
+impl From<OptionFault> for Fail {
+    fn from(fault: OptionFault) -> Fail {
+        Fail::Options(fault)
+    }
+}
+
+/// The words of a command line.
+fn words_of(alloc: Global, line: &str) -> Result<Vec<String>, AllocError> {
+    let mut words = Vec::new(alloc);
+    for word in line.split(' ') {
+        words.push(String::from_str(alloc, word)?)?;
+    }
+    Ok(words)
+}
+
+#[test]
+fn each_call(rt: HostRuntime) -> Result<(), Fail> {
+    let alloc = rt.alloc();
+    let words = words_of(alloc, "mcd")?;
+    let options = read_options(alloc, words.as_slice())?;
+    let limits = Limits {
+        shards: 2,
+        bytes: 16_777_216,
+        value: 1_048_576,
+        window: 256,
+    };
+    assert!(rt;
+        options
+            == Options::Listen {
+                address: "127.0.0.1:11211",
+                seats: 16,
+                connections: None,
+                limits
+            }
+    );
+    let words = words_of(
+        alloc,
+        "mcd --stdio --at 1000 --shards 016 --bytes 1024 --value-limit=8388608 --window 1",
+    )?;
+    let options = read_options(alloc, words.as_slice())?;
+    let limits = Limits {
+        shards: 16,
+        bytes: 1_024,
+        value: 8_388_608,
+        window: 1,
+    };
+    assert!(rt;
+        options
+            == Options::Stdio {
+                at: Some(1000),
+                limits
+            }
+    );
+    let words = words_of(alloc, "mcd --replay a.schedule")?;
+    let options = read_options(alloc, words.as_slice())?;
+    assert!(rt; options == Options::Replay { file: "a.schedule" });
+    Ok(())
+}
+
+#[test]
+fn faults(rt: HostRuntime) -> Result<(), Fail> {
+    let alloc = rt.alloc();
+    let calls = [
+        ("mcd --stdio --shards 17", 2),
+        ("mcd --stdio --bytes 1023", 2),
+        ("mcd --stdio --value-limit 1023", 2),
+        ("mcd --stdio --window 4097", 2),
+        ("mcd --stdio --at x", 2),
+        ("mcd --stdio --listen 127.0.0.1:0", 2),
+        ("mcd --stdio --at 1 --at 1", 2),
+        ("mcd --items 5", 2),
+        ("mcd --at 5", 2),
+        ("mcd --seats 65", 2),
+        ("mcd --connections 0", 2),
+        ("mcd --replay a --stdio", 2),
+        ("mcd --replay a --shards 2", 2),
+        ("mcd --port 11211", 2),
+        ("mcd --help", 0),
+    ];
+    for (call, status) in calls {
+        let words = words_of(alloc, call)?;
+        match read_options(alloc, words.as_slice()) {
+            Ok(_) => assert!(rt; false, "{call}"),
+            Err(fault) => assert_eq!(rt; fault.status(), status, "{call}"),
+        }
+    }
+    Ok(())
+}
