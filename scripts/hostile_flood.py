@@ -1,6 +1,6 @@
 """Keys that an attacker chose: a million of the same hash by which keys are spread over shards, beside a million at random."""
 import itertools
-import random
+import statistics
 import time
 
 from served import MIB, Line, Server
@@ -25,9 +25,11 @@ def fnv(data):
     return state
 
 
-def keys_of(pairs):
-    """All keys that have one word of each pair."""
-    return [b"".join(words) for words in itertools.product(*pairs)]
+def keys_of(pairs, step=1):
+    """The keys that have one word of each pair, or each so many-th of them, in batches."""
+    keys = itertools.islice(map(b"".join, itertools.product(*pairs)), 0, KEYS, step)
+    while batch := list(itertools.islice(keys, BATCH)):
+        yield batch
 
 
 def others_of(pairs):
@@ -35,40 +37,41 @@ def others_of(pairs):
     return [(first, second[::-1].upper()) for first, second in pairs]
 
 
-def seconds_of(server, line, keys, command):
-    """The time and the processor time that a command of each key takes."""
-    took, before = 0, server.cpu_seconds()
-    for first in range(0, len(keys), BATCH):
-        sent = b"".join([command % key for key in keys[first : first + BATCH]]) + b"mn\r\n"
-        began = time.monotonic()
-        line.send(sent)
-        while not line.socket.recv(1 << 18).endswith(b"MN\r\n"):
-            pass
-        took += time.monotonic() - began
-    return took / len(keys), (server.cpu_seconds() - before) / len(keys)
+def seconds_of(line, keys, command):
+    """The time that a command of each of these keys takes."""
+    sent = b"".join([command % key for key in keys]) + b"mn\r\n"
+    began = time.monotonic()
+    line.send(sent)
+    while not line.socket.recv(1 << 18).endswith(b"MN\r\n"):
+        pass
+    return (time.monotonic() - began) / len(keys)
 
 
-def stored_and_found(keys):
-    """Seconds a command: of a million sets that say nothing, and then of gets of each fourth key, whose hits say two letters."""
-    with Server("--shards", 2, "--bytes", 512 * MIB) as server, Line(server.port) as line:
-        times = [seconds_of(server, line, keys, b"ms %s 1 q\r\nv\r\n")]
-        times.append(seconds_of(server, line, keys[::4], b"mg %s q\r\n"))
-        return times
+def compared(what, lines, kinds, step, command):
+    """Sends batches of both kinds by turns, each to its own server, and compares what a command takes in the median."""
+    took = [[], []]
+    for batches in zip(*(keys_of(pairs, step) for pairs in kinds)):
+        for line, keys, found in zip(lines, batches, took):
+            found.append(seconds_of(line, keys, command))
+    chosen, other = map(statistics.median, took)
+    told = f"{what} {chosen * 1e6:.1f} µs, at random {other * 1e6:.1f}"
+    if chosen > 2 * other:
+        raise AssertionError(f"chosen keys cost more than twice: {told}")
+    return told
 
 
 def keys_of_one_hash_cost_no_more():
-    """A map that spread its items by the hash of the shards would take hours here."""
-    pairs = [pair.encode().split(b"/") for pair in PAIRS.split()]
-    chosen, spread = keys_of(pairs), keys_of(others_of(pairs))
-    if len({fnv(key) for key in random.sample(chosen, 100)}) != 1 or len({fnv(key) for key in random.sample(spread, 100)}) < 90:
-        raise AssertionError("the keys are not as meant")
-    ours, theirs = stored_and_found(chosen), stored_and_found(spread)
-    told = []
-    for what, (took, cpu), (other, other_cpu) in zip(("set", "get"), ours, theirs):
-        told.append(f"{what} {took * 1e6:.1f} µs, at random {other * 1e6:.1f}")
-        if took > 2 * other and cpu > 2 * other_cpu:
-            raise AssertionError(f"chosen keys cost more than twice: {told[-1]}")
-    return "; ".join(told)
+    """A million sets that say nothing, and then gets of each fourth key, whose hits say two letters. A map that spread its items
+    by the hash of the shards would take hours here."""
+    chosen = [pair.encode().split(b"/") for pair in PAIRS.split()]
+    kinds = [chosen, others_of(chosen)]
+    hashes = [len({fnv(key) for key in next(keys_of(pairs, 999))}) for pairs in kinds]
+    if hashes[0] != 1 or hashes[1] < 1000:
+        raise AssertionError(f"the keys are not as meant, but of {hashes} hashes")
+    options = ("--shards", 2, "--bytes", 512 * MIB)
+    with Server(*options) as ours, Server(*options) as theirs, Line(ours.port) as one, Line(theirs.port) as other:
+        told = [compared("set", (one, other), kinds, 1, b"ms %s 1 q\r\nv\r\n"), compared("get", (one, other), kinds, 4, b"mg %s q\r\n")]
+        return "; ".join(told)
 
 
 CHECKS = [keys_of_one_hash_cost_no_more]
