@@ -10,120 +10,93 @@ import threading
 import time
 
 
-class Pymemcache:
-    def __init__(self, host, port):
-        from pymemcache.client.base import Client
+class Client:
+    """What the checks ask, by the calls that the clients share. Keys and values of the checks are bytes."""
 
-        self.client = Client((host, port), default_noreply=False)
+    expire = "time"  # how the client calls an exptime
+
+    def name(self, key):
+        """A key as the client takes it."""
+        return key.decode()
 
     def set(self, key, value, expire=0):
-        return self.client.set(key, value, expire=expire)
+        return bool(self.client.set(self.name(key), value, **{self.expire: expire}))
 
     def get(self, key):
-        return self.client.get(key)
+        return self.client.get(self.name(key))
+
+    def get_many(self, keys):
+        return {key.encode(): value for key, value in self.client.get_multi([self.name(key) for key in keys]).items()}
+
+    def swap(self, key, value):
+        """Swaps by a unique that is late, and then by one that isn't."""
+        _, unique = self.client.gets(self.name(key))
+        self.client.set(self.name(key), b"between")
+        first = self.client.cas(self.name(key), value, unique)
+        return first, self.client.cas(self.name(key), value, self.client.gets(self.name(key))[1])
+
+    def incr(self, key, by):
+        return self.client.incr(self.name(key), by)
+
+    def decr(self, key, by):
+        return self.client.decr(self.name(key), by)
+
+    def touch(self, key, expire):
+        return bool(self.client.touch(self.name(key), expire))
+
+    def delete(self, key):
+        return bool(self.client.delete(self.name(key)))
+
+    def add(self, key, value):
+        return bool(self.client.add(self.name(key), value))
+
+    def replace(self, key, value):
+        return bool(self.client.replace(self.name(key), value))
+
+    def append(self, key, value):
+        return bool(self.client.append(self.name(key), value))
+
+    def flood(self, count):
+        """Many sets, without replies where the client can."""
+        for number in range(count):
+            self.client.set("flood%d" % (number % 100), b"%d" % number, **self.silently)
+
+    silently = {}
+
+    def flush(self):
+        self.client.flush_all()
+
+
+class Pymemcache(Client):
+    expire = "expire"
+    silently = {"noreply": True}
+
+    def __init__(self, host, port):
+        from pymemcache.client.base import Client as Base
+
+        self.client = Base((host, port), default_noreply=False, timeout=30, connect_timeout=30)
+
+    def name(self, key):
+        return key
 
     def get_many(self, keys):
         return self.client.get_many(keys)
 
-    def swap(self, key, value):
-        _, unique = self.client.gets(key)
-        self.client.set(key, b"between")
-        return self.client.cas(key, value, unique), self.client.cas(key, value, self.client.gets(key)[1])
 
-    def incr(self, key, by):
-        return self.client.incr(key, by)
-
-    def decr(self, key, by):
-        return self.client.decr(key, by)
-
-    def touch(self, key, expire):
-        return self.client.touch(key, expire)
-
-    def delete(self, key):
-        return self.client.delete(key)
-
-    def add(self, key, value):
-        return self.client.add(key, value)
-
-    def replace(self, key, value):
-        return self.client.replace(key, value)
-
-    def append(self, key, value):
-        return self.client.append(key, value)
-
-    def flood(self, count):
-        for number in range(count):
-            self.client.set(b"flood%d" % (number % 100), b"%d" % number, noreply=True)
-
-    def flush(self):
-        return self.client.flush_all()
-
-
-class Pylibmc:
+class Pylibmc(Client):
     def __init__(self, host, port):
         import pylibmc
 
         self.client = pylibmc.Client([f"{host}:{port}"], binary=False, behaviors={"cas": True, "tcp_nodelay": True})
-        self.missing = pylibmc.NotFound
-
-    def set(self, key, value, expire=0):
-        return self.client.set(key.decode(), value, time=expire)
-
-    def get(self, key):
-        return self.client.get(key.decode())
-
-    def get_many(self, keys):
-        return {key.encode(): value for key, value in self.client.get_multi([key.decode() for key in keys]).items()}
-
-    def swap(self, key, value):
-        _, unique = self.client.gets(key.decode())
-        self.client.set(key.decode(), b"between")
-        first = self.client.cas(key.decode(), value, unique)
-        return first, self.client.cas(key.decode(), value, self.client.gets(key.decode())[1])
-
-    def incr(self, key, by):
-        return self.client.incr(key.decode(), by)
-
-    def decr(self, key, by):
-        return self.client.decr(key.decode(), by)
-
-    def touch(self, key, expire):
-        return self.client.touch(key.decode(), expire)
-
-    def delete(self, key):
-        return self.client.delete(key.decode())
-
-    def add(self, key, value):
-        return self.client.add(key.decode(), value)
-
-    def replace(self, key, value):
-        return self.client.replace(key.decode(), value)
-
-    def append(self, key, value):
-        return self.client.append(key.decode(), value)
-
-    def flood(self, count):
-        for number in range(count):
-            self.client.set("flood%d" % (number % 100), b"%d" % number)
-
-    def flush(self):
-        return self.client.flush_all()
 
 
-class Memcache:
+class Memcache(Client):
+    silently = {"noreply": True}
+
     def __init__(self, host, port):
         import memcache
 
-        self.client = memcache.Client([f"{host}:{port}"], cache_cas=True)
-
-    def set(self, key, value, expire=0):
-        return bool(self.client.set(key.decode(), value, time=expire))
-
-    def get(self, key):
-        return self.client.get(key.decode())
-
-    def get_many(self, keys):
-        return {key.encode(): value for key, value in self.client.get_multi([key.decode() for key in keys]).items()}
+        self.client = memcache.Client([f"{host}:{port}"], cache_cas=True, socket_timeout=30)
 
     def swap(self, key, value):
         # The client keeps the cas uniques itself, by the bytes of the key.
@@ -136,34 +109,72 @@ class Memcache:
         self.client.gets(name)
         return first, bool(self.client.cas(name, value))
 
-    def incr(self, key, by):
-        return self.client.incr(key.decode(), by)
 
-    def decr(self, key, by):
-        return self.client.decr(key.decode(), by)
+class Socket(Client):
+    """The classic commands over a plain socket, so that the checks run where no client is installed."""
 
-    def touch(self, key, expire):
-        return bool(self.client.touch(key.decode(), expire))
+    def __init__(self, host, port):
+        self.line = socket.create_connection((host, port), timeout=30)
+        self.replies = self.line.makefile("rb")
 
-    def delete(self, key):
-        return bool(self.client.delete(key.decode()))
+    def told(self, sent):
+        """The line that these bytes are answered by."""
+        self.line.sendall(sent)
+        return self.replies.readline().rstrip(b"\r\n")
+
+    def stored(self, verb, key, value, expire=0, tail=b""):
+        return self.told(b"%s %s 0 %d %d%s\r\n%s\r\n" % (verb, key, expire, len(value), tail, value)) == b"STORED"
+
+    def set(self, key, value, expire=0):
+        return self.stored(b"set", key, value, expire)
 
     def add(self, key, value):
-        return bool(self.client.add(key.decode(), value))
+        return self.stored(b"add", key, value)
 
     def replace(self, key, value):
-        return bool(self.client.replace(key.decode(), value))
+        return self.stored(b"replace", key, value)
 
     def append(self, key, value):
-        return bool(self.client.append(key.decode(), value))
+        return self.stored(b"append", key, value)
+
+    def found(self, verb, keys):
+        """The items that are found: the words behind each key, and the value."""
+        items, words = {}, self.told(verb + b" " + b" ".join(keys) + b"\r\n").split()
+        while words[0] == b"VALUE":
+            items[words[1]] = words[3:], self.replies.read(int(words[3]) + 2)[:-2]
+            words = self.replies.readline().split()
+        equal(words, [b"END"])
+        return items
+
+    def get(self, key):
+        return self.get_many([key]).get(key)
+
+    def get_many(self, keys):
+        return {key: value for key, (_, value) in self.found(b"get", keys).items()}
+
+    def swap(self, key, value):
+        late = self.found(b"gets", [key])[key][0][1]
+        self.set(key, b"between")
+        first = self.stored(b"cas", key, value, tail=b" " + late)
+        return first, self.stored(b"cas", key, value, tail=b" " + self.found(b"gets", [key])[key][0][1])
+
+    def incr(self, key, by):
+        return self.told(b"incr %s %d\r\n" % (key, by))
+
+    def decr(self, key, by):
+        return self.told(b"decr %s %d\r\n" % (key, by))
+
+    def touch(self, key, expire):
+        return self.told(b"touch %s %d\r\n" % (key, expire)) == b"TOUCHED"
+
+    def delete(self, key):
+        return self.told(b"delete %s\r\n" % key) == b"DELETED"
 
     def flood(self, count):
-        for number in range(count):
-            self.client.set("flood%d" % (number % 100), b"%d" % number, noreply=True)
+        self.line.sendall(b"".join(b"set flood%d 0 0 %d noreply\r\n%d\r\n" % (number % 100, len(str(number)), number) for number in range(count)))
 
     def flush(self):
-        self.client.flush_all()
-        return True
+        equal(self.told(b"flush_all\r\n"), b"OK")
 
 
 def equal(found, wanted):
@@ -200,7 +211,7 @@ def expires(it):
     it.set(b"brief", b"x", 2)
     equal(it.get(b"brief"), b"x")
     it.set(b"touched", b"y", 2)
-    equal(bool(it.touch(b"touched", 100)), True)
+    equal(it.touch(b"touched", 100), True)
     time.sleep(3.1)
     equal(it.get(b"brief"), None)
     equal(it.get(b"touched"), b"y")
@@ -208,12 +219,12 @@ def expires(it):
 
 def deletes_adds_and_replaces(it):
     it.set(b"gone", b"x")
-    equal(bool(it.delete(b"gone")), True)
+    equal(it.delete(b"gone"), True)
     equal(it.get(b"gone"), None)
-    equal(bool(it.add(b"gone", b"new")), True)
-    equal(bool(it.add(b"gone", b"newer")), False)
-    equal(bool(it.replace(b"gone", b"newest")), True)
-    equal(bool(it.append(b"gone", b"!")), True)
+    equal(it.add(b"gone", b"new"), True)
+    equal(it.add(b"gone", b"newer"), False)
+    equal(it.replace(b"gone", b"newest"), True)
+    equal(it.append(b"gone", b"!"), True)
     equal(it.get(b"gone"), b"newest!")
 
 
@@ -248,7 +259,7 @@ class Plain:
         self.line = socket.create_connection((host, port), timeout=30)
 
     def asked(self, sent, wanted):
-        sender = threading.Thread(target=self.line.sendall, args=(sent,))
+        sender = threading.Thread(target=self.line.sendall if sent else bytes, args=(sent,))
         sender.start()
         found = b""
         while len(found) < len(wanted):
@@ -325,13 +336,13 @@ def tried(name, check, *given):
 
 def main():
     client, host, port = sys.argv[1], sys.argv[2], int(sys.argv[3])
-    if client == "socket":
-        for check in PLAIN:
-            tried(check.__name__, check, host, port)
-        return
-    it = {"pymemcache": Pymemcache, "pylibmc": Pylibmc, "memcache": Memcache}[client](host, port)
+    it = {"pymemcache": Pymemcache, "pylibmc": Pylibmc, "memcache": Memcache, "socket": Socket}[client](host, port)
     for check in CHECKS:
         tried(check.__name__, check, it)
+    if client == "socket":
+        it.line.shutdown(socket.SHUT_RDWR)
+        for check in PLAIN:
+            tried(check.__name__, check, host, port)
 
 
 if __name__ == "__main__":

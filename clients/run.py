@@ -1,41 +1,68 @@
 #!/usr/bin/env python3
-"""Drives a server by the clients that people use, and says which checks hold.
+"""Drives a server by the clients that people use, and says which checks hold. A minute or two.
 
-    clients/run.py [COMMAND ..]     the command that starts the server, with {port} for its port; mcd where none is given
+    clients/run.py [--as-installed] [COMMAND ..]     the command that starts the server, with {port} for its port; mcd where none is given
 
-Debian's packages of the clients are installed where they are missing. A client that can't be had is named as not run;
-the checks over a plain socket always run. The last line is `clients: N passed, M failed, K skipped`.
+Debian's packages of the clients are installed where they are missing, if that can be done in two minutes, and not with
+`--as-installed`. A client that can't be had is named as not run; the checks over a plain socket always run. A check that
+can't hold here is named as left out, with its reason (LEFT_OUT). The last line is `clients: N passed, M failed, K not run`.
+
+What it is to see was put in once and seen: a server that answers `STORED` and keeps nothing, a reply that is lost or torn on
+its way, a 65th connection that is served beside 64, and a client that hangs each fail a check.
 """
+import os
 import pathlib
 import re
 import shutil
-import signal
 import socket
 import subprocess
 import sys
 import time
 
 HERE = pathlib.Path(__file__).resolve().parent
-MCD = [str(HERE.parent / "crates/mcd/out/mcd"), "--listen", "127.0.0.1:{port}", "--seats", "64"]
+sys.path.insert(0, str(HERE.parent / "scripts"))
 
-# Each client: its package, and the command that drives the server by it.
+from served import MCD, bounded, needs_program  # noqa: E402
+
+SERVER = [MCD, "--listen", "127.0.0.1:{port}", "--seats", "64"]
+SYSTEM_PYTHON = "/usr/bin/python3"
+
+INSTALL_SECONDS = 120
+CLIENT_SECONDS = 100
+ALL_SECONDS = 290
+
+# Each client: its packages, a command that succeeds where it is there, and the command that drives the server by it.
 CLIENTS = {
-    "socket": (None, ["/usr/bin/python3", "checks_python.py", "socket", "127.0.0.1", "{port}"]),
-    "pymemcache": ("python3-pymemcache", ["/usr/bin/python3", "checks_python.py", "pymemcache", "127.0.0.1", "{port}"]),
-    "pylibmc": ("python3-pylibmc", ["/usr/bin/python3", "checks_python.py", "pylibmc", "127.0.0.1", "{port}"]),
-    "python-memcache": ("python3-memcache", ["/usr/bin/python3", "checks_python.py", "memcache", "127.0.0.1", "{port}"]),
-    "PHP memcached": ("php-memcached", ["php", "checks.php", "127.0.0.1", "{port}"]),
-    "Perl Cache::Memcached::Fast": ("libcache-memcached-fast-perl", ["perl", "checks.pl", "127.0.0.1", "{port}"]),
+    "socket": ([], [sys.executable, "-c", ""], [sys.executable, "checks_python.py", "socket", "127.0.0.1", "{port}"]),
+    "pymemcache": (
+        ["python3-pymemcache"], [SYSTEM_PYTHON, "-c", "import pymemcache"],
+        [SYSTEM_PYTHON, "checks_python.py", "pymemcache", "127.0.0.1", "{port}"],
+    ),
+    "pylibmc": (
+        ["python3-pylibmc"], [SYSTEM_PYTHON, "-c", "import pylibmc"],
+        [SYSTEM_PYTHON, "checks_python.py", "pylibmc", "127.0.0.1", "{port}"],
+    ),
+    "python-memcache": (
+        ["python3-memcache"], [SYSTEM_PYTHON, "-c", "import memcache"],
+        [SYSTEM_PYTHON, "checks_python.py", "memcache", "127.0.0.1", "{port}"],
+    ),
+    "PHP memcached": (
+        ["php-cli", "php-memcached"], ["php", "-r", "new Memcached();"], ["php", "checks.php", "127.0.0.1", "{port}"],
+    ),
+    "Perl Cache::Memcached::Fast": (
+        ["libcache-memcached-fast-perl"], ["perl", "-MCache::Memcached::Fast", "-e", "1"], ["perl", "checks.pl", "127.0.0.1", "{port}"],
+    ),
 }
-PACKAGES = [package for package, _ in CLIENTS.values() if package] + ["php-cli", "libmemcached-tools"]
+# The tools, and the proxy that scaling.py wants, so that packages are installed once.
+TOOLS = {"memccapable": "libmemcached-tools", "nutcracker": "nutcracker"}
 
 # What memccapable checks and mcd doesn't do, each with the reason; all else that it checks must hold.
-NOT_HERE = {
+LEFT_OUT = {
     "ascii stat": "mcd has no `stats`",
     "ascii verbosity": "memccapable wants no reply to the malformed `verbosity noreply`; here an error line is always shown",
 }
 
-passed, failed, skipped = 0, 0, 0
+passed, failed, not_run = 0, 0, 0
 
 
 def say(holds, what):
@@ -45,24 +72,47 @@ def say(holds, what):
 
 
 def skip(what):
-    global skipped
-    skipped += 1
+    global not_run
+    not_run += 1
     print("not run " + what, flush=True)
 
 
-def is_installed(package):
-    asked = subprocess.run(["dpkg-query", "-W", "-f", "${Status}", package], capture_output=True, text=True)
-    return asked.returncode == 0 and asked.stdout.endswith("installed")
+def told(what):
+    """The last line: how many checks of this kind passed; and the status to end with."""
+    print(f"{what}: {passed} passed, {failed} failed, {not_run} not run", flush=True)
+    return 1 if failed else 0
 
 
-def install():
-    missing = [package for package in PACKAGES if not is_installed(package)]
-    if not missing or not shutil.which("apt-get"):
+def is_there(probe):
+    """Whether a command can be run and succeeds."""
+    try:
+        return subprocess.run(probe, stdin=subprocess.DEVNULL, capture_output=True, timeout=20).returncode == 0
+    except (OSError, subprocess.TimeoutExpired):
+        return False
+
+
+def install(packages):
+    """Installs Debian's packages, as far as that can be done within two minutes."""
+    if not packages or not shutil.which("apt-get") or os.geteuid() != 0:
         return
-    quiet = {"stdout": subprocess.DEVNULL, "stderr": subprocess.DEVNULL}
-    subprocess.run(["apt-get", "update", "-q"], **quiet)
-    for package in missing:
-        subprocess.run(["apt-get", "install", "-y", "-q", "--no-install-recommends", package], **quiet)
+    until = time.monotonic() + INSTALL_SECONDS
+    fast = ["-q", "-o", "Acquire::Retries=0", "-o", "Acquire::http::Timeout=10", "-o", "DPkg::Lock::Timeout=10"]
+    get = ["apt-get", "install", "-y", "--no-install-recommends", *fast]
+    if apt(["apt-get", "update", *fast], until) and not apt([*get, *packages], until):
+        for package in packages:
+            apt([*get, package], until)
+
+
+def apt(words, until):
+    """Whether the command succeeded before that moment."""
+    left = until - time.monotonic()
+    if left < 1:
+        return False
+    quiet = {"stdin": subprocess.DEVNULL, "stdout": subprocess.DEVNULL, "stderr": subprocess.DEVNULL}
+    try:
+        return subprocess.run(words, timeout=left, env={**os.environ, "DEBIAN_FRONTEND": "noninteractive"}, **quiet).returncode == 0
+    except (OSError, subprocess.TimeoutExpired):
+        return False
 
 
 def free_port():
@@ -72,24 +122,26 @@ def free_port():
 
 
 def is_up(port):
-    for _ in range(200):
+    until = time.monotonic() + 20
+    while time.monotonic() < until:
         try:
-            socket.create_connection(("127.0.0.1", port)).close()
+            socket.create_connection(("127.0.0.1", port), timeout=5).close()
             return True
         except OSError:
             time.sleep(0.05)
     return False
 
 
-def drive(name, package, command, port):
-    if package and not is_installed(package):
-        skip(f"{name}: the package {package} can't be had")
+def drive(name, port):
+    packages, probe, command = CLIENTS[name]
+    if not is_there(probe):
+        skip(f"{name}: it isn't installed ({' '.join(packages)})")
         return
     words = [word.format(port=port) for word in command]
     try:
-        ran = subprocess.run(words, cwd=HERE, capture_output=True, text=True, timeout=120)
+        ran = subprocess.run(words, cwd=HERE, stdin=subprocess.DEVNULL, capture_output=True, text=True, timeout=CLIENT_SECONDS)
     except subprocess.TimeoutExpired:
-        say(False, f"{name}: hasn't ended after two minutes")
+        say(False, f"{name}: hasn't ended after {CLIENT_SECONDS} seconds")
         return
     lines = [line for line in ran.stdout.splitlines() if line.startswith(("ok ", "FAILED "))]
     for line in lines:
@@ -99,40 +151,69 @@ def drive(name, package, command, port):
 
 
 def drive_memccapable(port):
-    if not is_installed("libmemcached-tools"):
-        skip("memccapable, memcslap: the package libmemcached-tools can't be had")
+    if not shutil.which("memccapable"):
+        skip("memccapable: it isn't installed (libmemcached-tools)")
         return
-    ran = subprocess.run(["memccapable", "-a", "-h", "127.0.0.1", "-p", str(port)], capture_output=True, text=True, timeout=120)
+    words = ["memccapable", "-a", "-h", "127.0.0.1", "-p", str(port)]
+    ran = subprocess.run(words, stdin=subprocess.DEVNULL, capture_output=True, text=True, timeout=CLIENT_SECONDS)
     # A test that fails says so on standard error, so nothing stands behind its name on standard output.
-    for name, passes in re.findall(r"(ascii(?: \w+)+) {2,}(\[pass\])?", ran.stdout):
-        if name in NOT_HERE:
-            skip(f"memccapable: {name}: {NOT_HERE[name]}")
+    tests = re.findall(r"(ascii(?: \w+)+) {2,}(\[pass\])?", ran.stdout)
+    if len(tests) < 20:
+        say(False, f"memccapable: only {len(tests)} tests ran: {ran.stderr.strip()[-300:]}")
+    for name, passes in tests:
+        if name in LEFT_OUT:
+            skip(f"memccapable: {name}: {LEFT_OUT[name]}")
         else:
             say(bool(passes), f"memccapable: {name}")
+
+
+def drive_memcslap(port):
+    if not shutil.which("memcslap"):
+        skip("memcslap: it isn't installed (libmemcached-tools)")
+        return
     for test in ("get", "set"):
         words = ["memcslap", f"--servers=127.0.0.1:{port}", "--concurrency=8", "--execute-number=1000", f"--test={test}"]
-        ran = subprocess.run(words, capture_output=True, text=True, timeout=120)
+        ran = subprocess.run(words, stdin=subprocess.DEVNULL, capture_output=True, timeout=CLIENT_SECONDS)
         say(ran.returncode == 0, f"memcslap: {test}")
 
 
+def drive_all(port):
+    for name in CLIENTS:
+        drive(name, port)
+    for tool in (drive_memccapable, drive_memcslap):
+        try:
+            tool(port)
+        except subprocess.TimeoutExpired as why:
+            say(False, f"{why.cmd[0]}: hasn't ended after {CLIENT_SECONDS} seconds")
+
+
+def asked_for(words):
+    """The command of the server, and whether packages may be installed."""
+    installs = "--as-installed" not in words
+    command = [word for word in words if word != "--as-installed"]
+    if not command:
+        needs_program()
+    return command or SERVER, installs
+
+
 def main():
-    install()
+    command, installs = asked_for(sys.argv[1:])
+    if installs:
+        install([package for packages, probe, _ in CLIENTS.values() if not is_there(probe) for package in packages]
+                + [package for tool, package in TOOLS.items() if not shutil.which(tool)])
+    bounded(ALL_SECONDS)
     port = free_port()
-    command = [word.format(port=port) for word in (sys.argv[1:] or MCD)]
-    server = subprocess.Popen(command, stderr=subprocess.PIPE)
+    server = subprocess.Popen([word.format(port=port) for word in command], stdin=subprocess.DEVNULL, stdout=subprocess.DEVNULL, stderr=subprocess.DEVNULL)
     try:
-        if not is_up(port):
-            say(False, "the server doesn't listen")
-        else:
-            for name, (package, words) in CLIENTS.items():
-                drive(name, package, words, port)
-            drive_memccapable(port)
+        if is_up(port):
+            drive_all(port)
             say(server.poll() is None, "the server still runs")
+        else:
+            say(False, "the server doesn't listen")
     finally:
-        server.send_signal(signal.SIGKILL)
+        server.kill()
         server.wait()
-    print(f"clients: {passed} passed, {failed} failed, {skipped} skipped")
-    return 1 if failed else 0
+    return told("clients")
 
 
 if __name__ == "__main__":

@@ -1,10 +1,11 @@
 #!/usr/bin/env python3
-"""Runs three servers behind nutcracker (twemproxy), drives them with pymemcache, ends one, and shows that the others
-serve on.
+"""Runs three servers behind nutcracker (twemproxy), ends one, and shows that the others serve on.
 
-    clients/scaling.py [COMMAND ..]     the command that starts a server, with {port} for its port; mcd where none is given
+    clients/scaling.py [--as-installed] [COMMAND ..]     the command that starts a server, with {port} for its port; mcd where none is given
 
-The configuration is examples/nutcracker.yml with other ports. The last line is `scaling: N passed, M failed, K skipped`.
+The configuration is examples/nutcracker.yml with other ports. Where nutcracker isn't there and can't be installed, it says that
+it was not run, and doesn't fail. The last line is `scaling: N passed, M failed, K not run`. That a server which is still there
+must be the one that serves was seen once by ending all three: four checks failed.
 """
 import pathlib
 import re
@@ -15,33 +16,25 @@ import tempfile
 import time
 
 import run
+from checks_python import Socket
+from served import bounded
 
 TOP = pathlib.Path(__file__).resolve().parent.parent
-SYSTEM_PYTHON = "/usr/bin/python3"
-KEYS = 3000
-
-# Run by the system's Python, which has pymemcache: sets or counts the keys by one server or proxy.
-DRIVE = """
-import sys
-from pymemcache.client.base import Client
-port, what, count = int(sys.argv[1]), sys.argv[2], int(sys.argv[3])
-def client():
-    return Client(("127.0.0.1", port), default_noreply=False, timeout=5, connect_timeout=5)
-it, done = client(), 0
-for number in range(count):
-    key, value = b"scaled%d" % number, b"value of %d" % number
-    try:
-        done += it.set(key, value) if what == "set" else it.get(key) == value
-    except Exception:
-        it.close()
-        it = client()
-print(done)
-"""
+KEYS = 1000
+ALL_SECONDS = 150
 
 
 def driven(port, what):
-    ran = subprocess.run([SYSTEM_PYTHON, "-c", DRIVE, str(port), what, str(KEYS)], capture_output=True, text=True, timeout=120)
-    return int(ran.stdout or -1)
+    """Sets or gets all keys by one server or proxy, on one connection after another where one breaks; tells how many it could."""
+    it, done = None, 0
+    for number in range(KEYS):
+        key, value = b"scaled%d" % number, b"value of %d" % number
+        try:
+            it = it or Socket("127.0.0.1", port)
+            done += it.set(key, value) if what == "set" else it.get(key) == value
+        except (OSError, AssertionError, IndexError):
+            it = None
+    return done
 
 
 def configured(folder, proxy, ports):
@@ -69,33 +62,36 @@ def check(servers, ports, proxy):
     run.say(driven(proxy, "get") == KEYS, "and is found again")
 
 
-def main():
-    run.PACKAGES[:] = ["nutcracker", "python3-pymemcache"]
-    run.install()
-    if not shutil.which("nutcracker") or not run.is_installed("python3-pymemcache"):
-        run.skip("scaling: nutcracker or pymemcache can't be had")
-        print("scaling: 0 passed, 0 failed, 1 skipped")
-        return 0
-    ports = [run.free_port() for _ in range(3)]
-    proxy = run.free_port()
-    command = sys.argv[1:] or run.MCD
-    quiet = {"stdout": subprocess.DEVNULL, "stderr": subprocess.DEVNULL}
-    servers = [subprocess.Popen([word.format(port=port) for word in command], **quiet) for port in ports]
+def served(command, ports, proxy):
+    """Starts the servers and the proxy, checks them, and ends them."""
+    quiet = {"stdin": subprocess.DEVNULL, "stdout": subprocess.DEVNULL, "stderr": subprocess.DEVNULL}
+    started = []
     with tempfile.TemporaryDirectory() as folder:
-        path = configured(folder, proxy, ports)
-        words = ["nutcracker", "-c", str(path), "-o", f"{folder}/log", "-s", str(run.free_port())]
-        front = subprocess.Popen(words, **quiet)
+        words = ["nutcracker", "-c", str(configured(folder, proxy, ports)), "-o", f"{folder}/log", "-s", str(run.free_port())]
         try:
+            for port in ports:
+                started.append(subprocess.Popen([word.format(port=port) for word in command], **quiet))
+            started.append(subprocess.Popen(words, **quiet))
             if all(run.is_up(port) for port in [*ports, proxy]):
-                check(servers, ports, proxy)
+                check(started[:3], ports, proxy)
             else:
                 run.say(False, "three servers and the proxy listen")
         finally:
-            for process in [front, *servers]:
+            for process in started:
                 process.kill()
                 process.wait()
-    print(f"scaling: {run.passed} passed, {run.failed} failed, {run.skipped} skipped")
-    return 1 if run.failed else 0
+
+
+def main():
+    command, installs = run.asked_for(sys.argv[1:])
+    if installs and not shutil.which("nutcracker"):
+        run.install(["nutcracker"])
+    bounded(ALL_SECONDS)
+    if shutil.which("nutcracker"):
+        served(command, [run.free_port() for _ in range(3)], run.free_port())
+    else:
+        run.skip("scaling: nutcracker isn't installed")
+    return run.told("scaling")
 
 
 if __name__ == "__main__":

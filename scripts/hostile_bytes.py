@@ -1,0 +1,125 @@
+"""The bytes of the worked rows, cut and altered at every place, over `mcd --stdio`."""
+import fcntl
+import os
+import random
+import re
+import subprocess
+
+from served import MCD, TOP, equal
+
+ROWS = TOP / "crates/mc_rows/data/rows.txt"
+REPLACED_BY = (0, 10, 13, 32, 255)
+PIECES = (1, 2, 3, 7)
+
+# A row with more input than this is cut and altered near its ends alone.
+SMALL = 500
+FRONT, BACK = 19, 6
+
+# These rows are altered at every place; all rows are cut at every place.
+ALTERED = [
+    "no-op in pieces", "set and gets", "empty value", "block without line end", "many-key get and flush_all", "arithmetic",
+    "quiet and noreply", "quit", "recache and stale marks", "compare and swap", "meta arithmetic", "base64 keys", "largest value",
+    "unfinished block", "refusals",
+]
+
+
+def unescaped(text):
+    """The bytes that a field of the file of rows stands for."""
+    text = re.sub(r"\{(\d+)\*((?:\\\}|[^}])*)\}", lambda it: it[2] * int(it[1]), text)
+    plain = {"r": "\r", "n": "\n", "t": "\t"}
+    text = re.sub(r"\\(x[0-9a-fA-F]{2}|.)", lambda it: chr(int(it[1][1:], 16)) if it[1][0] == "x" else plain.get(it[1], it[1]), text)
+    return text.encode("latin-1")
+
+
+def rows():
+    """Each row: its name, the options that it is run with, its input and its output."""
+    for line in ROWS.read_text(encoding="latin-1").splitlines():
+        if line and not line.startswith("#"):
+            name, moment, budget, given, wanted = line.split("\t")
+            yield name, ["--stdio", "--at", moment, "--bytes", budget], unescaped(given), unescaped(wanted)
+
+
+def spoken(options, given, piece=None):
+    """The output for this input: whole, or in pieces of so many bytes, each of which is one read of the program (a pipe of
+    packets). The program must end with status 0 and tell nothing."""
+    if piece is None:
+        ran = subprocess.run([MCD, *options], input=given, capture_output=True, timeout=60)
+        equal((ran.returncode, ran.stderr), (0, b""))
+        return ran.stdout
+    reading, writing = os.pipe2(os.O_DIRECT)
+    fcntl.fcntl(writing, fcntl.F_SETPIPE_SZ, 1 << 20)
+    with subprocess.Popen([MCD, *options], stdin=reading, stdout=subprocess.PIPE) as process:
+        os.close(reading)
+        try:
+            for first in range(0, len(given), piece):
+                os.write(writing, given[first : first + piece])
+        except BrokenPipeError:
+            pass  # it has quit
+        os.close(writing)
+        found = process.stdout.read()
+    equal(process.returncode, 0)
+    return found
+
+
+def places(given):
+    if len(given) <= SMALL:
+        return range(len(given))
+    return [*range(FRONT), *range(len(given) - BACK, len(given))]
+
+
+def every_row_is_cut_at_every_byte():
+    """The output of a front is a beginning of the output of all, and ends with a whole reply."""
+    count = 0
+    for name, options, given, wanted in rows():
+        equal((name, spoken(options, given)), (name, wanted))
+        for place in places(given):
+            found = spoken(options, given[:place])
+            if not wanted.startswith(found) or found and not found.endswith(b"\r\n"):
+                raise AssertionError(f"{name}, cut at {place}: {found!r:.200} is no beginning of {wanted!r:.200}")
+            count += 1
+    return f"{count} runs"
+
+
+def every_row_is_fed_in_pieces():
+    count = 0
+    for name, options, given, wanted in rows():
+        for piece in PIECES:
+            if len(given) <= SMALL:
+                equal((name, piece, spoken(options, given, piece)), (name, piece, wanted))
+                count += 1
+    return f"{count} runs"
+
+
+def every_byte_is_replaced():
+    """The program ends well, what it says before the altered command stays, and two cuttings give the same."""
+    count = 0
+    for name, options, given, _ in rows():
+        if name not in ALTERED:
+            continue
+        for place in places(given):
+            before = spoken(options, given[:place])
+            for byte in REPLACED_BY:
+                altered = given[:place] + bytes([byte]) + given[place + 1 :]
+                found = spoken(options, altered)
+                if not found.startswith(before):
+                    raise AssertionError(f"{name}, {byte} at {place}: {found!r:.200} doesn't begin with {before!r:.200}")
+                piece = PIECES[count % len(PIECES)] if len(given) <= SMALL else 5_000
+                equal((name, byte, place, spoken(options, altered, piece)), (name, byte, place, found))
+                count += 1
+    return f"{count} alterations"
+
+
+def noise_is_survived():
+    """Seeded noise: bytes at random, and words of the protocol at random, whole and in pieces of one read each."""
+    words = [b"get", b"set", b"ms", b"mg", b"ma", b"md", b"mn", b"incr", b"a", b"b", b"0", b"1", b"3", b"-1", b"noreply", b"q", b"v", b"k",
+             b"\r\n", b"\r\n", b"\r\n", b"\n", b"abc\r\n", b"4294967295", b"flush_all", b"gat", b"cas", b"YQ==", b"T1", b"C1", b"O12345", b"\0"]
+    chance = random.Random(11211)
+    options = ["--stdio", "--at", "1000"]
+    for number in range(400):
+        size = chance.randrange(400)
+        given = chance.randbytes(size) if number % 2 else b" ".join(chance.choice(words) for _ in range(size)).replace(b" \r\n ", b"\r\n")
+        equal((number, spoken(options, given, 1 + number % 9)), (number, spoken(options, given)))
+    return "400 streams"
+
+
+CHECKS = [every_row_is_fed_in_pieces, noise_is_survived, every_row_is_cut_at_every_byte, every_byte_is_replaced]

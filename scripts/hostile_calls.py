@@ -1,0 +1,89 @@
+"""How the program is called: what it tells, and the status with which it ends."""
+import socket
+import subprocess
+import time
+
+from served import MCD, Line, Server, equal
+
+# Addresses that aren't one, or can't be listened on (192.0.2.1 is nobody's: RFC 5737).
+NO_ADDRESSES = ["nonsense", "", "256.0.0.1:1", "127.0.0.1", "127.0.0.1:99999", "127.0.0.1:-1", "192.0.2.1:1"]
+
+FAULTY_CALLS = [
+    "--seats 0", "--seats 65", "--seats 1 --seats 2", "--seats 1x", "--shards 0", "--shards 17", "--bytes 1023",
+    "--bytes 1073741825", "--value-limit 1023", "--value-limit 8388609", "--window 0", "--window 4097",
+    "--connections 0", "--connections 4294967296", "--listen", "--nope", "nope", "--at 3", "--stdio --seats 2",
+    "--stdio --listen 127.0.0.1:0", "--stdio --connections 1", "--stdio --at x",
+]
+
+
+def ended(words):
+    ran = subprocess.run([MCD, *words], stdin=subprocess.DEVNULL, capture_output=True, timeout=30)
+    return ran.returncode, ran.stdout, ran.stderr
+
+
+def a_taken_port_is_refused():
+    with Server() as server:
+        equal(ended(["--listen", f"127.0.0.1:{server.port}"]), (1, b"", b"mcd: cannot listen\n"))
+        with Line(server.port) as line:
+            line.ask(b"mn\r\n", b"MN\r\n")
+
+
+def what_is_no_address_is_refused():
+    for address in NO_ADDRESSES:
+        equal((address, ended(["--listen", address])), (address, (1, b"", b"mcd: cannot listen\n")))
+
+
+def faults_of_the_command_line_end_with_2():
+    for call in FAULTY_CALLS:
+        status, out, told = ended(call.split())
+        equal((call, status, out, bool(told)), (call, 2, b"", True))
+
+
+def help_ends_with_0():
+    status, out, told = ended(["--help"])
+    equal((status, b"--listen" in out, told), (0, True, b""))
+
+
+def so_many_connections_and_then_status_0():
+    for count, seats in ((1, 1), (1, 4), (3, 2), (20, 4)):
+        with Server("--connections", count, "--seats", seats) as server:
+            for _ in range(count):
+                with Line(server.port) as line:
+                    line.ask(b"mn\r\nquit\r\n", b"MN\r\n")
+            equal((server.process.wait(timeout=30), server.process.stderr.read()), (0, b""))
+
+
+def the_last_connections_are_served_to_their_end():
+    with Server("--connections", 4, "--seats", 4) as server:
+        lines = [Line(server.port) for _ in range(4)]
+        for line in lines:
+            line.ask(b"mn\r\n", b"MN\r\n")
+        for line in lines[:3]:
+            line.close()
+        time.sleep(0.3)
+        equal(server.is_running(), True)
+        lines[3].ask(b"mn\r\n", b"MN\r\n")
+        lines[3].close()
+        equal(server.process.wait(timeout=30), 0)
+
+
+def a_port_is_free_again_at_once():
+    with Server() as server, Line(server.port) as line:
+        line.ask(b"mn\r\n", b"MN\r\n")
+        port = server.port
+        server.process.kill()
+        server.process.wait()
+        again = subprocess.Popen([MCD, "--listen", f"127.0.0.1:{port}"], stderr=subprocess.PIPE)
+        try:
+            equal(again.stderr.readline(), b"listening 127.0.0.1:%d\n" % port)
+            socket.create_connection(("127.0.0.1", port), timeout=30).close()
+        finally:
+            again.kill()
+            again.wait()
+            again.stderr.close()
+
+
+CHECKS = [
+    a_taken_port_is_refused, what_is_no_address_is_refused, faults_of_the_command_line_end_with_2, help_ends_with_0,
+    so_many_connections_and_then_status_0, the_last_connections_are_served_to_their_end, a_port_is_free_again_at_once,
+]

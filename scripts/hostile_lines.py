@@ -1,0 +1,172 @@
+"""Connections that behave badly: half-closed, slow, silent, too many, and reset in the middle."""
+import random
+import threading
+import time
+
+from served import MIB, Line, Server, equal, hit_of, set_of
+
+
+def half_closed_connections_get_all_replies():
+    with Server() as server:
+        for tail, wanted in ((b"", b""), (b"get", b""), (b"set b 0 0 5\r\nab", b""), (b"get a\n", hit_of(b"a", b"x" * 9))):
+            with Line(server.port) as line:
+                line.send(set_of(b"a", b"x" * 9) + b"get a\r\n" * 3000 + tail)
+                line.end()
+                equal(line.rest(), b"STORED\r\n" + hit_of(b"a", b"x" * 9) * 3000 + wanted)
+
+
+def replies_are_read_a_byte_at_a_time():
+    wanted = b"STORED\r\n" + hit_of(b"a", bytes(range(256)) * 4) * 20 + b"MN\r\n"
+    with Server() as server, Line(server.port, room=2048) as line:
+        line.send(set_of(b"a", bytes(range(256)) * 4) + b"get a\r\n" * 20 + b"mn\r\nquit\r\n")
+        found = b""
+        while got := line.socket.recv(1):
+            found += got
+        equal(found, wanted)
+
+
+def commands_come_a_byte_at_a_time():
+    value = b"x" * 300
+    wanted = b"STORED\r\n" + hit_of(b"a", value) + b"VA 300\r\n" + value + b"\r\n"
+    with Server() as server, Line(server.port) as line:
+        for byte in set_of(b"a", value) + b"get a\r\nmg a v\r\n":
+            line.send(bytes([byte]))
+        equal(line.read(len(wanted)), wanted)
+
+
+def a_slow_reader_holds_little_memory(count=64):
+    """64 MiB of replies are due to a client that doesn't read; then it reads all. One value of 1 MiB, asked for again and
+    again, is shared by its replies; small values, which a client asks for without end, are held back by its own sending."""
+    value = bytes(range(256)) * 4096
+    wanted = hit_of(b"big", value)
+    with Server("--seats", 4) as server:
+        with Line(server.port) as line:
+            line.ask(set_of(b"big", value) + set_of(b"small", b"s" * 100), b"STORED\r\nSTORED\r\n")
+            before = server.resident()
+            line.send(b"get big\r\n" * count)
+            grown = most_of(server, 2) - before
+            for _ in range(count):
+                equal(line.read(len(wanted)), wanted)
+        if grown > 8 * MIB:
+            raise AssertionError(f"{grown / MIB:.0f} MiB more are held for it")
+        reads_small_replies_late(server, before)
+    return f"{grown / MIB:.1f} MiB more"
+
+
+def most_of(server, seconds):
+    """The most that is resident at any moment of so many seconds."""
+    until, most = time.monotonic() + seconds, 0
+    while time.monotonic() < until:
+        most = max(most, server.resident())
+        time.sleep(0.05)
+    return most
+
+
+def reads_small_replies_late(server, before):
+    count, wanted = 500_000, hit_of(b"small", b"s" * 100)
+    with Line(server.port) as line, Line(server.port) as other:
+        sender = threading.Thread(target=line.send, args=(b"get small\r\n" * count,), daemon=True)
+        sender.start()
+        grown = most_of(server, 2) - before
+        if grown > 8 * MIB:
+            raise AssertionError(f"{grown / MIB:.0f} MiB more are held for small replies")
+        other.ask(b"mn\r\n", b"MN\r\n")
+        for _ in range(count // 1000):
+            equal(line.read(len(wanted) * 1000), wanted * 1000)
+        sender.join()
+
+
+def two_hundred_connections_take_turns_on_four_seats():
+    with Server("--seats", 4) as server:
+        for first in (0, 100):
+            lines = [Line(server.port) for _ in range(100)]
+            for number, line in enumerate(lines, first):
+                line.send(set_of(b"turn%d" % number, b"%d" % number) + b"get turn%d\r\n" % number)
+            for number, line in enumerate(lines, first):
+                wanted = b"STORED\r\n" + hit_of(b"turn%d" % number, b"%d" % number)
+                equal(line.read(len(wanted)), wanted)
+                line.close()
+
+
+def silent_connections_keep_their_seats_alone():
+    """Three of four seats are held by clients that say nothing or stop in the middle; the fourth serves on."""
+    with Server("--seats", 4) as server:
+        held = [Line(server.port) for _ in range(3)]
+        for line, said in zip(held, (b"", b"get a", b"set a 0 0 10\r\nabc")):
+            line.send(said)
+        for _ in range(20):
+            with Line(server.port) as line:
+                line.ask(set_of(b"b", b"x") + b"get b\r\nget a\r\n", b"STORED\r\n" + hit_of(b"b", b"x") + b"END\r\n")
+        for line, said, wanted in zip(held, (b"mn\r\n", b"\r\n", b"defghij\r\n"), (b"MN\r\n", b"END\r\n", b"STORED\r\n")):
+            line.ask(said, wanted)
+            line.close()
+
+
+def a_client_quits_amid_what_it_sends():
+    with Server() as server:
+        for _ in range(20):
+            with Line(server.port) as line:
+                line.send(b"mn\r\nquit\r\n" + b"get a\r\n" * 40_000)
+                equal(line.rest(), b"MN\r\n")
+
+
+def counts_up(port, until, faults):
+    """The checker beside the kills: its own key is stored, counted up and read, and must be what it was told."""
+    try:
+        with Line(port) as line:
+            line.ask(set_of(b"checked", b"0"), b"STORED\r\n")
+            number = 0
+            while not until.is_set():
+                number += 1
+                text = b"%d" % number
+                value = text * 50
+                line.ask(b"incr checked 1\r\nget checked\r\n" + set_of(b"other", value) + b"get other\r\n",
+                         text + b"\r\n" + hit_of(b"checked", text) + b"STORED\r\n" + hit_of(b"other", value))
+            faults.append(None if number > 100 else f"only {number} rounds")
+    except Exception as why:
+        faults.append(f"{type(why).__name__}: {why}")
+
+
+def killed(port, kind):
+    """One client that is reset in the middle of a line, a block, its replies, or a batch that is under way."""
+    line = Line(port)
+    if kind == 0:
+        line.send(b"set torn 0 0 100000\r\n" + b"t" * random.randrange(50_000))
+    elif kind == 1:
+        line.send(b"get big\r\n" * 8)
+        line.read(random.randrange(1, 100_000))
+    elif kind == 2:
+        line.send(b"get big big big" + b" big" * random.randrange(5))
+    else:
+        line.send(b"".join(set_of(b"k%d" % number, b"v") + b"get k%d big\r\n" % number for number in range(200)))
+    line.reset()
+
+
+def a_thousand_clients_are_killed(count=1000):
+    """Beside them a checker loses nothing; no seat is lost, and no torn block is stored. A seat that is kept (a server with
+    `--seats 1`), or another client that writes the checker's keys, makes this fail."""
+    until, faults = threading.Event(), []
+    with Server("--seats", 8) as server:
+        with Line(server.port) as line:
+            line.ask(set_of(b"big", b"b" * MIB), b"STORED\r\n")
+        checker = threading.Thread(target=counts_up, args=(server.port, until, faults))
+        checker.start()
+        try:
+            for number in range(count):
+                killed(server.port, number % 4)
+        finally:
+            until.set()
+            checker.join()
+        equal(faults, [None])
+        lines = [Line(server.port) for _ in range(8)]
+        for line in lines:
+            line.ask(b"get torn\r\nmn\r\n", b"END\r\nMN\r\n")
+        for line in lines:
+            line.close()
+
+
+CHECKS = [
+    half_closed_connections_get_all_replies, replies_are_read_a_byte_at_a_time, commands_come_a_byte_at_a_time,
+    a_slow_reader_holds_little_memory, two_hundred_connections_take_turns_on_four_seats,
+    silent_connections_keep_their_seats_alone, a_client_quits_amid_what_it_sends, a_thousand_clients_are_killed,
+]
