@@ -8,10 +8,10 @@ use std::alloc::{AllocError, Global};
 
 /// The calls of the program, below the list of its options.
 const CALLS: &str = "\
-mcd [--listen ADDRESS] [--seats N] [--connections N] [limits]   serves TCP
-mcd --stdio [--at SECONDS] [limits]                             serves one connection
-mcd --replay FILE                                               runs a schedule
-limits: --shards, --bytes, --value-limit, --window";
+mcd [--listen ADDRESS] [--seats N] [--connections N] [limits]   TCP
+mcd --stdio [--at SECONDS] [limits]                             one connection
+mcd --replay FILE                                               a schedule
+Limits are --shards, --bytes, --value-limit and --window. Defaults stand in [].";
 
 /// The program with its options.
 #[tactic(auto, unfolding(crate::specs::Program::program))]
@@ -19,7 +19,7 @@ pub fn program_options<'a>(alloc: Global) -> Result<Command<'a>, AllocError>
     ensures { IfOk result (λ command. app_of command ≡ program) }
 {
     let command = Command::new(alloc, "mcd").after_help(CALLS);
-    let listen = "Where to listen [default: 127.0.0.1:11211]";
+    let listen = "Where to listen [127.0.0.1:11211]";
     let command = with_value(alloc, command, "listen", "ADDRESS", listen)?;
     let stdio = "Serves one connection over standard input and output";
     let command = with_flag(alloc, command, "stdio", stdio)?;
@@ -34,15 +34,15 @@ pub fn program_options<'a>(alloc: Global) -> Result<Command<'a>, AllocError>
 fn with_limits<'a>(alloc: Global, command: Command<'a>) -> Result<Command<'a>, AllocError>
     ensures { IfOk result (λ limited. app_of limited ≡ with_rules (app_of command.entry) limit_rules) }
 {
-    let shards = "How many threads own items, 1 to 16 [default: 2]";
+    let shards = "Threads that own items, 1 to 16 [2]";
     let command = with_value(alloc, command, "shards", "N", shards)?;
-    let seats = "How many connections are served at a time, 1 to 64 [default: 16]";
+    let seats = "Connections served at a time, 1 to 64 [16]";
     let command = with_value(alloc, command, "seats", "N", seats)?;
-    let bytes = "What a shard's items may cost, 1024 to 1073741824 [default: 16777216]";
+    let bytes = "Budget of a shard, 1024 to 1073741824 [16777216]";
     let command = with_value(alloc, command, "bytes", "N", bytes)?;
-    let value = "The bytes of a value at most, 1024 to 8388608 [default: 1048576]";
+    let value = "Bytes of a value at most, 1024 to 8388608 [1048576]";
     let command = with_value(alloc, command, "value-limit", "N", value)?;
-    let window = "How many commands a connection has open, 1 to 4096 [default: 256]";
+    let window = "Open commands a connection, 1 to 4096 [256]";
     let command = with_value(alloc, command, "window", "N", window)?;
     let connections = "Ends after so many connections, 1 to 4294967295";
     let command = with_value(alloc, command, "connections", "N", connections)?;
