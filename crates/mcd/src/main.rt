@@ -48,7 +48,6 @@ fn main(rt: HostRuntime) -> ExitCode {
             let mut line = Standard::new(rt.stdin(), rt.stdout());
             serve_line(&rt, &mut line, at, limits)
         }
-        Ok(Options::Replay { file }) => refuse(&rt, file),
         Err(fault) => {
             let _ = fault.print(&rt);
             ExitCode::from(fault.status())
