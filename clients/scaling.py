@@ -5,7 +5,7 @@
 
 The configuration is examples/nutcracker.yml with other ports. Where nutcracker isn't there and can't be installed, it says that
 it was not run, and doesn't fail. The last line is `scaling: N passed, M failed, K not run`. That a server which is still there
-must be the one that serves was seen once by ending all three: four checks failed.
+must be the one that serves was seen once by ending all three: the last three checks failed.
 """
 import pathlib
 import re
@@ -51,7 +51,7 @@ def check(servers, ports, proxy):
     run.say(driven(proxy, "set") == KEYS, "every key is stored through the proxy")
     run.say(driven(proxy, "get") == KEYS, "every key is found through the proxy")
     shares = [driven(port, "get") for port in ports]
-    run.say(sum(shares) == KEYS and min(shares) > KEYS // 10, f"each key lives on one server, and each server has its share ({shares})")
+    run.say(sum(shares) == KEYS and min(shares) > KEYS // 30, f"each key lives on one server, and each server has its share ({shares})")
     servers[1].kill()
     servers[1].wait()
     driven(proxy, "get")  # meets the server that is gone, which the proxy then leaves out

@@ -1,4 +1,7 @@
-"""How the program is called: what it tells, and the status with which it ends."""
+"""How the program is called: what it tells, and the status with which it ends.
+
+The checks were seen to fail with a program that ends with status 0 whatever it told.
+"""
 import socket
 import subprocess
 import time
