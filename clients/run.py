@@ -22,7 +22,7 @@ import time
 HERE = pathlib.Path(__file__).resolve().parent
 sys.path.insert(0, str(HERE.parent / "scripts"))
 
-from served import MCD, bounded, needs_program  # noqa: E402
+from served import MCD, bounded, needs_program, started  # noqa: E402
 
 SERVER = [MCD, "--listen", "127.0.0.1:{port}", "--seats", "64"]
 SYSTEM_PYTHON = "/usr/bin/python3"
@@ -204,7 +204,7 @@ def main():
                 + [package for tool, package in TOOLS.items() if not shutil.which(tool)])
     bounded(ALL_SECONDS)
     port = free_port()
-    server = subprocess.Popen([word.format(port=port) for word in command], stdin=subprocess.DEVNULL, stdout=subprocess.DEVNULL, stderr=subprocess.DEVNULL)
+    server = started([word.format(port=port) for word in command])
     try:
         if is_up(port):
             drive_all(port)

@@ -10,14 +10,13 @@ must be the one that serves was seen once by ending all three: the last three ch
 import pathlib
 import re
 import shutil
-import subprocess
 import sys
 import tempfile
 import time
 
 import run
 from checks_python import Socket
-from served import bounded
+from served import bounded, started
 
 TOP = pathlib.Path(__file__).resolve().parent.parent
 KEYS = 1000
@@ -64,20 +63,19 @@ def check(servers, ports, proxy):
 
 def served(command, ports, proxy):
     """Starts the servers and the proxy, checks them, and ends them."""
-    quiet = {"stdin": subprocess.DEVNULL, "stdout": subprocess.DEVNULL, "stderr": subprocess.DEVNULL}
-    started = []
+    running = []
     with tempfile.TemporaryDirectory() as folder:
         words = ["nutcracker", "-c", str(configured(folder, proxy, ports)), "-o", f"{folder}/log", "-s", str(run.free_port())]
         try:
             for port in ports:
-                started.append(subprocess.Popen([word.format(port=port) for word in command], **quiet))
-            started.append(subprocess.Popen(words, **quiet))
+                running.append(started([word.format(port=port) for word in command]))
+            running.append(started(words))
             if all(run.is_up(port) for port in [*ports, proxy]):
-                check(started[:3], ports, proxy)
+                check(running[:3], ports, proxy)
             else:
                 run.say(False, "three servers and the proxy listen")
         finally:
-            for process in started:
+            for process in running:
                 process.kill()
                 process.wait()
 

@@ -6,7 +6,7 @@ import socket
 import subprocess
 import time
 
-from served import MCD, Line, Server, equal
+from served import MCD, Line, Server, equal, started
 
 # Addresses that aren't one, or can't be listened on (192.0.2.1 is nobody's: RFC 5737).
 NO_ADDRESSES = ["nonsense", "", "256.0.0.1:1", "127.0.0.1", "127.0.0.1:99999", "127.0.0.1:-1", "192.0.2.1:1"]
@@ -76,7 +76,7 @@ def a_port_is_free_again_at_once():
         port = server.port
         server.process.kill()
         server.process.wait()
-        again = subprocess.Popen([MCD, "--listen", f"127.0.0.1:{port}"], stderr=subprocess.PIPE)
+        again = started([MCD, "--listen", f"127.0.0.1:{port}"], stderr=subprocess.PIPE)
         try:
             equal(again.stderr.readline(), b"listening 127.0.0.1:%d\n" % port)
             socket.create_connection(("127.0.0.1", port), timeout=30).close()
