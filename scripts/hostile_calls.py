@@ -16,6 +16,7 @@ FAULTY_CALLS = [
     "--bytes 1073741825", "--value-limit 1023", "--value-limit 8388609", "--window 0", "--window 4097",
     "--connections 0", "--connections 4294967296", "--listen", "--nope", "nope", "--at 3", "--stdio --seats 2",
     "--stdio --listen 127.0.0.1:0", "--stdio --connections 1", "--stdio --at x",
+    "--replay", "--replay x --seats 2", "--replay x --stdio", "--replay x --bytes 1024",
 ]
 
 
