@@ -31,3 +31,18 @@ tried('counts', fn() => $client->set('phpcount', 40) && $client->increment('phpc
 tried('keeps_large_values', fn() => $client->setOption(Memcached::OPT_COMPRESSION, false) && $client->set('phplarge', str_repeat('x', 1000000)) && strlen($client->get('phplarge')) === 1000000);
 tried('adds_replaces_and_deletes', fn() => $client->delete('php') && $client->add('php', 'a') && !$client->add('php', 'b') && $client->replace('php', 'c') && $client->get('php') === 'c');
 tried('touches', fn() => $client->touch('php', 100) && $client->get('php') === 'c');
+tried('expires', function () use ($client) {
+    $client->set('phpbrief', 'x', 2);
+    $before = $client->get('phpbrief') === 'x';
+    sleep(4);
+    return $before && $client->get('phpbrief') === false;
+});
+tried('takes_a_flood', function () use ($argv) {
+    $silent = new Memcached();
+    $silent->setOption(Memcached::OPT_NOREPLY, true);
+    $silent->addServer($argv[1], (int) $argv[2]);
+    for ($i = 0; $i < 20000; $i++) {
+        $silent->set('phpflood' . $i % 100, "$i");
+    }
+    return $silent->get('phpflood99') === '19999';
+});

@@ -35,4 +35,11 @@ tried('takes_a_flood', sub {
     $client->nowait_push;
     return $client->get('perlflood0') == 20_000;
 });
+tried('expires', sub {
+    $client->set('perlbrief', 'x', 2);
+    $client->set('perltouched', 'y', 2);
+    my $before = $client->get('perlbrief') eq 'x' && $client->touch('perltouched', 100);
+    sleep(4);
+    return $before && !defined $client->get('perlbrief') && $client->get('perltouched') eq 'y';
+});
 tried('adds_replaces_and_deletes', sub { $client->delete('perl') && $client->add('perl', 'a') && !$client->add('perl', 'b') && $client->replace('perl', 'c') && $client->get('perl') eq 'c' });

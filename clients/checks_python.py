@@ -336,11 +336,11 @@ def tried(name, check, *given):
 
 def main():
     client, host, port = sys.argv[1], sys.argv[2], int(sys.argv[3])
-    it = {"pymemcache": Pymemcache, "pylibmc": Pylibmc, "memcache": Memcache, "socket": Socket}[client](host, port)
+    kind = {"pymemcache": Pymemcache, "pylibmc": Pylibmc, "memcache": Memcache, "socket": Socket}[client]
     for check in CHECKS:
-        tried(check.__name__, check, it)
+        # Each check has a connection of its own, so that one that fails spoils no other.
+        tried(check.__name__, lambda: check(kind(host, port)))
     if client == "socket":
-        it.line.shutdown(socket.SHUT_RDWR)
         for check in PLAIN:
             tried(check.__name__, check, host, port)
 

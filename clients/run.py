@@ -7,8 +7,8 @@ Debian's packages of the clients are installed where they are missing, if that c
 `--as-installed`. A client that can't be had is named as not run; the checks over a plain socket always run. A check that
 can't hold here is named as left out, with its reason (LEFT_OUT). The last line is `clients: N passed, M failed, K not run`.
 
-What it is to see was put in once and seen: a server that answers `STORED` and keeps nothing, a reply that is lost or torn on
-its way, a 65th connection that is served beside 64, and a client that hangs each fail a check.
+What it looks for was put in once and seen to fail, by a small server of its own that did it wrong: it kept nothing, it tore
+values, it left out replies, it served a 65th connection beside 64, it never answered.
 """
 import os
 import pathlib
@@ -22,7 +22,7 @@ import time
 HERE = pathlib.Path(__file__).resolve().parent
 sys.path.insert(0, str(HERE.parent / "scripts"))
 
-from served import MCD, bounded, needs_program  # noqa: E402
+from served import MCD, bounded, needs_program, started  # noqa: E402
 
 SERVER = [MCD, "--listen", "127.0.0.1:{port}", "--seats", "64"]
 SYSTEM_PYTHON = "/usr/bin/python3"
@@ -139,15 +139,16 @@ def drive(name, port):
         return
     words = [word.format(port=port) for word in command]
     try:
-        ran = subprocess.run(words, cwd=HERE, stdin=subprocess.DEVNULL, capture_output=True, text=True, timeout=CLIENT_SECONDS)
-    except subprocess.TimeoutExpired:
-        say(False, f"{name}: hasn't ended after {CLIENT_SECONDS} seconds")
-        return
-    lines = [line for line in ran.stdout.splitlines() if line.startswith(("ok ", "FAILED "))]
+        ran = subprocess.run(words, cwd=HERE, stdin=subprocess.DEVNULL, capture_output=True, timeout=CLIENT_SECONDS)
+        out, fault = ran.stdout, f"ended with status {ran.returncode}: {ran.stderr.decode(errors='replace').strip()[-300:]}"
+        ends_well = ran.returncode == 0
+    except subprocess.TimeoutExpired as late:
+        out, fault, ends_well = late.stdout or b"", f"hasn't ended after {CLIENT_SECONDS} seconds", False
+    lines = [line for line in out.decode(errors="replace").splitlines() if line.startswith(("ok ", "FAILED "))]
     for line in lines:
         say(line.startswith("ok "), f"{name}: {line.partition(' ')[2]}")
-    if ran.returncode != 0 or not lines:
-        say(False, f"{name}: ended with status {ran.returncode}: {ran.stderr.strip()[-300:]}")
+    if not ends_well or not lines:
+        say(False, f"{name}: {fault}")
 
 
 def drive_memccapable(port):
@@ -203,7 +204,7 @@ def main():
                 + [package for tool, package in TOOLS.items() if not shutil.which(tool)])
     bounded(ALL_SECONDS)
     port = free_port()
-    server = subprocess.Popen([word.format(port=port) for word in command], stdin=subprocess.DEVNULL, stdout=subprocess.DEVNULL, stderr=subprocess.DEVNULL)
+    server = started([word.format(port=port) for word in command])
     try:
         if is_up(port):
             drive_all(port)

@@ -5,19 +5,18 @@
 
 The configuration is examples/nutcracker.yml with other ports. Where nutcracker isn't there and can't be installed, it says that
 it was not run, and doesn't fail. The last line is `scaling: N passed, M failed, K not run`. That a server which is still there
-must be the one that serves was seen once by ending all three: four checks failed.
+must be the one that serves was seen once by ending all three: the last three checks failed.
 """
 import pathlib
 import re
 import shutil
-import subprocess
 import sys
 import tempfile
 import time
 
 import run
 from checks_python import Socket
-from served import bounded
+from served import bounded, started
 
 TOP = pathlib.Path(__file__).resolve().parent.parent
 KEYS = 1000
@@ -51,7 +50,7 @@ def check(servers, ports, proxy):
     run.say(driven(proxy, "set") == KEYS, "every key is stored through the proxy")
     run.say(driven(proxy, "get") == KEYS, "every key is found through the proxy")
     shares = [driven(port, "get") for port in ports]
-    run.say(sum(shares) == KEYS and min(shares) > KEYS // 10, f"each key lives on one server, and each server has its share ({shares})")
+    run.say(sum(shares) == KEYS and min(shares) > KEYS // 30, f"each key lives on one server, and each server has its share ({shares})")
     servers[1].kill()
     servers[1].wait()
     driven(proxy, "get")  # meets the server that is gone, which the proxy then leaves out
@@ -64,20 +63,19 @@ def check(servers, ports, proxy):
 
 def served(command, ports, proxy):
     """Starts the servers and the proxy, checks them, and ends them."""
-    quiet = {"stdin": subprocess.DEVNULL, "stdout": subprocess.DEVNULL, "stderr": subprocess.DEVNULL}
-    started = []
+    running = []
     with tempfile.TemporaryDirectory() as folder:
         words = ["nutcracker", "-c", str(configured(folder, proxy, ports)), "-o", f"{folder}/log", "-s", str(run.free_port())]
         try:
             for port in ports:
-                started.append(subprocess.Popen([word.format(port=port) for word in command], **quiet))
-            started.append(subprocess.Popen(words, **quiet))
+                running.append(started([word.format(port=port) for word in command]))
+            running.append(started(words))
             if all(run.is_up(port) for port in [*ports, proxy]):
-                check(started[:3], ports, proxy)
+                check(running[:3], ports, proxy)
             else:
                 run.say(False, "three servers and the proxy listen")
         finally:
-            for process in started:
+            for process in running:
                 process.kill()
                 process.wait()
 

@@ -1,4 +1,8 @@
-"""The bytes of the worked rows, cut and altered at every place, over `mcd --stdio`."""
+"""The bytes of the worked rows, cut and altered at every place, over `mcd --stdio`.
+
+The checks were seen to fail with a program that gets a line end more than was sent, one that loses all but its first read, and
+one that crashes at a byte 255.
+"""
 import fcntl
 import os
 import random
@@ -91,13 +95,17 @@ def every_row_is_fed_in_pieces():
 
 
 def every_byte_is_replaced():
-    """The program ends well, what it says before the altered command stays, and two cuttings give the same."""
+    """The program ends well, what it says before the altered command stays, and two cuttings give the same, of what stands before
+    the altered byte too."""
     count = 0
     for name, options, given, _ in rows():
         if name not in ALTERED:
             continue
         for place in places(given):
             before = spoken(options, given[:place])
+            if len(given) <= SMALL:
+                piece = PIECES[place % len(PIECES)]
+                equal((name, place, spoken(options, given[:place], piece)), (name, place, before))
             for byte in REPLACED_BY:
                 altered = given[:place] + bytes([byte]) + given[place + 1 :]
                 found = spoken(options, altered)

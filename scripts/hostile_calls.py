@@ -1,9 +1,12 @@
-"""How the program is called: what it tells, and the status with which it ends."""
+"""How the program is called: what it tells, and the status with which it ends.
+
+The checks were seen to fail with a program that ends with status 0 whatever it told.
+"""
 import socket
 import subprocess
 import time
 
-from served import MCD, Line, Server, equal
+from served import MCD, Line, Server, equal, started
 
 # Addresses that aren't one, or can't be listened on (192.0.2.1 is nobody's: RFC 5737).
 NO_ADDRESSES = ["nonsense", "", "256.0.0.1:1", "127.0.0.1", "127.0.0.1:99999", "127.0.0.1:-1", "192.0.2.1:1"]
@@ -13,6 +16,7 @@ FAULTY_CALLS = [
     "--bytes 1073741825", "--value-limit 1023", "--value-limit 8388609", "--window 0", "--window 4097",
     "--connections 0", "--connections 4294967296", "--listen", "--nope", "nope", "--at 3", "--stdio --seats 2",
     "--stdio --listen 127.0.0.1:0", "--stdio --connections 1", "--stdio --at x",
+    "--replay", "--replay x --seats 2", "--replay x --stdio", "--replay x --bytes 1024",
 ]
 
 
@@ -73,7 +77,7 @@ def a_port_is_free_again_at_once():
         port = server.port
         server.process.kill()
         server.process.wait()
-        again = subprocess.Popen([MCD, "--listen", f"127.0.0.1:{port}"], stderr=subprocess.PIPE)
+        again = started([MCD, "--listen", f"127.0.0.1:{port}"], stderr=subprocess.PIPE)
         try:
             equal(again.stderr.readline(), b"listening 127.0.0.1:%d\n" % port)
             socket.create_connection(("127.0.0.1", port), timeout=30).close()

@@ -1,4 +1,7 @@
-"""Keys that an attacker chose: a million of the same hash by which keys are spread over shards, beside a million at random."""
+"""Keys that an attacker chose: a million of the same hash by which keys are spread over shards, beside a million at random.
+
+It was seen to fail where their time is counted three times.
+"""
 import itertools
 import statistics
 import time

@@ -1,4 +1,8 @@
-"""Connections that behave badly: half-closed, slow, silent, too many, and reset in the middle."""
+"""Connections that behave badly: half-closed, slow, silent, too many, and reset in the middle.
+
+The checks were seen to fail behind a proxy that closes both ways where one is closed, that changes a byte of the replies, or that
+drops a connection; with a server of one seat; and with one whose memory seems to grow.
+"""
 import random
 import threading
 import time
@@ -122,7 +126,7 @@ def counts_up(port, until, faults):
                 value = text * 50
                 line.ask(b"incr checked 1\r\nget checked\r\n" + set_of(b"other", value) + b"get other\r\n",
                          text + b"\r\n" + hit_of(b"checked", text) + b"STORED\r\n" + hit_of(b"other", value))
-            faults.append(None if number > 100 else f"only {number} rounds")
+            faults.append(None if number > 10 else f"only {number} rounds")
     except Exception as why:
         faults.append(f"{type(why).__name__}: {why}")
 
@@ -143,8 +147,7 @@ def killed(port, kind):
 
 
 def a_thousand_clients_are_killed(count=1000):
-    """Beside them a checker loses nothing; no seat is lost, and no torn block is stored. A seat that is kept (a server with
-    `--seats 1`), or another client that writes the checker's keys, makes this fail."""
+    """Beside them a checker loses nothing; no seat is lost, and no torn block is stored."""
     until, faults = threading.Event(), []
     with Server("--seats", 8) as server:
         with Line(server.port) as line:

@@ -1,4 +1,7 @@
-"""How much memory clients can make the server take. The bounds are those of the table in docs/SECURITY.md."""
+"""How much memory clients can make the server take. The bounds are those of the table in docs/SECURITY.md.
+
+With less than half of each number in that table the checks were seen to fail.
+"""
 import re
 import time
 
@@ -84,26 +87,45 @@ def small_items_take_few_times_their_cost():
         return within(server.most_resident() - before, term("items") * 16 * MIB)
 
 
-def the_sum_holds_for_all_together():
-    """Unread replies of items that were replaced since, then all of the above at once on every seat that is left."""
+def unread(server, stores, turns, keys):
+    """Connections that asked for all of these items, of 1 MiB each, and read nothing; the items are new for each."""
+    lines = []
+    for turn in range(turns):
+        for key in keys:
+            stores.ask(set_of(key, bytes([65 + turn]) * MIB), b"STORED\r\n")
+        lines.append(Line(server.port))
+        lines[-1].send(b"get " + b" ".join(keys) + b"\r\n")
+        wait_until_still(server)
+    return lines
+
+
+def unread_replies_hold_what_they_show():
+    """Items that were replaced since they were fetched stay until their replies are read, and they are right; then they go."""
+    keys = [b"v%d" % number for number in range(6)]
     with Server("--seats", 16, "--shards", SHARDS, "--bytes", BUDGET) as server, Line(server.port) as stores:
-        keys = [b"v%d" % number for number in range(6)]
-        unread = []
-        for turn in range(8):
-            for key in keys:
-                stores.ask(set_of(key, bytes([65 + turn]) * MIB), b"STORED\r\n")
-            unread.append(Line(server.port))
-            unread[-1].send(b"get " + b" ".join(keys) + b"\r\n")
-            wait_until_still(server)
-        for number in range(7):
-            unread.append(Line(server.port))
-            unread[-1].ask(b"get" + b" k" * 32_766 + b"\n", b"END\r\n")
-            unread[-1].send(b"set k 0 0 %d\r\n" % VALUE_LIMIT + b"v" * VALUE_LIMIT)
+        before = server.resident()
+        lines = unread(server, stores, 8, keys)
+        told = within(server.most_resident() - before, (1 + 8) * SHARDS * BUDGET + 9 * term("line") * MIB)
+        for turn, line in enumerate(lines):
+            wanted = b"".join(b"VALUE %s 0 %d\r\n%s\r\n" % (key, MIB, bytes([65 + turn]) * MIB) for key in keys) + b"END\r\n"
+            equal(line.read(len(wanted)), wanted)
+            line.close()
+        wait_until_still(server)
+        within(server.resident() - before, 2 * SHARDS * BUDGET)
+        return told
+
+
+def the_sum_holds_for_all_together():
+    """Unread replies of items that were replaced since, and lines of many keys and unfinished values on every seat that is left."""
+    with Server("--seats", 16, "--shards", SHARDS, "--bytes", BUDGET) as server, Line(server.port) as stores:
+        lines = unread(server, stores, 8, [b"v%d" % number for number in range(6)])
+        for _ in range(7):
+            lines.append(Line(server.port))
+            lines[-1].ask(b"get" + b" k" * 32_766 + b"\n", b"END\r\n")
+            lines[-1].send(b"set k 0 0 %d\r\n" % VALUE_LIMIT + b"v" * VALUE_LIMIT)
         stores.ask(b"mn\r\n", b"MN\r\n")
         told = within(server.most_resident(), bound_of(16, SHARDS * BUDGET))
-        for line in unread[:8]:
-            equal(line.read(20), b"VALUE v0 0 1048576\r\n")
-        for line in unread:
+        for line in lines:
             line.reset()
         return told
 
@@ -116,5 +138,6 @@ def bound_of(seats, budgets):
 
 CHECKS = [
     an_idle_server_is_small, lines_without_end_are_bounded, announced_gigabytes_are_not_held, values_but_for_a_byte_are_bounded,
-    lines_of_32766_keys_are_bounded, small_items_take_few_times_their_cost, the_sum_holds_for_all_together,
+    lines_of_32766_keys_are_bounded, small_items_take_few_times_their_cost,
+    unread_replies_hold_what_they_show, the_sum_holds_for_all_together,
 ]

@@ -5,6 +5,7 @@ import os
 import pathlib
 import re
 import select
+import shutil
 import signal
 import socket
 import struct
@@ -15,6 +16,16 @@ import time
 TOP = pathlib.Path(__file__).resolve().parent.parent
 MCD = str(TOP / "crates/mcd/out/mcd")
 MIB = 1 << 20
+
+
+# A server ends with the check that started it, also where that is killed.
+WITH_US = ["setpriv", "--pdeathsig", "KILL"] if shutil.which("setpriv") else []
+
+
+def started(words, **streams):
+    """Starts a program without input, whose streams are dropped but for those given."""
+    quiet = {"stdin": subprocess.DEVNULL, "stdout": subprocess.DEVNULL, "stderr": subprocess.DEVNULL}
+    return subprocess.Popen([*WITH_US, *words], **{**quiet, **streams})
 
 
 def bounded(seconds):
@@ -41,8 +52,7 @@ class Server:
     """A running mcd with these options, on a port that the system chose. It ends with the `with` block."""
 
     def __init__(self, *options):
-        words = [MCD, "--listen", "127.0.0.1:0", *map(str, options)]
-        self.process = subprocess.Popen(words, stdin=subprocess.DEVNULL, stdout=subprocess.DEVNULL, stderr=subprocess.PIPE)
+        self.process = started([MCD, "--listen", "127.0.0.1:0", *map(str, options)], stderr=subprocess.PIPE)
         ready, _, _ = select.select([self.process.stderr], [], [], 30)
         told = self.process.stderr.readline().decode() if ready else ""
         found = re.fullmatch(r"listening 127\.0\.0\.1:(\d+)\n", told)
