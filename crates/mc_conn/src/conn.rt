@@ -3,7 +3,7 @@
 ghost use Rattle.std.specs.Prelude.{◌≡◌, ◌+◌, ◌<◌, ◌≤◌, ◌++◌, ◌∷◌, ◌↔◌, ℕ, List, [], Some, true, false, IfOk, IfErr, IfSome, IfNone, OnOk, OnErr, IsTrue, length, take};
 ghost use Rattle.std.specs.List.{slice_get};
 ghost use Rattle.mc_ring.specs.Reply.{shown};
-ghost use Rattle.mc_reader.specs.Spelling.{most_commands};
+ghost use Rattle.mc_reader.specs.Spelling.{HasNoEnd, most_commands};
 ghost use Rattle.mc_join.specs.Length.{capped};
 ghost use Rattle.mc_join.specs.Expects.{Expects};
 ghost use Rattle.mc_conn.specs.Told.{Told, IsAtRest, IsNotAllTaken, IsAllTaken, IsOpen, IsOver, IsShut, IsSkipping, IsUsedUp, LeavesUnread, all_forms, all_pieces, told_nothing, waiting_text};
@@ -245,6 +245,9 @@ impl Conn {
         ensures most { (told : Told) → IsConn self.now told → result ≤ LINE_LIMIT + told.limit + 2 }
         // No more than the bytes fed that are not part of a command taken, until the last command is taken.
         ensures unread { (told : Told) (unread : List ℕ) → IsConn self.now told → LeavesUnread told unread → result ≤ length unread }
+        // A line whose end has not come is held whole.
+        ensures line { (told : Told) (unread : List ℕ) → IsConn self.now told → LeavesUnread told unread → HasNoEnd unread →
+            result ≡ length unread }
         // A block that is skipped is not held.
         ensures skipping { (told : Told) → IsConn self.now told → IsSkipping told → result ≤ LINE_LIMIT }
     {

@@ -5,6 +5,7 @@ ghost use Rattle.mc_item.specs.Value.{number_in, joined};
 
 use crate::memory::NoMemory;
 use crate::value::Value;
+use mc_wire::GREATEST_VALUE_LIMIT;
 use std::alloc::Global;
 
 /// When an item dies (protocol.txt, "Expiration times").
@@ -75,7 +76,7 @@ impl Item {
 
     /// The item's value with the block after it or before it. The item stays as it is.
     pub fn joined(&self, alloc: Global, block: &Value, after: bool) -> Result<Value, NoMemory>
-        requires { length self.now.value + length block.now ≤ 8388608 }
+        requires { length self.now.value + length block.now ≤ GREATEST_VALUE_LIMIT }
         ensures { IfOk result (λ value. value ≡ joined self.now.value block.now after) }
     {
         self.value.joined(alloc, block, after)

@@ -7,11 +7,11 @@ ghost use Rattle.mc_wire.specs.Words.{is_space};
 use crate::memory::NoMemory;
 use bytes::Bytes;
 use itoa::Buffer;
-use mc_wire::{DIGIT_LIMIT, number_u64};
+use mc_wire::{DIGIT_LIMIT, GREATEST_VALUE_LIMIT, number_u64};
 use std::alloc::{AllocError, Global};
 use std::marker::Model;
 
-/// The bytes that a client stored: at most 8,388,608.
+/// The bytes that a client stored: at most `GREATEST_VALUE_LIMIT`.
 #[derive(Drop)]
 pub struct Value {
     bytes: Bytes,
@@ -19,18 +19,19 @@ pub struct Value {
 
 impl Model for Value {
     ghost use Rattle.std.specs.Prelude.{ℕ, List, ◌≤◌, length};
+    ghost use Rattle.mc_wire.specs.declared.TheConstants.{GREATEST_VALUE_LIMIT};
 
     ghost Value = { List ℕ };
 
     ghost view = { λ value. value.bytes };
 
-    ghost invariant = { λ value. length value.bytes ≤ 8388608 };
+    ghost invariant = { λ value. length value.bytes ≤ GREATEST_VALUE_LIMIT };
 }
 
 impl Value {
     /// The value with these bytes, without a copy. It takes memory for the count of its owners.
     pub fn new(bytes: Vec<u8>) -> Result<Value, NoMemory>
-        requires { length bytes.items ≤ 8388608 }
+        requires { length bytes.items ≤ GREATEST_VALUE_LIMIT }
         ensures { IfOk result (λ value. value ≡ bytes.items) }
     {
         match Bytes::from_vec(bytes) {
@@ -61,7 +62,7 @@ impl Value {
     /// The bytes of the value.
     pub fn bytes(&self) -> &[u8]
         ensures value { result.now ≡ self.now }
-        ensures within { length self.now ≤ 8388608 }
+        ensures within { length self.now ≤ GREATEST_VALUE_LIMIT }
     {
         self.bytes.as_slice()
     }
@@ -69,7 +70,7 @@ impl Value {
     /// How many bytes the value has.
     pub fn len(&self) -> usize
         ensures value { result ≡ length self.now }
-        ensures within { result ≤ 8388608 }
+        ensures within { result ≤ GREATEST_VALUE_LIMIT }
     {
         self.bytes.len()
     }
@@ -99,7 +100,7 @@ impl Value {
 
     /// The value with the block after it, as by `append`, or before it, as by `prepend`. Both stay as they are.
     pub fn joined(&self, alloc: Global, block: &Value, after: bool) -> Result<Value, NoMemory>
-        requires { length self.now + length block.now ≤ 8388608 }
+        requires { length self.now + length block.now ≤ GREATEST_VALUE_LIMIT }
         ensures { IfOk result (λ value. value ≡ joined self.now block.now after) }
     {
         let (front, back) = if after { (self, block) } else { (block, self) };

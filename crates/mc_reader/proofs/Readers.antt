@@ -1,5 +1,5 @@
 -- What a reader has given after each of its calls.
-use Rattle.std.proofs.Common.{◌≡◌, ℕ, suc, subst, take, drop, ◌+◌, ◌-◌, ◌<◌, ◌≤◌, ◌==◌, ◌||◌, ◌↔◌, Bool, true, false, List, [], ◌∷◌, ◌++◌, length, refl, sym, ap, ◌∙◌, arith, IsTrue, MatchBool, length-append, add-zero, zero-add, ◌⊎◌, inl, inr, if◌then◌else◌}
+use Rattle.std.proofs.Common.{◌≡◌, ℕ, suc, subst, take, drop, ◌+◌, ◌-◌, ◌<◌, ◌≤◌, ◌==◌, ◌||◌, ◌↔◌, Bool, true, false, List, [], ◌∷◌, ◌++◌, length, refl, sym, ap, ◌∙◌, arith, IsTrue, MatchBool, length-append, append-nil, add-zero, zero-add, ◌⊎◌, inl, inr, if◌then◌else◌}
 use Rattle.std.specs.Bool.{OnTrue}
 use Rattle.std.specs.List.{AllByRecursion}
 use Rattle.std.proofs.lemmas.Bool.{false≢true}
@@ -21,7 +21,7 @@ use Rattle.mc_reader.specs.internal.Inside.{HasGiven}
 use Rattle.mc_reader.specs.internal.State.{Holds, IsWhole, SpellsSomething, Waits, held_in}
 use Rattle.mc_reader.specs.Reader.{IsReader, IsAmidSkipped, IsClosedLine, IsGivenWhole, IsNotAllGiven, IsUsedUp}
 use Rattle.mc_reader.proofs.Fronts.{front_last, front_more, last_of, same_rest}
-use Rattle.mc_reader.proofs.Texts.{one_line, something}
+use Rattle.mc_reader.proofs.Texts.{end_inside, one_line, something}
 
 -- More bytes come.
 pub fed_more : (limit : ℕ) (old new : Reader) (fed more : List ℕ) (ended : Bool) (given : List Given) → new.limit ≡ old.limit → new.ended ≡ old.ended → new.commands_left ≡ old.commands_left →
@@ -80,6 +80,24 @@ pub held_unread : (limit : ℕ) (reader : Reader) (fed : List ℕ) (ended : Bool
 held_unread limit reader fed ended given rest h goes_on front =
     let at = still_open limit reader fed ended given h goes_on in
     rw (same_rest limit (entries_of given) 0 fed rest at.0 front at.1) (held_in_unread limit reader.state reader.buffer at.0 at.2)
+
+has_no_end : (bytes line rest : List ℕ) → HasNoEnd bytes → bytes ≡ line ++ 10 ∷ rest → ⊥
+has_no_end bytes line rest none is = end_inside bytes [] line rest none (append-nil bytes ∙ is) (omega (arith, ap length is, length-append line (10 ∷ rest)))
+
+-- A line without its end is held whole.
+line_held : (limit : ℕ) (at : State) (buffer unread : List ℕ) → Holds limit at buffer unread → HasNoEnd unread → length buffer + held_in at ≡ length unread
+line_held limit (state.Line long) buffer unread h none = omega (arith, ap length h.0)
+line_held limit (state.Block block) buffer unread h none = absurd (has_no_end unread h.line (block.bytes.items ++ buffer) none h.unread_are)
+line_held limit (state.Skip skipped) buffer unread h none = absurd (has_no_end unread h.line (h.skipped ++ buffer) none h.unread_are)
+line_held limit state.Closed buffer unread h none = absurd h
+
+pub held_line : (limit : ℕ) (reader : Reader) (fed : List ℕ) (ended : Bool) (given : List Given) (rest : List ℕ) → HasGiven reader limit fed ended given → is_closed (entries_of given) ≡ false → SpellsFront limit 0 fed (entries_of given) rest →
+    HasNoEnd rest → length reader.buffer + held_in reader.state ≡ length rest
+held_line limit reader fed ended given rest h goes_on front none =
+    let at = still_open limit reader fed ended given h goes_on in
+    let same = same_rest limit (entries_of given) 0 fed rest at.0 front at.1 in
+    let unended : HasNoEnd at.0 = subst (λ bytes. HasNoEnd bytes) same none in
+    rw same (line_held limit reader.state reader.buffer at.0 at.2 unended)
 
 -- The commands that a reader gave begin those of the bytes fed, each given up only where it may be.
 pub reader_begins : (reader : Reader) (limit : ℕ) (fed : List ℕ) (ended : Bool) (given : List Given) → IsReader reader limit fed ended given → BeginCommands limit fed (entries_of given) × AllByRecursion MayBeGiven given

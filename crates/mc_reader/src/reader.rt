@@ -51,7 +51,7 @@ pub struct Reader {
 
 impl Reader {
     ghost use Rattle.mc_reader.specs.Reader.{IsReader, IsWaiting, IsSkipping, IsAmidSkipped, entries_of, held_bytes, NextSays, IsGivenWhole, IsUsedUp, IsClosedLine, IsNotAllGiven};
-    ghost use Rattle.mc_reader.specs.Spelling.{AreCommands, SpellsFront, is_closed, most_commands};
+    ghost use Rattle.mc_reader.specs.Spelling.{AreCommands, HasNoEnd, SpellsFront, is_closed, most_commands};
 
     /// A reader of a new stream whose values have at most so many bytes, with all its fixed room.
     #[tactic(auto, unfolding(crate::specs::Reader::IsReader))]
@@ -167,6 +167,9 @@ impl Reader {
         // They are part of the bytes that are unread.
         ensures unread { (limit : ℕ) (fed : List ℕ) (ended : Bool) (given : List Given) (rest : List ℕ) → IsReader self.now limit fed ended given →
             is_closed (entries_of given) ≡ false → SpellsFront limit 0 fed (entries_of given) rest → result ≤ length rest }
+        // A line whose end has not come is held whole.
+        ensures line { (limit : ℕ) (fed : List ℕ) (ended : Bool) (given : List Given) (rest : List ℕ) → IsReader self.now limit fed ended given →
+            is_closed (entries_of given) ≡ false → SpellsFront limit 0 fed (entries_of given) rest → HasNoEnd rest → result ≡ length rest }
         // A block is skipped that memory ran out for, and bytes behind a refused line: none of them is held.
         ensures skipping { IsSkipping self.now → result ≤ LINE_LIMIT }
         ensures skipped { (limit : ℕ) (fed : List ℕ) (ended : Bool) (given : List Given) → IsReader self.now limit fed ended given →

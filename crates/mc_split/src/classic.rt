@@ -10,19 +10,14 @@ use crate::plan::Piece;
 use crate::splitter::Splitter;
 use mc_command::{Block, Command, Direction, Retrieval, Storage};
 use mc_item::{Kind, NoMemory, Op, Value};
-use mc_wire::{GREATEST_VALUE_LIMIT, Key};
+use mc_wire::Key;
 use std::collections::VecDeque;
 
-/// The value of a data block, without a copy. Blocks above the limit of values are refused while
-/// they are read, so none comes that no value can hold.
+/// The value of a data block, without a copy. It takes memory for the count of its owners.
 pub fn value_of(block: Block) -> Result<Value, NoMemory>
     ensures { IfOk result (λ value. value ≡ block) }
 {
-    let bytes = block.into_bytes();
-    if bytes.len() > GREATEST_VALUE_LIMIT {
-        return Err(NoMemory);
-    }
-    Value::new(bytes)
+    Value::new(block.into_bytes())
 }
 
 impl Splitter {

@@ -8,7 +8,7 @@ use crate::Shard;
 use asked::{Ask, Row, op_of};
 use mc_command::{Direction, MetaMode, StoreMode};
 use mc_item::{Answer, Op, Vivify};
-use mc_wire::WireFault;
+use mc_wire::{GREATEST_VALUE_LIMIT, WireFault};
 use shown::shown;
 use std::alloc::{AllocError, Global};
 use std::hash::RandomState;
@@ -294,6 +294,24 @@ fn growth_makes_all_others_go(rt: HostRuntime) -> Result<(), Fail> {
     Ok(())
 }
 
+static APPENDS_TO_ALL: [Row; 4] = [
+    (1000, "c", Ask::LongPut(StoreMode::Append, 600), "stored"),
+    (1000, "a", Ask::Get, "miss"),
+    (1000, "e", Ask::Get, "miss"),
+    (1000, "c", Ask::Get, "0 7 901 bytes"),
+];
+
+#[test]
+fn an_append_makes_all_others_go(rt: HostRuntime) -> Result<(), Fail> {
+    let a = rt.alloc();
+    let mut shard = new_shard(&rt, a, 1_024)?;
+    ask_all(&rt, a, &mut shard, &FULL)?;
+    ask_all(&rt, a, &mut shard, &APPENDS_TO_ALL)?;
+    assert_eq!(rt; shard.len(), 1);
+    assert_eq!(rt; shard.cost(), 966);
+    Ok(())
+}
+
 static CLIENTS_UNIQUES: [Row; 11] = [
     (1000, "a", Ask::MsAs(77, "x"), "c77 s1 t99 0"),
     (1000, "a", Ask::Put(StoreMode::Cas(76), "y"), "exists"),
@@ -452,6 +470,45 @@ fn the_largest_value(rt: HostRuntime) -> Result<(), Fail> {
     let a = rt.alloc();
     let mut shard = new_shard(&rt, a, 16_777_216)?;
     ask_all(&rt, a, &mut shard, &LIMIT)
+}
+
+// A limit, two parts of a value of that length, and what a get shows of it.
+static LIMITS: [(usize, usize, usize, &str); 4] = [
+    (1_024, 1_023, 1, "0 3 1024 bytes"),
+    (1_025, 0, 1_025, "0 3 1025 bytes"),
+    (2_000_000, 1_000_000, 1_000_000, "0 3 2000000 bytes"),
+    (GREATEST_VALUE_LIMIT, 1, 8_388_607, "0 3 8388608 bytes"),
+];
+
+/// The first of two shards, whose values have at most so many bytes.
+fn limited_shard(rt: &HostRuntime, alloc: Global, limit: usize) -> Result<Shard, Fail> {
+    let limit = limit.min(GREATEST_VALUE_LIMIT);
+    let hasher = RandomState::new(rt)?;
+    Ok(Shard::new(alloc, hasher, 0, 2, 16_777_216, 0, limit)?)
+}
+
+#[test]
+fn a_joined_value_of_the_limit(rt: HostRuntime) -> Result<(), Fail> {
+    let a = rt.alloc();
+    for (limit, front, back, whole) in &LIMITS {
+        let mut shard = limited_shard(&rt, a, *limit)?;
+        let rows = [
+            (1000, "a", Ask::Long(*front), "stored"),
+            (1000, "a", Ask::LongPut(StoreMode::Append, *back), "stored"),
+            (1000, "a", Ask::Get, *whole),
+            (1000, "a", Ask::Put(StoreMode::Append, "y"), "too large"),
+            (1000, "a", Ask::Put(StoreMode::Prepend, "y"), "too large"),
+            (
+                1000,
+                "a",
+                Ask::LongPut(StoreMode::Append, *limit),
+                "too large",
+            ),
+            (1000, "a", Ask::Get, *whole),
+        ];
+        ask_all(&rt, a, &mut shard, &rows)?;
+    }
+    Ok(())
 }
 
 static TIME_LEFT: [Row; 9] = [

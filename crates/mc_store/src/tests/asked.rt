@@ -1,7 +1,7 @@
 //! What a row of a test asks of a shard, as plain data.
 use mc_command::{Direction, MetaMode, StoreMode};
 use mc_item::{MetaCount, MetaDelete, MetaGet, MetaStore, NoMemory, Op, Value, Vivify};
-use mc_wire::{Key, WireFault};
+use mc_wire::{GREATEST_VALUE_LIMIT, Key, WireFault};
 use std::alloc::{AllocError, Global};
 
 /// What is asked of the item under a key.
@@ -18,6 +18,8 @@ pub enum Ask {
     /// The same with an exptime.
     LongFor(i64, usize),
     Put(StoreMode, &'static str),
+    /// The same of so many bytes `x`.
+    LongPut(StoreMode, usize),
     Get,
     Gat(i64),
     Count(Direction, u64),
@@ -58,12 +60,12 @@ fn text_of(ask: Ask) -> &'static str {
 }
 
 fn long_value(alloc: Global, length: usize) -> Result<Value, NoMemory> {
-    let bytes = vec![in alloc; b'x'; length.min(2_000_000)]?;
+    let bytes = vec![in alloc; b'x'; length.min(GREATEST_VALUE_LIMIT)]?;
     Value::new(bytes)
 }
 
 fn value_of(alloc: Global, ask: Ask) -> Result<Value, NoMemory> {
-    if let Ask::Long(length) | Ask::LongFor(_, length) = ask {
+    if let Ask::Long(length) | Ask::LongFor(_, length) | Ask::LongPut(_, length) = ask {
         return long_value(alloc, length);
     }
     let bytes = Vec::from_slice(alloc, text_of(ask).as_bytes())?;
@@ -110,7 +112,7 @@ fn storing(key: Key, value: Value, ask: Ask) -> Result<Op, Key> {
             Ok(stored(key, value, StoreMode::Set, 0, exptime))
         }
         Ask::Flagged(_) => Ok(stored(key, value, StoreMode::Set, 3, 30)),
-        Ask::Put(mode, _) => Ok(stored(key, value, mode, 0, 0)),
+        Ask::Put(mode, _) | Ask::LongPut(mode, _) => Ok(stored(key, value, mode, 0, 0)),
         Ask::Ms(mode, compare, _) => Ok(meta_stored(key, value, mode, compare, None)),
         Ask::MsAs(token, _) => Ok(meta_stored(key, value, MetaMode::Set, None, Some(token))),
         _ => Err(key),

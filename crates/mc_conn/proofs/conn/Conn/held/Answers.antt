@@ -11,3 +11,9 @@ unfolding IsConn
 returns-clause-unread c told unread h leaves =
     let behind = unread_behind c.args.self.now told h unread leaves in
     c.held.ensures.unread told.limit told.fed told.ended h.given unread h.read behind.1 behind.0
+
+pub returns-clause-line : goal.returns-clause-line
+unfolding IsConn
+returns-clause-line c told unread h leaves none =
+    let behind = unread_behind c.args.self.now told h unread leaves in
+    c.held.ensures.line told.limit told.fed told.ended h.given unread h.read behind.1 behind.0 none

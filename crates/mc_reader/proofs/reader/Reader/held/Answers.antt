@@ -1,6 +1,6 @@
 use Rattle.std.proofs.Common.{ap, length, arith}
 use Rattle.mc_reader.specs.Reader.{IsReader}
-use Rattle.mc_reader.proofs.Readers.{held_unread, held_within, nothing_in_blocks}
+use Rattle.mc_reader.proofs.Readers.{held_line, held_unread, held_within, nothing_in_blocks}
 use Rattle.mc_reader.proofs.reader.Reader.held.Goals as goal
 
 pub returns-clause-skipped : goal.returns-clause-skipped
@@ -20,3 +20,9 @@ unfolding IsReader
 returns-clause-unread c limit fed ended given rest h goes_on front =
     let within = held_unread limit c.args.self.now fed ended given rest h goes_on front in
     omega (arith, within, c.held.ensures.value, ap length c.unread.ensures.bytes)
+
+pub returns-clause-line : goal.returns-clause-line
+unfolding IsReader
+returns-clause-line c limit fed ended given rest h goes_on front none =
+    let whole = held_line limit c.args.self.now fed ended given rest h goes_on front none in
+    omega (arith, whole, c.held.ensures.value, ap length c.unread.ensures.bytes)
