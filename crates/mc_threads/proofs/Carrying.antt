@@ -1,6 +1,6 @@
 -- Pieces go over the lanes of a seat and replies come back, one after another.
-use Rattle.std.proofs.Common.{◌≡◌, ◌≢◌, ℕ, ◌+◌, ◌<◌, ◌≤◌, ◌==◌, inl, inr, Bool, true, false, cond, List, [], ◌∷◌, ◌++◌, length, map, take, drop, Some, None, Option, Ok, Err, Result, OnOk, OnErr, IsTrue, refl, sym, ap, subst, ◌∙◌, arith, append_assoc, append-nil, length-append, slice_set}
-use Rattle.std.specs.List.{AllByRecursion, slice_get}
+use Rattle.std.proofs.Common.{◌≡◌, ◌≢◌, ℕ, ◌+◌, ◌<◌, ◌≤◌, ◌==◌, inl, inr, Bool, true, false, cond, List, [], ◌∷◌, ◌++◌, length, map, take, drop, Some, None, Ok, Err, Result, OnOk, OnErr, IsTrue, refl, sym, ap, subst, ◌∙◌, arith, append_assoc, append-nil, length-append, slice_set}
+use Rattle.std.specs.List.{slice_get}
 use Rattle.std.proofs.lemmas.Bool.{cases_eq, cases_lt, eq-eqb, ne_eqb}
 use Rattle.std.proofs.lemmas.List.{map-append, take-append-drop}
 use Rattle.std.proofs.lemmas.Option.{same_Some}
@@ -11,7 +11,7 @@ use Rattle.mc_ring.specs.Reply.{Shown, shown}
 use Rattle.mc_ring.specs.Lane.{Near}
 use Rattle.mc_ring.specs.Ends.{AreSameEnds, AtLane, Ends, Sends, received_on, sent_on}
 use Rattle.mc_ring.specs.Ends.{Receives as ReceivesReply}
-use Rattle.mc_ring.specs.EndsLaws.{at_lane-kept, at_lane-longer, at_lane-other, get-set_other, get-set_same, length-slice_set, same_ends-refl, same_ends-trans}
+use Rattle.mc_ring.specs.EndsLaws.{at_lane-kept, at_lane-longer, at_lane-other, get-set_other, get-set_same, length-slice_set, same_ends-trans}
 use Rattle.mc_split.specs.declared.plan.Piece.{Piece}
 use Rattle.mc_join.specs.Expects.{Expects}
 use Rattle.mc_join.specs.declared.joiner.Stranger.{Stranger}
@@ -199,19 +199,21 @@ none_left so ends ways conn new says = record {
 pub back_again : (so : Type 0) (ends ends' : Ends Near) (ways : List ℕ) (conn mid new : Conn) (shard : ℕ) (piece : Piece) → (so → ⊥) → StandsStill ends ends' → Leaves conn shard piece mid → PutsBack mid shard piece new → MovesOn (AllOutWhere so) ends ways conn ends' ways new
 back_again so ends ends' ways conn mid new shard piece never still leaves back = record {
   moves = λ before told received is carries.
-      let left = leaves told is in
-      (record {
-        out = told.out;
-        lent = false;
-        accepted = told.accepted;
-        later = received;
-        conn_is = back (record told { out = told.out + 1; lent = true }) told.out left.1 refl refl left.0;
-        carries =
-            let same = carries_still before ends ends' ways told received still carries in
-            record { width = same.width; each = same.each; same = same.same; sent = same.sent; came = same.came; awaited = same.awaited; serves = same.serves };
-        handed = record { within = (is_sound conn told is).handed; same = refl };
-        kept = λ s place reply h. h;
-      }, λ holds. absurd (never holds));
+      let left = leaves told is in (
+        record {
+          out = told.out;
+          lent = false;
+          accepted = told.accepted;
+          later = received;
+          conn_is = back (record told { out = told.out + 1; lent = true }) told.out left.1 refl refl left.0;
+          carries =
+              let same = carries_still before ends ends' ways told received still carries in
+              record { width = same.width; each = same.each; same = same.same; sent = same.sent; came = same.came; awaited = same.awaited; serves = same.serves };
+          handed = record { within = (is_sound conn told is).handed; same = refl };
+          kept = λ s place reply h. h;
+        },
+        λ holds. absurd (never holds),
+      );
 }
 
 pub same_piece : (item piece : Piece) (back : Parcel) (shard : ℕ) (ends ends' : Ends Near) → AtLane (Sends {Out = Parcel} {In = Shown} {T = Parcel} (λ (sent : Parcel). sent) (parcel.Piece item) (Err back)) shard ends ends' → back ≡ parcel.Piece piece → item ≡ piece
@@ -277,17 +279,19 @@ carries_sent before ends ends' ways told received shard count was piece counted 
 pub sent_one : (so : Type 0) (ends ends' : Ends Near) (ways : List ℕ) (conn mid : Conn) (shard count was : ℕ) (piece : Piece) → (so → ⊥) → slice_get ways shard ≡ Some was → count ≡ was + 1 → AtLane (Sends {Out = Parcel} {In = Shown} {T = Parcel} (λ (sent : Parcel). sent) (parcel.Piece piece) (Ok tt)) shard ends ends' → AreSameEnds ends ends' → Leaves conn shard piece mid → MovesOn (AllOutWhere so) ends ways conn ends' (slice_set ways shard count) mid
 sent_one so ends ends' ways conn mid shard count was piece never counted more at same leaves = record {
   moves = λ before told received is carries.
-      let left = leaves told is in
-      (record {
-        out = told.out + 1;
-        lent = true;
-        accepted = told.accepted;
-        later = received;
-        conn_is = left.1;
-        carries = carries_sent before ends ends' ways told received shard count was piece counted more at same left.0 carries;
-        handed = record { within = (is_sound conn told is).handed; same = refl };
-        kept = λ s place reply h. h;
-      }, λ holds. absurd (never holds));
+      let left = leaves told is in (
+        record {
+          out = told.out + 1;
+          lent = true;
+          accepted = told.accepted;
+          later = received;
+          conn_is = left.1;
+          carries = carries_sent before ends ends' ways told received shard count was piece counted more at same left.0 carries;
+          handed = record { within = (is_sound conn told is).handed; same = refl };
+          kept = λ s place reply h. h;
+        },
+        λ holds. absurd (never holds),
+      );
 }
 
 -- what was received, with one reply more from a shard
@@ -380,15 +384,17 @@ received_one ends ends' ways conn new shard left was reply result counted less a
       let owed : length (received shard) < length (due told.shards shard told.taken) = omega (arith, old, less, most) in
       let receives = receives_one received shard (shown reply) in
       let later = with_reply received shard (shown reply) in
-      let one = accepts_one told conn new shard (shown reply) received later result is carries.serves owed receives accepts in
-      (record {
-        out = told.out;
-        lent = told.lent;
-        accepted = one.accepted;
-        later = later;
-        conn_is = one.conn_is;
-        carries = carries_received before ends ends' ways told received later one.accepted shard left was reply counted less at same receives one.serves carries;
-        handed = one.handed;
-        kept = kept_one received later shard (shown reply) receives;
-      }, refl);
+      let one = accepts_one told conn new shard (shown reply) received later result is carries.serves owed receives accepts in (
+        record {
+          out = told.out;
+          lent = told.lent;
+          accepted = one.accepted;
+          later = later;
+          conn_is = one.conn_is;
+          carries = carries_received before ends ends' ways told received later one.accepted shard left was reply counted less at same receives one.serves carries;
+          handed = one.handed;
+          kept = kept_one received later shard (shown reply) receives;
+        },
+        refl,
+      );
 }

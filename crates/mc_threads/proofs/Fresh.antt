@@ -1,6 +1,6 @@
 -- The ends of new lanes are as workers and seats want them.
 use Rattle.std.proofs.Common.{◌≡◌, ℕ, ◌<◌, List, ◌∷◌, length, arith, subst}
-use Rattle.std.specs.List.{AllByRecursion, slice_get}
+use Rattle.std.specs.List.{AllByRecursion}
 use Rattle.std.proofs.lemmas.Option.{slice_get_within}
 use Rattle.mc_core.proofs.Lists.{all_from}
 use Rattle.mc_ring.specs.Lane.{Far, Near}

@@ -1,16 +1,14 @@
 -- A line that is served over lanes, turn by turn.
-use Rattle.std.proofs.Common.{◌≡◌, ℕ, ◌+◌, ◌-◌, ◌^◌, ◌<◌, ◌≤◌, ◌==◌, ◌&&◌, min, inl, inr, Bool, true, false, List, [], ◌∷◌, ◌++◌, length, map, take, drop, Some, refl, sym, ap, subst, ◌∙◌, arith, append-nil, length-append}
-use Rattle.std.specs.List.{AllByRecursion, list_all, slice_get}
+use Rattle.std.proofs.Common.{◌≡◌, ℕ, ◌+◌, ◌-◌, ◌^◌, ◌==◌, ◌&&◌, min, inl, inr, Bool, true, false, List, [], ◌∷◌, ◌++◌, length, map, take, refl, sym, ap, subst, ◌∙◌, arith, append-nil, length-append}
+use Rattle.std.specs.List.{list_all, slice_get}
 use Rattle.std.proofs.lemmas.Bool.{cases_lt, eqb-true}
 use Rattle.std.proofs.lemmas.List.{length-map, take-append-le, take_all}
-use Rattle.std.proofs.lemmas.Option.{slice_get_within}
 use Rattle.mc_wire.specs.Outlet.{Sight}
 use Rattle.mc_ring.specs.declared.parcel.Parcel.TheVariants as parcel
 use Rattle.mc_ring.specs.Reply.{Shown}
 use Rattle.mc_ring.specs.Lane.{Near}
 use Rattle.mc_ring.specs.Ends.{Ends, received_on, sent_on}
 use Rattle.mc_ring.specs.EndsLaws.{same_ends-refl}
-use Rattle.mc_split.specs.declared.plan.Piece.{Piece}
 use Rattle.mc_split.specs.declared.plan.Ticket.{Ticket}
 use Rattle.mc_conn.specs.declared.conn.Conn.{Conn}
 use Rattle.mc_conn.specs.declared.conn.Taken.{Taken as Took}
@@ -19,7 +17,7 @@ use Rattle.mc_conn.specs.Conn.{IsConn, Opens, TakeSays}
 use Rattle.mc_conn.specs.Due.{due, lane, pieces_from}
 use Rattle.mc_conn.specs.Fits.{KeysFit, Serves}
 use Rattle.mc_conn.specs.History.{Taken}
-use Rattle.mc_conn.specs.Told.{KeepsHanded, Told, all_pieces, all_texts, commands_of, told_nothing}
+use Rattle.mc_conn.specs.Told.{Told, all_pieces, all_texts, commands_of, told_nothing}
 use Rattle.mc_conn.proofs.Counting.{count_from_come, due_beyond}
 use Rattle.mc_conn.proofs.Fitting.{due-append, pieces_from-append}
 use Rattle.mc_conn.proofs.Gets.{all_at, all_push, get_below, get_front}
@@ -32,7 +30,7 @@ use Rattle.mc_seat.specs.internal.Steps.{GoOnSays, GoesOn, IsServed, StopsAt, Tu
 use Rattle.mc_seat.proofs.Fronts.{begins_length}
 use Rattle.mc_seat.proofs.Standing.{stands_first, stands_take}
 use Rattle.mc_threads.specs.Serving.{IsIdle}
-use Rattle.mc_threads.specs.internal.Carrying.{AllOut, Carries, CarriesOn, IsKept, MayCarry, MovesOn, carried, sent_to}
+use Rattle.mc_threads.specs.internal.Carrying.{AllOut, Carries, IsKept, MayCarry, MovesOn, carried, sent_to}
 use Rattle.mc_threads.specs.internal.Turns.{Turns}
 use Rattle.mc_threads.proofs.Carrying.{some_shards}
 

@@ -67,7 +67,7 @@ impl Courier {
         requires unread { seat.old.unread ≡ [] }
         ensures served { (limit window : ℕ) → IsConn conn.old (told_nothing (length self.old.ends.lanes) limit window) →
             LineServed (length self.old.ends.lanes) limit (K.may_answer clock.now) (L.sight line.old) (L.sight line.new)
-                self.old.ends self.new.ends conn.new result.commands result.broke }
+            self.old.ends self.new.ends conn.new result.commands result.broke }
         ensures idle { IsIdle self.new.under_way.items }
     {
         let mut commands = 0;
@@ -176,6 +176,7 @@ impl Courier {
         let Some((shard, piece)) = conn.next_piece() else {
             return false;
         };
+        // No ring holds so many that this fails; the piece would wait for replies.
         let Some(count) = self.under_way[shard].checked_add(1) else {
             self.blocked = true;
             conn.not_sent(shard, piece);

@@ -1,5 +1,5 @@
 -- Each round ends one lane more.
-use Rattle.std.proofs.Common.{◌≤◌, length, arith, rules}
+use Rattle.std.proofs.Common.{◌≤◌, length, arith}
 use Rattle.mc_threads.proofs.Ending.{ends_all, ends_next, ends_none}
 use Rattle.mc_threads.proofs.courier.Courier.close.Goals as goal
 

@@ -1,6 +1,5 @@
 -- A piece that has left the connection is sent, or put back.
-use Rattle.std.proofs.Common.{◌≡◌, ◌+◌, length, Some, refl, subst, arith, rules, vec_len}
-use Rattle.std.specs.List.{slice_get}
+use Rattle.std.proofs.Common.{◌≡◌, ◌+◌, length, refl, arith, rules, vec_len}
 use Rattle.std.proofs.lemmas.Option.{slice_get_read}
 use Rattle.mc_split.specs.declared.plan.Piece.{Piece}
 use Rattle.mc_threads.proofs.Carrying.{PutsBack, back_again, next_there, none_left, same_piece, sent_one, still_back}

@@ -1,6 +1,5 @@
 -- Each turn takes a command, or carries what is due for all that were taken and goes on.
 use Rattle.std.proofs.Common.{false, length, true}
-use Rattle.mc_conn.specs.declared.conn.Taken.TheVariants as took
 use Rattle.mc_seat.specs.declared.seat.Turn.TheVariants.{Broke, Ends, Goes}
 use Rattle.mc_threads.proofs.Serving.{can_settle, settles, stops_take, turn_ends, turn_said, turns_first, turns_go, turns_take}
 use Rattle.mc_threads.proofs.courier.Courier.serve_line.Goals as goal

@@ -1,8 +1,7 @@
 -- The connection is renewed in the same room.
-use Rattle.std.proofs.Common.{◌≡◌, ◌∙◌, length, refl, sym, subst, ℕ}
+use Rattle.std.proofs.Common.{◌≡◌, ◌∙◌, length, sym, subst, ℕ}
 use Rattle.mc_conn.specs.Conn.{IsConn}
 use Rattle.mc_conn.specs.Told.{told_nothing}
-use Rattle.mc_threads.specs.Serving.{IsNewConn}
 use Rattle.mc_threads.proofs.tcp_seat.TcpSeat.serve_next.Goals as goal
 
 pub serve_line-requires : goal.serve_line-requires
