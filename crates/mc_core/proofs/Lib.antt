@@ -11,3 +11,4 @@ pub mod Served
 pub mod Desks
 pub mod Steps
 pub mod Turning
+pub mod Sweeping

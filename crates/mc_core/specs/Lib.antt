@@ -13,3 +13,4 @@ pub mod Served
 pub mod Desk
 pub mod DeskLaws
 pub mod Turns
+pub mod Sweeps
