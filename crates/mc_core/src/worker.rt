@@ -182,7 +182,7 @@ impl Worker {
     }
 
     /// The seat that the reply in its hand is for.
-    fn holder(&self) -> Option<usize>
+    pub(crate) fn holder(&self) -> Option<usize>
         ensures { IfSome result (λ seat. seat < length self.now.ends.lanes) }
     {
         let hand = self.hand.as_ref()?;
