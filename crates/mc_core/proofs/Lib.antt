@@ -12,3 +12,6 @@ pub mod Desks
 pub mod Steps
 pub mod Turning
 pub mod Sweeping
+pub mod RingsChange
+pub mod RingsSteps
+pub mod RingsMaking

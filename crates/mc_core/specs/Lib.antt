@@ -14,3 +14,6 @@ pub mod Desk
 pub mod DeskLaws
 pub mod Turns
 pub mod Sweeps
+pub mod Numbers
+pub mod Rings
+pub mod Laid

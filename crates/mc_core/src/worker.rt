@@ -90,6 +90,7 @@ impl Worker {
         ensures ends { IfOk result (λ worker. worker.ends ≡ ends) }
         ensures free { IfOk result (λ worker. worker.hand ≡ None) }
         ensures live { IfOk result (λ worker. AllByRecursion (λ live. live ≡ true) worker.live) }
+        ensures marked { IfOk result (λ worker. length worker.live ≡ length worker.ends.lanes) }
 
         // It has run nothing.
         ensures begins { IfOk result (λ worker. (begin : State) → IsShard shard begin → HasRun begin worker []) }
@@ -187,7 +188,7 @@ impl Worker {
     }
 
     /// The seat that the reply in its hand is for.
-    fn holder(&self) -> Option<usize>
+    pub(crate) fn holder(&self) -> Option<usize>
         ensures held { result ≡ option_map (λ held. held.0) self.now.hand }
         ensures within { IfSome result (λ seat. seat < length self.now.ends.lanes) }
     {
