@@ -15,3 +15,4 @@ pub mod Sweeping
 pub mod RingsChange
 pub mod RingsSteps
 pub mod RingsMaking
+pub mod RingsCalls
