@@ -1,7 +1,7 @@
 -- What each call on the rings says of what waits there, from what it did on one lane.
-use Rattle.std.proofs.Common.{◌≡◌, ◌↔◌, ℕ, zero, suc, ◌<◌, ◌≤◌, ◌+◌, Bool, true, false, Option, Some, None, Ok, Err, Result, List, [], ◌∷◌, ◌++◌, length, get_or, refl, ap, sym, ◌∙◌, arith, slice_set, IsTrue}
+use Rattle.std.proofs.Common.{◌≡◌, ◌↔◌, ℕ, zero, suc, ◌<◌, ◌≤◌, ◌+◌, Bool, true, false, not, Option, Some, None, Ok, Err, Result, List, [], ◌∷◌, ◌++◌, length, get_or, refl, ap, sym, ◌∙◌, arith, slice_set, IsTrue}
 use Rattle.std.specs.List.{slice_get}
-use Rattle.std.specs.Option.{IfNone, IfSome, is_none, is_some, option_map}
+use Rattle.std.specs.Option.{IfNone, IfSome, is_some, option_map}
 use Rattle.std.proofs.lemmas.Option.{same_Some, slice_get_read, slice_get_within}
 use Rattle.mc_split.specs.declared.plan.Piece.{Piece}
 use Rattle.mc_split.specs.declared.plan.Ticket.{Ticket}
@@ -107,7 +107,7 @@ never_back P old mid c s n m places seat seat' piece back look places_are room r
     let now = looked_wired sizes old mid wires c s n m was look in
     let here = seat_read old mid c s n m seat look read in
     absurd (sent_room sizes c s seat seat' look.desk_after (wires.pieces c s) (wires.replies c s) n m piece back
-      (at_both sizes old mid wires c s n m seat look.desk_after was look here (desk_after_here old mid c s n m look)) (let ring = now.places in omega arith) lane)
+    (at_both sizes old mid wires c s n m seat look.desk_after was look here (desk_after_here old mid c s n m look)) (let ring = now.places in omega arith) lane)
 
 -- a reply is received
 
@@ -117,8 +117,8 @@ none_long (x ∷ xs) n count none = absurd (let e : suc (length xs) ≡ 0 = sym 
 
 pub receives_zero : (old mid : Laid) (c s n m : ℕ) → LooksAt c s old mid n m → m ≡ 0 → (sizes : Sizes) (wires : Wires) → AreWired sizes old wires → ReceivesNone sizes wires c s mid
 unfolding AreWired
-receives_zero old mid c s n m look zero sizes wires was = record {
-  none = λ there. none_long (wires.replies c s) m (seen sizes old mid wires c s n m was look).reply_count zero;
+receives_zero old mid c s n m look no_wait sizes wires was = record {
+  none = λ there. none_long (wires.replies c s) m (seen sizes old mid wires c s n m was look).reply_count no_wait;
   now = looked_wired sizes old mid wires c s n m was look;
 }
 
@@ -158,40 +158,9 @@ received_nothing old mid c s n m seat seat' (Some reply) look some read lane = t
 
 pub tells_zero : (old mid : Laid) (c s n m : ℕ) → LooksAt c s old mid n m → n ≡ 0 → (sizes : Sizes) (wires : Wires) → AreWired sizes old wires → TellsWaiting sizes wires s c false mid
 unfolding AreWired
-tells_zero old mid c s n m look zero sizes wires was = record {
+tells_zero old mid c s n m look no_wait sizes wires was = record {
   some = λ test. absurd (let e : false ≡ true = test in cc);
-  none = λ test there free. none_long (wires.pieces c s) n (seen sizes old mid wires c s n m was look).piece_count zero;
-  now = looked_wired sizes old mid wires c s n m was look;
-}
-
-free_told : (hand : Option (ℕ × Shown)) → is_none (option_map (λ held. held.0) hand) ≡ true → hand ≡ None
-free_told None test = refl
-free_told (Some held) test = absurd (let e : false ≡ true = test in cc)
-
-held_told : (hand : Option (ℕ × Shown)) → is_none (option_map (λ held. held.0) hand) ≡ false → hand ≡ None → ⊥
-held_told None test free = let e : true ≡ false = test in cc
-held_told (Some held) test free = let e : Some held ≡ None = free in cc
-
-pub tells_held : (old mid : Laid) (c s n m : ℕ) (desk : Desk) (result : Bool) → LooksAt c s old mid n m → 0 < n → desk ≡ get_or mid.workers s desk → result ≡ is_none (option_map (λ held. held.0) desk.hand)
-    → (sizes : Sizes) (wires : Wires) → AreWired sizes old wires → TellsWaiting sizes wires s c result mid
-unfolding AreWired
-tells_held old mid c s n m desk result look some read told sizes wires was =
-    let now = looked_wired sizes old mid wires c s n m was look in
-    let there = desk_read old mid c s n m desk look read in
-    let hand_is = (now.each_worker s desk there).hand_is in
-    let count = (seen sizes old mid wires c s n m was look).piece_count in
-    record {
-      some = λ test. (sym hand_is ∙ free_told desk.hand (sym told ∙ test), omega arith);
-      none = λ test in_it free. absurd (held_told desk.hand (sym told ∙ test) (hand_is ∙ free));
-      now = now;
-    }
-
--- a piece is run
-
-pub runs_zero : (old mid : Laid) (c s n m : ℕ) → LooksAt c s old mid n m → n ≡ 0 → (sizes : Sizes) (wires : Wires) → AreWired sizes old wires → RunsNone sizes wires s c mid
-unfolding AreWired
-runs_zero old mid c s n m look zero sizes wires was = record {
-  none = λ there free. none_long (wires.pieces c s) n (seen sizes old mid wires c s n m was look).piece_count zero;
+  none = λ test there free. none_long (wires.pieces c s) n (seen sizes old mid wires c s n m was look).piece_count no_wait;
   now = looked_wired sizes old mid wires c s n m was look;
 }
 
@@ -202,6 +171,33 @@ some_told (Some held) test free = let e : Some held ≡ None = free in cc
 pub none_told : (hand : Option (ℕ × Shown)) → is_some (option_map (λ held. held.0) hand) ≡ false → hand ≡ None
 none_told None test = refl
 none_told (Some held) test = absurd (let e : true ≡ false = test in cc)
+
+pub tells_held : (old mid : Laid) (c s n m : ℕ) (desk : Desk) (result : Bool) → LooksAt c s old mid n m → 0 < n → desk ≡ get_or mid.workers s desk → is_some (option_map (λ held. held.0) desk.hand) ≡ not result
+    → (sizes : Sizes) (wires : Wires) → AreWired sizes old wires → TellsWaiting sizes wires s c result mid
+unfolding AreWired
+tells_held old mid c s n m desk result look some read told sizes wires was =
+    let now = looked_wired sizes old mid wires c s n m was look in
+    let there = desk_read old mid c s n m desk look read in
+    let hand_is = (now.each_worker s desk there).hand_is in
+    let count = (seen sizes old mid wires c s n m was look).piece_count in
+    record {
+      some = λ test. (sym hand_is ∙ none_told desk.hand (told ∙ ap not test), omega arith);
+      none = λ test in_it free. absurd (some_told desk.hand (told ∙ ap not test) (hand_is ∙ free));
+      now = now;
+    }
+
+-- a piece is run
+
+pub runs_zero : (old mid : Laid) (c s n m : ℕ) → LooksAt c s old mid n m → n ≡ 0 → (sizes : Sizes) (wires : Wires) → AreWired sizes old wires → RunsNone sizes wires s c mid
+unfolding AreWired
+runs_zero old mid c s n m look no_wait sizes wires was = record {
+  none = λ there free. none_long (wires.pieces c s) n (seen sizes old mid wires c s n m was look).piece_count no_wait;
+  now = looked_wired sizes old mid wires c s n m was look;
+}
+
+-- the worker is the one whose hand was empty
+pub free_hand : (mid : Laid) (s : ℕ) (before desk : Desk) → slice_get mid.workers s ≡ Some before → slice_get mid.workers s ≡ Some desk → is_some (option_map (λ held. held.0) before.hand) ≡ false → desk.hand ≡ None
+free_hand mid s before desk there there' test = ap (λ (desk : Desk). desk.hand) (same_Some desk before (sym there' ∙ there)) ∙ none_told before.hand test
 
 pub runs_held : (old mid : Laid) (c s n m : ℕ) (desk : Desk) → LooksAt c s old mid n m → desk ≡ get_or mid.workers s desk → is_some (option_map (λ held. held.0) desk.hand) ≡ true
     → (sizes : Sizes) (wires : Wires) → AreWired sizes old wires → RunsNone sizes wires s c mid

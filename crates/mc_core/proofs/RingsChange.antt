@@ -61,7 +61,7 @@ laid_seat old c seat seat' laid here same = record {
   seat_number = λ j x at. let b = seat_behind old.seats c j seat seat' x here same at in b.2.number ∙ laid.seat_number j b.0 b.1;
   worker_number = laid.worker_number;
   each_lane = λ j k x y at at'. let b = seat_behind old.seats c j seat seat' x here same at in
-    lane_kept b.0 x y.ends y.ends b.2 (same_ends-refl y.ends) (laid.each_lane j k b.0 y b.1 at');
+      lane_kept b.0 x y.ends y.ends b.2 (same_ends-refl y.ends) (laid.each_lane j k b.0 y b.1 at');
 }
 
 pub laid_worker : (old : Laid) (s : ℕ) (desk desk' : Desk) → AreLaid old → slice_get old.workers s ≡ Some desk → AreSameEnds desk.ends desk'.ends → AreLaid (record old { workers = slice_set old.workers s desk' })
@@ -69,7 +69,7 @@ laid_worker old s desk desk' laid here same = record {
   seat_number = laid.seat_number;
   worker_number = λ j x at. let b = desk_behind old.workers s j desk desk' x here same at in b.2.number ∙ laid.worker_number j b.0 b.1;
   each_lane = λ j k x y at at'. let b = desk_behind old.workers s k desk desk' y here same at' in
-    lane_kept x x b.0.ends y.ends (same_ends-refl x) b.2 (laid.each_lane j k x b.0 at b.1);
+      lane_kept x x b.0.ends y.ends (same_ends-refl x) b.2 (laid.each_lane j k x b.0 at b.1);
 }
 
 -- values for one seat and shard, or for one shard
@@ -213,26 +213,26 @@ looked_wired sizes old new wires c s n m was look =
     let worker = was.each_worker s look.desk look.desk_here in
     let kept = look_changes c look.desk.ends look.desk_after.ends far in
     let first : HaveWires sizes mid wires = wired_seat sizes old wires wires c s look.seat look.seat_after was look.seat_here (look_changes s look.seat look.seat_after near)
-      (λ desk at. let v = was.each_wire c s look.seat desk look.seat_here at in record {
-        pieces_wait = seat_sent ∙ v.pieces_wait;
-        replies_wait = v.replies_wait ∙ ap (λ xs. xs ++ wires.replies c s) (sym seat_received);
-      })
-      (same_else-refl c s wires) (λ k. refl) (λ k. refl) in
+    (λ desk at. let v = was.each_wire c s look.seat desk look.seat_here at in record {
+      pieces_wait = seat_sent ∙ v.pieces_wait;
+      replies_wait = v.replies_wait ∙ ap (λ xs. xs ++ wires.replies c s) (sym seat_received);
+    })
+    (same_else-refl c s wires) (λ k. refl) (λ k. refl) in
     let live_is : look.desk_after.live ≡ look.desk.live = ap (λ (desk : Desk). desk.live) look.rest in
     let hand_is : look.desk_after.hand ≡ look.desk.hand = ap (λ (desk : Desk). desk.hand) look.rest in
     let shard_is : look.desk_after.shard ≡ look.desk.shard = ap (λ (desk : Desk). desk.shard) look.rest in
     let second = wired_worker sizes mid wires wires c s look.desk look.desk_after first look.desk_here kept
-      (record {
-        marked = ap length live_is ∙ worker.marked ∙ sym kept.same.count;
-        live = rw live_is worker.live;
-        hand_is = hand_is ∙ worker.hand_is;
-        keeps = rw shard_is worker.keeps;
-      })
-      (λ seat at. let v = first.each_wire c s seat look.desk at look.desk_here in record {
-        pieces_wait = v.pieces_wait ∙ ap (λ xs. xs ++ parcels_of (wires.pieces c s)) (sym desk_received);
-        replies_wait = desk_sent ∙ v.replies_wait;
-      })
-      (same_else-refl c s wires) (λ k other. refl) (λ k other. refl) in
+    (record {
+      marked = ap length live_is ∙ worker.marked ∙ sym kept.same.count;
+      live = rw live_is worker.live;
+      hand_is = hand_is ∙ worker.hand_is;
+      keeps = rw shard_is worker.keeps;
+    })
+    (λ seat at. let v = first.each_wire c s seat look.desk at look.desk_here in record {
+      pieces_wait = v.pieces_wait ∙ ap (λ xs. xs ++ parcels_of (wires.pieces c s)) (sym desk_received);
+      replies_wait = desk_sent ∙ v.replies_wait;
+    })
+    (same_else-refl c s wires) (λ k other. refl) (λ k other. refl) in
     rw look.set second
 
 -- The lane as both ends know it after they were looked at: all that waits, and all room.
@@ -288,9 +288,9 @@ seen sizes old new wires c s n m was look =
     let pieces = wires.pieces c s in
     let replies = wires.replies c s in
     let parcels : far.ahead ≡ parcels_of pieces = append_cancel_left far.past.received far.ahead (parcels_of pieces)
-      (both.parcels_wait ∙ sym (sent_here look.seat_after s near near_here) ∙ w.pieces_wait ∙ ap (λ xs. xs ++ parcels_of pieces) (received_here look.desk_after.ends c far far_here)) in
+    (both.parcels_wait ∙ sym (sent_here look.seat_after s near near_here) ∙ w.pieces_wait ∙ ap (λ xs. xs ++ parcels_of pieces) (received_here look.desk_after.ends c far far_here)) in
     let answers : near.ahead ≡ replies = append_cancel_left near.past.received near.ahead replies
-      (both.replies_wait ∙ sym (sent_here look.desk_after.ends c far far_here) ∙ w.replies_wait ∙ ap (λ xs. xs ++ replies) (received_here look.seat_after s near near_here)) in
+    (both.replies_wait ∙ sym (sent_here look.desk_after.ends c far far_here) ∙ w.replies_wait ∙ ap (λ xs. xs ++ replies) (received_here look.seat_after s near near_here)) in
     record {
       near = near;
       far = far;
@@ -301,9 +301,9 @@ seen sizes old new wires c s n m was look =
       piece_count = both.parcel_count ∙ ap length parcels ∙ length-map pieces parcel.Piece;
       reply_count = both.reply_count ∙ ap length answers;
       piece_room = room_here sizes.ring near.past.lane.capacity (length far.past.received) near.free (length near.past.sent) n
-        (capacity_at sizes.ring look.seat_after.lanes s near (now.each_seat c look.seat_after seat_here).holds near_here)
-        (split_length far.past.received far.ahead near.past.sent n both.parcels_wait both.parcel_count) both.parcel_room;
+          (capacity_at sizes.ring look.seat_after.lanes s near (now.each_seat c look.seat_after seat_here).holds near_here)
+          (split_length far.past.received far.ahead near.past.sent n both.parcels_wait both.parcel_count) both.parcel_room;
       reply_room = room_here sizes.ring far.past.lane.capacity (length near.past.received) far.free (length far.past.sent) m
-        (capacity_at sizes.ring look.desk_after.ends.lanes c far (now.each_worker s look.desk_after desk_here).holds far_here)
-        (split_length near.past.received near.ahead far.past.sent m both.replies_wait both.reply_count) both.reply_room;
+          (capacity_at sizes.ring look.desk_after.ends.lanes c far (now.each_worker s look.desk_after desk_here).holds far_here)
+          (split_length near.past.received near.ahead far.past.sent m both.replies_wait both.reply_count) both.reply_room;
     }

@@ -70,7 +70,7 @@ pub new_wired : (sizes : Sizes) (seats : List (Ends Near)) (shards : List (Ends 
     → HaveWires sizes (record { seats = seats; workers = workers; places = sizes.ring }) (new_wires sizes)
 new_wired sizes seats shards workers lanes ends started =
     let desk_ends : (s : ℕ) (desk : Desk) → slice_get workers s ≡ Some desk → slice_get shards s ≡ Some desk.ends =
-      λ s desk at. ap (λ xs. slice_get xs s) (sym ends) ∙ get_map ends_of workers s desk at in
+    λ s desk at. ap (λ xs. slice_get xs s) (sym ends) ∙ get_map ends_of workers s desk at in
     record {
       laid = record {
         seat_number = λ c seat at. (lanes.each_seat c seat at).number_is;
@@ -82,21 +82,21 @@ new_wired sizes seats shards workers lanes ends started =
       places = refl;
       each_seat = λ c seat at. let new = lanes.each_seat c seat at in record { counted = new.counted; holds = new.holds };
       each_worker = λ s desk at.
-        let new = lanes.each_shard s desk.ends (desk_ends s desk at) in
-        let begun = all_at (IsStarted sizes) workers s desk started at in
-        record {
-          counted = new.counted;
-          holds = new.holds;
-          marked = begun.marked;
-          live = begun.live;
-          hand_is = begun.free;
-          keeps = keeps_at desk.shard sizes desk.ends.number s new.number_is begun.keeps;
-        };
+          let new = lanes.each_shard s desk.ends (desk_ends s desk at) in
+          let begun = all_at (IsStarted sizes) workers s desk started at in
+          record {
+            counted = new.counted;
+            holds = new.holds;
+            marked = begun.marked;
+            live = begun.live;
+            hand_is = begun.free;
+            keeps = keeps_at desk.shard sizes desk.ends.number s new.number_is begun.keeps;
+          };
       each_wire = λ c s seat desk at at'.
-        let near = (lanes.each_seat c seat at).unused in
-        let far = (lanes.each_shard s desk.ends (desk_ends s desk at')).unused in
-        record {
-          pieces_wait = unused_list (λ (end : Near). end.past.sent) seat.lanes s (λ end is. is.sent) near ∙ sym (ap (λ xs. xs ++ []) (unused_list (λ (end : Far). end.past.received) desk.ends.lanes c (λ end is. is.received) far));
-          replies_wait = unused_list (λ (end : Far). end.past.sent) desk.ends.lanes c (λ end is. is.sent) far ∙ sym (ap (λ xs. xs ++ []) (unused_list (λ (end : Near). end.past.received) seat.lanes s (λ end is. is.received) near));
-        };
+          let near = (lanes.each_seat c seat at).unused in
+          let far = (lanes.each_shard s desk.ends (desk_ends s desk at')).unused in
+          record {
+            pieces_wait = unused_list (λ (end : Near). end.past.sent) seat.lanes s (λ end is. is.sent) near ∙ sym (ap (λ xs. xs ++ []) (unused_list (λ (end : Far). end.past.received) desk.ends.lanes c (λ end is. is.received) far));
+            replies_wait = unused_list (λ (end : Far). end.past.sent) desk.ends.lanes c (λ end is. is.sent) far ∙ sym (ap (λ xs. xs ++ []) (unused_list (λ (end : Near). end.past.received) seat.lanes s (λ end is. is.received) near));
+          };
     }

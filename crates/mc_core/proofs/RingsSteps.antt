@@ -71,8 +71,8 @@ sent_wired sizes old wires c s seat seat' piece was here lane =
     wired_seat sizes old wires (record wires { pieces = with_lane wires.pieces c s (pieces ++ piece ∷ []) }) c s seat seat' was here (changes_at says s seat seat' (λ x y is. is.lane) lane)
     (λ desk at. let w = was.each_wire c s seat desk here at in record {
       pieces_wait = longer ∙ ap (λ xs. xs ++ parcel.Piece piece ∷ []) w.pieces_wait ∙ append_assoc (received_on desk.ends c) (parcels_of pieces) (parcel.Piece piece ∷ [])
-        ∙ ap (λ xs. received_on desk.ends c ++ xs) (sym (map-append parcel.Piece pieces (piece ∷ [])))
-        ∙ ap (λ xs. received_on desk.ends c ++ parcels_of xs) (sym (with_lane-here wires.pieces c s (pieces ++ piece ∷ [])));
+          ∙ ap (λ xs. received_on desk.ends c ++ xs) (sym (map-append parcel.Piece pieces (piece ∷ [])))
+          ∙ ap (λ xs. received_on desk.ends c ++ parcels_of xs) (sym (with_lane-here wires.pieces c s (pieces ++ piece ∷ [])));
       replies_wait = w.replies_wait ∙ ap (λ xs. xs ++ wires.replies c s) (sym kept);
     })
     (record { pieces = with_lane-other wires.pieces c s (pieces ++ piece ∷ []); replies = λ j k other. refl })
@@ -106,7 +106,7 @@ received_wired sizes old wires c s seat seat' reply rest was here lane oldest =
     (λ desk at. let w = was.each_wire c s seat desk here at in record {
       pieces_wait = kept ∙ w.pieces_wait;
       replies_wait = w.replies_wait ∙ ap (λ xs. received_on seat s ++ xs) oldest ∙ sym (append_assoc (received_on seat s) (shown reply ∷ []) rest)
-        ∙ ap (λ xs. xs ++ rest) (sym longer) ∙ ap (λ xs. received_on seat' s ++ xs) (sym (with_lane-here wires.replies c s rest));
+          ∙ ap (λ xs. xs ++ rest) (sym longer) ∙ ap (λ xs. received_on seat' s ++ xs) (sym (with_lane-here wires.replies c s rest));
     })
     (record { pieces = λ j k other. refl; replies = with_lane-other wires.replies c s rest })
     (λ k. refl) (λ k. refl)
@@ -201,21 +201,24 @@ ran_wired sizes old wires c s desk desk' rest was here ran oldest =
     let live_is : desk'.live ≡ desk.live = ap (λ (desk : Desk). desk.live) ran.rest in
     let hand_is : desk'.hand ≡ Some (c, reply_to ran.entry) = ap (λ (desk : Desk). desk.hand) ran.rest in
     let longer : received_on desk'.ends c ≡ received_on desk.ends c ++ parcel.Piece ran.entry.piece ∷ [] = at_lane-longer says (λ (end : Far). end.past.received) c (parcel.Piece ran.entry.piece ∷ []) desk.ends desk'.ends (λ x y is. ap (λ past. past.received) is.received) ran.lane in
-    let kept : sent_on desk'.ends c ≡ sent_on desk.ends c = at_lane-kept says (λ (end : Far). end.past.sent) c c desk.ends desk'.ends (λ x y is. ap (λ past. past.sent) is.received) ran.lane in
-    (stepped.0, stepped.1, wired_worker sizes old wires (ran_wires wires c s rest ran.entry stepped.0) c s desk desk' was here changed
-      (record {
-        marked = ap length live_is ∙ worker.marked ∙ sym changed.same.count;
-        live = rw live_is worker.live;
-        hand_is = hand_is ∙ sym (with_shard-here wires.hand s (Some (c, reply_to ran.entry)));
-        keeps = rw (with_shard-here wires.state s stepped.0) stepped.2;
-      })
-      (λ seat at. let w = was.each_wire c s seat desk at here in record {
-        pieces_wait = w.pieces_wait ∙ ap (λ xs. received_on desk.ends c ++ parcels_of xs) oldest ∙ sym (append_assoc (received_on desk.ends c) (parcel.Piece ran.entry.piece ∷ []) (parcels_of rest))
-          ∙ ap (λ xs. xs ++ parcels_of rest) (sym longer) ∙ ap (λ xs. received_on desk'.ends c ++ parcels_of xs) (sym (with_lane-here wires.pieces c s rest));
-        replies_wait = kept ∙ w.replies_wait;
-      })
-      (record { pieces = with_lane-other wires.pieces c s rest; replies = λ j k other. refl })
-      (with_shard-other wires.hand s (Some (c, reply_to ran.entry))) (with_shard-other wires.state s stepped.0))
+    let kept : sent_on desk'.ends c ≡ sent_on desk.ends c = at_lane-kept says (λ (end : Far). end.past.sent) c c desk.ends desk'.ends (λ x y is. ap (λ past. past.sent) is.received) ran.lane in (
+      stepped.0,
+      stepped.1,
+      wired_worker sizes old wires (ran_wires wires c s rest ran.entry stepped.0) c s desk desk' was here changed
+          (record {
+            marked = ap length live_is ∙ worker.marked ∙ sym changed.same.count;
+            live = rw live_is worker.live;
+            hand_is = hand_is ∙ sym (with_shard-here wires.hand s (Some (c, reply_to ran.entry)));
+            keeps = rw (with_shard-here wires.state s stepped.0) stepped.2;
+          })
+          (λ seat at. let w = was.each_wire c s seat desk at here in record {
+            pieces_wait = w.pieces_wait ∙ ap (λ xs. received_on desk.ends c ++ parcels_of xs) oldest ∙ sym (append_assoc (received_on desk.ends c) (parcel.Piece ran.entry.piece ∷ []) (parcels_of rest))
+                ∙ ap (λ xs. xs ++ parcels_of rest) (sym longer) ∙ ap (λ xs. received_on desk'.ends c ++ parcels_of xs) (sym (with_lane-here wires.pieces c s rest));
+            replies_wait = kept ∙ w.replies_wait;
+          })
+          (record { pieces = with_lane-other wires.pieces c s rest; replies = λ j k other. refl })
+          (with_shard-other wires.hand s (Some (c, reply_to ran.entry))) (with_shard-other wires.state s stepped.0),
+    )
 
 -- a reply is given
 
@@ -244,7 +247,7 @@ must_give sizes c s seat desk desk' pieces replies n m (Ran ticket part moment) 
 
 pub gave_wired : (sizes : Sizes) (old : Laid) (wires : Wires) (c s : ℕ) (desk desk' : Desk) (reply : Shown) → HaveWires sizes old wires → slice_get old.workers s ≡ Some desk → desk.hand ≡ Some (c, reply) → GivesIt desk desk'
     → HaveWires sizes (record old { workers = slice_set old.workers s desk' })
-        (record wires { replies = with_lane wires.replies c s (wires.replies c s ++ reply ∷ []); hand = with_shard wires.hand s None })
+    (record wires { replies = with_lane wires.replies c s (wires.replies c s ++ reply ∷ []); hand = with_shard wires.hand s None })
 gave_wired sizes old wires c s desk desk' reply was here held gave =
     let says = Sends shown gave.reply (Ok tt) in
     let replies = wires.replies c s in
@@ -268,7 +271,7 @@ gave_wired sizes old wires c s desk desk' reply was here held gave =
     (λ seat at. let w = was.each_wire c s seat desk at here in record {
       pieces_wait = w.pieces_wait ∙ ap (λ xs. xs ++ parcels_of (wires.pieces c s)) (sym kept);
       replies_wait = longer ∙ ap (λ r. sent_on desk.ends c ++ r ∷ []) reply_is ∙ ap (λ xs. xs ++ reply ∷ []) w.replies_wait ∙ append_assoc (received_on seat s) replies (reply ∷ [])
-        ∙ ap (λ xs. received_on seat s ++ xs) (sym (with_lane-here wires.replies c s (replies ++ reply ∷ [])));
+          ∙ ap (λ xs. received_on seat s ++ xs) (sym (with_lane-here wires.replies c s (replies ++ reply ∷ [])));
     })
     (record { pieces = λ j k other. refl; replies = with_lane-other wires.replies c s (replies ++ reply ∷ []) })
     (with_shard-other wires.hand s None) (λ k other. refl)

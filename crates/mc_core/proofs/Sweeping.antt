@@ -79,12 +79,14 @@ marks_gave old new holder marks gives held within seat =
     let sent = sent_on old.ends seat in
     elim (eqb_tells holder seat) [
       | inl at ↦ inr (
-          let longer : sent_on new.ends seat ≡ sent ++ hand.0 ∷ [] = gives seat ∙ ap (λ xs. sent ++ xs) (held_for old.hand holder seat hand.0 hand.1 at.0) in
-          rw longer (length_more sent hand.0),
-          rw (← at.1) (set_within marks holder true within))
+        let longer : sent_on new.ends seat ≡ sent ++ hand.0 ∷ [] = gives seat ∙ ap (λ xs. sent ++ xs) (held_for old.hand holder seat hand.0 hand.1 at.0) in
+            rw longer (length_more sent hand.0),
+        rw (← at.1) (set_within marks holder true within),
+      )
       | inr other ↦ inl (
-          gives seat ∙ ap (λ xs. sent ++ xs) (held_for_another old.hand holder seat hand.0 hand.1 other.0) ∙ append-nil sent,
-          get-set_other marks holder seat true (λ e. other.1 (sym e)))
+        gives seat ∙ ap (λ xs. sent ++ xs) (held_for_another old.hand holder seat hand.0 hand.1 other.0) ∙ append-nil sent,
+        get-set_other marks holder seat true (λ e. other.1 (sym e)),
+      )
     ]
 
 pub marks_absurd : (old new : Desk) (P : Type 0) → GivesIt old new → option_map (λ held. held.0) old.hand ≡ None → P
@@ -141,7 +143,7 @@ FindsNone = Receives {T = Parcel} (λ parcel. parcel) None
 quiet_live : (count : ℕ) (old mid new : Desk) → old.hand ≡ None → slice_get old.live count ≡ Some true → IsQuiet count old mid → new ≡ record mid { ends = new.ends } → AtLane FindsNone count mid.ends new.ends → IsQuiet (count + 1) old new
 quiet_live count old mid new free here quiet rest lane =
     let others : (seat : ℕ) → seat ≢ count → slice_get new.ends.lanes seat ≡ slice_get mid.ends.lanes seat =
-      λ seat other. rw lane.set (get-set_other mid.ends.lanes count seat lane.after other) in
+    λ seat other. rw lane.set (get-set_other mid.ends.lanes count seat lane.after other) in
     let this : IsFoundEmpty count old.ends new.ends = record {
       before = lane.before;
       after = lane.after;

@@ -35,5 +35,5 @@ returns-clause-idle g c = elim c.if-busy.branch [
       let all : c.loop-seat.seat ≡ length c.args.self.now.ends.lanes = let a = c.loop-seat-test.false in let b = c.loop-seat.auto.seat-end in let d = c.seats-seat-end.ensures in omega arith in
       let quiet = of_false c.loop-seat.busy _ w.if-busy.false c.loop-seat.invariant.quiet in
       rw (w.result-is, w.is_some.ensures) (on_none (λ (hand : Hand). (hand.seat, shown hand.reply)) c.self-2.inside.hand _ (λ none.
-        idle c.loop-seat.seat c.args.self.now c.loop-seat.self sound quiet all (sym (ap (λ (desk : Desk). desk.hand) c.self-2.view_is) ∙ none)))
+      idle c.loop-seat.seat c.args.self.now c.loop-seat.self sound quiet all (sym (ap (λ (desk : Desk). desk.hand) c.self-2.view_is) ∙ none)))
 ]

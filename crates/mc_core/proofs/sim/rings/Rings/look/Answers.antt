@@ -24,7 +24,7 @@ invariant_of-self c =
     let shard_in : c.args.shard < length workers = rw (← c.self.view_is) at c.requires.1 in
     laid_worker _ c.args.shard c.index_mut-worker.result.now c.beside.new.self
     (laid_seat (record { seats = seats; workers = workers; places = c.self.inside.places }) c.args.seat c.index_mut.result.now c.beside.new.seat c.self.invariant
-      (slice_get_read seats (length seats) c.args.seat c.index_mut.result.now refl seat_in c.index_mut.ensures.value) c.beside.ensures.seat)
+    (slice_get_read seats (length seats) c.args.seat c.index_mut.result.now refl seat_in c.index_mut.ensures.value) c.beside.ensures.seat)
     (slice_get_read workers (length workers) c.args.shard c.index_mut-worker.result.now refl shard_in c.index_mut-worker.ensures.value) c.beside.ensures.keeps
 
 pub returns : goal.returns
