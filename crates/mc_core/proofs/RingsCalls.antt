@@ -1,5 +1,5 @@
 -- What each call on the rings says of what waits there, from what it did on one lane.
-use Rattle.std.proofs.Common.{◌≡◌, ◌↔◌, ℕ, zero, suc, ◌<◌, ◌≤◌, ◌+◌, Bool, true, false, not, Option, Some, None, Ok, Err, Result, List, [], ◌∷◌, ◌++◌, length, get_or, refl, ap, sym, ◌∙◌, arith, slice_set, IsTrue}
+use Rattle.std.proofs.Common.{◌≡◌, ◌↔◌, ℕ, suc, ◌<◌, ◌≤◌, Bool, true, false, not, Option, Some, None, Ok, Err, Result, List, [], ◌∷◌, length, get_or, refl, ap, sym, ◌∙◌, arith, slice_set, IsTrue}
 use Rattle.std.specs.List.{slice_get}
 use Rattle.std.specs.Option.{IfNone, IfSome, is_some, option_map}
 use Rattle.std.proofs.lemmas.Option.{same_Some, slice_get_read, slice_get_within}
@@ -9,10 +9,10 @@ use Rattle.mc_ring.specs.declared.parcel.Parcel.{Parcel}
 use Rattle.mc_ring.specs.declared.parcel.Parcel.TheVariants as parcel
 use Rattle.mc_ring.specs.declared.reply.Reply.{Reply}
 use Rattle.mc_ring.specs.Reply.{Shown, shown}
-use Rattle.mc_ring.specs.Lane.{Far, Near}
+use Rattle.mc_ring.specs.Lane.{Near}
 use Rattle.mc_ring.specs.Ends.{AtLane, Ends, Receives, Sends}
 use Rattle.mc_core.specs.declared.worker.Turn.{Turn}
-use Rattle.mc_core.specs.declared.worker.Turn.TheVariants.{Gave, Blocked, Nothing, Ended, Ran}
+use Rattle.mc_core.specs.declared.worker.Turn.TheVariants.{Gave, Ran}
 use Rattle.mc_core.specs.declared.sim.rings.Ran.{Ran as RanPiece}
 use Rattle.mc_core.specs.Sizes.{Sizes}
 use Rattle.mc_core.specs.Desk.{Desk}
@@ -20,7 +20,7 @@ use Rattle.mc_core.specs.Turns.{GivesIt, RunsPiece, Turned}
 use Rattle.mc_core.specs.Laid.{AreIn, AreLaid, Laid, LooksAt}
 use Rattle.mc_core.specs.Rings.{AreThere, AreWired, GivesNone, GivesReply, HaveWires, KeepsPiece, ReceivesNone, ReceivesReply, RunsNone, RunsOldest, SendsPiece, TellsWaiting, Wires}
 use Rattle.mc_core.proofs.RingsChange.{Seen, desk_after_here, looked_wired, seat_after_here, seen}
-use Rattle.mc_core.proofs.RingsSteps.{back_is, desk_within, gave_wired, hand_at, hand_free, live_there, must_give, must_run, ran_first, ran_wired, received_first, received_none, received_wired, seat_within, sent_room, sent_wired}
+use Rattle.mc_core.proofs.RingsSteps.{desk_within, gave_wired, hand_at, hand_free, live_there, must_give, must_run, ran_first, ran_wired, received_first, received_none, received_wired, seat_within, sent_room, sent_wired}
 
 -- The seat and the shard aren't both there.
 

@@ -1,12 +1,11 @@
 -- The rings as they are made, with workers of empty shards.
-use Rattle.std.proofs.Common.{◌≡◌, ℕ, zero, suc, ◌<◌, ◌+◌, Some, None, List, [], ◌∷◌, ◌++◌, length, map, refl, ap, sym, ◌∙◌, arith, append_assoc, append-nil}
+use Rattle.std.proofs.Common.{◌≡◌, ℕ, zero, suc, ◌<◌, ◌+◌, Some, List, [], ◌∷◌, ◌++◌, length, map, refl, ap, sym, ◌∙◌, arith, append_assoc, append-nil}
 use Rattle.std.specs.List.{AllByRecursion, slice_get}
 use Rattle.std.proofs.lemmas.List.{length-append, length-map, map-append}
 use Rattle.std.proofs.lemmas.Option.{same_Some}
 use Rattle.mc_ring.specs.Lane.{Far, Near, Side}
 use Rattle.mc_ring.specs.Ends.{Ends, list_at}
-use Rattle.mc_ring.specs.Made.{AreLanes, AreNewEnds, IsUnused}
-use Rattle.mc_store.specs.State.{State}
+use Rattle.mc_ring.specs.Made.{AreLanes, IsUnused}
 use Rattle.mc_store.specs.Shard.{Held, Keeps}
 use Rattle.mc_core.specs.Sizes.{Sizes}
 use Rattle.mc_core.specs.Sized.{empty_shard}

@@ -1,5 +1,5 @@
 -- What a push or a pop on one lane makes of what waits there.
-use Rattle.std.proofs.Common.{◌≡◌, ◌≢◌, ℕ, zero, suc, ◌<◌, ◌≤◌, ◌+◌, Bool, true, false, Option, Some, None, Ok, Err, Result, List, [], ◌∷◌, ◌++◌, length, map, refl, ap, sym, ◌∙◌, arith, append_assoc, slice_set, inl, inr}
+use Rattle.std.proofs.Common.{◌≡◌, ℕ, zero, suc, ◌<◌, Bool, true, false, Option, Some, None, Ok, Err, Result, List, [], ◌∷◌, ◌++◌, length, map, refl, ap, sym, ◌∙◌, arith, append_assoc, slice_set}
 use Rattle.std.specs.List.{AllByRecursion, slice_get}
 use Rattle.std.specs.Option.{option_map}
 use Rattle.std.proofs.lemmas.List.{length-map, map-append}
@@ -11,10 +11,9 @@ use Rattle.mc_ring.specs.declared.parcel.Parcel.{Parcel}
 use Rattle.mc_ring.specs.declared.parcel.Parcel.TheVariants as parcel
 use Rattle.mc_ring.specs.declared.reply.Reply.{Reply}
 use Rattle.mc_ring.specs.Reply.{Shown, shown}
-use Rattle.mc_ring.specs.Lane.{Far, Lane, Near, Side}
+use Rattle.mc_ring.specs.Lane.{Far, Lane, Near}
 use Rattle.mc_ring.specs.Ends.{AtLane, Ends, Receives, Sends, received_on, sent_on}
 use Rattle.mc_ring.specs.EndsLaws.{at_lane-kept, at_lane-longer}
-use Rattle.mc_ring.specs.Made.{IsLane}
 use Rattle.mc_store.specs.State.{State}
 use Rattle.mc_store.specs.Step.{IsStep}
 use Rattle.mc_core.specs.declared.worker.Turn.{Turn}
@@ -22,10 +21,10 @@ use Rattle.mc_core.specs.declared.worker.Turn.TheVariants.{Gave, Blocked, Nothin
 use Rattle.mc_core.specs.Sizes.{Sizes}
 use Rattle.mc_core.specs.Log.{Entry, reply_to}
 use Rattle.mc_core.specs.Desk.{Desk}
-use Rattle.mc_core.specs.Turns.{GivesIt, IsFull, KeepsIt, RunsPiece, Turned}
+use Rattle.mc_core.specs.Turns.{GivesIt, IsFull, RunsPiece, Turned}
 use Rattle.mc_core.specs.Laid.{AreLaid, Laid}
-use Rattle.mc_core.specs.Rings.{HaveWires, IsWire, Wires, parcels_of, with_lane, with_shard}
-use Rattle.mc_core.proofs.RingsChange.{Seen, SameElse, at_place, changes_at, get_at, wired_seat, wired_worker, with_lane-here, with_lane-other, with_shard-here, with_shard-other}
+use Rattle.mc_core.specs.Rings.{HaveWires, Wires, parcels_of, with_lane, with_shard}
+use Rattle.mc_core.proofs.RingsChange.{Seen, at_place, changes_at, wired_seat, wired_worker, with_lane-here, with_lane-other, with_shard-here, with_shard-other}
 
 -- the elements of one place
 

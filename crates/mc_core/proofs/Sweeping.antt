@@ -1,6 +1,5 @@
 -- What a sweep of a worker tells its thread: the marks, and when nothing is left to do.
-use Rattle.std.proofs.Common.{◌≡◌, ◌≢◌, ℕ, zero, suc, ◌<◌, ◌≤◌, ◌+◌, ◌==◌, Bool, true, false, not, Option, Some, None, Ok, List, [], ◌∷◌, ◌++◌, length, refl, ap, sym, ◌∙◌, arith, slice_set, append-nil, ◌⊎◌, inl, inr}
-use Rattle.std.proofs.lemmas.Bool.{cases_lt}
+use Rattle.std.proofs.Common.{◌≡◌, ◌≢◌, ℕ, zero, suc, ◌<◌, ◌≤◌, ◌+◌, ◌==◌, Bool, true, false, Option, Some, None, List, [], ◌∷◌, ◌++◌, length, refl, ap, sym, ◌∙◌, arith, slice_set, append-nil, inl, inr}
 use Rattle.std.proofs.lemmas.Bool.Decides.{eqb_tells}
 use Rattle.std.proofs.lemmas.Option.{same_Some, slice_get_within}
 use Rattle.std.specs.List.{slice_get}
@@ -14,7 +13,7 @@ use Rattle.mc_core.specs.Desk.{Desk, IsSound, in_hand}
 use Rattle.mc_ring.specs.Reply.{Shown}
 use Rattle.mc_core.specs.declared.worker.Turn.{Turn}
 use Rattle.mc_core.specs.declared.worker.Turn.TheVariants.{Gave, Blocked, Nothing, Ended, Ran}
-use Rattle.mc_core.specs.Turns.{FindsNothing, Gives, GivesIt, KeepsIt, given_by}
+use Rattle.mc_core.specs.Turns.{Gives, GivesIt, KeepsIt, given_by}
 use Rattle.mc_core.proofs.Turning.{mark_at}
 use Rattle.mc_core.specs.Sweeps.{IsFoundEmpty, IsIdle, Marks, Rests}
 

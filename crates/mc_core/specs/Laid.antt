@@ -1,7 +1,7 @@
 -- The seats' ends of all lanes and the workers of all shards, each in the place of its number.
 use Rattle.std.specs.Prelude.{ℕ, ◌≡◌, ◌<◌, Some, List, length, slice_set}
 use Rattle.std.specs.List.{slice_get}
-use Rattle.mc_ring.specs.Lane.{Far, Near}
+use Rattle.mc_ring.specs.Lane.{Near}
 use Rattle.mc_ring.specs.Ends.{Ends}
 use Rattle.mc_ring.specs.Made.{IsLane, LooksAtBoth}
 use Rattle.mc_core.specs.Desk.{Desk}

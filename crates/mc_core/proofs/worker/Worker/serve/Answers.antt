@@ -1,4 +1,4 @@
-use Rattle.std.proofs.Common.{◌≡◌, ℕ, zero, suc, ◌+◌, false, refl, sym, ◌∙◌, arith, inl, inr}
+use Rattle.std.proofs.Common.{◌≡◌, ℕ, ◌+◌, false, refl, sym, ◌∙◌, arith, inl, inr}
 use Rattle.mc_core.specs.DeskLaws.{goes_refl, goes_trans}
 use Rattle.mc_core.proofs.Turning.{goes_turn}
 use Rattle.mc_core.proofs.Sweeping.{is_gave, marks_absurd, marks_gave, marks_none, marks_refl, marks_trans}

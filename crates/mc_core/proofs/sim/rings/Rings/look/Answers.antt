@@ -1,9 +1,6 @@
-use Rattle.std.proofs.Common.{◌≡◌, ◌<◌, length, Some, refl}
+use Rattle.std.proofs.Common.{◌<◌, length, refl}
 use Rattle.std.proofs.lemmas.Option.{slice_get_read}
-use Rattle.std.specs.List.{slice_get}
 use Rattle.mc_core.proofs.RingsChange.{laid_seat, laid_worker}
-use Rattle.mc_core.proofs.RingsSteps.{seat_within}
-use Rattle.mc_core.proofs.RingsMaking.{new_wired}
 use Rattle.mc_core.proofs.sim.rings.Rings.look.Goals as goal
 
 pub beside-requires : goal.beside-requires

@@ -1,4 +1,4 @@
-use Rattle.std.proofs.Common.{◌≡◌, ◌<◌, arith}
+use Rattle.std.proofs.Common.{◌<◌, arith}
 use Rattle.mc_core.specs.Laid.{Laid, LooksAt}
 use Rattle.mc_core.proofs.RingsChange.{laid_seat}
 use Rattle.mc_core.proofs.RingsCalls.{out_of, received, received_nothing, receives_out, receives_zero, seat_lanes, seat_read}

@@ -1,4 +1,4 @@
-use Rattle.std.proofs.Common.{◌≡◌, refl, sym, ap}
+use Rattle.std.proofs.Common.{refl, ap}
 use Rattle.mc_core.specs.Laid.{Laid, LooksAt}
 use Rattle.mc_core.proofs.RingsChange.{laid_seat}
 use Rattle.mc_core.proofs.RingsCalls.{keeps_full, keeps_out, never_back, out_of, seat_lanes, seat_read, sends_piece}

@@ -1,4 +1,4 @@
-use Rattle.std.proofs.Common.{◌≡◌, ◌<◌, ◌∙◌, ap, sym, arith}
+use Rattle.std.proofs.Common.{◌<◌, ◌∙◌, ap, sym, arith}
 use Rattle.std.specs.Option.{is_some}
 use Rattle.mc_core.specs.Laid.{Laid, LooksAt}
 use Rattle.mc_core.proofs.RingsCalls.{out_of, tells_held, tells_out, tells_zero}
