@@ -11,3 +11,8 @@ pub mod Served
 pub mod Desks
 pub mod Steps
 pub mod Turning
+pub mod Sweeping
+pub mod RingsChange
+pub mod RingsSteps
+pub mod RingsMaking
+pub mod RingsCalls

@@ -13,3 +13,7 @@ pub mod Served
 pub mod Desk
 pub mod DeskLaws
 pub mod Turns
+pub mod Sweeps
+pub mod Numbers
+pub mod Rings
+pub mod Laid

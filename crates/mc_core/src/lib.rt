@@ -5,6 +5,7 @@
 mod gate;
 mod handed;
 mod laws;
+mod sim;
 mod sizes;
 mod worker;
 
