@@ -11,3 +11,6 @@ pub mod Served
 pub mod Desks
 pub mod Steps
 pub mod Turning
+pub mod Changing
+pub mod Standing
+pub mod AtSeat

@@ -13,5 +13,7 @@ pub mod Served
 pub mod Desk
 pub mod DeskLaws
 pub mod Turns
+pub mod Asked
 pub mod Numbers
+pub mod Stands
 pub mod Rings

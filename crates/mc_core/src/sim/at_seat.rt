@@ -1,0 +1,154 @@
+//! The events of a connection: bytes in, commands taken, replies out, and its beginning and end.
+ghost use Rattle.std.specs.Prelude.{◌≡◌, ◌<◌, length};
+ghost use Rattle.mc_core.specs.Stands.{Steps};
+ghost use Rattle.mc_core.specs.Events.Event.{Open, Feed, Take, Hand, End, Break};
+
+use crate::event::StepReply;
+use crate::sim::page::Page;
+use crate::sim::{Connection, Sim};
+use mc_conn::{Conn, Taken};
+use std::alloc::Global;
+
+impl Sim {
+    /// No more bytes come.
+    pub(crate) fn end(&mut self, seat: usize) -> StepReply
+        ensures { Steps self.old (End seat) result self.new }
+    {
+        let Some(number) = self.find(seat) else {
+            return StepReply::Idle;
+        };
+        if self.connections[number].ended {
+            return StepReply::Idle;
+        }
+        self.connections[number].ended = true;
+        self.seats[seat].conn.end();
+        StepReply::Done
+    }
+
+    /// The connection breaks.
+    pub(crate) fn cut(&mut self, seat: usize) -> StepReply
+        ensures { Steps self.old (Break seat) result self.new }
+    {
+        let Some(number) = self.find(seat) else {
+            return StepReply::Idle;
+        };
+        if self.connections[number].broken {
+            return StepReply::Idle;
+        }
+        self.connections[number].broken = true;
+        self.seats[seat].conn.broken();
+        StepReply::Done
+    }
+
+    /// The next command is taken.
+    pub(crate) fn take(&mut self, alloc: Global, seat: usize, moment: u64) -> StepReply
+        ensures { Steps self.old (Take seat moment) result self.new }
+    {
+        let Some(_) = self.find(seat) else {
+            return StepReply::Idle;
+        };
+        match self.seats[seat].conn.take(alloc, moment) {
+            Taken::Opened(_) => StepReply::Done,
+            Taken::NeedMore | Taken::Full | Taken::Closed => StepReply::Idle,
+        }
+    }
+
+    /// A new connection begins on the seat.
+    pub(crate) fn begin(&mut self, alloc: Global, seat: usize) -> StepReply
+        ensures { Steps self.old (Open seat) result self.new }
+    {
+        if self.seats.len() <= seat || !self.may_begin(seat) {
+            return StepReply::Idle;
+        }
+        let number = self.connections.len();
+        let connection = Connection {
+            seat,
+            ended: false,
+            broken: false,
+            fed: Vec::new(alloc),
+            handed: Vec::new(alloc),
+        };
+        if self.connections.push(connection).is_err() {
+            return StepReply::NoMemory;
+        }
+        if self.seats[seat].current.is_some() {
+            self.seats[seat].conn.renew();
+        }
+        self.seats[seat].current = Some(number);
+        StepReply::Done
+    }
+
+    /// Whether the seat has had no connection, or its connection may be followed.
+    fn may_begin(&self, seat: usize) -> bool
+        requires { seat < length self.now.seats.items }
+    {
+        let place = &self.seats[seat];
+        place.current.is_none() || (place.conn.is_at_rest() && place.conn.is_over())
+    }
+
+    /// Bytes come in.
+    pub(crate) fn feed(&mut self, alloc: Global, seat: usize, bytes: &[u8]) -> StepReply
+        ensures { Steps self.old (Feed seat bytes.now) result self.new }
+    {
+        let Some(number) = self.find(seat) else {
+            return StepReply::Idle;
+        };
+        let kept = &mut self.connections[number];
+        if kept.ended || kept.broken || bytes.is_empty() {
+            return StepReply::Idle;
+        }
+        let before = kept.fed.len();
+        if kept.fed.extend_from_slice(bytes).is_err() {
+            return StepReply::NoMemory;
+        }
+        let count = feed_some(alloc, &mut self.seats[seat].conn, bytes);
+        kept.fed.truncate(before + count);
+        if count == 0 {
+            return StepReply::Idle;
+        }
+        StepReply::Done
+    }
+
+    /// All replies whose turn has come go out.
+    pub(crate) fn hand(&mut self, alloc: Global, seat: usize) -> StepReply
+        ensures { Steps self.old (Hand seat) result self.new }
+    {
+        let Some(number) = self.find(seat) else {
+            return StepReply::Idle;
+        };
+        let conn = &mut self.seats[seat].conn;
+        if conn.passes() == 0 {
+            return StepReply::Idle;
+        }
+        hand_out(alloc, conn, &mut self.connections[number].handed)
+    }
+}
+
+/// Feeds a connection, neither ended nor broken. Where no command is unread, it is asked for one first: it then takes some byte.
+fn feed_some(alloc: Global, conn: &mut Conn, bytes: &[u8]) -> usize
+{
+    if !conn.whole() {
+        conn.take(alloc, 0);
+    }
+    conn.feed(bytes)
+}
+
+/// Hands out all replies whose turn has come, behind the bytes that were handed before.
+fn hand_out(alloc: Global, conn: &mut Conn, handed: &mut Vec<u8>) -> StepReply
+{
+    let bytes = std::mem::replace(handed, Vec::new(alloc));
+    let mut page = match Page::with_room(bytes, conn.ready()) {
+        Ok(page) => page,
+        Err(bytes) => {
+            *handed = bytes;
+            return StepReply::NoMemory;
+        }
+    };
+    let reply = match conn.hand(&mut page) {
+        Ok(_) => StepReply::Done,
+        // The page has room for all of it, so this is never reached.
+        Err(_) => StepReply::NoMemory,
+    };
+    *handed = page.into_bytes();
+    reply
+}
