@@ -1,9 +1,10 @@
 -- The events of a connection lead a core on: end, break and take.
-use Rattle.std.proofs.Common.{◌≡◌, ◌≢◌, ℕ, ◌+◌, ◌<◌, ◌≤◌, inl, inr, Bool, true, false, Some, List, [], ◌∷◌, ◌++◌, length, map, take, drop, refl, sym, ap, ◌∙◌, subst, arith, slice_set, append-nil, length-append}
+use Rattle.std.proofs.Common.{◌≡◌, ◌≢◌, ℕ, zero, suc, ◌+◌, ◌<◌, ◌≤◌, inl, inr, Bool, true, false, Some, None, List, [], ◌∷◌, ◌++◌, length, map, take, drop, refl, sym, ap, ◌∙◌, subst, arith, slice_set, slice_index_or, append-nil, length-append}
 use Rattle.std.specs.Prelude.{IsTrue}
 use Rattle.std.specs.List.{concat, slice_get}
 use Rattle.std.proofs.lemmas.Bool.{cases_eq}
 use Rattle.std.proofs.lemmas.List.{map-append, take-append-le}
+use Rattle.std.proofs.lemmas.Option.{slice_get_within}
 use Rattle.mc_command.specs.declared.command.Command.{Command}
 use Rattle.mc_reader.specs.Spelling.{is_closed}
 use Rattle.mc_reader.proofs.Fronts.{commands_begin, last_of}
@@ -35,6 +36,7 @@ use Rattle.mc_core.specs.Law.{Law, LinkLaw}
 use Rattle.mc_core.specs.Rings.{AreWired}
 use Rattle.mc_core.specs.Stands.{IsServing, IsWorld, Keeps, SeatIs, Stands, Steps, received_by, told_of, unrun}
 use Rattle.mc_core.proofs.Every.{event_kept}
+use Rattle.mc_core.proofs.Lists.{at_once}
 use Rattle.mc_core.proofs.Follows.{are_replies}
 use Rattle.mc_core.proofs.Growing.{forms-append, replies_stay}
 use Rattle.mc_core.proofs.Changing.{at_same, mirrors_stay, one_at}
@@ -97,14 +99,14 @@ pub ends : (old new : Sim) (c number : ℕ) (place after : Seat) (kept : Connect
     ((told : Told) → IsConn place.conn told → IsConn after.conn (record told { ended = true })) → after.current ≡ place.current → Differs old new c after →
     new.connections.items ≡ slice_set old.connections.items number (record kept { ended = true }) → Steps old (End c) replied.Done new
 unfolding Stands
-ends old new c number place after kept finds at_kept open conn same differs connections sizes w world =
+ends old new c number place after kept finds at_kept unset conn same differs connections sizes w world =
     let f = found sizes w old c number place world finds.here finds.current in
     let link = f.0 in
     let at = f.1 in
     let s = f.2 in
     let next : Link = record link { ended = true } in
     let h = world.keeps number link kept at.here at_kept in
-    let happens : Happens sizes w (End c) Done (with_link w number next) = (number, link, at, sym h.ended ∙ open, refl) in
+    let happens : Happens sizes w (End c) Done (with_link w number next) = (number, link, at, sym h.ended ∙ unset, refl) in
     let law = event_kept sizes w (End c) Done (with_link w number next) world.within.shards.0 happens world.law in
     let serving : IsServing sizes (of_asker number w.log) next after.conn = record { lent = s.lent; accepted = s.accepted; is = conn (told_of sizes link s.lent s.accepted) s.is; fits = s.fits } in
     let keeps : Keeps sizes (with_link w number next) number next (record kept { ended = true }) = record { seat = h.seat; ended = refl; broken = h.broken; fed = h.fed; handed = h.handed } in (
@@ -124,8 +126,8 @@ ended_before old new c number place kept finds at_kept ended same sizes w world 
       w,
       (inl (λ e.
           let one = one_at w c number e.0 f.0 e.1 f.1 e.2 in
-          let open : f.0.ended ≡ false = ap (λ (x : Link). x.ended) one.1 ∙ e.3 in
-          absurd (let a : true ≡ false = sym ended ∙ (h.ended ∙ open) in cc)), refl),
+          let unset : f.0.ended ≡ false = ap (λ (x : Link). x.ended) one.1 ∙ e.3 in
+          absurd (let a : true ≡ false = sym ended ∙ (h.ended ∙ unset) in cc)), refl),
       world_stays sizes w old new world same,
     )
 
@@ -134,14 +136,14 @@ pub breaks : (old new : Sim) (c number : ℕ) (place after : Seat) (kept : Conne
     ((told : Told) → IsConn place.conn told → IsConn after.conn (record told { broken = true })) → after.current ≡ place.current → Differs old new c after →
     new.connections.items ≡ slice_set old.connections.items number (record kept { broken = true }) → Steps old (Break c) replied.Done new
 unfolding Stands
-breaks old new c number place after kept finds at_kept open conn same differs connections sizes w world =
+breaks old new c number place after kept finds at_kept unset conn same differs connections sizes w world =
     let f = found sizes w old c number place world finds.here finds.current in
     let link = f.0 in
     let at = f.1 in
     let s = f.2 in
     let next : Link = record link { broken = true } in
     let h = world.keeps number link kept at.here at_kept in
-    let happens : Happens sizes w (Break c) Done (with_link w number next) = (number, link, at, sym h.broken ∙ open, refl) in
+    let happens : Happens sizes w (Break c) Done (with_link w number next) = (number, link, at, sym h.broken ∙ unset, refl) in
     let law = event_kept sizes w (Break c) Done (with_link w number next) world.within.shards.0 happens world.law in
     let serving : IsServing sizes (of_asker number w.log) next after.conn = record { lent = s.lent; accepted = s.accepted; is = conn (told_of sizes link s.lent s.accepted) s.is; fits = s.fits } in
     let keeps : Keeps sizes (with_link w number next) number next (record kept { broken = true }) = record { seat = h.seat; ended = h.ended; broken = refl; fed = h.fed; handed = h.handed } in (
@@ -161,8 +163,8 @@ broken_before old new c number place kept finds at_kept broken same sizes w worl
       w,
       (inl (λ e.
           let one = one_at w c number e.0 f.0 e.1 f.1 e.2 in
-          let open : f.0.broken ≡ false = ap (λ (x : Link). x.broken) one.1 ∙ e.3 in
-          absurd (let a : true ≡ false = sym broken ∙ (h.broken ∙ open) in cc)), refl),
+          let unset : f.0.broken ≡ false = ap (λ (x : Link). x.broken) one.1 ∙ e.3 in
+          absurd (let a : true ≡ false = sym broken ∙ (h.broken ∙ unset) in cc)), refl),
       world_stays sizes w old new world same,
     )
 
@@ -265,21 +267,65 @@ pub takes_all : (old new : Sim) (c number moment : ℕ) (place after : Seat) →
     ((told : Told) → IsConn place.conn told → NeedsMore told after.conn) → Steps old (Take c moment) replied.Idle new
 takes_all old new c number moment place after finds same differs connections conn =
     takes_none old new c number moment place after finds same differs connections (λ told is. (conn told is).now)
-    (λ sizes link lent accepted command is next window open. not_one_more sizes link command (conn (told_of sizes link lent accepted) is).all next)
+    (λ sizes link lent accepted command is next window unset. not_one_more sizes link command (conn (told_of sizes link lent accepted) is).all next)
 
 pub takes_full : (old new : Sim) (c number moment : ℕ) (place after : Seat) → Finds old c number place → after.current ≡ place.current → Differs old new c after → new.connections.items ≡ old.connections.items →
     ((told : Told) → IsConn place.conn told → FillsWindow told after.conn) → Steps old (Take c moment) replied.Idle new
 takes_full old new c number moment place after finds same differs connections conn =
     takes_none old new c number moment place after finds same differs connections (λ told is. (conn told is).now)
-    (λ sizes link lent accepted command is next window open. let full = (conn (told_of sizes link lent accepted) is).full in absurd (omega (arith, full, window)))
+    (λ sizes link lent accepted command is next window unset. let full = (conn (told_of sizes link lent accepted) is).full in absurd (omega (arith, full, window)))
 
 over_none : (sizes : Sizes) (link : Link) (lent : Bool) (accepted : List Shown) (command : Command) → IsOver (told_of sizes link lent accepted) → IsNextCommand sizes link command → link.broken ≡ false → ⊥
-over_none sizes link lent accepted command (inl broken) next open = absurd (let e : true ≡ false = sym broken ∙ open in cc)
-over_none sizes link lent accepted command (inr (inl shut)) next open = not_after_last sizes link command shut next
-over_none sizes link lent accepted command (inr (inr done)) next open = not_one_more sizes link command done.1 next
+over_none sizes link lent accepted command (inl broken) next unset = absurd (let e : true ≡ false = sym broken ∙ unset in cc)
+over_none sizes link lent accepted command (inr (inl shut)) next unset = not_after_last sizes link command shut next
+over_none sizes link lent accepted command (inr (inr done)) next unset = not_one_more sizes link command done.1 next
 
 pub takes_closed : (old new : Sim) (c number moment : ℕ) (place after : Seat) → Finds old c number place → after.current ≡ place.current → Differs old new c after → new.connections.items ≡ old.connections.items →
     ((told : Told) → IsConn place.conn told → IsOver told × IsConn after.conn told) → Steps old (Take c moment) replied.Idle new
 takes_closed old new c number moment place after finds same differs connections conn =
     takes_none old new c number moment place after finds same differs connections (λ told is. (conn told is).1)
-    (λ sizes link lent accepted command is next window open. over_none sizes link lent accepted command (conn (told_of sizes link lent accepted) is).0 next open)
+    (λ sizes link lent accepted command is next window unset. over_none sizes link lent accepted command (conn (told_of sizes link lent accepted) is).0 next unset)
+
+-- the element at a place
+pub get_index : {X : Type 0} (xs : List X) (i : ℕ) (x : X) → i < length xs → x ≡ slice_index_or xs i x → slice_get xs i ≡ Some x
+get_index [] i x below is = absurd (omega (arith, below))
+get_index (y ∷ xs) zero x below is = ap (λ z. Some z) (sym is)
+get_index (y ∷ xs) (suc i) x below is = get_index xs i x (omega (arith, below)) is
+
+pub same_index : {X : Type 0} (xs : List X) (i : ℕ) (x y : X) → i < length xs → x ≡ slice_index_or xs i x → y ≡ slice_index_or xs i y → x ≡ y
+same_index xs i x y below is is' = at_once xs i i x y (get_index xs i x below is) (get_index xs i y below is') refl
+
+-- What was found at the seat is what stands there.
+pub finds_at : (sim : Sim) (c number : ℕ) (place : Seat) → c < length sim.seats.items → place ≡ slice_index_or sim.seats.items c place → ((x : Seat) × (slice_get sim.seats.items c ≡ Some x) × (x.current ≡ Some number)) → Finds sim c number place
+finds_at sim c number place below is f =
+    let here = get_index sim.seats.items c place below is in
+    record { here = here; current = ap (λ (x : Seat). x.current) (at_once sim.seats.items c c place f.0 here f.1 refl) ∙ f.2 }
+
+pub finds_some : (sim : Sim) (c number : ℕ) (f : (x : Seat) × (slice_get sim.seats.items c ≡ Some x) × (x.current ≡ Some number)) → Finds sim c number f.0
+finds_some sim c number f = record { here = f.1; current = f.2 }
+
+abbrev pub HasNone : Sim → ℕ → Type 0
+HasNone sim c = (sizes : Sizes) (w : World) → Stands sizes sim w → (k : ℕ) (link : Link) → IsAt w c k link → ⊥
+
+-- a seat that isn't there has no connection
+pub no_seat : (sim : Sim) (c : ℕ) → length sim.seats.items ≤ c → HasNone sim c
+unfolding Stands
+no_seat sim c beyond sizes w world k link at =
+    let below = world.seated k link at.here in
+    let e = at.seat_is in
+    let n = world.seat_count in
+    absurd (omega (arith, below, e, n, beyond))
+
+pub no_current : (sim : Sim) (c : ℕ) (place : Seat) → slice_get sim.seats.items c ≡ Some place → place.current ≡ None → HasNone sim c
+unfolding Stands
+no_current sim c place here none sizes w world k link at =
+    let is : SeatIs sizes w c place.conn None = subst (λ o. SeatIs sizes w c place.conn o) none (world.each_seat c place here) in
+    is.0 k link at.here at.seat_is
+
+pub no_kept : (sim : Sim) (c number : ℕ) (place : Seat) → Finds sim c number place → length sim.connections.items ≤ number → HasNone sim c
+unfolding Stands
+no_kept sim c number place finds beyond sizes w world k link at =
+    let f = found sizes w sim c number place world finds.here finds.current in
+    let below = slice_get_within w.links number f.0 f.1.here in
+    let n = world.count in
+    absurd (omega (arith, below, n, beyond))

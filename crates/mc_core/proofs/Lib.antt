@@ -14,3 +14,7 @@ pub mod Turning
 pub mod Changing
 pub mod Standing
 pub mod AtSeat
+pub mod AtRing
+pub mod Receiving
+pub mod Popping
+pub mod Feeding

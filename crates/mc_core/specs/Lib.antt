@@ -15,5 +15,6 @@ pub mod DeskLaws
 pub mod Turns
 pub mod Asked
 pub mod Numbers
+pub mod Feeding
 pub mod Stands
 pub mod Rings

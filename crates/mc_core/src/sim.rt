@@ -95,11 +95,13 @@ impl Sim {
         ensures current { IfSome result (λ number. (place : _) × (slice_get self.now.seats.items seat ≡ Some place) × (place.current ≡ Some number)) }
         ensures none { IfNone result ((sizes : Sizes) (w : World) → Stands sizes self.now w → (k : ℕ) (link : Link) → IsAt w seat k link → ⊥) }
     {
-        let number = self.seats.get(seat)?.current?;
-        if number < self.connections.len() {
-            Some(number)
-        } else {
-            None
+        if self.seats.len() <= seat {
+            return None;
         }
+        let number = self.seats[seat].current?;
+        if self.connections.len() <= number {
+            return None;
+        }
+        Some(number)
     }
 }

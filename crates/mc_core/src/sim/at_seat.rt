@@ -1,5 +1,8 @@
 //! The events of a connection: bytes in, commands taken, replies out, and its beginning and end.
-ghost use Rattle.std.specs.Prelude.{◌≡◌, ◌<◌, length};
+ghost use Rattle.std.specs.Prelude.{◌≡◌, ◌<◌, ◌≤◌, length};
+ghost use Rattle.mc_conn.specs.Conn.{IsConn};
+ghost use Rattle.mc_conn.specs.Told.{IsAllTaken, IsOpen, Told};
+ghost use Rattle.mc_core.specs.Feeding.{Refreshed, TakesBytes};
 ghost use Rattle.mc_core.specs.Stands.{Steps};
 ghost use Rattle.mc_core.specs.Events.Event.{Open, Feed, Take, Hand, End, Break};
 
@@ -49,7 +52,9 @@ impl Sim {
         };
         match self.seats[seat].conn.take(alloc, moment) {
             Taken::Opened(_) => StepReply::Done,
-            Taken::NeedMore | Taken::Full | Taken::Closed => StepReply::Idle,
+            Taken::NeedMore => StepReply::Idle,
+            Taken::Full => StepReply::Idle,
+            Taken::Closed => StepReply::Idle,
         }
     }
 
@@ -124,13 +129,29 @@ impl Sim {
     }
 }
 
-/// Feeds a connection, neither ended nor broken. Where no command is unread, it is asked for one first: it then takes some byte.
+/// Feeds a connection, and tells how many bytes it took.
 fn feed_some(alloc: Global, conn: &mut Conn, bytes: &[u8]) -> usize
+    ensures within { result ≤ length bytes.now }
+    ensures { (told : Told) → IsConn conn.old told → IsOpen told → TakesBytes told bytes.now result conn.new }
+{
+    refresh(alloc, conn);
+    conn.feed(bytes)
+}
+
+/// Asks a connection of which all commands are taken for the next one. It finds none, and is ready for more bytes.
+fn refresh(alloc: Global, conn: &mut Conn)
+    ensures { (told : Told) → IsConn conn.old told → Refreshed told conn.new }
 {
     if !conn.whole() {
-        conn.take(alloc, 0);
+        ask(alloc, conn);
     }
-    conn.feed(bytes)
+}
+
+/// Asks a connection of which all commands are taken for the next one.
+fn ask(alloc: Global, conn: &mut Conn)
+    ensures { (told : Told) → IsConn conn.old told → IsAllTaken told → Refreshed told conn.new }
+{
+    let _ = conn.take(alloc, 0);
 }
 
 /// Hands out all replies whose turn has come, behind the bytes that were handed before.
