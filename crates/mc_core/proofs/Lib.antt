@@ -18,3 +18,4 @@ pub mod AtRing
 pub mod Receiving
 pub mod Popping
 pub mod Feeding
+pub mod Handing

@@ -1,8 +1,8 @@
 //! The events of a connection: bytes in, commands taken, replies out, and its beginning and end.
-ghost use Rattle.std.specs.Prelude.{◌≡◌, ◌<◌, ◌≤◌, length};
+ghost use Rattle.std.specs.Prelude.{◌≡◌, ◌<◌, ◌≤◌, ◌↔◌, IsTrue, length};
 ghost use Rattle.mc_conn.specs.Conn.{IsConn};
 ghost use Rattle.mc_conn.specs.Told.{IsAllTaken, IsOpen, Told};
-ghost use Rattle.mc_core.specs.Feeding.{Refreshed, TakesBytes};
+ghost use Rattle.mc_core.specs.Feeding.{FeedsInto, MayTake, Refreshed, TakesBytes};
 ghost use Rattle.mc_core.specs.Stands.{Steps};
 ghost use Rattle.mc_core.specs.Events.Event.{Open, Feed, Take, Hand, End, Break};
 
@@ -98,20 +98,13 @@ impl Sim {
         let Some(number) = self.find(seat) else {
             return StepReply::Idle;
         };
-        let kept = &mut self.connections[number];
-        if kept.ended || kept.broken || bytes.is_empty() {
-            return StepReply::Idle;
+        if may_take(&self.connections[number], bytes) {
+            let place = &mut self.seats[seat];
+            let kept = &mut self.connections[number];
+            feed_into(alloc, &mut place.conn, &mut kept.fed, bytes)
+        } else {
+            StepReply::Idle
         }
-        let before = kept.fed.len();
-        if kept.fed.extend_from_slice(bytes).is_err() {
-            return StepReply::NoMemory;
-        }
-        let count = feed_some(alloc, &mut self.seats[seat].conn, bytes);
-        kept.fed.truncate(before + count);
-        if count == 0 {
-            return StepReply::Idle;
-        }
-        StepReply::Done
     }
 
     /// All replies whose turn has come go out.
@@ -129,10 +122,33 @@ impl Sim {
     }
 }
 
+/// Whether a connection may take bytes: it is neither ended nor broken, and there are some.
+fn may_take(kept: &Connection, bytes: &[u8]) -> bool
+    ensures { IsTrue result ↔ MayTake kept.now bytes.now }
+{
+    !kept.ended && !kept.broken && !bytes.is_empty()
+}
+
+/// Feeds a connection, and keeps the bytes that it took behind those before. Room for all of them is made first.
+fn feed_into(alloc: Global, conn: &mut Conn, fed: &mut Vec<u8>, bytes: &[u8]) -> StepReply
+    ensures { FeedsInto conn.old fed.old.items bytes.now result conn.new fed.new.items }
+{
+    let before = fed.len();
+    if fed.extend_from_slice(bytes).is_err() {
+        return StepReply::NoMemory;
+    }
+    let count = feed_some(alloc, conn, bytes);
+    fed.truncate(before + count);
+    if count == 0 {
+        return StepReply::Idle;
+    }
+    StepReply::Done
+}
+
 /// Feeds a connection, and tells how many bytes it took.
 fn feed_some(alloc: Global, conn: &mut Conn, bytes: &[u8]) -> usize
     ensures within { result ≤ length bytes.now }
-    ensures { (told : Told) → IsConn conn.old told → IsOpen told → TakesBytes told bytes.now result conn.new }
+    ensures taken { (told : Told) → IsConn conn.old told → IsOpen told → TakesBytes told bytes.now result conn.new }
 {
     refresh(alloc, conn);
     conn.feed(bytes)
