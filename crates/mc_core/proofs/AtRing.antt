@@ -1,5 +1,5 @@
 -- The events of the rings lead a core on: send, give and receive.
-use Rattle.std.proofs.Common.{◌≡◌, ◌≢◌, ℕ, zero, suc, ◌+◌, ◌<◌, ◌≤◌, ◌==◌, inl, inr, cond, Bool, true, false, Option, Some, None, List, [], ◌∷◌, ◌++◌, length, map, take, drop, refl, sym, ap, ◌∙◌, subst, arith, slice_set, append-nil, length-append, eq-eqb, ne_eqb}
+use Rattle.std.proofs.Common.{◌≡◌, ◌≢◌, ℕ, zero, suc, ◌+◌, ◌<◌, ◌≤◌, ◌==◌, inl, inr, cond, Bool, true, false, Option, Some, None, List, [], ◌∷◌, ◌++◌, length, map, take, drop, refl, sym, ap, ◌∙◌, subst, arith, slice_set, slice_index_or, append-nil, length-append, eq-eqb, ne_eqb}
 use Rattle.std.specs.Prelude.{IsTrue}
 use Rattle.std.specs.List.{slice_get}
 use Rattle.std.proofs.lemmas.Bool.{cases_eq, cases_lt}
@@ -7,6 +7,7 @@ use Rattle.std.proofs.lemmas.Bool.Decides.{eqb_tells}
 use Rattle.std.proofs.lemmas.List.{drop-append-le, length-map, length-take-le, take-append-drop}
 use Rattle.std.proofs.lemmas.Option.{same_Some, slice_get_within}
 use Rattle.mc_ring.specs.Reply.{Shown}
+use Rattle.mc_ring.specs.EndsLaws.{get-set_same, length-slice_set}
 use Rattle.mc_split.specs.declared.plan.Piece.{Piece}
 use Rattle.mc_conn.specs.declared.conn.Conn.{Conn}
 use Rattle.mc_conn.specs.Conn.{IsConn}
@@ -34,7 +35,7 @@ use Rattle.mc_core.proofs.Every.{event_kept}
 use Rattle.mc_core.proofs.Links.{ran_within}
 use Rattle.mc_core.proofs.Changing.{at_apart, at_same, hand_on, mirrors_on, one_at, set_here, set_other}
 use Rattle.mc_core.proofs.Standing.{KeptBut, SeatsBut, found, kept_same, seats_set, world_on}
-use Rattle.mc_core.proofs.AtSeat.{Finds}
+use Rattle.mc_core.proofs.AtSeat.{Finds, get_index}
 
 pub length_drop : {X : Type 0} (n : ℕ) (xs : List X) → n ≤ length xs → n + length (drop n xs) ≡ length xs
 length_drop zero [] le = omega arith
@@ -385,3 +386,10 @@ gives_none old new shard give seats connections log sizes w world =
           ] refl (world.mirrors.hands shard below)), refl),
       only_rings sizes w old new world seats connections log g.now,
     )
+
+-- what stands at a place that was written
+pub mid_is : (seats : List Seat) (c : ℕ) (place first mid : Seat) → slice_get seats c ≡ Some place → mid ≡ slice_index_or (slice_set seats c first) c mid → mid ≡ first
+mid_is seats c place first mid here is =
+    let within = slice_get_within seats c place here in
+    let long = length-slice_set seats c first in
+    at_once (slice_set seats c first) c c mid first (get_index (slice_set seats c first) c mid (omega (arith, within, long)) is) (get-set_same seats c place first here) refl

@@ -160,8 +160,8 @@ feeds_none sizes w old new c number place after kept kept' world finds at_kept l
 pub feeds_into : (old new : Sim) (c number : ℕ) (bytes : List ℕ) (reply : Replied) (place after : Seat) (kept kept' : Connection) → Finds old c number place → slice_get old.connections.items number ≡ Some kept → MayTake kept bytes →
     FeedsInto place.conn kept.fed.items bytes reply after.conn kept'.fed.items → after.current ≡ place.current → Fed old new c number after kept kept' kept'.fed.items → Steps old (Feed c bytes) reply new
 unfolding Stands
-feeds_into old new c number bytes replied.Done place after kept kept' finds at_kept may into same fed =
-    feeds old new c number bytes into.0 place after kept kept' finds at_kept may.0 may.1 may.2 into.1 into.3 same fed.differs fed.connections fed.seat fed.ended fed.broken into.2 fed.handed
+feeds_into old new c number bytes replied.Done place after kept kept' finds at_kept may into same fed sizes w world =
+    feeds old new c number bytes into.0 place after kept kept' finds at_kept may.0 may.1 may.2 into.1 into.3 same fed.differs fed.connections fed.seat fed.ended fed.broken into.2 fed.handed sizes w world
 feeds_into old new c number bytes replied.Idle place after kept kept' finds at_kept may into same fed sizes w world =
     let f = found sizes w old c number place world finds.here finds.current in
     let link = f.0 in

@@ -19,3 +19,4 @@ pub mod Receiving
 pub mod Popping
 pub mod Feeding
 pub mod Handing
+pub mod Opening

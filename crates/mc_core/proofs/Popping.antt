@@ -52,7 +52,7 @@ entry_at : (w : World) (entry : Entry) (c k : ℕ) (link : Link) → IsAt (with_
 entry_at w entry c k link at = record { here = at.here; seat_is = at.seat_is; last = at.last }
 
 -- the replies of a shard to a connection, where the log is longer
-more_replies : Entry → ℕ → ℕ → List Shown
+abbrev more_replies : Entry → ℕ → ℕ → List Shown
 more_replies entry j s = replies_in (on_shard s (of_asker j (entry ∷ [])))
 
 longer : (log : List Entry) (entry : Entry) (j s : ℕ) → replies_in (on_shard s (of_asker j (log ++ entry ∷ []))) ≡ replies_in (on_shard s (of_asker j log)) ++ more_replies entry j s

@@ -1,5 +1,5 @@
 -- How a connection is fed: some byte is taken wherever one has to be.
-use Rattle.std.specs.Prelude.{ℕ, ◌≡◌, ◌+◌, ◌<◌, ◌≤◌, ◌⊎◌, false, List, [], ◌++◌, length, take}
+use Rattle.std.specs.Prelude.{ℕ, ◌≡◌, ◌+◌, ◌<◌, ◌≤◌, ◌⊎◌, false, Option, None, List, [], ◌++◌, length, take}
 use Rattle.mc_wire.specs.declared.TheConstants.{LINE_LIMIT}
 use Rattle.mc_reader.specs.Spelling.{SpellsFront}
 use Rattle.mc_conn.specs.declared.conn.Conn.{Conn}
@@ -7,7 +7,7 @@ use Rattle.mc_core.specs.declared.event.StepReply.{StepReply as Replied}
 use Rattle.mc_core.specs.declared.event.StepReply.TheVariants as replied
 use Rattle.mc_core.specs.declared.sim.Connection.{Connection}
 use Rattle.mc_conn.specs.Conn.{IsAwaiting, IsConn}
-use Rattle.mc_conn.specs.Told.{IsAllTaken, IsOpen, IsShut, Told, all_texts, commands_of, waiting_text}
+use Rattle.mc_conn.specs.Told.{IsAllTaken, IsAtRest, IsOpen, IsOver, IsShut, Told, all_texts, commands_of, waiting_text}
 
 -- The window has room for one more command.
 abbrev pub HasPlace : Told → Type 0
@@ -54,3 +54,7 @@ abbrev pub HandsOnto : Told → List ℕ → Replied → Conn → List ℕ → T
 HandsOnto told before replied.Done new after = HandsAll told new before after
 HandsOnto told before replied.Idle new after = ⊥
 HandsOnto told before replied.NoMemory new after = ⊥
+
+-- A seat has had no connection, or its connection is at rest and closed or broken.
+abbrev pub MayBegin : Told → Option ℕ → Type 0
+MayBegin told current = (current ≡ None) ⊎ (IsAtRest told × IsOver told)

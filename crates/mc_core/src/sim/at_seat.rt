@@ -1,14 +1,14 @@
 //! The events of a connection: bytes in, commands taken, replies out, and its beginning and end.
-ghost use Rattle.std.specs.Prelude.{◌≡◌, ◌<◌, ◌≤◌, ◌↔◌, IsTrue, length};
+ghost use Rattle.std.specs.Prelude.{◌≡◌, ◌<◌, ◌≤◌, ◌+◌, ◌↔◌, false, IsTrue, length};
 ghost use Rattle.mc_conn.specs.Conn.{IsConn};
-ghost use Rattle.mc_conn.specs.Told.{IsAllTaken, IsOpen, Told};
-ghost use Rattle.mc_core.specs.Feeding.{FeedsInto, MayTake, Refreshed, TakesBytes};
+ghost use Rattle.mc_conn.specs.Told.{IsAllTaken, IsOpen, Told, waiting_text};
+ghost use Rattle.mc_core.specs.Feeding.{FeedsInto, HandsInto, HandsOnto, MayBegin, MayTake, Refreshed, TakesBytes};
 ghost use Rattle.mc_core.specs.Stands.{Steps};
 ghost use Rattle.mc_core.specs.Events.Event.{Open, Feed, Take, Hand, End, Break};
 
 use crate::event::StepReply;
 use crate::sim::page::Page;
-use crate::sim::{Connection, Sim};
+use crate::sim::{Connection, Seat, Sim};
 use mc_conn::{Conn, Taken};
 use std::alloc::Global;
 
@@ -62,33 +62,28 @@ impl Sim {
     pub(crate) fn begin(&mut self, alloc: Global, seat: usize) -> StepReply
         ensures { Steps self.old (Open seat) result self.new }
     {
-        if self.seats.len() <= seat || !self.may_begin(seat) {
+        if self.seats.len() <= seat {
             return StepReply::Idle;
         }
-        let number = self.connections.len();
-        let connection = Connection {
-            seat,
-            ended: false,
-            broken: false,
-            fed: Vec::new(alloc),
-            handed: Vec::new(alloc),
-        };
-        if self.connections.push(connection).is_err() {
-            return StepReply::NoMemory;
+        if may_begin(&self.seats[seat]) {
+            let number = self.connections.len();
+            let connection = Connection {
+                seat,
+                ended: false,
+                broken: false,
+                fed: Vec::new(alloc),
+                handed: Vec::new(alloc),
+            };
+            if self.connections.push(connection).is_err() {
+                return StepReply::NoMemory;
+            }
+            let place = &mut self.seats[seat];
+            place.conn.renew();
+            place.current = Some(number);
+            StepReply::Done
+        } else {
+            StepReply::Idle
         }
-        if self.seats[seat].current.is_some() {
-            self.seats[seat].conn.renew();
-        }
-        self.seats[seat].current = Some(number);
-        StepReply::Done
-    }
-
-    /// Whether the seat has had no connection, or its connection may be followed.
-    fn may_begin(&self, seat: usize) -> bool
-        requires { seat < length self.now.seats.items }
-    {
-        let place = &self.seats[seat];
-        place.current.is_none() || (place.conn.is_at_rest() && place.conn.is_over())
     }
 
     /// Bytes come in.
@@ -114,12 +109,20 @@ impl Sim {
         let Some(number) = self.find(seat) else {
             return StepReply::Idle;
         };
-        let conn = &mut self.seats[seat].conn;
-        if conn.passes() == 0 {
+        if self.seats[seat].conn.passes() == 0 {
             return StepReply::Idle;
         }
-        hand_out(alloc, conn, &mut self.connections[number].handed)
+        let place = &mut self.seats[seat];
+        let kept = &mut self.connections[number];
+        hand_out(alloc, &mut place.conn, &mut kept.handed)
     }
+}
+
+/// Whether a seat has had no connection, or its connection may be followed by another one.
+fn may_begin(place: &Seat) -> bool
+    ensures { (told : Told) → IsConn place.now.conn told → IsTrue result ↔ MayBegin told place.now.current }
+{
+    place.current.is_none() || (place.conn.is_at_rest() && place.conn.is_over())
 }
 
 /// Whether a connection may take bytes: it is neither ended nor broken, and there are some.
@@ -170,22 +173,32 @@ fn ask(alloc: Global, conn: &mut Conn)
     let _ = conn.take(alloc, 0);
 }
 
-/// Hands out all replies whose turn has come, behind the bytes that were handed before.
+/// Hands out all replies whose turn has come, behind the bytes that were handed before. Room for all of them is made first.
 fn hand_out(alloc: Global, conn: &mut Conn, handed: &mut Vec<u8>) -> StepReply
+    ensures { HandsInto conn.old handed.old.items result conn.new handed.new.items }
 {
     let bytes = std::mem::replace(handed, Vec::new(alloc));
-    let mut page = match Page::with_room(bytes, conn.ready()) {
-        Ok(page) => page,
+    match Page::with_room(bytes, conn.ready()) {
+        Ok(page) => hand_onto(conn, page, handed),
         Err(bytes) => {
             *handed = bytes;
-            return StepReply::NoMemory;
+            StepReply::NoMemory
         }
-    };
-    let reply = match conn.hand(&mut page) {
+    }
+}
+
+/// Hands out all replies whose turn has come onto a page, whose bytes are then those handed.
+fn hand_onto(conn: &mut Conn, page: Page, handed: &mut Vec<u8>) -> StepReply
+    ensures { (told : Told) → IsConn conn.old told → told.broken ≡ false → page.failed ≡ false →
+        length page.bytes.items + length (waiting_text told) < page.limit →
+        HandsOnto told page.bytes.items result conn.new handed.new.items }
+{
+    let mut page = page;
+    let result = conn.hand(&mut page);
+    *handed = page.into_bytes();
+    match result {
         Ok(_) => StepReply::Done,
         // The page has room for all of it, so this is never reached.
         Err(_) => StepReply::NoMemory,
-    };
-    *handed = page.into_bytes();
-    reply
+    }
 }

@@ -1,5 +1,5 @@
 //! Where a connection's replies are kept: a page with room for so many bytes.
-ghost use Rattle.std.specs.Prelude.{◌≡◌, ◌≤◌, ◌+◌, IsTrue, IfOk, IfErr, false, length, vec_capacity};
+ghost use Rattle.std.specs.Prelude.{◌≡◌, ◌≤◌, ◌+◌, ◌<◌, ◌^◌, IsTrue, IfOk, IfErr, false, length, vec_capacity};
 
 use mc_wire::{OutFault, Outlet};
 
@@ -8,8 +8,8 @@ use mc_wire::{OutFault, Outlet};
 pub(crate) struct Page {
     pub(crate) bytes: Vec<u8>,
     /// So many bytes it holds at most.
-    limit: usize,
-    failed: bool,
+    pub(crate) limit: usize,
+    pub(crate) failed: bool,
     ghost room: { limit ≤ vec_capacity bytes },
     ghost within: { length bytes.items ≤ limit },
     ghost full: { IsTrue failed → limit ≤ length bytes.items },
@@ -40,6 +40,7 @@ impl Page {
     pub(crate) fn with_room(bytes: Vec<u8>, more: u64) -> Result<Page, Vec<u8>>
         ensures bytes { IfOk result (λ page. page.bytes.items ≡ bytes.items) }
         ensures limit { IfOk result (λ page. page.limit ≡ length bytes.items + more + 1) }
+        ensures small { IfOk result (λ page. more + 1 < 2 ^ 64) }
         ensures begins { IfOk result (λ page. page.failed ≡ false) }
         ensures back { IfErr result (λ back. back.items ≡ bytes.items) }
     {
