@@ -2,6 +2,7 @@
 use Rattle.std.proofs.Common.{◌≡◌, ◌≢◌, ℕ, zero, suc, ◌+◌, ◌<◌, ◌≤◌, ◌⊎◌, inl, inr, Bool, true, false, Some, List, [], ◌∷◌, ◌++◌, length, map, take, drop, refl, sym, ap, ◌∙◌, subst, arith, slice_set, append-nil, length-append}
 use Rattle.std.specs.List.{slice_get}
 use Rattle.std.proofs.lemmas.List.{length-map, map-append}
+use Rattle.std.proofs.Math.Seq.{take-append-add}
 use Rattle.mc_wire.specs.declared.TheConstants.{LINE_LIMIT}
 use Rattle.mc_command.specs.declared.command.Command.{Command}
 use Rattle.mc_reader.specs.Spelling.{SpellsFront, is_closed}
@@ -200,3 +201,8 @@ feeds_not old new c number bytes f kept at_kept not same sizes w world =
           not (h.ended ∙ (ap (λ (x : Link). x.ended) one.1 ∙ e.3.0), h.broken ∙ (ap (λ (x : Link). x.broken) one.1 ∙ e.3.1), e.3.2)), refl),
       world_stays sizes w old new world same,
     )
+
+-- what is left of a list that was lengthened, and cut
+pub front_of : (old now all bytes : List ℕ) (before count : ℕ) → before ≡ length old → all ≡ old ++ bytes → now ≡ take (before + count) all → now ≡ old ++ take count bytes
+front_of old now all bytes before count at is cut =
+    cut ∙ (ap (λ xs. take (before + count) xs) is ∙ (ap (λ n. take (n + count) (old ++ bytes)) at ∙ take-append-add old bytes count))

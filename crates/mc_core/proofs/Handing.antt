@@ -1,8 +1,6 @@
 -- Replies that were handed out lead a core on.
 use Rattle.std.proofs.Common.{◌≡◌, ◌≢◌, ℕ, zero, suc, ◌+◌, ◌<◌, ◌≤◌, ◌==◌, inl, inr, Bool, true, false, Some, Option, None, List, [], ◌∷◌, ◌++◌, length, map, take, drop, refl, sym, ap, ◌∙◌, subst, arith, slice_set, length-append}
 use Rattle.std.specs.Prelude.{IsTrue}
-use Rattle.mc_wire.specs.Outlet.{Sight, Trace}
-use Rattle.mc_wire.specs.Outlet.Trace.{Counted, Listed, Untold}
 use Rattle.std.specs.List.{AllByRecursion, concat, slice_get}
 use Rattle.std.specs.Option.{option_map}
 use Rattle.std.proofs.lemmas.Bool.{cases_lt}
@@ -17,7 +15,7 @@ use Rattle.mc_split.specs.declared.plan.Ticket.{Ticket}
 use Rattle.mc_split.specs.Plan.{no_answers, parts_from}
 use Rattle.mc_split.specs.Pieces.{Asked, pieces_of}
 use Rattle.mc_conn.specs.declared.conn.Conn.{Conn}
-use Rattle.mc_conn.specs.Conn.{BreaksOff, HandsOut, IsConn}
+use Rattle.mc_conn.specs.Conn.{IsConn}
 use Rattle.mc_conn.specs.History.{Taken, planned, text_done}
 use Rattle.mc_conn.specs.Told.{Told, all_texts, handed_text, waiting_text}
 use Rattle.mc_conn.specs.Due.{done_at, due, forms_of, history_from, lane, pieces, pieces_at, pieces_from, ticket_at}
@@ -50,7 +48,7 @@ use Rattle.mc_core.specs.Stands.{IsServing, IsWorld, Keeps, SeatIs, Stands, Step
 use Rattle.mc_core.proofs.Every.{event_kept}
 use Rattle.mc_core.proofs.Changing.{one_at}
 use Rattle.mc_core.proofs.Standing.{found, kept_set, seats_set}
-use Rattle.mc_core.proofs.AtSeat.{Differs, Finds, seat_again, seat_stays}
+use Rattle.mc_core.proofs.AtSeat.{Differs, Finds, IsSame, seat_stays, world_stays}
 use Rattle.mc_core.proofs.Feeding.{world_again}
 
 take_less : {X : Type 0} (n : ℕ) (xs : List X) (i : ℕ) → i < n → slice_get (take n xs) i ≡ slice_get xs i
@@ -158,40 +156,6 @@ handed_now sizes w k link conn law s =
     ap (λ ts. concat ts ++ waiting_text told) (sym front)
     ∙ (sym (concat-append (take link.handed texts) (drop link.handed texts)) ∙ (ap (λ ts. concat ts) (take-append-drop link.handed texts) ∙ ap (λ ts. concat ts) same))
 
-counted_of : Trace → ℕ
-counted_of Untold = 0
-counted_of (Counted count) = count
-counted_of (Listed bytes) = 0
-
-listed_of : Trace → List ℕ
-listed_of Untold = []
-listed_of (Counted count) = []
-listed_of (Listed bytes) = bytes
-
-abbrev page_sight : ℕ → List ℕ → Bool → Sight
-page_sight limit bytes failed = record { given = Counted limit; ended = false; reads = None; taken = Listed bytes; failed = failed }
-
--- A page that has taken all.
-pub page_took : (told : Told) (count limit limit' : ℕ) (bytes bytes' : List ℕ) (failed failed' : Bool) (new : Conn) → HandsOut told count new (page_sight limit bytes failed) (page_sight limit' bytes' failed') → HandsAll told new bytes bytes'
-page_took told count limit limit' bytes bytes' failed failed' new h = record {
-  count = count;
-  all = h.all;
-  now = h.now;
-  bytes = ap (λ (sight : Sight). listed_of sight.taken) h.written;
-}
-
--- A page with more room than it needs doesn't fail.
-pub page_holds : (told : Told) (limit limit' : ℕ) (bytes bytes' : List ℕ) (failed' : Bool) (new : Conn) → BreaksOff told new (page_sight limit bytes false) (page_sight limit' bytes' failed') → (failed' ≡ true → limit' ≤ length bytes') → length bytes + length (waiting_text told) < limit → ⊥
-page_holds told limit limit' bytes bytes' failed' new h full room =
-    let cut = h.cut in
-    let same = ap (λ (sight : Sight). counted_of sight.given) cut.sight in
-    let now = ap (λ (sight : Sight). listed_of sight.taken) cut.sight in
-    let at_end = full (ap (λ (sight : Sight). sight.failed) cut.sight) in
-    let long = ap length now in
-    let within = cut.within in
-    let part = length-take-le cut.count (waiting_text told) within in
-    absurd (omega (arith, same, at_end, long, within, part, room, length-append bytes (take cut.count (waiting_text told))))
-
 -- However it is answered, a Hand leads the core on.
 pub hands : (old new : Sim) (c number : ℕ) (reply : Replied) (place after : Seat) (kept kept' : Connection) (passes : ℕ) → Finds old c number place → slice_get old.connections.items number ≡ Some kept → 0 < passes →
     ((told : Told) → IsConn place.conn told → told.broken ≡ false → told.handed + passes ≡ length (all_texts told)) → ((told : Told) → IsConn place.conn told → IsTrue told.broken → passes ≡ 0) →
@@ -255,10 +219,9 @@ hands old new c number reply place after kept kept' passes finds at_kept some pa
     ] into
 
 -- No reply's turn has come.
-pub hands_none : (old new : Sim) (c number : ℕ) (place after : Seat) → Finds old c number place →
-    ((told : Told) → IsConn place.conn told → told.broken ≡ false → told.handed + 0 ≡ length (all_texts told)) → after.conn ≡ place.conn → after.current ≡ place.current → Differs old new c after → new.connections.items ≡ old.connections.items → Steps old (Hand c) replied.Idle new
+pub hands_none : (old new : Sim) (c number passes : ℕ) (place : Seat) → Finds old c number place → ((told : Told) → IsConn place.conn told → told.broken ≡ false → told.handed + passes ≡ length (all_texts told)) → passes ≡ 0 → IsSame old new → Steps old (Hand c) replied.Idle new
 unfolding Stands
-hands_none old new c number place after finds pass kept_conn same differs connections sizes w world =
+hands_none old new c number passes place finds pass none same sizes w world =
     let f = found sizes w old c number place world finds.here finds.current in
     let link = f.0 in
     let at = f.1 in
@@ -274,6 +237,6 @@ hands_none old new c number place after finds pass kept_conn same differs connec
           let less = may.0 in
           let count = pass told s.is may.2 in
           let more = count_from_come sizes.shards (link.handed + 1) link.taken s.accepted (received_by link own) (omega (arith, less)) s.fits (come_on sizes own link (link.handed + 1) law may.1) in
-          absurd (omega (arith, count, more))), refl),
-      seat_again sizes w old new c number link place after world finds at differs same (record { lent = s.lent; accepted = s.accepted; is = subst (λ x. IsConn x told) (sym kept_conn) s.is; fits = s.fits }) connections,
+          absurd (omega (arith, count, more, none))), refl),
+      world_stays sizes w old new world same,
     )
