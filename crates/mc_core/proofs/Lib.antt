@@ -20,3 +20,8 @@ pub mod Popping
 pub mod Feeding
 pub mod Handing
 pub mod Opening
+pub mod Sweeping
+pub mod RingsChange
+pub mod RingsSteps
+pub mod RingsMaking
+pub mod RingsCalls

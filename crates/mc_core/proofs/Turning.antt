@@ -13,7 +13,7 @@ use Rattle.mc_core.specs.declared.worker.Turn.{Turn}
 use Rattle.mc_core.specs.declared.worker.Turn.TheVariants.{Gave, Blocked, Nothing, Ended, Ran}
 use Rattle.mc_core.specs.Log.{Entry, reply_to}
 use Rattle.mc_core.specs.Desk.{Desk, Goes, IsSound, RunsMore, RunsNoMore}
-use Rattle.mc_core.specs.Turns.{FindsNothing, GivesIt, Grows, IsFull, RunsPiece, TakesEnd, Turned}
+use Rattle.mc_core.specs.Turns.{FindsNothing, Gives, GivesIt, Grows, IsFull, RunsPiece, TakesEnd, Turned}
 use Rattle.mc_core.specs.DeskLaws.{goes_none}
 use Rattle.mc_core.proofs.Logs.{Run-push, of_asker-no, of_asker-yes}
 
@@ -183,6 +183,22 @@ turned_keeps old seat Nothing new sound within turned = elim (mark_at old.live s
 ]
 turned_keeps old seat Ended new sound within turned = take_same_ends parcel.End seat old.ends new.ends turned.lane
 turned_keeps old seat (Ran ticket part moment) new sound within turned = take_same_ends (parcel.Piece turned.entry.piece) seat old.ends new.ends turned.lane
+
+-- What a turn sends.
+pub turned_gives : (old : Desk) (seat : ℕ) (turn : Turn) (new : Desk) → IsSound old → seat < length old.ends.lanes → Turned old seat turn new → Gives old turn new
+turned_gives old seat Gave new sound within turned k =
+    let says = Sends shown turned.reply (Ok tt) in
+    elim (eqb_tells turned.seat k) [
+      | inl at ↦ rw (← at.1, turned.held, eqb-refl turned.seat) (at_lane-longer says sent_at turned.seat (shown turned.reply ∷ []) old.ends new.ends (λ x y s. ap (λ past. past.sent) s.sent) turned.lane)
+      | inr other ↦ rw (turned.held, other.0) (at_lane-other says sent_at turned.seat k old.ends new.ends turned.lane (λ e. other.1 (sym e)) ∙ sym (append-nil (sent_on old.ends k)))
+    ]
+turned_gives old seat Blocked new sound within turned k = at_lane-kept IsFull sent_at turned.seat k old.ends new.ends (λ x y s. ap (λ past. past.sent) s.past) turned.lane ∙ sym (append-nil (sent_on old.ends k))
+turned_gives old seat Nothing new sound within turned k = elim (mark_at old.live seat (let e = sound.marked in omega arith)) [
+  | inl live ↦ at_lane-kept TakesNone sent_at seat k old.ends new.ends (λ x y s. ap (λ past. past.sent) s.none) (turned.live live) ∙ sym (append-nil (sent_on old.ends k))
+  | inr ended ↦ rw (turned.ended ended) (sym (append-nil (sent_on old.ends k)))
+]
+turned_gives old seat Ended new sound within turned k = take_sent parcel.End seat k old.ends new.ends turned.lane ∙ sym (append-nil (sent_on old.ends k))
+turned_gives old seat (Ran ticket part moment) new sound within turned k = take_sent (parcel.Piece turned.entry.piece) seat k old.ends new.ends turned.lane ∙ sym (append-nil (sent_on old.ends k))
 
 -- A turn goes on from what was run before.
 pub goes_turn : (old : Desk) (seat : ℕ) (turn : Turn) (new : Desk) → AreSameEnds old.ends new.ends → Grows old seat turn new → Goes old new

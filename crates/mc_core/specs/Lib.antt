@@ -14,7 +14,9 @@ pub mod Desk
 pub mod DeskLaws
 pub mod Turns
 pub mod Asked
+pub mod Sweeps
 pub mod Numbers
 pub mod Feeding
 pub mod Stands
 pub mod Rings
+pub mod Laid

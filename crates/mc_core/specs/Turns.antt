@@ -1,11 +1,11 @@
 -- One turn of a worker, exactly.
-use Rattle.std.specs.Prelude.{ℕ, ◌≡◌, ◌≤◌, true, false, Some, None, Ok, [], ◌∷◌, length, slice_set}
+use Rattle.std.specs.Prelude.{ℕ, ◌≡◌, ◌≤◌, true, false, Option, Some, None, Ok, List, [], ◌∷◌, ◌++◌, length, slice_set}
 use Rattle.std.specs.List.{slice_get}
 use Rattle.mc_ring.specs.declared.parcel.Parcel.TheVariants as parcel
 use Rattle.mc_ring.specs.declared.reply.Reply.{Reply}
 use Rattle.mc_ring.specs.Lane.{Far}
 use Rattle.mc_ring.specs.Reply.{Shown, shown}
-use Rattle.mc_ring.specs.Ends.{AtLane, Receives, Sends}
+use Rattle.mc_ring.specs.Ends.{AtLane, Receives, Sends, sent_on}
 use Rattle.mc_split.specs.declared.plan.Ticket.{Ticket}
 use Rattle.mc_store.specs.State.{State}
 use Rattle.mc_store.specs.Step.{IsStep}
@@ -13,7 +13,7 @@ use Rattle.mc_store.specs.Shard.{Keeps}
 use Rattle.mc_core.specs.declared.worker.Turn.{Turn}
 use Rattle.mc_core.specs.declared.worker.Turn.TheVariants.{Gave, Blocked, Nothing, Ended, Ran}
 use Rattle.mc_core.specs.Log.{Entry, reply_to}
-use Rattle.mc_core.specs.Desk.{Desk, RunsMore, RunsNoMore}
+use Rattle.mc_core.specs.Desk.{Desk, RunsMore, RunsNoMore, in_hand}
 
 -- The reply in the hand went out on its lane.
 pub record GivesIt (old new : Desk) : Type 0 where
@@ -72,6 +72,18 @@ Turned old seat Blocked new = KeepsIt old new
 Turned old seat Nothing new = FindsNothing old seat new
 Turned old seat Ended new = TakesEnd old seat new
 Turned old seat (Ran ticket part moment) new = RunsPiece old seat ticket part moment new
+
+-- what a turn sends to a seat: the reply that was in the hand, where it went out and is for this seat
+abbrev pub given_by : Turn → ℕ → Option (ℕ × Shown) → List Shown
+given_by Gave seat hand = in_hand seat hand
+given_by Blocked seat hand = []
+given_by Nothing seat hand = []
+given_by Ended seat hand = []
+given_by (Ran ticket part moment) seat hand = []
+
+-- What was sent to each seat is longer by what the turn sends to it.
+abbrev pub Gives : Desk → Turn → Desk → Type 0
+Gives old turn new = (seat : ℕ) → sent_on new.ends seat ≡ sent_on old.ends seat ++ given_by turn seat old.hand
 
 -- The log gains one entry where a piece was run, and none else.
 abbrev pub Grows : Desk → ℕ → Turn → Desk → Type 0

@@ -2,12 +2,14 @@
 ghost use Rattle.std.specs.Prelude.{◌≡◌, ◌<◌, ◌↔◌, IsTrue, None, true, length, ℕ, [], IfOk, IfSome};
 ghost use Rattle.std.specs.Bool.{OnFalse, OnTrue};
 ghost use Rattle.std.specs.List.{AllByRecursion};
+ghost use Rattle.std.specs.Option.{option_map};
 ghost use Rattle.mc_ring.specs.Ends.{AreSameEnds};
 ghost use Rattle.mc_ring.specs.Made.{IsLane, IsUnused, LooksAtBoth};
 ghost use Rattle.mc_store.specs.Shard.{IsShard};
 ghost use Rattle.mc_store.specs.State.{State};
 ghost use Rattle.mc_core.specs.Desk.{Goes, HasEnded, HasRun, RunsNoMore};
-ghost use Rattle.mc_core.specs.Turns.{Grows, Turned};
+ghost use Rattle.mc_core.specs.Turns.{Gives, Grows, Turned};
+ghost use Rattle.mc_core.specs.Sweeps.{IsIdle, Marks, Rests};
 
 #[cfg(test)]
 mod tests;
@@ -88,6 +90,7 @@ impl Worker {
         ensures ends { IfOk result (λ worker. worker.ends ≡ ends) }
         ensures free { IfOk result (λ worker. worker.hand ≡ None) }
         ensures live { IfOk result (λ worker. AllByRecursion (λ live. live ≡ true) worker.live) }
+        ensures marked { IfOk result (λ worker. length worker.live ≡ length worker.ends.lanes) }
 
         // It has run nothing.
         ensures begins { IfOk result (λ worker. (begin : State) → IsShard shard begin → HasRun begin worker []) }
@@ -123,6 +126,7 @@ impl Worker {
         requires { seat < length self.old.ends.lanes }
         ensures turned { Turned self.old seat result self.new }
         ensures grows { Grows self.old seat result self.new }
+        ensures gives { Gives self.old result self.new }
         ensures keeps { AreSameEnds self.old.ends self.new.ends }
     {
         let _ = &self.shard;
@@ -147,8 +151,10 @@ impl Worker {
     pub fn sweep<G: Gate>(&mut self, alloc: Global, gate: &G, given: &mut [bool]) -> bool
         requires { length given.old ≡ length self.old.ends.lanes }
         ensures goes { Goes self.old self.new }
-        ensures idle { OnFalse result (self.new.hand ≡ None) }
+        ensures marks { Marks self.old self.new given.old given.new }
+        ensures idle { OnFalse result (IsIdle self.old self.new) }
     {
+        let _ = &self.shard;
         let mut busy = false;
         for seat in 0..self.seats() {
             if self.serve(alloc, seat, gate, given) {
@@ -162,13 +168,14 @@ impl Worker {
     fn serve<G: Gate>(&mut self, alloc: Global, seat: usize, gate: &G, given: &mut [bool]) -> bool
         requires seat { seat < length self.old.ends.lanes }
         requires given { length given.old ≡ length self.old.ends.lanes }
-        ensures { Goes self.old self.new }
+        ensures goes { Goes self.old self.new }
+        ensures marks { Marks self.old self.new given.old given.new }
+        ensures rests { OnFalse result (Rests self.old seat self.new) }
     {
-        let mut moved = false;
-        for _ in 0..LANE_TURNS {
+        for turns in 0..LANE_TURNS {
             let holder = self.holder();
             match self.turn(alloc, seat, gate) {
-                Turn::Nothing | Turn::Blocked => return moved,
+                Turn::Nothing | Turn::Blocked => return turns > 0,
                 Turn::Gave => {
                     if let Some(holder) = holder {
                         given[holder] = true;
@@ -176,14 +183,14 @@ impl Worker {
                 }
                 Turn::Ran { .. } | Turn::Ended => {}
             }
-            moved = true;
         }
-        moved
+        true
     }
 
     /// The seat that the reply in its hand is for.
     pub(crate) fn holder(&self) -> Option<usize>
-        ensures { IfSome result (λ seat. seat < length self.now.ends.lanes) }
+        ensures held { result ≡ option_map (λ held. held.0) self.now.hand }
+        ensures within { IfSome result (λ seat. seat < length self.now.ends.lanes) }
     {
         let hand = self.hand.as_ref()?;
         Some(hand.seat)

@@ -1,10 +1,16 @@
 //! The rings between all seats and all shards, with the workers of the shards, in one thread. Each call is one push or one
 //! pop, and tells whether it was made; none takes memory but the making and what a shard needs for its items.
-ghost use Rattle.std.specs.Prelude.{◌≡◌, IfOk, IfErr, IfSome, IfNone, IsTrue, false, true, ℕ};
+ghost use Rattle.std.specs.Prelude.{◌≡◌, ◌↔◌, ◌<◌, IfOk, IfErr, IfSome, IfNone, IsTrue, None, Some, false, length, map, true, ℕ};
+ghost use Rattle.std.specs.List.{AllByRecursion, slice_get};
+ghost use Rattle.mc_ring.specs.Lane.{Far};
+ghost use Rattle.mc_ring.specs.Ends.{Ends};
+ghost use Rattle.mc_ring.specs.Made.{AreNewEnds, IsUnused};
 ghost use Rattle.mc_ring.specs.Reply.{shown};
 ghost use Rattle.mc_core.specs.Sizes.{AreWithin, Sizes};
 ghost use Rattle.mc_core.specs.Numbers.{sizes_of};
-ghost use Rattle.mc_core.specs.Rings.{AreWired, GivesNone, GivesReply, KeepsPiece, ReceivesNone, ReceivesReply, RunsNone, RunsOldest, SendsPiece, TellsWaiting, Wires, new_wires};
+ghost use Rattle.mc_core.specs.Sized.{empty_shard};
+ghost use Rattle.mc_core.specs.Laid.{AreIn, LooksAt};
+ghost use Rattle.mc_core.specs.Rings.{AreWired, GivesNone, GivesReply, KeepsPiece, ReceivesNone, ReceivesReply, RunsNone, RunsOldest, IsStarted, SendsPiece, TellsWaiting, Wires, ends_of, new_wires};
 
 use crate::gate::OpenGate;
 use crate::sim::numbers::Numbers;
@@ -14,6 +20,7 @@ use mc_split::{Piece, Ticket};
 use mc_store::Shard;
 use std::alloc::{AllocError, Global};
 use std::hash::RandomState;
+use std::marker::Model;
 use std::random::RandomSource;
 
 /// What a shard ran.
@@ -34,6 +41,16 @@ pub(crate) struct Rings {
     places: usize,
 }
 
+impl Model for Rings {
+    ghost use Rattle.mc_core.specs.Laid.{AreLaid, Laid};
+
+    ghost Value = { Laid };
+
+    ghost view = { λ rings. record { seats = rings.seats.items; workers = rings.workers.items; places = rings.places } };
+
+    ghost invariant = { λ rings. AreLaid (record { seats = rings.seats.items; workers = rings.workers.items; places = rings.places }) };
+}
+
 impl Rings {
     /// The rings and the workers of empty shards, of these sizes, each within its limits.
     pub(crate) fn new<R: RandomSource>(
@@ -47,10 +64,7 @@ impl Rings {
         let Ok((seats, shards)) = lanes(alloc, numbers.seats, numbers.shards, numbers.ring) else {
             return Err(AllocError);
         };
-        let mut workers = Vec::with_capacity(alloc, numbers.shards)?;
-        for ends in shards {
-            workers.push(worker(rt, alloc, ends, numbers)?)?;
-        }
+        let workers = all_workers(rt, alloc, shards, numbers)?;
         Ok(Rings {
             seats,
             workers,
@@ -66,17 +80,17 @@ impl Rings {
         ensures kept { IfErr result (λ _. (sizes : Sizes) (wires : Wires) → AreWired sizes self.old wires →
             KeepsPiece sizes wires seat shard self.new) }
     {
-        if seat < self.seats.len() && shard < self.workers.len() {
-            let ends = &mut self.seats[seat];
-            let (waiting, _) = self.workers[shard].beside(ends);
-            if waiting < self.places {
-                return match ends.send(shard, Parcel::Piece(piece)) {
-                    Err(Parcel::Piece(piece)) => Err(piece),
-                    _ => Ok(()),
-                };
-            }
+        if !self.has(seat, shard) {
+            return Err(piece);
         }
-        Err(piece)
+        let (waiting, _) = self.look(seat, shard);
+        if self.places <= waiting {
+            return Err(piece);
+        }
+        if let Err(Parcel::Piece(piece)) = self.seats[seat].send(shard, Parcel::Piece(piece)) {
+            return Err(piece);
+        }
+        Ok(())
     }
 
     /// Whether a shard may run a piece of a seat now: the worker's hand is empty, and one waits.
@@ -84,12 +98,14 @@ impl Rings {
         ensures { (sizes : Sizes) (wires : Wires) → AreWired sizes self.old wires →
             TellsWaiting sizes wires shard seat result self.new }
     {
-        if seat < self.seats.len() && shard < self.workers.len() {
-            let worker = &mut self.workers[shard];
-            let (waiting, _) = worker.beside(&mut self.seats[seat]);
-            return 0 < waiting && worker.holder().is_none();
+        if !self.has(seat, shard) {
+            return false;
         }
-        false
+        let (waiting, _) = self.look(seat, shard);
+        if waiting == 0 {
+            return false;
+        }
+        self.workers[shard].holder().is_none()
     }
 
     /// Takes the oldest piece of a seat and runs it on the shard, where the worker's hand is empty and one waits.
@@ -99,21 +115,29 @@ impl Rings {
         ensures none { IfNone result ((sizes : Sizes) (wires : Wires) → AreWired sizes self.old wires →
             RunsNone sizes wires shard seat self.new) }
     {
-        if !self.waits(shard, seat) {
+        if !self.has(seat, shard) {
             return None;
         }
-        match self.workers[shard].turn(alloc, seat, &OpenGate) {
-            Turn::Ran {
-                ticket,
-                part,
-                moment,
-            } => Some(Ran {
-                ticket,
-                part,
-                moment,
-            }),
-            _ => None,
+        let (waiting, _) = self.look(seat, shard);
+        if waiting == 0 {
+            return None;
         }
+        if self.workers[shard].holder().is_some() {
+            return None;
+        }
+        if let Turn::Ran {
+            ticket,
+            part,
+            moment,
+        } = self.workers[shard].turn(alloc, seat, &OpenGate)
+        {
+            return Some(Ran {
+                ticket,
+                part,
+                moment,
+            });
+        }
+        None
     }
 
     /// Gives the reply in a worker's hand to its seat, where there is one and the ring has room, and tells whether it did.
@@ -123,17 +147,23 @@ impl Rings {
         ensures none { result ≡ false → (sizes : Sizes) (wires : Wires) → AreWired sizes self.old wires →
             GivesNone sizes wires shard self.new }
     {
-        let Some(worker) = self.workers.get_mut(shard) else {
+        if self.workers.len() <= shard {
+            return false;
+        }
+        let Some(seat) = self.workers[shard].holder() else {
             return false;
         };
-        let Some(seat) = worker.holder() else {
+        if !self.has(seat, shard) {
             return false;
-        };
-        let Some(ends) = self.seats.get_mut(seat) else {
+        }
+        let (_, waiting) = self.look(seat, shard);
+        if self.places <= waiting {
             return false;
-        };
-        let (_, waiting) = worker.beside(ends);
-        waiting < self.places && worker.turn(alloc, seat, &OpenGate) == Turn::Gave
+        }
+        if let Turn::Gave = self.workers[shard].turn(alloc, seat, &OpenGate) {
+            return true;
+        }
+        false
     }
 
     /// Receives the oldest reply of a shard for a seat, where one waits.
@@ -143,13 +173,51 @@ impl Rings {
         ensures none { IfNone result ((sizes : Sizes) (wires : Wires) → AreWired sizes self.old wires →
             ReceivesNone sizes wires seat shard self.new) }
     {
-        if seat < self.seats.len() && shard < self.workers.len() {
-            let ends = &mut self.seats[seat];
-            self.workers[shard].beside(ends);
-            return ends.receive(shard);
+        if !self.has(seat, shard) {
+            return None;
         }
-        None
+        let (_, waiting) = self.look(seat, shard);
+        if waiting == 0 {
+            return None;
+        }
+        self.seats[seat].receive(shard)
     }
+
+    /// Whether there are such a seat and such a shard.
+    fn has(&self, seat: usize, shard: usize) -> bool
+        ensures { IsTrue result ↔ AreIn self.now seat shard }
+    {
+        seat < self.seats.len() && shard < self.workers.len()
+    }
+
+    /// How many pieces and how many replies wait on the lane of a seat and a shard.
+    fn look(&mut self, seat: usize, shard: usize) -> (usize, usize)
+        requires { AreIn self.old seat shard }
+        ensures { LooksAt seat shard self.old self.new result.0 result.1 }
+    {
+        let worker = &mut self.workers[shard];
+        worker.beside(&mut self.seats[seat])
+    }
+}
+
+/// The workers for these ends, each over an empty shard.
+fn all_workers<R: RandomSource>(
+    rt: &R,
+    alloc: Global,
+    shards: Vec<ShardEnds>,
+    numbers: Numbers,
+) -> Result<Vec<Worker>, AllocError>
+    requires within { AreWithin (sizes_of numbers) }
+    requires counted { length shards.items ≡ numbers.shards }
+    requires new { (number : ℕ) (ends : Ends Far) → slice_get shards.items number ≡ Some ends → AreNewEnds number numbers.seats numbers.ring ends }
+    ensures ends { IfOk result (λ workers. map ends_of workers.items ≡ shards.items) }
+    ensures started { IfOk result (λ workers. AllByRecursion (IsStarted (sizes_of numbers)) workers.items) }
+{
+    let mut workers = Vec::with_capacity(alloc, numbers.shards)?;
+    for ends in shards {
+        workers.push(worker(rt, alloc, ends, numbers)?)?;
+    }
+    Ok(workers)
 }
 
 /// A worker for these ends, over an empty shard.
@@ -158,7 +226,13 @@ fn worker<R: RandomSource>(
     alloc: Global,
     ends: ShardEnds,
     numbers: Numbers,
-) -> Result<Worker, AllocError> {
+) -> Result<Worker, AllocError>
+    requires within { AreWithin (sizes_of numbers) }
+    requires place { ends.number < numbers.shards }
+    requires unused { AllByRecursion IsUnused ends.lanes }
+    ensures ends { IfOk result (λ worker. worker.ends ≡ ends) }
+    ensures started { IfOk result (λ worker. IsStarted (sizes_of numbers) worker) }
+{
     let Ok(hasher) = RandomState::new(rt) else {
         return Err(AllocError);
     };

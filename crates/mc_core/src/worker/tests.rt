@@ -1,4 +1,6 @@
 //! A worker between two seats, on rings of one place.
+ghost use Rattle.mc_ring.specs.Ends.{AreSameEnds};
+
 use crate::{Gate, OpenGate, Turn, Worker};
 use mc_item::Op;
 use mc_ring::{Parcel, SeatEnds, lanes};
@@ -38,7 +40,9 @@ fn ran(number: u64) -> Option<Turn> {
 }
 
 /// A turn for a seat, where it is there.
-fn turn(alloc: Global, worker: &mut Worker, seat: usize) -> Option<Turn> {
+fn turn(alloc: Global, worker: &mut Worker, seat: usize) -> Option<Turn>
+    ensures { AreSameEnds worker.old.ends worker.new.ends }
+{
     if seat < worker.seats() {
         Some(worker.turn(alloc, seat, &OpenGate))
     } else {
@@ -56,7 +60,9 @@ fn sweep(alloc: Global, worker: &mut Worker, given: &mut [bool]) -> Option<bool>
 }
 
 /// Sends a parcel to the first shard, and tells whether it went out.
-fn sends(seat: &mut SeatEnds, parcel: Parcel) -> bool {
+fn sends(seat: &mut SeatEnds, parcel: Parcel) -> bool
+    ensures { AreSameEnds seat.old seat.new }
+{
     0 < seat.shards() && seat.send(0, parcel).is_ok()
 }
 
@@ -128,6 +134,22 @@ fn a_sweep_serves_all_seats(rt: HostRuntime) -> Result<(), Fail> {
         (receives(&mut first), receives(&mut second)),
         (Some(7), Some(4))
     );
+    Ok(())
+}
+
+#[test]
+fn what_waits_for_a_worker_is_counted(rt: HostRuntime) -> Result<(), Fail> {
+    let alloc = rt.alloc();
+    let (mut seats, mut shards) = lanes(alloc, 1, 1, 1)?;
+    let shard = Shard::new(alloc, RandomState::new(&rt)?, 0, 1, BUDGET, 0, VALUE_LIMIT)?;
+    let mut worker = Worker::new(alloc, shard, shards.remove(0))?;
+    let seat = &mut seats[0];
+    assert_eq!(rt; worker.beside(seat), (0, 0));
+    assert!(rt; sends(seat, piece(7)));
+    assert_eq!(rt; worker.beside(seat), (1, 0));
+    assert_eq!(rt; turn(alloc, &mut worker, 0), ran(7));
+    assert_eq!(rt; turn(alloc, &mut worker, 0), Some(Turn::Gave));
+    assert_eq!(rt; worker.beside(seat), (0, 1));
     Ok(())
 }
 

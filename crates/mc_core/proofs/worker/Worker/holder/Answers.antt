@@ -5,7 +5,7 @@ use Rattle.mc_core.specs.declared.worker.Hand.{Hand}
 use Rattle.mc_core.proofs.Desks.{held_within}
 use Rattle.mc_core.proofs.worker.Worker.holder.Goals as goal
 
-pub returns : goal.returns
-returns c =
+pub returns-clause-within : goal.returns-clause-within
+returns-clause-within c =
     let held = c.in_ok-hand.hand.now in
     rw (← c.self.view_is) (held_within _ held.seat (shown held.reply) c.self.invariant (ap (option_map (λ (hand : Hand). (hand.seat, shown hand.reply))) (sym c.in_ok-hand.ensures.value)))

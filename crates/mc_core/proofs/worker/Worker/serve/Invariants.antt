@@ -1,5 +1,11 @@
+use Rattle.std.specs.Prelude.{◌≡◌}
 use Rattle.mc_core.specs.Desk.{Goes}
+use Rattle.mc_core.specs.Sweeps.{Marks}
 use Rattle.mc_core.proofs.worker.Worker.serve.Given as goal
 
-abbrev pub invariant-loop : goal.invariant-loop
-invariant-loop g l = Goes l.fn.self l.self
+abbrev pub invariant-loop-turns : goal.invariant-loop-turns
+invariant-loop-turns g l = record {
+  goes : Goes l.fn.self l.self;
+  marks : Marks l.fn.self l.self l.fn.given l.given;
+  begins : l.turns ≡ 0 → l.self ≡ l.fn.self;
+}
