@@ -65,10 +65,10 @@ received_count sizes own link law s =
     let long = length-map (on_shard s own) reply_to in
     length-take-le (link.received s) (replies_in (on_shard s own)) (omega (arith, received, given, long))
 
-come_on : (sizes : Sizes) (own : List Entry) (link : Link) (count : ℕ) → LinkLaw sizes own link → HasCome sizes.shards link.taken link.received count → HasCome sizes.shards link.taken (counts (received_by link own)) count
+pub come_on : (sizes : Sizes) (own : List Entry) (link : Link) (count : ℕ) → LinkLaw sizes own link → HasCome sizes.shards link.taken link.received count → HasCome sizes.shards link.taken (counts (received_by link own)) count
 come_on sizes own link count law come s = let here = come s in let same = received_count sizes own link law s in omega (arith, here, same)
 
-come_back : (sizes : Sizes) (own : List Entry) (link : Link) (count : ℕ) → LinkLaw sizes own link → HasCome sizes.shards link.taken (counts (received_by link own)) count → HasCome sizes.shards link.taken link.received count
+pub come_back : (sizes : Sizes) (own : List Entry) (link : Link) (count : ℕ) → LinkLaw sizes own link → HasCome sizes.shards link.taken (counts (received_by link own)) count → HasCome sizes.shards link.taken link.received count
 come_back sizes own link count law come s = let here = come s in let same = received_count sizes own link law s in omega (arith, here, same)
 
 -- The replies whose turn has come are those to as many commands as need no further answer.
