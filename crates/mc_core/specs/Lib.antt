@@ -18,5 +18,6 @@ pub mod Sweeps
 pub mod Numbers
 pub mod Feeding
 pub mod Stands
+pub mod Runs
 pub mod Rings
 pub mod Laid

@@ -26,8 +26,8 @@ returns-else-may_begin c =
     opens_not _ _ c.args.seat c.index.result.now (get_index _ _ _ below c.index.ensures)
     (λ told is may. absurd (let e : true ≡ false = sym ((c.may_begin.ensures told is).1 may) ∙ c.if-may_begin.false in cc)) (record { seats = refl; connections = refl; log = refl; rings = refl })
 
-pub returns : goal.returns
-returns c =
+pub returns-else-is_err : goal.returns-else-is_err
+returns-else-is_err c =
     let count : c.len.result ≡ length c.args.self.now.seats.items = search rules in
     let below : c.args.seat < length c.args.self.now.seats.items = omega (arith, count, c.if-len-seat.false) in
     let number : c.len-number.result ≡ length c.args.self.now.connections.items = search rules in
