@@ -31,12 +31,12 @@ returns-else-is_err c =
     let count : c.len.result ≡ length c.args.self.now.seats.items = search rules in
     let below : c.args.seat < length c.args.self.now.seats.items = omega (arith, count, c.if-len-seat.false) in
     let number : c.len-number.result ≡ length c.args.self.now.connections.items = search rules in
-    let pushed : c.push.new.self.items ≡ c.args.self.now.connections.items ++ record { seat = c.args.seat; ended = false; broken = false; fed = c.new.result; handed = c.new-2.result } ∷ [] = search rules in
+    let pushed : c.push.new.self.items ≡ c.args.self.now.connections.items ++ record { seat = c.args.seat; ended = false; broken = false; fed = c.new.result; handed = c.new-then-may_begin.result } ∷ [] = search rules in
     let same : c.index.result.now ≡ c.index_mut-place.result.now = same_index _ _ _ _ below c.index.ensures c.index_mut-place.ensures.value in
     let may : (told : Told) → IsConn c.index_mut-place.result.now.conn told → MayBegin told c.index_mut-place.result.now.current = λ told is.
     subst (λ (x : Seat). MayBegin told x.current) same ((c.may_begin.ensures told (subst (λ (x : Seat). IsConn x.conn told) (sym same) is)).0 c.if-may_begin.true) in
     let here = get_index _ _ _ below c.index_mut-place.ensures.value in
     opens _ _ c.args.seat c.index_mut-place.result.now (record { conn = c.renew.new.self; current = Some c.len-number.result })
-    (record { seat = c.args.seat; ended = false; broken = false; fed = c.new.result; handed = c.new-2.result }) here
+    (record { seat = c.args.seat; ended = false; broken = false; fed = c.new.result; handed = c.new-then-may_begin.result }) here
     (frees c.args.self.now c.args.seat c.index_mut-place.result.now c.renew.new.self c.renew.result here may c.renew.ensures.when c.renew.ensures.new c.renew.ensures.same)
-    (ap (λ n. Some n) number) refl pushed refl refl refl c.new.ensures.items c.new-2.ensures.items refl refl
+    (ap (λ n. Some n) number) refl pushed refl refl refl c.new.ensures.items c.new-then-may_begin.ensures.items refl refl
