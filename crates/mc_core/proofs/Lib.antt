@@ -25,3 +25,4 @@ pub mod RingsChange
 pub mod RingsSteps
 pub mod RingsMaking
 pub mod RingsCalls
+pub mod Starting

@@ -44,6 +44,10 @@ abbrev pub SeatIs : Sizes → World → ℕ → Conn → Option ℕ → Type 0
 SeatIs sizes w seat conn None = IsUnused w seat × IsConn conn (told_nothing sizes.shards sizes.value sizes.window)
 SeatIs sizes w seat conn (Some k) = (link : Link) × IsAt w seat k link × IsServing sizes (of_asker k w.log) link conn
 
+-- A seat that has had no connection.
+abbrev pub IsNewSeat : Sizes → Seat → Type 0
+IsNewSeat sizes seat = (seat.current ≡ None) × IsConn seat.conn (told_nothing sizes.shards sizes.value sizes.window)
+
 -- What is kept of a connection.
 pub record Keeps (sizes : Sizes) (w : World) (k : ℕ) (link : Link) (kept : Connection) : Type 0 where
   pub seat : kept.seat ≡ link.seat

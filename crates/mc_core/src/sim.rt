@@ -1,10 +1,14 @@
 //! The whole core in one thread: connections, shards and the rings between them, moved by one event at a time.
-ghost use Rattle.std.specs.Prelude.{◌≡◌, ◌<◌, ℕ, length, IfSome, IfNone, Some};
-ghost use Rattle.std.specs.List.{slice_get};
-ghost use Rattle.mc_core.specs.World.{IsAt, Link, World};
-ghost use Rattle.mc_core.specs.Sizes.{Sizes};
+ghost use Rattle.std.specs.Prelude.{◌≡◌, ◌<◌, ℕ, length, map, IfOk, IfSome, IfNone, IsErrOf, OnErr, OnOk, Some};
+ghost use Rattle.std.specs.List.{AllByRecursion, slice_get};
+ghost use Rattle.std.specs.Option.{option_map};
+ghost use Rattle.mc_core.specs.World.{IsAt, IsLink, Link, World, empty_world};
+ghost use Rattle.mc_core.specs.Sizes.{AreWithin, Sizes};
+ghost use Rattle.mc_core.specs.Headline.{handed_bytes};
+ghost use Rattle.mc_core.specs.Numbers.{sizes_of};
 ghost use Rattle.mc_core.specs.Asked.{event_of};
-ghost use Rattle.mc_core.specs.Stands.{Stands, Steps};
+ghost use Rattle.mc_core.specs.Stands.{IsNewSeat, Stands, Steps, line_of};
+ghost use Rattle.mc_core.specs.Runs.{Runs, Stops};
 
 mod at_ring;
 mod at_seat;
@@ -14,9 +18,12 @@ mod rings;
 
 use crate::event::{Event, StepReply};
 use mc_conn::Conn;
+use mc_item::NoMemory;
 use mc_split::Ticket;
+use numbers::Numbers;
 use rings::Rings;
-use std::alloc::Global;
+use std::alloc::{AllocError, Global};
+use std::random::RandomSource;
 
 /// Why there is no simulated core.
 #[derive(Clone, Copy, Debug, PartialEq, Eq)]
@@ -70,6 +77,86 @@ pub struct Sim {
 }
 
 impl Sim {
+    /// A core of these sizes, in which nothing has happened. `Size`: one of them is out of its limits.
+    pub fn new<R: RandomSource>(
+        rt: &R,
+        alloc: Global,
+        seats: usize,
+        shards: usize,
+        bytes: usize,
+        ring: usize,
+        value: usize,
+        window: usize,
+    ) -> Result<Sim, SimRefusal>
+        ensures ok { IfOk result (λ sim. Stands (record { seats = seats; shards = shards; bytes = bytes; ring = ring; value = value; window = window }) sim empty_world) }
+        ensures within { OnOk result (AreWithin (record { seats = seats; shards = shards; bytes = bytes; ring = ring; value = value; window = window })) }
+        ensures size { IsErrOf result SimRefusal.Size → ¬ AreWithin (record { seats = seats; shards = shards; bytes = bytes; ring = ring; value = value; window = window }) }
+        ensures memory { IsErrOf result SimRefusal.Memory → AreWithin (record { seats = seats; shards = shards; bytes = bytes; ring = ring; value = value; window = window }) }
+    {
+        let numbers = Numbers {
+            seats,
+            shards,
+            bytes,
+            ring,
+            value,
+            window,
+        };
+        if !numbers.are_within() {
+            return Err(SimRefusal::Size);
+        }
+        let Ok(sim) = Sim::make(rt, alloc, numbers) else {
+            return Err(SimRefusal::Memory);
+        };
+        Ok(sim)
+    }
+
+    /// A core of sizes that are within their limits.
+    fn make<R: RandomSource>(rt: &R, alloc: Global, numbers: Numbers) -> Result<Sim, AllocError>
+        requires { AreWithin (sizes_of numbers) }
+        ensures { IfOk result (λ sim. Stands (sizes_of numbers) sim empty_world) }
+    {
+        let seats = new_seats(alloc, numbers)?;
+        let rings = Rings::new(rt, alloc, numbers)?;
+        Ok(Sim {
+            seats,
+            connections: Vec::new(alloc),
+            log: Vec::new(alloc),
+            rings,
+        })
+    }
+
+    /// The connections, in the order in which they were opened.
+    pub fn connections(&self) -> &[Connection]
+        ensures seats { (sizes : Sizes) (w : World) → Stands sizes self.now w → map (λ one. one.seat) result.now ≡ map (λ link. link.seat) w.links }
+        ensures ended { (sizes : Sizes) (w : World) → Stands sizes self.now w → map (λ one. one.ended) result.now ≡ map (λ link. link.ended) w.links }
+        ensures broken { (sizes : Sizes) (w : World) → Stands sizes self.now w → map (λ one. one.broken) result.now ≡ map (λ link. link.broken) w.links }
+    {
+        &self.connections
+    }
+
+    /// All bytes that the connection of this number was fed.
+    pub fn fed(&self, number: usize) -> Option<&[u8]>
+        ensures { (sizes : Sizes) (w : World) (link : Link) → Stands sizes self.now w → IsLink w number link → option_map (λ bytes. bytes.now) result ≡ Some link.fed }
+    {
+        let kept = self.connections.get(number)?;
+        Some(&kept.fed)
+    }
+
+    /// All bytes that the connection of this number was handed.
+    pub fn handed(&self, number: usize) -> Option<&[u8]>
+        ensures { (sizes : Sizes) (w : World) (link : Link) → Stands sizes self.now w → IsLink w number link → option_map (λ bytes. bytes.now) result ≡ Some (handed_bytes sizes w number link) }
+    {
+        let kept = self.connections.get(number)?;
+        Some(&kept.handed)
+    }
+
+    /// What the shards ran, in the order in which they did.
+    pub fn log(&self) -> &[LogEntry]
+        ensures { (sizes : Sizes) (w : World) → Stands sizes self.now w → result.now ≡ map line_of w.log }
+    {
+        &self.log
+    }
+
     /// One event of a connection or a shard.
     pub fn step(&mut self, alloc: Global, event: &Event) -> StepReply
         ensures { Steps self.old (event_of event.now) result self.new }
@@ -88,6 +175,22 @@ impl Sim {
         }
     }
 
+    /// Events one after another, up to the first that finds no memory; how many of them were done.
+    pub fn run(&mut self, alloc: Global, events: &[Event]) -> Result<u64, NoMemory>
+        ensures ran { IfOk result (λ done. Runs self.old (map event_of events.now) done self.new) }
+        ensures stopped { OnErr result (Stops self.old (map event_of events.now) self.new) }
+    {
+        let mut done = 0;
+        for event in events {
+            match self.step(alloc, event) {
+                StepReply::Done => done += 1,
+                StepReply::Idle => {}
+                StepReply::NoMemory => return Err(NoMemory),
+            }
+        }
+        Ok(done)
+    }
+
     /// The number of the connection that a seat has.
     fn find(&self, seat: usize) -> Option<usize>
         ensures seat { IfSome result (λ number. seat < length self.now.seats.items) }
@@ -104,4 +207,23 @@ impl Sim {
         }
         Some(number)
     }
+}
+
+/// So many seats, each with a connection in which nothing has happened.
+fn new_seats(alloc: Global, numbers: Numbers) -> Result<Vec<Seat>, AllocError>
+    requires { AreWithin (sizes_of numbers) }
+    ensures count { IfOk result (λ seats. length seats.items ≡ numbers.seats) }
+    ensures each { IfOk result (λ seats. AllByRecursion (IsNewSeat (sizes_of numbers)) seats.items) }
+{
+    let mut seats = Vec::with_capacity(alloc, numbers.seats)?;
+    for _ in 0..numbers.seats {
+        let Ok(conn) = Conn::new(alloc, numbers.shards, numbers.value, numbers.window) else {
+            return Err(AllocError);
+        };
+        seats.push(Seat {
+            conn,
+            current: None,
+        })?;
+    }
+    Ok(seats)
 }
