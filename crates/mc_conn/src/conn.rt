@@ -6,7 +6,7 @@ ghost use Rattle.mc_ring.specs.Reply.{shown};
 ghost use Rattle.mc_reader.specs.Spelling.{HasNoEnd, most_commands};
 ghost use Rattle.mc_join.specs.Length.{capped};
 ghost use Rattle.mc_join.specs.Expects.{Expects};
-ghost use Rattle.mc_conn.specs.Told.{Told, IsAtRest, IsNotAllTaken, IsAllTaken, IsOpen, IsOver, IsShut, IsSkipping, IsUsedUp, LeavesUnread, all_forms, all_pieces, told_nothing, waiting_text};
+ghost use Rattle.mc_conn.specs.Told.{Told, IsAtRest, IsNotAllTaken, IsAllTaken, IsOpen, IsOver, IsShut, IsSkipping, IsUsedUp, LeavesUnread, all_forms, all_pieces, all_texts, told_nothing, waiting_text};
 
 use crate::planning::plan;
 use mc_join::{Gone, Joiner, Stranger};
@@ -102,9 +102,9 @@ impl Conn {
         self.reader.end();
     }
 
-    /// Whether the connection is closed or broken.
+    /// Whether the connection is closed or broken. It takes no memory.
     #[tactic(auto, unfolding(crate::specs::Conn::IsConn))]
-    fn is_over(&self) -> bool
+    pub fn is_over(&self) -> bool
         ensures over { (told : Told) → IsConn self.now told → IsTrue result ↔ IsOver told }
         // A stream has only so many commands.
         ensures most { (told : Told) → IsConn self.now told → told.broken ≡ false → length told.taken ≤ most_commands }
@@ -198,6 +198,19 @@ impl Conn {
             return 0;
         }
         self.joiner.ready()
+    }
+
+    /// To how many commands `hand` would hand out the reply, silent ones among them; of a broken connection to none. It takes
+    /// no memory.
+    #[tactic(auto, unfolding(crate::specs::Conn::IsConn))]
+    pub fn passes(&self) -> usize
+        ensures whole { (told : Told) → IsConn self.now told → told.broken ≡ false → told.handed + result ≡ length (all_texts told) }
+        ensures broken { (told : Told) → IsConn self.now told → IsTrue told.broken → result ≡ 0 }
+    {
+        if self.broken {
+            return 0;
+        }
+        self.joiner.passes()
     }
 
     /// Writes the replies whose turn has come, a silent one as nothing, and tells to how many commands they are; of a broken

@@ -13,7 +13,11 @@ pub mod Served
 pub mod Desk
 pub mod DeskLaws
 pub mod Turns
+pub mod Asked
 pub mod Sweeps
 pub mod Numbers
+pub mod Feeding
+pub mod Stands
+pub mod Runs
 pub mod Rings
 pub mod Laid

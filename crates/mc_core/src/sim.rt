@@ -1,3 +1,229 @@
 //! The whole core in one thread: connections, shards and the rings between them, moved by one event at a time.
+ghost use Rattle.std.specs.Prelude.{◌≡◌, ◌<◌, ℕ, length, map, IfOk, IfSome, IfNone, IsErrOf, OnErr, OnOk, Some};
+ghost use Rattle.std.specs.List.{AllByRecursion, slice_get};
+ghost use Rattle.std.specs.Option.{option_map};
+ghost use Rattle.mc_core.specs.World.{IsAt, IsLink, Link, World, empty_world};
+ghost use Rattle.mc_core.specs.Sizes.{AreWithin, Sizes};
+ghost use Rattle.mc_core.specs.Headline.{handed_bytes};
+ghost use Rattle.mc_core.specs.Numbers.{sizes_of};
+ghost use Rattle.mc_core.specs.Asked.{event_of};
+ghost use Rattle.mc_core.specs.Stands.{IsNewSeat, Stands, Steps, line_of};
+ghost use Rattle.mc_core.specs.Runs.{Runs, Stops};
+
+mod at_ring;
+mod at_seat;
 mod numbers;
+mod page;
 mod rings;
+
+use crate::event::{Event, StepReply};
+use mc_conn::Conn;
+use mc_item::NoMemory;
+use mc_split::Ticket;
+use numbers::Numbers;
+use rings::Rings;
+use std::alloc::{AllocError, Global};
+use std::random::RandomSource;
+
+/// Why there is no simulated core.
+#[derive(Clone, Copy, Debug, PartialEq, Eq)]
+pub enum SimRefusal {
+    /// A size is out of its limits.
+    Size,
+    /// Memory ran out.
+    Memory,
+}
+
+/// A connection, and what is kept of it. Connections are numbered in the order in which they were opened, from 0.
+#[derive(Drop)]
+pub struct Connection {
+    pub seat: usize,
+    pub ended: bool,
+    pub broken: bool,
+    /// All bytes that it was fed.
+    fed: Vec<u8>,
+    /// All bytes that it was handed.
+    handed: Vec<u8>,
+}
+
+/// A piece that a shard ran.
+#[derive(Clone, Copy, Debug, PartialEq, Eq)]
+pub struct LogEntry {
+    pub shard: usize,
+    /// The number of the connection that it was for.
+    pub connection: usize,
+    pub ticket: Ticket,
+    pub part: usize,
+    /// When the command was taken, in seconds since 1970.
+    pub moment: u64,
+}
+
+/// A seat, and the number of the connection that it has.
+#[derive(Drop)]
+struct Seat {
+    conn: Conn,
+    current: Option<usize>,
+}
+
+/// A core of connections, shards and rings, in one thread.
+///
+/// The contracts speak of the world that it stands in: `Stands sizes sim world`.
+#[derive(Drop)]
+pub struct Sim {
+    seats: Vec<Seat>,
+    connections: Vec<Connection>,
+    log: Vec<LogEntry>,
+    rings: Rings,
+}
+
+impl Sim {
+    /// A core of these sizes, in which nothing has happened. `Size`: one of them is out of its limits.
+    pub fn new<R: RandomSource>(
+        rt: &R,
+        alloc: Global,
+        seats: usize,
+        shards: usize,
+        bytes: usize,
+        ring: usize,
+        value: usize,
+        window: usize,
+    ) -> Result<Sim, SimRefusal>
+        ensures ok { IfOk result (λ sim. Stands (record { seats = seats; shards = shards; bytes = bytes; ring = ring; value = value; window = window }) sim empty_world) }
+        ensures within { OnOk result (AreWithin (record { seats = seats; shards = shards; bytes = bytes; ring = ring; value = value; window = window })) }
+        ensures size { IsErrOf result SimRefusal.Size → ¬ AreWithin (record { seats = seats; shards = shards; bytes = bytes; ring = ring; value = value; window = window }) }
+        ensures memory { IsErrOf result SimRefusal.Memory → AreWithin (record { seats = seats; shards = shards; bytes = bytes; ring = ring; value = value; window = window }) }
+    {
+        let numbers = Numbers {
+            seats,
+            shards,
+            bytes,
+            ring,
+            value,
+            window,
+        };
+        if !numbers.are_within() {
+            return Err(SimRefusal::Size);
+        }
+        let Ok(sim) = Sim::make(rt, alloc, numbers) else {
+            return Err(SimRefusal::Memory);
+        };
+        Ok(sim)
+    }
+
+    /// A core of sizes that are within their limits.
+    fn make<R: RandomSource>(rt: &R, alloc: Global, numbers: Numbers) -> Result<Sim, AllocError>
+        requires { AreWithin (sizes_of numbers) }
+        ensures { IfOk result (λ sim. Stands (sizes_of numbers) sim empty_world) }
+    {
+        let seats = new_seats(alloc, numbers)?;
+        let rings = Rings::new(rt, alloc, numbers)?;
+        Ok(Sim {
+            seats,
+            connections: Vec::new(alloc),
+            log: Vec::new(alloc),
+            rings,
+        })
+    }
+
+    /// The connections, in the order in which they were opened.
+    pub fn connections(&self) -> &[Connection]
+        ensures seats { (sizes : Sizes) (w : World) → Stands sizes self.now w → map (λ one. one.seat) result.now ≡ map (λ link. link.seat) w.links }
+        ensures ended { (sizes : Sizes) (w : World) → Stands sizes self.now w → map (λ one. one.ended) result.now ≡ map (λ link. link.ended) w.links }
+        ensures broken { (sizes : Sizes) (w : World) → Stands sizes self.now w → map (λ one. one.broken) result.now ≡ map (λ link. link.broken) w.links }
+    {
+        &self.connections
+    }
+
+    /// All bytes that the connection of this number was fed.
+    pub fn fed(&self, number: usize) -> Option<&[u8]>
+        ensures { (sizes : Sizes) (w : World) (link : Link) → Stands sizes self.now w → IsLink w number link → option_map (λ bytes. bytes.now) result ≡ Some link.fed }
+    {
+        let kept = self.connections.get(number)?;
+        Some(&kept.fed)
+    }
+
+    /// All bytes that the connection of this number was handed.
+    pub fn handed(&self, number: usize) -> Option<&[u8]>
+        ensures { (sizes : Sizes) (w : World) (link : Link) → Stands sizes self.now w → IsLink w number link → option_map (λ bytes. bytes.now) result ≡ Some (handed_bytes sizes w number link) }
+    {
+        let kept = self.connections.get(number)?;
+        Some(&kept.handed)
+    }
+
+    /// What the shards ran, in the order in which they did.
+    pub fn log(&self) -> &[LogEntry]
+        ensures { (sizes : Sizes) (w : World) → Stands sizes self.now w → result.now ≡ map line_of w.log }
+    {
+        &self.log
+    }
+
+    /// One event of a connection or a shard.
+    pub fn step(&mut self, alloc: Global, event: &Event) -> StepReply
+        ensures { Steps self.old (event_of event.now) result self.new }
+    {
+        match event {
+            Event::Open { seat } => self.begin(alloc, *seat),
+            Event::Feed { seat, bytes } => self.feed(alloc, *seat, bytes),
+            Event::Take { seat, moment } => self.take(alloc, *seat, *moment),
+            Event::Send { seat } => self.send(*seat),
+            Event::Pop { shard, seat } => self.pop(alloc, *shard, *seat),
+            Event::Give { shard } => self.give(alloc, *shard),
+            Event::Receive { seat, shard } => self.receive(*seat, *shard),
+            Event::Hand { seat } => self.hand(alloc, *seat),
+            Event::End { seat } => self.end(*seat),
+            Event::Break { seat } => self.cut(*seat),
+        }
+    }
+
+    /// Events one after another, up to the first that finds no memory; how many of them were done.
+    pub fn run(&mut self, alloc: Global, events: &[Event]) -> Result<u64, NoMemory>
+        ensures ran { IfOk result (λ done. Runs self.old (map event_of events.now) done self.new) }
+        ensures stopped { OnErr result (Stops self.old (map event_of events.now) self.new) }
+    {
+        let mut done = 0;
+        for event in events {
+            match self.step(alloc, event) {
+                StepReply::Done => done += 1,
+                StepReply::Idle => {}
+                StepReply::NoMemory => return Err(NoMemory),
+            }
+        }
+        Ok(done)
+    }
+
+    /// The number of the connection that a seat has.
+    fn find(&self, seat: usize) -> Option<usize>
+        ensures seat { IfSome result (λ number. seat < length self.now.seats.items) }
+        ensures kept { IfSome result (λ number. number < length self.now.connections.items) }
+        ensures current { IfSome result (λ number. (place : _) × (slice_get self.now.seats.items seat ≡ Some place) × (place.current ≡ Some number)) }
+        ensures none { IfNone result ((sizes : Sizes) (w : World) → Stands sizes self.now w → (k : ℕ) (link : Link) → IsAt w seat k link → ⊥) }
+    {
+        if self.seats.len() <= seat {
+            return None;
+        }
+        let number = self.seats[seat].current?;
+        if self.connections.len() <= number {
+            return None;
+        }
+        Some(number)
+    }
+}
+
+/// So many seats, each with a connection in which nothing has happened.
+fn new_seats(alloc: Global, numbers: Numbers) -> Result<Vec<Seat>, AllocError>
+    requires { AreWithin (sizes_of numbers) }
+    ensures count { IfOk result (λ seats. length seats.items ≡ numbers.seats) }
+    ensures each { IfOk result (λ seats. AllByRecursion (IsNewSeat (sizes_of numbers)) seats.items) }
+{
+    let mut seats = Vec::with_capacity(alloc, numbers.seats)?;
+    for _ in 0..numbers.seats {
+        let Ok(conn) = Conn::new(alloc, numbers.shards, numbers.value, numbers.window) else {
+            return Err(AllocError);
+        };
+        seats.push(Seat {
+            conn,
+            current: None,
+        })?;
+    }
+    Ok(seats)
+}

@@ -1,0 +1,31 @@
+-- Lists of events that a simulated core runs, and how many of them were done.
+use Rattle.std.specs.Prelude.{ℕ, ◌≡◌, ◌+◌, List, [], ◌∷◌, ◌++◌}
+use Rattle.mc_core.specs.declared.sim.Sim.{Sim}
+use Rattle.mc_core.specs.Stands.{Stands}
+use Rattle.mc_core.specs.Sizes.{Sizes}
+use Rattle.mc_core.specs.World.{World}
+use Rattle.mc_core.specs.Events.{Event}
+use Rattle.mc_core.specs.Schedule.{Happens, Leads, StepReply}
+use Rattle.mc_core.specs.Schedule.StepReply.{Done, Idle, NoMemory}
+
+abbrev pub is_done : StepReply → ℕ
+is_done Done = 1
+is_done Idle = 0
+is_done NoMemory = 0
+
+abbrev pub done_in : (sizes : Sizes) (w : World) (events : List Event) (w' : World) → Leads sizes w events w' → ℕ
+done_in sizes w [] w' led = 0
+done_in sizes w (event ∷ events) w' led = is_done led.0 + done_in sizes led.1 events w' led.3
+
+-- From whatever world the core stood in, the events lead it to one, and so many of them were done.
+abbrev pub Runs : Sim → List Event → ℕ → Sim → Type 0
+Runs old events done new =
+    (sizes : Sizes) (w : World) → Stands sizes old w →
+    (w' : World) × (led : Leads sizes w events w') × (done ≡ done_in sizes w events w' led) × Stands sizes new w'
+
+-- The core ran the events before the first that found no memory, and stands in the world to which they lead.
+abbrev pub Stops : Sim → List Event → Sim → Type 0
+Stops old events new =
+    (sizes : Sizes) (w : World) → Stands sizes old w →
+    (front : List Event) × (last : Event) × (rest : List Event) × (w' : World)
+    × (events ≡ front ++ last ∷ rest) × Leads sizes w front w' × Happens sizes w' last NoMemory w' × Stands sizes new w'

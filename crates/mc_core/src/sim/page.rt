@@ -1,0 +1,71 @@
+//! Where a connection's replies are kept: a page with room for so many bytes.
+ghost use Rattle.std.specs.Prelude.{◌≡◌, ◌≤◌, ◌+◌, ◌<◌, ◌^◌, IsTrue, IfOk, IfErr, false, length, vec_capacity};
+
+use mc_wire::{OutFault, Outlet};
+
+/// Bytes, and room for more without memory. It takes what fits, and fails only where it is full.
+#[derive(Drop)]
+pub(crate) struct Page {
+    pub(crate) bytes: Vec<u8>,
+    /// So many bytes it holds at most.
+    pub(crate) limit: usize,
+    pub(crate) failed: bool,
+    ghost room: { limit ≤ vec_capacity bytes },
+    ghost within: { length bytes.items ≤ limit },
+    ghost full: { IsTrue failed → limit ≤ length bytes.items },
+}
+
+impl Outlet for Page {
+    ghost use Rattle.std.specs.Prelude.{None};
+    ghost use Rattle.mc_wire.specs.Outlet.{Counted, Listed};
+
+    // It is never read, so what was read of it stays as it is: its limit stands there.
+    ghost sight = { λ page. record { given = Counted page.limit; ended = false; reads = None; taken = Listed page.bytes.items; failed = page.failed } };
+
+    fn write(&mut self, bytes: &[u8]) -> Result<usize, OutFault> {
+        let Some(byte) = bytes.first() else {
+            return Ok(0);
+        };
+        if self.bytes.len() < self.limit {
+            self.bytes.push_reserved(*byte);
+            return Ok(1);
+        }
+        self.failed = true;
+        Err(OutFault)
+    }
+}
+
+impl Page {
+    /// A page of these bytes, with room for so many more and one. `Err`: memory ran out, and these are the bytes.
+    pub(crate) fn with_room(bytes: Vec<u8>, more: u64) -> Result<Page, Vec<u8>>
+        ensures bytes { IfOk result (λ page. page.bytes.items ≡ bytes.items) }
+        ensures limit { IfOk result (λ page. page.limit ≡ length bytes.items + more + 1) }
+        ensures small { IfOk result (λ page. more + 1 < 2 ^ 64) }
+        ensures begins { IfOk result (λ page. page.failed ≡ false) }
+        ensures back { IfErr result (λ back. back.items ≡ bytes.items) }
+    {
+        let mut bytes = bytes;
+        let Ok(more) = usize::try_from(more) else {
+            return Err(bytes);
+        };
+        let Some(room) = more.checked_add(1) else {
+            return Err(bytes);
+        };
+        let before = bytes.len();
+        if bytes.reserve(room).is_err() {
+            return Err(bytes);
+        }
+        Ok(Page {
+            bytes,
+            limit: before + room,
+            failed: false,
+        })
+    }
+
+    /// The bytes on it.
+    pub(crate) fn into_bytes(self) -> Vec<u8>
+        ensures { result.items ≡ self.bytes.items }
+    {
+        self.bytes
+    }
+}
