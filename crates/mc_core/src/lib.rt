@@ -2,12 +2,14 @@
 //! change it, and what holds of it after every list of events.
 #![tactic(auto)]
 
+mod event;
 mod gate;
 mod handed;
 mod laws;
 mod sizes;
 mod worker;
 
+pub use event::Event;
 pub use gate::{Gate, OpenGate};
 pub use handed::a_connection_is_served_as_alone;
 pub use laws::{
