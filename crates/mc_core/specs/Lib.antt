@@ -13,3 +13,5 @@ pub mod Served
 pub mod Desk
 pub mod DeskLaws
 pub mod Turns
+pub mod Asked
+pub mod Stands

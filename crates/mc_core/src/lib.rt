@@ -6,16 +6,18 @@ mod event;
 mod gate;
 mod handed;
 mod laws;
+mod sim;
 mod sizes;
 mod worker;
 
-pub use event::Event;
+pub use event::{Event, StepReply};
 pub use gate::{Gate, OpenGate};
 pub use handed::a_connection_is_served_as_alone;
 pub use laws::{
     every_event_keeps_the_law, every_schedule, nothing_is_taken_back,
     one_connection_is_served_as_alone,
 };
+pub use sim::{Connection, LogEntry, Sim, SimRefusal};
 pub use sizes::{
     LEAST, LEAST_BYTES, LEAST_VALUE, MOST_BYTES, MOST_RING, MOST_SEATS, MOST_SHARDS, MOST_VALUE,
     MOST_WINDOW,

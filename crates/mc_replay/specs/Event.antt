@@ -6,22 +6,7 @@ use Rattle.mc_wire.specs.Number.{number_of}
 use Rattle.mc_core.specs.Sizes.{Sizes}
 use Rattle.mc_core.specs.Events.{Event}
 use Rattle.mc_core.specs.Events.Event.{Open, Feed, Take, Send, Pop, Give, Receive, Hand, End, Break}
-use Rattle.mc_core.specs.declared.event.Event as code
-use Rattle.mc_core.specs.declared.event.Event.TheVariants as made
 use Rattle.mc_replay.specs.Text.{hex_bytes}
-
--- an event that was made, as the model of the server has it
-abbrev pub shown : code.Event → Event
-shown (made.Open seat) = Open seat
-shown (made.Feed seat bytes) = Feed seat bytes.items
-shown (made.Take seat moment) = Take seat moment
-shown (made.Send seat) = Send seat
-shown (made.Pop shard seat) = Pop shard seat
-shown (made.Give shard) = Give shard
-shown (made.Receive seat shard) = Receive seat shard
-shown (made.Hand seat) = Hand seat
-shown (made.End seat) = End seat
-shown (made.Break seat) = Break seat
 
 -- what two values make, where both are there
 abbrev pub both : {A B : Type 0} → (A → B → Event) → Option A → Option B → Option Event

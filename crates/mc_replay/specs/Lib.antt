@@ -3,4 +3,6 @@ pub mod Text
 pub mod Header
 pub mod Event
 pub mod Schedule
+pub mod Report
+pub mod Replay
 pub mod internal

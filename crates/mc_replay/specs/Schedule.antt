@@ -3,10 +3,11 @@ use Rattle.std.specs.Prelude.{ℕ, ◌≡◌, ◌+◌, List, [], ◌∷◌, ◌+
 use Rattle.std.specs.declared.alloc.Global.{Global}
 use Rattle.mc_core.specs.Sizes.{Sizes}
 use Rattle.mc_core.specs.Events.{Event}
+use Rattle.mc_core.specs.Asked.{event_of as shown}
 use Rattle.mc_core.specs.declared.event.Event as code
 use Rattle.mc_replay.specs.Text.{lines_of, words_in}
 use Rattle.mc_replay.specs.Header.{header_of}
-use Rattle.mc_replay.specs.Event.{event_of, shown}
+use Rattle.mc_replay.specs.Event.{event_of}
 use Rattle.mc_replay.specs.declared.schedule.Schedule as schedule
 use Rattle.mc_replay.specs.declared.schedule.ScheduleFault.{ScheduleFault}
 use Rattle.mc_replay.specs.declared.schedule.ScheduleFault.TheVariants.{Bad, Memory}

@@ -1,7 +1,8 @@
 //! The lines behind the header of a replay file: one event each.
 ghost use Rattle.std.specs.Prelude.{◌≡◌, IfOk, option_map};
 ghost use Rattle.mc_replay.specs.Text.{words_in, hex_bytes};
-ghost use Rattle.mc_replay.specs.Event.{event_of, shown};
+ghost use Rattle.mc_core.specs.Asked.{event_of as shown};
+ghost use Rattle.mc_replay.specs.Event.{event_of};
 ghost use Rattle.mc_replay.specs.Event as spec;
 ghost use Rattle.mc_replay.specs.internal.Read.{sizes_in};
 

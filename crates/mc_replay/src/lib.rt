@@ -5,7 +5,13 @@ mod event;
 mod header;
 mod number;
 mod parts;
+mod report;
+mod run;
 mod schedule;
+#[cfg(test)]
+mod tests;
+mod text;
 
 pub use header::DEFAULT_WINDOW;
+pub use run::{ReplayFault, replay};
 pub use schedule::{Schedule, ScheduleFault, read_schedule};
