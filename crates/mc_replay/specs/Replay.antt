@@ -1,0 +1,59 @@
+-- What is told of a schedule: the world that its events lead to, line by line.
+use Rattle.std.specs.Prelude.{ℕ, ◌≡◌, ◌+◌, List, [], ◌∷◌, ◌++◌, length, Result, Ok, Err, Vec}
+use Rattle.std.specs.List.{flat_map}
+use Rattle.std.specs.declared.alloc.Global.{Global}
+use Rattle.mc_wire.specs.Outlet.{BreaksOff, Sight, took}
+use Rattle.mc_core.specs.Sizes.{AreWithin, Sizes}
+use Rattle.mc_core.specs.World.{Link, World, empty_world}
+use Rattle.mc_core.specs.Events.{Event}
+use Rattle.mc_core.specs.Log.{Entry}
+use Rattle.mc_core.specs.Schedule.{Schedule, done_in}
+use Rattle.mc_core.specs.Headline.{handed_bytes}
+use Rattle.mc_core.specs.Stands.{line_of}
+use Rattle.mc_core.specs.declared.sim.LogEntry.{LogEntry}
+use Rattle.mc_replay.specs.Report.{connection_line, counts_line, entry_line}
+use Rattle.mc_replay.specs.Schedule.{events_of, sizes_of}
+use Rattle.mc_replay.specs.declared.schedule.Schedule as schedule
+use Rattle.mc_replay.specs.declared.run.ReplayFault.{ReplayFault}
+use Rattle.mc_replay.specs.declared.run.ReplayFault.TheVariants.{Gone, Memory, Size}
+
+-- the lines of these connections of a world, the first of which has this number
+abbrev pub connection_lines : Sizes → World → ℕ → List Link → List ℕ
+connection_lines sizes w number [] = []
+connection_lines sizes w number (link ∷ links) =
+    connection_line number link.seat (handed_bytes sizes w number link) ++ connection_lines sizes w (number + 1) links
+
+-- the line of a piece that a shard ran
+abbrev pub kept_line : LogEntry → List ℕ
+kept_line kept = entry_line kept.shard kept.connection kept.ticket.0 kept.part kept.moment
+
+abbrev pub log_line : Entry → List ℕ
+log_line entry = kept_line (line_of entry)
+
+-- what is told of a world to which so many events led that were done, and so many that were idle
+abbrev pub report : Sizes → World → ℕ → ℕ → List ℕ
+report sizes w done idle = connection_lines sizes w 0 w.links ++ (flat_map log_line w.log ++ counts_line done idle)
+
+-- The text tells of a world to which the events lead.
+pub record IsReport (sizes : Sizes) (events : List Event) (text : List ℕ) : Type 0 where
+  pub w : World
+  pub led : Schedule sizes events w
+  pub done : ℕ
+  pub idle : ℕ
+  pub done_is : done ≡ done_in sizes empty_world events w led
+  pub all : done + idle ≡ length events
+  pub text_is : text ≡ report sizes w done idle
+
+-- Of a server that may be so large a text tells; else it is refused, or memory ran out.
+abbrev pub Tells : schedule.Schedule → Result (Vec ℕ Global) ReplayFault → Type 0
+Tells plan (Ok text) = IsReport (sizes_of plan) (events_of plan) text.items
+Tells plan (Err Size) = ¬ AreWithin (sizes_of plan)
+Tells plan (Err Memory) = AreWithin (sizes_of plan)
+Tells plan (Err Gone) = ⊥
+
+-- The whole of such a text was written, or a beginning where the outlet failed; a refusal wrote nothing.
+abbrev pub Replays : {X : Type 0} → schedule.Schedule → Result X ReplayFault → Sight → Sight → Type 0
+Replays plan (Ok all) old new = (text : List ℕ) × IsReport (sizes_of plan) (events_of plan) text × (new ≡ took text old)
+Replays plan (Err Gone) old new = (text : List ℕ) × IsReport (sizes_of plan) (events_of plan) text × BreaksOff text old new
+Replays plan (Err Size) old new = ¬ AreWithin (sizes_of plan) × (new ≡ old)
+Replays plan (Err Memory) old new = AreWithin (sizes_of plan) × (new ≡ old)

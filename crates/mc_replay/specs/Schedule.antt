@@ -1,0 +1,49 @@
+-- What a replay file spells: its header, then an event a line; or which of its lines is the first that is bad.
+use Rattle.std.specs.Prelude.{ℕ, ◌≡◌, ◌+◌, List, [], ◌∷◌, ◌++◌, length, map, drop, Option, Some, None, MatchOption, Result, Ok, Err, Vec}
+use Rattle.std.specs.declared.alloc.Global.{Global}
+use Rattle.mc_core.specs.Sizes.{Sizes}
+use Rattle.mc_core.specs.Events.{Event}
+use Rattle.mc_core.specs.Asked.{event_of as shown}
+use Rattle.mc_core.specs.declared.event.Event as code
+use Rattle.mc_replay.specs.Text.{lines_of, words_in}
+use Rattle.mc_replay.specs.Header.{header_of}
+use Rattle.mc_replay.specs.Event.{event_of}
+use Rattle.mc_replay.specs.declared.schedule.Schedule as schedule
+use Rattle.mc_replay.specs.declared.schedule.ScheduleFault.{ScheduleFault}
+use Rattle.mc_replay.specs.declared.schedule.ScheduleFault.TheVariants.{Bad, Memory}
+
+-- the server of a schedule
+abbrev pub sizes_of : schedule.Schedule → Sizes
+sizes_of plan = record { seats = plan.seats; shards = plan.shards; bytes = plan.bytes; ring = plan.ring; value = plan.value; window = plan.window }
+
+-- the events of a schedule
+abbrev pub events_of : schedule.Schedule → List Event
+events_of plan = map shown plan.events.items
+
+-- what the first of these lines says
+abbrev pub header_in : List (List ℕ) → Option Sizes
+header_in [] = None
+header_in (line ∷ lines) = header_of (words_in line)
+
+-- what each of these lines says
+abbrev pub events_in : Sizes → List (List ℕ) → List (Option Event)
+events_in sizes lines = map (λ line. event_of sizes (words_in line)) lines
+
+-- The line of this number is the first that spells no event: the lines from 2 on up to it spell these.
+pub record IsFirstBad (sizes : Sizes) (lines : List (List ℕ)) (number : ℕ) : Type 0 where
+  pub before : List Event
+  pub behind : List (Option Event)
+  pub spelled : events_in sizes lines ≡ map Some before ++ None ∷ behind
+  pub number_is : number ≡ length before + 2
+
+-- What was read of the lines behind the header is what they spell, or the first bad one, unless memory ran out.
+abbrev pub SpellsEvents : Sizes → List (List ℕ) → Result (Vec code.Event Global) ScheduleFault → Type 0
+SpellsEvents sizes lines (Ok events) = events_in sizes lines ≡ map Some (map shown events.items)
+SpellsEvents sizes lines (Err (Bad number)) = IsFirstBad sizes lines number
+SpellsEvents sizes lines (Err Memory) = Unit {0}
+
+-- What was read of a file is what it spells, or its first bad line, unless memory ran out.
+abbrev pub Spells : List ℕ → Result schedule.Schedule ScheduleFault → Type 0
+Spells text (Ok plan) = (header_in (lines_of text) ≡ Some (sizes_of plan)) × (events_in (sizes_of plan) (drop 1 (lines_of text)) ≡ map Some (events_of plan))
+Spells text (Err (Bad number)) = MatchOption (header_in (lines_of text)) (number ≡ 1) (λ sizes. IsFirstBad sizes (drop 1 (lines_of text)) number)
+Spells text (Err Memory) = Unit {0}

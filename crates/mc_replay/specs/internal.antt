@@ -1,0 +1,3 @@
+-- Definitions that only private contracts name.
+pub mod Parts
+pub mod Read

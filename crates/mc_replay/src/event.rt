@@ -1,0 +1,134 @@
+//! The lines behind the header of a replay file: one event each.
+ghost use Rattle.std.specs.Prelude.{◌≡◌, IfOk, option_map};
+ghost use Rattle.mc_replay.specs.Text.{words_in, hex_bytes};
+ghost use Rattle.mc_core.specs.Asked.{event_of as shown};
+ghost use Rattle.mc_replay.specs.Event.{event_of};
+ghost use Rattle.mc_replay.specs.Event as spec;
+ghost use Rattle.mc_replay.specs.internal.Read.{sizes_in};
+
+use crate::header::Header;
+use crate::number::number_below;
+use crate::parts::parts;
+use hex::FromHexError;
+use mc_core::Event;
+use mc_wire::number_u64;
+use std::alloc::{AllocError, Global};
+
+/// Reads an event of a server so large: its name, and one or two words behind it.
+pub(crate) fn read_event(
+    alloc: Global,
+    line: &[u8],
+    header: Header,
+) -> Result<Option<Event>, AllocError>
+    ensures { IfOk result (λ event. option_map shown event ≡ event_of (sizes_in header) (words_in line.now)) }
+{
+    let mut walk = parts(line, b' ');
+    match (walk.next(), walk.next(), walk.next(), walk.next()) {
+        (Some(name), Some(word), None, _) => Ok(event_at(name, word, header)),
+        (Some(b"feed"), Some(seat), Some(text), None) => read_feed(alloc, seat, text, header),
+        (Some(name), Some(first), Some(second), None) => {
+            Ok(event_between(name, first, second, header))
+        }
+        _ => Ok(None),
+    }
+}
+
+/// An event of a shard or a seat alone.
+fn event_at(name: &[u8], word: &[u8], header: Header) -> Option<Event>
+    ensures { option_map shown result ≡ spec.event_at (sizes_in header) name.now word.now }
+{
+    match name {
+        b"give" => Some(Event::Give {
+            shard: number_below(word, header.shards)?,
+        }),
+        _ => seat_event(name, number_below(word, header.seats)?),
+    }
+}
+
+/// The event of that name of a seat alone.
+fn seat_event(name: &[u8], seat: usize) -> Option<Event>
+    ensures { option_map shown result ≡ spec.seat_event name.now seat }
+{
+    match name {
+        b"open" => Some(Event::Open { seat }),
+        b"send" => Some(Event::Send { seat }),
+        b"hand" => Some(Event::Hand { seat }),
+        b"end" => Some(Event::End { seat }),
+        b"break" => Some(Event::Break { seat }),
+        _ => None,
+    }
+}
+
+/// An event of a seat at a moment, or of a seat and a shard.
+fn event_between(name: &[u8], first: &[u8], second: &[u8], header: Header) -> Option<Event>
+    ensures { option_map shown result ≡ spec.event_between (sizes_in header) name.now first.now second.now }
+{
+    if name == b"receive".as_slice() {
+        return read_receive(first, second, header);
+    }
+    match name {
+        b"take" => read_take(first, second, header),
+        b"pop" => read_pop(first, second, header),
+        _ => None,
+    }
+}
+
+/// take c MOMENT
+#[tactic(auto, unfolding(crate::specs::Event::take_of))]
+fn read_take(seat: &[u8], moment: &[u8], header: Header) -> Option<Event>
+    ensures { option_map shown result ≡ spec.take_of (sizes_in header) seat.now moment.now }
+{
+    let seat = number_below(seat, header.seats)?;
+    let moment = number_u64(moment).ok()?;
+    Some(Event::Take { seat, moment })
+}
+
+/// pop s c
+#[tactic(auto, unfolding(crate::specs::Event::pop_of))]
+fn read_pop(shard: &[u8], seat: &[u8], header: Header) -> Option<Event>
+    ensures { option_map shown result ≡ spec.pop_of (sizes_in header) shard.now seat.now }
+{
+    let shard = number_below(shard, header.shards)?;
+    let seat = number_below(seat, header.seats)?;
+    Some(Event::Pop { shard, seat })
+}
+
+/// receive c s
+#[tactic(auto, unfolding(crate::specs::Event::receive_of))]
+fn read_receive(seat: &[u8], shard: &[u8], header: Header) -> Option<Event>
+    ensures { option_map shown result ≡ spec.receive_of (sizes_in header) seat.now shard.now }
+{
+    let seat = number_below(seat, header.seats)?;
+    let shard = number_below(shard, header.shards)?;
+    Some(Event::Receive { seat, shard })
+}
+
+/// feed c HEX
+fn read_feed(
+    alloc: Global,
+    seat: &[u8],
+    text: &[u8],
+    header: Header,
+) -> Result<Option<Event>, AllocError>
+    ensures { IfOk result (λ event. option_map shown event ≡ spec.feed_of (sizes_in header) seat.now text.now) }
+{
+    let Some(seat) = number_below(seat, header.seats) else {
+        return Ok(None);
+    };
+    match read_hex(alloc, text)? {
+        Some(bytes) => Ok(Some(Event::Feed { seat, bytes })),
+        None => Ok(None),
+    }
+}
+
+/// The bytes that a text spells in hexadecimal, at least one.
+fn read_hex(alloc: Global, text: &[u8]) -> Result<Option<Vec<u8>>, AllocError>
+    ensures { IfOk result (λ bytes. option_map (λ some. some.items) bytes ≡ hex_bytes text.now) }
+{
+    match hex::decode(alloc, text) {
+        Ok(bytes) if bytes.is_empty() => Ok(None),
+        Ok(bytes) => Ok(Some(bytes)),
+        Err(FromHexError::OutOfMemory) => Err(AllocError),
+        Err(_) => Ok(None),
+    }
+}

@@ -1,0 +1,17 @@
+//! Replay files: a schedule of events as text, read, run and told.
+#![tactic(auto)]
+
+mod event;
+mod header;
+mod number;
+mod parts;
+mod report;
+mod run;
+mod schedule;
+#[cfg(test)]
+mod tests;
+mod text;
+
+pub use header::DEFAULT_WINDOW;
+pub use run::{ReplayFault, replay};
+pub use schedule::{Schedule, ScheduleFault, read_schedule};

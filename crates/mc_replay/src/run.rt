@@ -1,0 +1,138 @@
+//! Runs a schedule, and tells what became of it.
+ghost use Rattle.std.specs.Prelude.{◌≡◌, ◌++◌, ◌+◌, ℕ, IfOk, OnOk, map};
+ghost use Rattle.std.specs.List.{flat_map};
+ghost use Rattle.mc_core.specs.Sizes.{Sizes};
+ghost use Rattle.mc_core.specs.World.{IsLink, Link, World};
+ghost use Rattle.mc_core.specs.Headline.{handed_bytes};
+ghost use Rattle.mc_core.specs.Stands.{Stands};
+ghost use Rattle.mc_replay.specs.Report.{connection_line};
+ghost use Rattle.mc_replay.specs.Replay.{Replays, Tells, connection_lines, kept_line, report};
+ghost use Rattle.mc_replay.specs.declared.run.ReplayFault.TheVariants.{Memory};
+
+use crate::report::{push_connection, push_counts, push_entry};
+use crate::schedule::Schedule;
+use mc_core::{LogEntry, Sim, SimRefusal};
+use mc_wire::{Outlet, put_all};
+use std::alloc::{AllocError, Global};
+use std::random::RandomSource;
+
+/// Why a schedule wasn't replayed to its end.
+#[derive(Clone, Copy, Debug, PartialEq, Eq)]
+pub enum ReplayFault {
+    /// A size of the server is out of its limits. Nothing was written.
+    Size,
+    /// Memory ran out. Nothing was written.
+    Memory,
+    /// The outlet has failed. It took a beginning of what is told.
+    Gone,
+}
+
+impl From<AllocError> for ReplayFault {
+    ghost from_gives = { λ _ fault. fault ≡ Memory };
+
+    fn from(_error: AllocError) -> ReplayFault {
+        ReplayFault::Memory
+    }
+}
+
+/// Runs the events of a schedule, and then tells on the outlet what was handed to each connection, what the shards ran, and
+/// how many events were done and how many idle.
+pub fn replay<R: RandomSource, O: Outlet>(
+    rt: &R,
+    alloc: Global,
+    schedule: &Schedule,
+    out: &mut O,
+) -> Result<(), ReplayFault>
+    ensures { Replays schedule.now result (O.sight out.old) (O.sight out.new) }
+{
+    let text = tell(rt, alloc, schedule)?;
+    match put_all(out, &text) {
+        Ok(()) => Ok(()),
+        Err(_) => Err(ReplayFault::Gone),
+    }
+}
+
+/// What is told of a schedule, once its events ran.
+fn tell<R: RandomSource>(rt: &R, alloc: Global, schedule: &Schedule) -> Result<Vec<u8>, ReplayFault>
+    ensures { Tells schedule.now result }
+{
+    let mut sim = match Sim::new(
+        rt,
+        alloc,
+        schedule.seats,
+        schedule.shards,
+        schedule.bytes,
+        schedule.ring,
+        schedule.value,
+        schedule.window,
+    ) {
+        Ok(sim) => sim,
+        Err(SimRefusal::Size) => return Err(ReplayFault::Size),
+        Err(SimRefusal::Memory) => return Err(ReplayFault::Memory),
+    };
+    let Ok(done) = sim.run(alloc, &schedule.events) else {
+        return Err(ReplayFault::Memory);
+    };
+    let idle = (schedule.events.len() as u64).saturating_sub(done);
+    match report(alloc, &sim, done, idle) {
+        Ok(text) => Ok(text),
+        Err(_) => Err(ReplayFault::Memory),
+    }
+}
+
+/// What is told of the world that the core stands in.
+fn report(alloc: Global, sim: &Sim, done: u64, idle: u64) -> Result<Vec<u8>, AllocError>
+    ensures { IfOk result (λ text. (sizes : Sizes) (w : World) → Stands sizes sim.now w → text.items ≡ report sizes w done idle) }
+{
+    let mut text = Vec::new(alloc);
+    push_connections(alloc, &mut text, sim)?;
+    push_log(&mut text, sim.log())?;
+    push_counts(&mut text, done, idle)?;
+    Ok(text)
+}
+
+/// Tells of each connection what was handed to it.
+fn push_connections(alloc: Global, text: &mut Vec<u8>, sim: &Sim) -> Result<(), AllocError>
+    ensures { OnOk result ((sizes : Sizes) (w : World) → Stands sizes sim.now w → text.new.items ≡ text.old.items ++ connection_lines sizes w 0 w.links) }
+{
+    let connections = sim.connections();
+    for (number, connection) in connections.iter().enumerate() {
+        push_handed(alloc, text, sim, number, connection.seat)?;
+    }
+    Ok(())
+}
+
+/// Tells of the connection of this number, which is on that seat, what was handed to it.
+fn push_handed(
+    alloc: Global,
+    text: &mut Vec<u8>,
+    sim: &Sim,
+    number: usize,
+    seat: usize,
+) -> Result<(), AllocError>
+    ensures { OnOk result ((sizes : Sizes) (w : World) (link : Link) → Stands sizes sim.now w → IsLink w number link → seat ≡ link.seat →
+        text.new.items ≡ text.old.items ++ connection_line number link.seat (handed_bytes sizes w number link)) }
+{
+    match sim.handed(number) {
+        Some(handed) => push_connection(alloc, text, number, seat, handed),
+        // There is no connection of that number.
+        None => Ok(()),
+    }
+}
+
+/// Tells what the shards ran.
+fn push_log(text: &mut Vec<u8>, log: &[LogEntry]) -> Result<(), AllocError>
+    ensures { OnOk result (text.new.items ≡ text.old.items ++ flat_map kept_line log.now) }
+{
+    for entry in log {
+        push_entry(
+            text,
+            entry.shard,
+            entry.connection,
+            entry.ticket.0,
+            entry.part,
+            entry.moment,
+        )?;
+    }
+    Ok(())
+}
