@@ -17,7 +17,7 @@ with_rules app [] = app
 with_rules app (rule ∷ rules) = with_rules (with_rule app rule) rules
 
 abbrev pub call_rules : List Rule
-call_rules = option_rule (codes "listen") ∷ flag_rule (codes "stdio") ∷ option_rule (codes "at") ∷ []
+call_rules = option_rule (codes "listen") ∷ flag_rule (codes "stdio") ∷ option_rule (codes "replay") ∷ option_rule (codes "at") ∷ []
 
 abbrev pub limit_rules : List Rule
 limit_rules =

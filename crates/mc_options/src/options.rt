@@ -3,7 +3,7 @@ ghost use Rattle.std.specs.Prelude.{◌≡◌, ◌≤◌, [], false, true, codes
 ghost use Rattle.clap.specs.Words.{FailsBy, first_value, found_of, rows_of};
 ghost use Rattle.mc_options.specs.Program.{rows_in, word_faults};
 ghost use Rattle.mc_options.specs.Numbers.{AreWithin, limits_by, number_given, number_if_given};
-ghost use Rattle.mc_options.specs.Calls.{MayServe, Spells, given_in, is_any_given, is_given, is_stdio, other_than_listen, other_than_stdio};
+ghost use Rattle.mc_options.specs.Calls.{MayServe, Spells, given_in, is_any_given, is_given, is_stdio, other_than_listen, other_than_replay, other_than_stdio};
 ghost use Rattle.mc_options.specs.Faults.{IsFaultOf, IsOfOptions, SpellsNone};
 
 use crate::fault::OptionFault;
@@ -64,6 +64,10 @@ pub enum Options<'a> {
         at: Option<u64>,
         limits: Limits,
     },
+    /// It runs the schedule in a file.
+    Replay {
+        file: &'a str,
+    },
 }
 
 /// Reads the words of the command line, the program's name among them.
@@ -97,15 +101,45 @@ fn options_in<'a>(matches: &ArgMatches<'a>) -> Result<Options<'a>, OptionFault>
     if is_given(matches, "items") {
         return Err(OptionFault::Items);
     }
+    if let Some(file) = matches.get_str("replay") {
+        return replay_in(matches, file);
+    }
     if is_stdio(matches) {
         return stdio_in(matches);
     }
     listen_in(matches)
 }
 
+/// The call that runs the schedule in a file.
+fn replay_in<'a>(matches: &ArgMatches<'a>, file: &'a str) -> Result<Options<'a>, OptionFault>
+    requires items { first_value (found_of matches.now) (codes "items") ≡ None }
+    requires file { first_value (found_of matches.now) (codes "replay") ≡ Some file.now }
+    ensures given { IfOk result (Spells (first_value (found_of matches.now))) }
+    ensures within { IfOk result MayServe }
+    ensures refused { IfErr result (λ fault. IsOfOptions fault × SpellsNone (first_value (found_of matches.now))) }
+{
+    if is_stdio(matches)
+        || is_given(matches, "at")
+        || is_given(matches, "listen")
+        || is_given(matches, "shards")
+        || is_given(matches, "seats")
+        || is_given(matches, "bytes")
+        || is_given(matches, "value-limit")
+        || is_given(matches, "window")
+        || is_given(matches, "connections")
+    {
+        return Err(OptionFault::Foreign {
+            call: "--replay",
+            options: "its file",
+        });
+    }
+    Ok(Options::Replay { file })
+}
+
 /// The call that serves standard input and output.
 fn stdio_in<'a>(matches: &ArgMatches<'a>) -> Result<Options<'a>, OptionFault>
     requires items { first_value (found_of matches.now) (codes "items") ≡ None }
+    requires replay { first_value (found_of matches.now) (codes "replay") ≡ None }
     requires stdio { is_stdio (first_value (found_of matches.now)) ≡ true }
     ensures given { IfOk result (Spells (first_value (found_of matches.now))) }
     ensures within { IfOk result MayServe }
@@ -128,6 +162,7 @@ fn stdio_in<'a>(matches: &ArgMatches<'a>) -> Result<Options<'a>, OptionFault>
 /// The call that serves TCP.
 fn listen_in<'a>(matches: &ArgMatches<'a>) -> Result<Options<'a>, OptionFault>
     requires items { first_value (found_of matches.now) (codes "items") ≡ None }
+    requires replay { first_value (found_of matches.now) (codes "replay") ≡ None }
     requires stdio { is_stdio (first_value (found_of matches.now)) ≡ false }
     ensures given { IfOk result (Spells (first_value (found_of matches.now))) }
     ensures within { IfOk result MayServe }

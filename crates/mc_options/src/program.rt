@@ -10,6 +10,7 @@ use std::alloc::{AllocError, Global};
 const CALLS: &str = "\
 mcd [--listen ADDRESS] [--seats N] [--connections N] [limits]   TCP
 mcd --stdio [--at SECONDS] [limits]                             one connection
+mcd --replay FILE                                               a schedule
 Limits are --shards, --bytes, --value-limit and --window. Defaults stand in [].";
 
 /// The program with its options.
@@ -22,6 +23,8 @@ pub fn program_options<'a>(alloc: Global) -> Result<Command<'a>, AllocError>
     let command = with_value(alloc, command, "listen", "ADDRESS", listen)?;
     let stdio = "Serves one connection over standard input and output";
     let command = with_flag(alloc, command, "stdio", stdio)?;
+    let replay = "Runs the schedule in a file, and shows what came of it";
+    let command = with_value(alloc, command, "replay", "FILE", replay)?;
     let at = "Every moment is this, in seconds since 1970";
     let command = with_value(alloc, command, "at", "SECONDS", at)?;
     with_limits(alloc, command)

@@ -68,6 +68,9 @@ fn each_call(rt: HostRuntime) -> Result<(), Fail> {
                 limits
             }
     );
+    let words = words_of(alloc, "mcd --replay a.schedule")?;
+    let options = read_options(alloc, words.as_slice())?;
+    assert!(rt; options == Options::Replay { file: "a.schedule" });
     Ok(())
 }
 
@@ -86,6 +89,8 @@ fn faults(rt: HostRuntime) -> Result<(), Fail> {
         ("mcd --at 5", 2),
         ("mcd --seats 65", 2),
         ("mcd --connections 0", 2),
+        ("mcd --replay a --stdio", 2),
+        ("mcd --replay a --shards 2", 2),
         ("mcd --port 11211", 2),
         ("mcd --help", 0),
     ];

@@ -7,7 +7,8 @@ use Rattle.std.proofs.lemmas.Option.{slice_get-get_or, slice_get_within, get_or_
 use Rattle.mc_core.specs.Sizes.{Sizes}
 use Rattle.mc_core.specs.World.{IsLink, Link, World, empty_world}
 use Rattle.mc_core.specs.Events.{Event}
-use Rattle.mc_core.specs.Schedule.{Leads, Schedule, StepReply, done_in, is_done}
+use Rattle.mc_core.specs.Schedule.{Leads, Schedule, StepReply}
+use Rattle.mc_core.specs.Runs.{done_in, is_done}
 use Rattle.mc_core.specs.Schedule.StepReply.{Done, Idle, NoMemory}
 use Rattle.mc_core.specs.Stands.{line_of}
 use Rattle.mc_core.specs.declared.sim.LogEntry.{LogEntry}

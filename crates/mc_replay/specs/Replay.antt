@@ -7,7 +7,8 @@ use Rattle.mc_core.specs.Sizes.{AreWithin, Sizes}
 use Rattle.mc_core.specs.World.{Link, World, empty_world}
 use Rattle.mc_core.specs.Events.{Event}
 use Rattle.mc_core.specs.Log.{Entry}
-use Rattle.mc_core.specs.Schedule.{Schedule, done_in}
+use Rattle.mc_core.specs.Schedule.{Schedule}
+use Rattle.mc_core.specs.Runs.{done_in}
 use Rattle.mc_core.specs.Headline.{handed_bytes}
 use Rattle.mc_core.specs.Stands.{line_of}
 use Rattle.mc_core.specs.declared.sim.LogEntry.{LogEntry}
