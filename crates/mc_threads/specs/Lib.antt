@@ -3,3 +3,5 @@ pub mod Workers
 pub mod Working
 pub mod Asking
 pub mod Logs
+pub mod Serving
+pub mod Over
