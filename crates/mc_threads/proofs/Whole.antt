@@ -4,6 +4,7 @@ use Rattle.std.specs.List.{AllByRecursion, slice_get}
 use Rattle.std.proofs.lemmas.List.{length-map}
 use Rattle.std.proofs.lemmas.Option.{same_Some, slice_get_within}
 use Rattle.mc_wire.specs.Outlet.{Sight}
+use Rattle.mc_core.proofs.Lists.{all_from, all_unmap}
 use Rattle.mc_crew.specs.Zips.{Zips}
 use Rattle.mc_ring.specs.Lane.{Far, Near}
 use Rattle.mc_ring.specs.Ends.{AreSameEnds, Ends}
@@ -17,9 +18,10 @@ use Rattle.mc_server.specs.Explains.{Explains, ExplainsLine, LineTold}
 use Rattle.mc_threads.specs.Asking.{AreTied, HasLanes}
 use Rattle.mc_threads.specs.Logs.{AreLogsFrom, IsLogOf, together}
 use Rattle.mc_threads.specs.Over.{CameBack, Rose, Sat, SeatServed, ServesAll, back_of, lines_told}
-use Rattle.mc_threads.specs.Workers.{IsFresh}
+use Rattle.mc_threads.specs.Workers.{IsFresh, ends_of}
 use Rattle.mc_threads.specs.Working.{Finishes}
 use Rattle.mc_threads.proofs.Joined.{IsOwned, all_weaken, lawful, own_all}
+use Rattle.mc_threads.proofs.Lanes.{map_map}
 use Rattle.mc_threads.proofs.Served.{IsJoined, explains_line}
 
 pub zips_length : {A B : Type 0} (R : A → B → Type 0) (xs : List A) (ys : List B) → Zips R xs ys → length ys ≡ length xs
@@ -173,3 +175,44 @@ serves_all sizes may_answer sats roses begun ended some started served finished 
             subst (E number) at.line_is (subst (λ n. E n (record { begin = at.sat.line; now = at.rose.line; commands = at.rose.commands; broke = at.rose.broke })) place explained);
       };
     }
+
+map_same : {A B : Type 0} (f g : A → B) → ((x : A) → f x ≡ g x) → (xs : List A) → map f xs ≡ map g xs
+map_same f g same [] = refl
+map_same f g same (x ∷ xs) = ap (λ y. y ∷ map f xs) (same x) ∙ ap (λ ys. g x ∷ ys) (map_same f g same xs)
+
+all_map : {A B : Type 0} (P : B → Type 0) (f : A → B) (xs : List A) → AllByRecursion (λ x. P (f x)) xs → AllByRecursion P (map f xs)
+all_map P f [] all = tt
+all_map P f (x ∷ xs) all = (all.0, all_map P f xs all.1)
+
+-- The same, of whatever holds the lines: seats and workers before and after.
+module _ {S W L M : Type 0} (sizes : Sizes) (may_answer : ℕ → Type 0) (sitting seats : List S) (working workers : List W) (lines : List L) (report : List M) (sat_of : S → Sat) (rose_of : S → Rose) (line_of : S → L) (desk_of : W → Desk) (sight : L → Sight) (back : M → CameBack) where
+  -- what is known once all are started
+  pub record AreStarted : Type 0 where
+    pub seen : (seat : S) → sight (line_of seat) ≡ (sat_of seat).line
+    pub lines_are : map line_of sitting ≡ lines
+    pub lanes : AreLanes sizes.seats sizes.shards sizes.ring (map (λ seat. (sat_of seat).ends) sitting) (map ends_of (map desk_of working))
+    pub fresh : AllByRecursion (IsFresh sizes) (map desk_of working)
+    pub served : Zips (SeatServed sizes.shards sizes.value may_answer) (map sat_of sitting) (map rose_of seats)
+    pub finished : Zips Finishes (map desk_of working) (map desk_of workers)
+
+  has_started : AreStarted → HasStarted sizes (map sat_of sitting) (map desk_of working)
+  has_started known =
+      let A : List (Ends Near) → Type 0 = λ near. AreLanes sizes.seats sizes.shards sizes.ring near (map ends_of (map desk_of working)) in
+      record { lanes = subst A (map_map sat_of (λ (sat : Sat). sat.ends) sitting) known.lanes; fresh = known.fresh }
+
+  lanes_at : (roses : List Rose) → ((number : ℕ) (rose : Rose) → slice_get roses number ≡ Some rose → HasLanes rose.ends (map desk_of workers)) → AllByRecursion (λ (rose : Rose). HasLanes rose.ends (map desk_of workers)) roses
+  lanes_at roses each = all_from (λ (rose : Rose). HasLanes rose.ends (map desk_of workers)) roses each
+
+  pub lanes_are : AreStarted → AllByRecursion (λ seat. HasLanes (rose_of seat).ends (map desk_of workers)) seats
+  lanes_are known =
+      all_unmap (λ (rose : Rose). HasLanes rose.ends (map desk_of workers)) rose_of seats
+      (lanes_at (map rose_of seats) (lanes_joined sizes may_answer (map sat_of sitting) (map rose_of seats) (map desk_of working) (map desk_of workers) (has_started known) known.served known.finished))
+
+  pub all_served : 0 < sizes.shards → AreStarted → AllByRecursion (λ seat. AreTied (rose_of seat).ends (map desk_of workers)) seats → map back report ≡ map (λ seat. back_of (rose_of seat)) seats → ServesAll sizes may_answer (map sight lines) (map back report)
+  all_served some known tied reported =
+      let before : map (λ (sat : Sat). sat.line) (map sat_of sitting) ≡ map sight lines =
+      sym (map_map sat_of (λ (sat : Sat). sat.line) sitting) ∙ (sym (map_same (λ seat. sight (line_of seat)) (λ seat. (sat_of seat).line) known.seen sitting) ∙ (map_map line_of sight sitting ∙ ap (map sight) known.lines_are)) in
+      let after : map back_of (map rose_of seats) ≡ map back report = sym (map_map rose_of back_of seats) ∙ sym reported in
+      let P : List Sight → List CameBack → Type 0 = λ lines told. ServesAll sizes may_answer lines told in
+      let all = serves_all sizes may_answer (map sat_of sitting) (map rose_of seats) (map desk_of working) (map desk_of workers) some (has_started known) known.served known.finished (all_map (λ (rose : Rose). AreTied rose.ends (map desk_of workers)) rose_of seats tied) in
+      subst (P (map sight lines)) after (subst (λ lines. P lines (map back_of (map rose_of seats))) before all)

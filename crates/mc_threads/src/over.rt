@@ -4,7 +4,7 @@ ghost use Rattle.std.specs.List.{AllByRecursion};
 ghost use Rattle.mc_ring.specs.Made.{AreLanes};
 ghost use Rattle.mc_threads.specs.Over.{ServesAll, came_back};
 ghost use Rattle.mc_threads.specs.Sizes.{MayServe, sizes_of};
-ghost use Rattle.mc_threads.specs.Workers.{IsFresh};
+ghost use Rattle.mc_threads.specs.Workers.{IsFresh, ends_of};
 
 #[cfg(test)]
 mod tests;
@@ -102,8 +102,8 @@ fn start<
     requires working { working.old ≡ [] }
     requires sitting { sitting.old ≡ [] }
     ensures lanes { OnOk result (AreLanes (length lines.items) sizes.shards sizes.ring
-        (map (λ seating. seating.courier.ends) sitting.new) (map (λ one. one.worker.ends) working.new)) }
-    ensures fresh { OnOk result (AllByRecursion (λ one. IsFresh (sizes_of (length lines.items) sizes) one.worker) working.new) }
+        (map (λ seating. seating.courier.ends) sitting.new) (map ends_of (map (λ one. one.worker) working.new))) }
+    ensures fresh { OnOk result (AllByRecursion (IsFresh (sizes_of (length lines.items) sizes)) (map (λ one. one.worker) working.new)) }
     ensures lines { OnOk result (map (λ seating. seating.line) sitting.new ≡ lines.items) }
     ensures same { OnOk result (AllByRecursion (λ seating. (seating.clock ≡ clock) × (seating.sizes ≡ sizes)) sitting.new) }
 {
