@@ -1,5 +1,6 @@
 -- Lists of which the first are done, and the others are left.
-use Rattle.std.proofs.Common.{◌≡◌, List, [], ◌∷◌, ◌++◌, length, map, refl, sym, ap, ◌∙◌, arith, append_assoc, append-nil}
+use Rattle.std.proofs.Common.{◌≡◌, List, [], ◌∷◌, ◌++◌, length, map, refl, sym, ap, subst, ◌∙◌, arith, append_assoc, append-nil, Result, Ok, Err}
+use Rattle.std.specs.Prelude.{IfOk}
 use Rattle.std.specs.List.{AllByRecursion}
 use Rattle.mc_threads.proofs.Joined.{all_append}
 
@@ -21,7 +22,15 @@ pub all_more : {A : Type 0} (P : A → Type 0) (done done' : List A) (x : A) →
 all_more P done done' x grown all this = rw grown (all_append P done (x ∷ []) all (this, tt))
 
 pub all_first : {A : Type 0} (P : A → Type 0) (all : List A) (x : A) (rest : List A) → all ≡ x ∷ rest → AllByRecursion P all → P x
-all_first P all x rest is holds = (rw is at holds).0
+all_first P all x rest is holds = (subst (λ (xs : List _). AllByRecursion P xs) is holds).0
 
 pub all_rest : {A : Type 0} (P : A → Type 0) (all : List A) (x : A) (rest : List A) → all ≡ x ∷ rest → AllByRecursion P all → AllByRecursion P rest
-all_rest P all x rest is holds = (rw is at holds).1
+all_rest P all x rest is holds = (subst (λ (xs : List _). AllByRecursion P xs) is holds).1
+
+pub all_join : {A : Type 0} (P : A → Type 0) (all : List A) (x : A) (rest : List A) → all ≡ x ∷ rest → P x → AllByRecursion P rest → AllByRecursion P all
+all_join P all x rest is this others = subst (λ (xs : List _). AllByRecursion P xs) (sym is) (this, others)
+
+-- Two facts of a value, where there is one.
+pub both : {T E : Type 0} (r : Result T E) (P Q R : T → Type 0) → ((x : T) → P x → Q x → R x) → IfOk r P → IfOk r Q → IfOk r R
+both (Ok x) P Q R follows p q = follows x p q
+both (Err e) P Q R follows p q = tt

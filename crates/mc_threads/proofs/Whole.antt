@@ -31,11 +31,17 @@ zips_length R (x ∷ xs) [] zips = absurd zips
 zips_length R (x ∷ xs) (y ∷ ys) zips = ap suc (zips_length R xs ys zips.1)
 
 -- Two lists that are seen by functions are in the relation that follows.
-pub zips_map : {A B C D : Type 0} (P : A → Type 0) (R : A → B → Type 0) (S : C → D → Type 0) (f : A → C) (g : B → D) → ((x : A) (y : B) → P x → R x y → S (f x) (g y)) → (xs : List A) (ys : List B) → AllByRecursion P xs → Zips R xs ys → Zips S (map f xs) (map g ys)
-zips_map P R S f g follows [] [] all zips = tt
-zips_map P R S f g follows [] (y ∷ ys) all zips = absurd zips
-zips_map P R S f g follows (x ∷ xs) [] all zips = absurd zips
-zips_map P R S f g follows (x ∷ xs) (y ∷ ys) all zips = (follows x y all.0 zips.0, zips_map P R S f g follows xs ys all.1 zips.1)
+pub zips_map : {A B C D : Type 0} (xs : List A) (ys : List B) (P : A → Type 0) (R : A → B → Type 0) (S : C → D → Type 0) (f : A → C) (g : B → D) → ((x : A) (y : B) → P x → R x y → S (f x) (g y)) → AllByRecursion P xs → Zips R xs ys → Zips S (map f xs) (map g ys)
+zips_map [] [] P R S f g follows all zips = tt
+zips_map [] (y ∷ ys) P R S f g follows all zips = absurd zips
+zips_map (x ∷ xs) [] P R S f g follows all zips = absurd zips
+zips_map (x ∷ xs) (y ∷ ys) P R S f g follows all zips = (follows x y all.0 zips.0, zips_map xs ys P R S f g follows all.1 zips.1)
+
+pub zips_seen : {A B C D : Type 0} (xs : List A) (ys : List B) (S : C → D → Type 0) (f : A → C) (g : B → D) → Zips (λ x y. S (f x) (g y)) xs ys → Zips S (map f xs) (map g ys)
+zips_seen [] [] S f g zips = tt
+zips_seen [] (y ∷ ys) S f g zips = absurd zips
+zips_seen (x ∷ xs) [] S f g zips = absurd zips
+zips_seen (x ∷ xs) (y ∷ ys) S f g zips = (zips.0, zips_seen xs ys S f g zips.1)
 
 -- The elements of the other list at a place, by those of the one.
 record IsMet {A B : Type 0} (R : A → B → Type 0) (xs : List A) (ys : List B) (i : ℕ) (y : B) : Type 0 where

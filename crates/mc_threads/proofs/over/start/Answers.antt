@@ -20,5 +20,13 @@ pub returns : goal.returns
 returns g c =
     let lanes = c.in_ok-near.ensures.made in
     let workers = c.in_ok-workers.ensures in
-    let started = c.in_ok-start_workers.ensures in
-    ?
+    let started : map (λ one. one.worker) c.start_workers.new.crew ≡ map (λ one. one.worker) c.args.working.now ++ c.in_ok-workers.workers.items = search rules in
+    let all : map (λ one. one.worker) c.start_workers.new.crew ≡ c.in_ok-workers.workers.items = started ∙ ap (λ ws. map (λ one. one.worker) ws ++ c.in_ok-workers.workers.items) c.requires.working in
+    let far : map ends_of (map (λ one. one.worker) c.start_workers.new.crew) ≡ c.in_ok-near.far.items = ap (map ends_of) all ∙ workers.ends in
+    let count : c.len-count.result ≡ length c.args.lines.items = search rules in
+    record {
+      lanes = on_ok_weaker c.start_seats.result (λ near. rw (near, far, ← count) lanes) c.start_seats.ensures.ends;
+      fresh = on_ok_weaker c.start_seats.result (λ near. rw all (workers.fresh (length c.args.lines.items))) c.start_seats.ensures.ends;
+      lines = c.start_seats.ensures.lines;
+      same = c.start_seats.ensures.same;
+    }
