@@ -1,5 +1,5 @@
 //! Carries the pieces of a connection to the shards, and their replies back.
-ghost use Rattle.std.specs.Prelude.{◌≡◌, ◌<◌, ℕ, [], IfOk, length};
+ghost use Rattle.std.specs.Prelude.{◌≡◌, ◌<◌, length};
 
 use mc_conn::{Conn, Taken};
 use mc_ring::{Parcel, SeatEnds};
@@ -15,7 +15,7 @@ use std::thread;
 /// every reply is received and accepted, no clause tells: tests show it.
 #[derive(Drop)]
 pub struct Courier {
-    pub(crate) ends: SeatEnds,
+    ends: SeatEnds,
     /// How many pieces were sent to each shard whose replies were not received yet.
     under_way: Vec<usize>,
     /// A piece found no room on its ring.
@@ -26,21 +26,13 @@ pub struct Courier {
 }
 
 impl Courier {
-    ghost use Rattle.mc_conn.specs.Conn.{IsConn};
-    ghost use Rattle.mc_conn.specs.Told.{told_nothing};
-    ghost use Rattle.mc_seat.specs.LineServed.{LineServed};
-    ghost use Rattle.mc_threads.specs.Serving.{EndsAll, IsIdle, IsNewConn};
-
     /// The sleeper is that of the seat's own thread, the wakers are those of the shards.
     pub fn new(
         alloc: Global,
         ends: SeatEnds,
         sleeper: Sleeper,
         shards: Wakers,
-    ) -> Result<Courier, AllocError>
-        ensures ends { IfOk result (λ courier. courier.ends ≡ ends) }
-        ensures idle { IfOk result (λ courier. IsIdle courier.under_way.items) }
-    {
+    ) -> Result<Courier, AllocError> {
         let under_way = vec![in alloc; 0; ends.shards()]?;
         Ok(Courier {
             ends,
@@ -61,15 +53,7 @@ impl Courier {
         seat: &mut Seat,
         line: &mut L,
         clock: &K,
-    ) -> Served
-        requires fresh { IsNewConn (length self.old.ends.lanes) conn.old }
-        requires idle { IsIdle self.old.under_way.items }
-        requires unread { seat.old.unread ≡ [] }
-        ensures served { (limit window : ℕ) → IsConn conn.old (told_nothing (length self.old.ends.lanes) limit window) →
-            LineServed (length self.old.ends.lanes) limit (K.may_answer clock.now) (L.sight line.old) (L.sight line.new)
-                self.old.ends self.new.ends conn.new result.commands result.broke }
-        ensures idle { IsIdle self.new.under_way.items }
-    {
+    ) -> Served {
         let mut commands = 0;
         for _ in rt.forever() {
             let stop = conn.take(alloc, clock.now());
@@ -194,9 +178,7 @@ impl Courier {
     }
 
     /// Tells the shards that nothing more comes.
-    pub fn close<R: Wait>(&mut self, rt: &R)
-        ensures { EndsAll self.old.ends self.new.ends }
-    {
+    pub fn close<R: Wait>(&mut self, rt: &R) {
         for shard in 0..self.ends.shards() {
             self.send_end(rt, shard);
             self.shards.wake(shard);
