@@ -59,6 +59,7 @@ ends received begin now unread told conn is whole over serving =
     record {
       handed = length (all_texts told);
       conn_is = subst P whole is;
+      over = inr closed;
       story = record {
         read = told.fed ++ unread;
         written = concat (all_texts told);
@@ -86,6 +87,7 @@ breaks_hand received begin before now unread told conn sound is off serving =
     record {
       handed = told.handed;
       conn_is = is;
+      over = inl refl;
       story = record {
         read = told.fed ++ unread;
         written = concat texts ++ take off.count waiting;
@@ -121,6 +123,7 @@ breaks_read received begin before now told conn is all same fails serving =
     record {
       handed = length (all_texts told);
       conn_is = is;
+      over = inl refl;
       story = record {
         read = told.fed ++ [];
         written = concat (all_texts told);

@@ -6,3 +6,6 @@ pub mod Lanes
 pub mod Orders
 pub mod Served
 pub mod Whole
+pub mod Carrying
+pub mod Ending
+pub mod Serving

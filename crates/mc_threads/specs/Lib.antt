@@ -5,3 +5,4 @@ pub mod Asking
 pub mod Logs
 pub mod Serving
 pub mod Over
+pub mod internal

@@ -1,5 +1,6 @@
 //! Carries the pieces of a connection to the shards, and their replies back.
-ghost use Rattle.std.specs.Prelude.{◌≡◌, ◌<◌, length};
+ghost use Rattle.std.specs.Prelude.{◌≡◌, ◌<◌, ◌==◌, ℕ, [], false, true, IfOk, IsTrue, length};
+ghost use Rattle.std.specs.List.{list_all};
 
 use mc_conn::{Conn, Taken};
 use mc_ring::{Parcel, SeatEnds};
@@ -10,15 +11,12 @@ use std::sync::Wait;
 use std::thread;
 
 /// A seat's ends of its lanes, and what is under way on them.
-///
-/// Proved is that it is safe, and what `Conn`, `Seat` and the lanes ensure of each call. That every piece is sent once, and that
-/// every reply is received and accepted, no clause tells: tests show it.
 #[derive(Drop)]
 pub struct Courier {
-    ends: SeatEnds,
+    pub(crate) ends: SeatEnds,
     /// How many pieces were sent to each shard whose replies were not received yet.
     under_way: Vec<usize>,
-    /// A piece found no room on its ring.
+    /// A piece could not be sent yet.
     blocked: bool,
     sleeper: Sleeper,
     shards: Wakers,
@@ -26,13 +24,23 @@ pub struct Courier {
 }
 
 impl Courier {
+    ghost use Rattle.mc_conn.specs.Conn.{IsConn};
+    ghost use Rattle.mc_conn.specs.Told.{told_nothing};
+    ghost use Rattle.mc_seat.specs.LineServed.{LineServed};
+    ghost use Rattle.mc_threads.specs.Serving.{EndsAll, IsIdle, IsNewConn};
+    ghost use Rattle.mc_threads.specs.internal.Carrying.{AllOut, AllOutWhere, AnyOut, CanCarry, Goes, NoneOut};
+    ghost use Rattle.mc_threads.specs.internal.Ending.{EndsOne};
+
     /// The sleeper is that of the seat's own thread, the wakers are those of the shards.
     pub fn new(
         alloc: Global,
         ends: SeatEnds,
         sleeper: Sleeper,
         shards: Wakers,
-    ) -> Result<Courier, AllocError> {
+    ) -> Result<Courier, AllocError>
+        ensures ends { IfOk result (λ courier. courier.ends ≡ ends) }
+        ensures idle { IfOk result (λ courier. IsIdle courier.under_way.items) }
+    {
         let under_way = vec![in alloc; 0; ends.shards()]?;
         Ok(Courier {
             ends,
@@ -53,7 +61,15 @@ impl Courier {
         seat: &mut Seat,
         line: &mut L,
         clock: &K,
-    ) -> Served {
+    ) -> Served
+        requires fresh { IsNewConn (length self.old.ends.lanes) conn.old }
+        requires idle { IsIdle self.old.under_way.items }
+        requires unread { seat.old.unread ≡ [] }
+        ensures served { (limit window : ℕ) → IsConn conn.old (told_nothing (length self.old.ends.lanes) limit window) →
+            LineServed (length self.old.ends.lanes) limit (K.may_answer clock.now) (L.sight line.old) (L.sight line.new)
+            self.old.ends self.new.ends conn.new result.commands result.broke }
+        ensures idle { IsIdle self.new.under_way.items }
+    {
         let mut commands = 0;
         for _ in rt.forever() {
             let stop = conn.take(alloc, clock.now());
@@ -79,11 +95,13 @@ impl Courier {
 
     /// Sends all pieces that have not left, and takes in all replies. It receives while it sends, so that the rings never
     /// stand still.
-    fn settle<R: Wait>(&mut self, rt: &R, conn: &mut Conn) {
+    fn settle<R: Wait>(&mut self, rt: &R, conn: &mut Conn)
+        requires { CanCarry self.old conn.old }
+        ensures goes { Goes AllOut self.old conn.old self.new conn.new }
+        ensures idle { IsIdle self.new.under_way.items }
+    {
         for _ in rt.forever() {
-            let sent = self.send_all(conn);
-            let received = self.receive_all(conn);
-            if sent || received {
+            if self.carry(conn) {
                 self.sleeper.found();
             } else if self.is_settled() {
                 return;
@@ -91,41 +109,82 @@ impl Courier {
                 self.sleeper.wait(rt);
             }
         }
+        unreachable!()
     }
 
     /// Whether every piece was sent, and its reply received.
-    fn is_settled(&self) -> bool {
-        !self.blocked && self.under_way.iter().all(|count| *count == 0)
+    fn is_settled(&self) -> bool
+        ensures sent { IsTrue result → self.now.blocked ≡ false }
+        ensures idle { IsTrue result → IsIdle self.now.under_way.items }
+    {
+        if self.blocked {
+            return false;
+        }
+        self.is_idle()
+    }
+
+    /// Whether no reply is awaited.
+    fn is_idle(&self) -> bool
+        ensures { result ≡ list_all (λ count. count == 0) self.now.under_way.items }
+    {
+        self.under_way.iter().all(|count| *count == 0)
+    }
+
+    /// Sends what there is room for and takes in what has come, and tells whether there was something.
+    fn carry(&mut self, conn: &mut Conn) -> bool
+        requires { CanCarry self.old conn.old }
+        ensures { Goes (AllOutWhere ((result ≡ false) × (self.new.blocked ≡ false))) self.old conn.old self.new conn.new }
+    {
+        if self.send_all(conn) {
+            self.receive_all(conn);
+            return true;
+        }
+        self.receive_all(conn)
     }
 
     /// Sends pieces while there is room, and wakes the shards; tells whether one was sent.
-    fn send_all(&mut self, conn: &mut Conn) -> bool {
-        let mut sent = false;
+    fn send_all(&mut self, conn: &mut Conn) -> bool
+        requires { CanCarry self.old conn.old }
+        ensures { Goes (AllOutWhere ((result ≡ false) × (self.new.blocked ≡ false))) self.old conn.old self.new conn.new }
+    {
+        if !self.send_next(conn) {
+            return false;
+        }
+        self.send_more(conn);
+        self.wake_shards();
+        true
+    }
+
+    /// Sends pieces while there is room.
+    fn send_more(&mut self, conn: &mut Conn)
+        requires { CanCarry self.old conn.old }
+        ensures { Goes AnyOut self.old conn.old self.new conn.new }
+    {
         for _ in 0..u64::MAX {
             if !self.send_next(conn) {
-                break;
+                return;
             }
-            sent = true;
         }
-        if sent {
-            self.wake_shards();
-        }
-        sent
     }
 
     /// Sends the next piece, and tells whether it did: not where none is left, and where its ring is full.
-    fn send_next(&mut self, conn: &mut Conn) -> bool {
+    fn send_next(&mut self, conn: &mut Conn) -> bool
+        requires { CanCarry self.old conn.old }
+        ensures { Goes (AllOutWhere ((result ≡ false) × (self.new.blocked ≡ false))) self.old conn.old self.new conn.new }
+    {
         self.blocked = false;
         let Some((shard, piece)) = conn.next_piece() else {
             return false;
         };
-        // Pieces are for shards that are there.
-        let Some(count) = self.under_way.get_mut(shard) else {
-            return true;
+        // No ring holds so many that this fails; the piece would wait for replies.
+        let Some(count) = self.under_way[shard].checked_add(1) else {
+            self.blocked = true;
+            conn.not_sent(shard, piece);
+            return false;
         };
         match self.ends.send(shard, Parcel::Piece(piece)) {
             Ok(()) => {
-                *count = count.saturating_add(1);
+                self.under_way[shard] = count;
                 true
             }
             Err(parcel) => {
@@ -148,7 +207,11 @@ impl Courier {
     }
 
     /// Takes in the replies that have come; tells whether there was one.
-    fn receive_all(&mut self, conn: &mut Conn) -> bool {
+    fn receive_all(&mut self, conn: &mut Conn) -> bool
+        requires { CanCarry self.old conn.old }
+        ensures goes { Goes NoneOut self.old conn.old self.new conn.new }
+        ensures blocked { self.new.blocked ≡ self.old.blocked }
+    {
         let mut received = false;
         for shard in 0..self.under_way.len() {
             if self.receive_from(conn, shard) {
@@ -160,25 +223,46 @@ impl Courier {
 
     /// Takes in the replies that have come from one shard; tells whether there was one.
     fn receive_from(&mut self, conn: &mut Conn, shard: usize) -> bool
-        requires { shard < length self.old.under_way.items }
-        ensures { length self.new.under_way.items ≡ length self.old.under_way.items }
+        requires shard { shard < length self.old.under_way.items }
+        requires carries { CanCarry self.old conn.old }
+        ensures goes { Goes NoneOut self.old conn.old self.new conn.new }
+        ensures blocked { self.new.blocked ≡ self.old.blocked }
+        ensures same { length self.new.under_way.items ≡ length self.old.under_way.items }
     {
-        let due = self.under_way[shard];
-        let mut left = due;
-        for _ in 0..due {
-            let Some(reply) = self.ends.receive(shard) else {
-                break;
-            };
-            left = left.saturating_sub(1);
-            // A reply that nobody awaits never comes.
-            let _ = conn.accept(reply);
+        let mut received = false;
+        for _ in 0..self.under_way[shard] {
+            if !self.receive_next(conn, shard) {
+                return received;
+            }
+            received = true;
         }
+        received
+    }
+
+    /// Takes in the next reply from one shard, and tells whether it did: not where none is awaited, and where none has come.
+    fn receive_next(&mut self, conn: &mut Conn, shard: usize) -> bool
+        requires shard { shard < length self.old.under_way.items }
+        requires carries { CanCarry self.old conn.old }
+        ensures goes { Goes NoneOut self.old conn.old self.new conn.new }
+        ensures blocked { self.new.blocked ≡ self.old.blocked }
+        ensures same { length self.new.under_way.items ≡ length self.old.under_way.items }
+    {
+        let Some(left) = self.under_way[shard].checked_sub(1) else {
+            return false;
+        };
+        let Some(reply) = self.ends.receive(shard) else {
+            return false;
+        };
         self.under_way[shard] = left;
-        left < due
+        // A reply that nobody awaits never comes.
+        let _ = conn.accept(reply);
+        true
     }
 
     /// Tells the shards that nothing more comes.
-    pub fn close<R: Wait>(&mut self, rt: &R) {
+    pub fn close<R: Wait>(&mut self, rt: &R)
+        ensures { EndsAll self.old.ends self.new.ends }
+    {
         for shard in 0..self.ends.shards() {
             self.send_end(rt, shard);
             self.shards.wake(shard);
@@ -188,13 +272,13 @@ impl Courier {
     /// Sends the shard the End of its lane.
     fn send_end<R: Wait>(&mut self, rt: &R, shard: usize)
         requires { shard < length self.old.ends.lanes }
-        ensures { length self.new.ends.lanes ≡ length self.old.ends.lanes }
+        ensures { EndsOne shard self.old.ends self.new.ends }
     {
         for _ in rt.forever() {
-            if self.ends.send(shard, Parcel::End).is_ok() {
-                return;
+            match self.ends.send(shard, Parcel::End) {
+                Ok(()) => return,
+                Err(_) => thread::yield_now(),
             }
-            thread::yield_now();
         }
         unreachable!()
     }

@@ -1,5 +1,6 @@
 //! Serves connections over TCP.
-ghost use Rattle.std.specs.Prelude.{◌<◌, ◌≤◌};
+ghost use Rattle.std.specs.Prelude.{◌≡◌, ◌<◌, ◌≤◌, IfOk, length};
+ghost use Rattle.mc_threads.specs.Serving.{IsReady};
 ghost use Rattle.mc_threads.specs.Sizes.{MayServe};
 
 use crate::courier::Courier;
@@ -67,6 +68,7 @@ pub fn serve_tcp<
 }
 
 /// Starts the threads of the workers and of the seats, as far as they can be started.
+#[tactic(auto, using(crate::proofs::Fresh::all_wide, crate::proofs::Fresh::first_wide, crate::proofs::Fresh::rest_wide))]
 fn start<
     R: Threads + Wait + RandomSource + time::Clock + Copy + Send + Drop + 'static,
     K: Clock + Copy + Send + Drop + 'static,
@@ -95,14 +97,14 @@ fn start<
     };
     start_workers(rt, alloc, working, workers, worker_sleepers, &gate, &wakers)?;
     let mut sleepers = seat_sleepers.into_iter();
-    for ends in ends.0 {
+    for seat_ends in ends.0 {
         let Some(sleeper) = sleepers.next() else {
             return Err(ServeRefusal::Memory);
         };
         let seat = make_seat(
             rt,
             alloc,
-            ends,
+            seat_ends,
             sleeper,
             shards.share()?,
             door,
@@ -128,6 +130,8 @@ fn make_seat<R: time::Clock + Copy + Drop, K: Clock + Copy + Drop>(
     requires shards { 0 < sizes.shards }
     requires value { sizes.value ≤ GREATEST_VALUE_LIMIT }
     requires window { 0 < sizes.window }
+    requires lanes { length ends.lanes ≡ sizes.shards }
+    ensures { IfOk result (λ seat. IsReady seat.courier seat.conn) }
 {
     let Ok(conn) = Conn::new(alloc, sizes.shards, sizes.value, sizes.window) else {
         return Err(ServeRefusal::Memory);

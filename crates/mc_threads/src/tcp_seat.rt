@@ -1,4 +1,7 @@
 //! The thread of a seat that serves connections over TCP, one after another.
+ghost use Rattle.std.specs.Prelude.{IsTrue};
+ghost use Rattle.mc_threads.specs.Serving.{IsReady};
+
 use crate::courier::Courier;
 use crate::door::Door;
 use crate::tcp_line::TcpLine;
@@ -34,7 +37,10 @@ impl<R: time::Clock, K: Clock> TcpSeat<R, K> {
         courier: Courier,
         door: Arc<Door, Global>,
         clock: K,
-    ) -> TcpSeat<R, K> {
+    ) -> TcpSeat<R, K>
+        requires { IsReady courier conn }
+        ensures { IsReady result.courier result.conn }
+    {
         TcpSeat {
             rt,
             alloc,
@@ -48,7 +54,9 @@ impl<R: time::Clock, K: Clock> TcpSeat<R, K> {
     }
 
     /// Serves connections, one after another, as long as the door lets it.
-    fn serve_all<W: Wait>(&mut self, rt: &W) {
+    fn serve_all<W: Wait>(&mut self, rt: &W)
+        requires { IsReady self.old.courier self.old.conn }
+    {
         for _ in rt.forever() {
             if !self.door.draw() {
                 return;
@@ -62,7 +70,10 @@ impl<R: time::Clock, K: Clock> TcpSeat<R, K> {
     }
 
     /// Serves the next connection, and tells whether one came.
-    fn serve_next<W: Wait>(&mut self, rt: &W) -> bool {
+    fn serve_next<W: Wait>(&mut self, rt: &W) -> bool
+        requires { IsReady self.old.courier self.old.conn }
+        ensures { IsTrue result → IsReady self.new.courier self.new.conn }
+    {
         let Ok(stream) = self.door.accept(&self.rt) else {
             return false;
         };
@@ -84,7 +95,7 @@ impl<R: time::Clock, K: Clock> TcpSeat<R, K> {
 }
 
 impl<R: time::Clock + Drop, K: Clock + Drop> Task for TcpSeat<R, K> {
-    ghost is_ready = { λ _. Unit {0} };
+    ghost is_ready = { λ seat. IsReady seat.courier seat.conn };
 
     ghost does = { λ _ _. Unit {0} };
 

@@ -36,6 +36,7 @@ pub record GoesOn (received : ℕ → List Shown) (begin now : Sight) (told : To
 pub record IsServed (received : ℕ → List Shown) (begin now : Sight) (told : Told) (broke : Bool) (conn : Conn) : Type 0 where
   pub handed : ℕ
   pub conn_is : IsConn conn (record told { broken = broke; handed = handed })
+  pub over : IsOver (record told { broken = broke; handed = handed })
   pub story : Story told.limit begin now broke told.taken (all_texts told)
   pub reads : KeysFit told.shards told.taken received → ReadsOwingNothing told.limit begin now (commands_of told.taken) (all_texts told)
 

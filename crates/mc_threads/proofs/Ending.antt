@@ -1,0 +1,52 @@
+-- End is sent on one lane after another.
+use Rattle.std.proofs.Common.{ℕ, ◌+◌, ◌≤◌, inl, inr, [], ◌∷◌, ◌++◌, length, Ok, refl, ap, ◌∙◌, arith}
+use Rattle.std.proofs.lemmas.Bool.{cases_eq}
+use Rattle.mc_ring.specs.declared.parcel.Parcel.{Parcel}
+use Rattle.mc_ring.specs.declared.parcel.Parcel.TheVariants as parcel
+use Rattle.mc_ring.specs.Reply.{Shown}
+use Rattle.mc_ring.specs.Lane.{Near}
+use Rattle.mc_ring.specs.Ends.{AreSameEnds, AtLane, Ends, Sends}
+use Rattle.mc_ring.specs.EndsLaws.{at_lane-kept, at_lane-longer, at_lane-other, same_ends-refl, same_ends-trans}
+use Rattle.mc_threads.specs.Serving.{EndsAll}
+use Rattle.mc_threads.specs.internal.Ending.{EndsFirst, EndsOne, StandsStill}
+
+pub still_refl : (ends : Ends Near) → StandsStill ends ends
+still_refl ends = record { same = same_ends-refl ends; sent = λ s. refl; received = λ s. refl }
+
+pub still_trans : (first mid last : Ends Near) → StandsStill first mid → StandsStill mid last → StandsStill first last
+still_trans first mid last one two = record {
+  same = same_ends-trans first mid last one.same two.same;
+  sent = λ s. two.sent s ∙ one.sent s;
+  received = λ s. two.received s ∙ one.received s;
+}
+
+pub end_sent : (shard : ℕ) (before ends ends' : Ends Near) → StandsStill before ends → AtLane (Sends {Out = Parcel} {In = Shown} {T = Parcel} (λ (sent : Parcel). sent) parcel.End (Ok tt)) shard ends ends' → AreSameEnds ends ends' → EndsOne shard before ends'
+end_sent shard before ends ends' still at same =
+    let says : Near → Near → Type 0 = Sends {Out = Parcel} {In = Shown} {T = Parcel} (λ (sent : Parcel). sent) parcel.End (Ok tt) in
+    record {
+      same = same_ends-trans before ends ends' still.same same;
+      sent = at_lane-longer says (λ (end : Near). end.past.sent) shard (parcel.End ∷ []) ends ends' (λ x y said. ap (λ p. p.sent) said.sent) at ∙ ap (λ ps. ps ++ parcel.End ∷ []) (still.sent shard);
+      others = λ s other. at_lane-other says (λ (end : Near). end.past.sent) shard s ends ends' at other ∙ still.sent s;
+      received = λ s. at_lane-kept says (λ (end : Near). end.past.received) shard s ends ends' (λ x y said. ap (λ p. p.received) said.sent) at ∙ still.received s;
+    }
+
+pub ends_none : (ends : Ends Near) → EndsFirst 0 ends ends
+ends_none ends = record { same = same_ends-refl ends; sent = λ s below. absurd (omega (arith, below)); others = λ s from. refl; received = λ s. refl }
+
+pub ends_next : (count : ℕ) (before ends ends' : Ends Near) → EndsFirst count before ends → EndsOne count ends ends' → EndsFirst (count + 1) before ends'
+ends_next count before ends ends' first one = record {
+  same = same_ends-trans before ends ends' first.same one.same;
+  sent = λ s below. elim (cases_eq s count) [
+    | inl is ↦ rw is (one.sent ∙ ap (λ ps. ps ++ parcel.End ∷ []) (first.others count (omega arith)))
+    | inr other ↦ one.others s other ∙ first.sent s (omega (arith, below, other))
+  ];
+  others = λ s from. one.others s (λ e. absurd (omega (arith, from, e))) ∙ first.others s (omega (arith, from));
+  received = λ s. one.received s ∙ first.received s;
+}
+
+pub ends_all : (count : ℕ) (before ends : Ends Near) → length before.lanes ≤ count → EndsFirst count before ends → EndsAll before ends
+ends_all count before ends whole first = record {
+  same = first.same;
+  sent = λ s below. first.sent s (omega (arith, below, whole));
+  received = first.received;
+}

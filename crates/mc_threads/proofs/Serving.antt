@@ -1,0 +1,308 @@
+-- A line that is served over lanes, turn by turn.
+use Rattle.std.proofs.Common.{◌≡◌, ℕ, ◌+◌, ◌-◌, ◌^◌, ◌==◌, ◌&&◌, min, inl, inr, Bool, true, false, List, [], ◌∷◌, ◌++◌, length, map, take, refl, sym, ap, subst, ◌∙◌, arith, append-nil, length-append}
+use Rattle.std.specs.List.{list_all, slice_get}
+use Rattle.std.proofs.lemmas.Bool.{cases_lt, eqb-true}
+use Rattle.std.proofs.lemmas.List.{length-map, take-append-le, take_all}
+use Rattle.mc_wire.specs.Outlet.{Sight}
+use Rattle.mc_ring.specs.declared.parcel.Parcel.TheVariants as parcel
+use Rattle.mc_ring.specs.Reply.{Shown}
+use Rattle.mc_ring.specs.Lane.{Near}
+use Rattle.mc_ring.specs.Ends.{Ends, received_on, sent_on}
+use Rattle.mc_ring.specs.EndsLaws.{same_ends-refl}
+use Rattle.mc_split.specs.declared.plan.Ticket.{Ticket}
+use Rattle.mc_conn.specs.declared.conn.Conn.{Conn}
+use Rattle.mc_conn.specs.declared.conn.Taken.{Taken as Took}
+use Rattle.mc_conn.specs.declared.conn.Taken.TheVariants as took
+use Rattle.mc_conn.specs.Conn.{IsConn, Opens, TakeSays}
+use Rattle.mc_conn.specs.Due.{due, lane, pieces_from}
+use Rattle.mc_conn.specs.Fits.{KeysFit, Serves}
+use Rattle.mc_conn.specs.History.{Taken}
+use Rattle.mc_conn.specs.Told.{Told, all_pieces, all_texts, commands_of, told_nothing}
+use Rattle.mc_conn.proofs.Counting.{count_from_come, due_beyond}
+use Rattle.mc_conn.proofs.Fitting.{due-append, pieces_from-append}
+use Rattle.mc_conn.proofs.Gets.{all_at, all_push, get_below, get_front}
+use Rattle.mc_conn.proofs.Serving.{serves_none, serves_take}
+use Rattle.mc_conn.proofs.Staying.{is_sound, keeps_take}
+use Rattle.mc_seat.specs.LineServed.{LineServed}
+use Rattle.mc_seat.specs.declared.seat.Turn.{Turn}
+use Rattle.mc_seat.specs.internal.Stands.{Serving, Stands, handed_texts}
+use Rattle.mc_seat.specs.internal.Steps.{GoOnSays, GoesOn, IsServed, StopsAt, TurnSays}
+use Rattle.mc_seat.proofs.Fronts.{begins_length}
+use Rattle.mc_seat.proofs.Standing.{stands_first, stands_take}
+use Rattle.mc_threads.specs.Serving.{IsIdle}
+use Rattle.mc_threads.specs.internal.Carrying.{AllOut, Carries, IsKept, MayCarry, MovesOn, carried, sent_to}
+use Rattle.mc_threads.specs.internal.Turns.{Turns}
+use Rattle.mc_threads.proofs.Carrying.{some_shards}
+
+-- all counts are 0
+pub all_zero : (counts : List ℕ) → list_all (λ count. count == 0) counts ≡ true → IsIdle counts
+all_zero [] e = tt
+all_zero (count ∷ counts) e =
+    elim (count == 0) as (λ b. (count == 0) ≡ b → (b && list_all (λ count. count == 0) counts) ≡ true → (count ≡ 0) × IsIdle counts) [
+      | true ↦ λ is rest. (eqb-true count 0 is, all_zero counts rest)
+      | false ↦ λ is rest. absurd (cc)
+    ] refl e
+
+-- before anything was carried
+carries_first : (ends : Ends Near) (ways : List ℕ) (limit window : ℕ) → length ways ≡ length ends.lanes → IsIdle ways → Carries ends ends ways (told_nothing (length ends.lanes) limit window) (λ s. [])
+carries_first ends ways limit window each idle = record {
+  width = refl;
+  each = each;
+  same = same_ends-refl ends;
+  sent = λ s below. sym (append-nil (sent_on ends s));
+  came = λ s below. sym (append-nil (received_on ends s));
+  awaited = λ s count here. let none : count ≡ 0 = all_at (λ (c : ℕ). c ≡ 0) ways s count idle here in omega (arith, none);
+  serves = serves_none (length ends.lanes);
+}
+
+pub turns_first : (may_answer : ℕ → Type 0) (now : Sight) (ends : Ends Near) (ways unread : List ℕ) (conn : Conn) (limit window : ℕ) → length ways ≡ length ends.lanes → IsIdle ways → unread ≡ [] → IsConn conn (told_nothing (length ends.lanes) limit window) → Turns (length ends.lanes) limit may_answer now now ends ends ways unread conn 0
+turns_first may_answer now ends ways unread conn limit window each idle none is = record {
+  told = told_nothing (length ends.lanes) limit window;
+  received = λ s. [];
+  shards_is = refl;
+  limit_is = refl;
+  conn_is = is;
+  carries = carries_first ends ways limit window each idle;
+  serving =
+      let P : List ℕ → Type 0 = λ bytes. Serving (λ s. []) now now bytes (told_nothing (length ends.lanes) limit window) in
+      subst P (sym none) (stands_first limit (KeysFit (length ends.lanes) [] (λ s. [])) now);
+  moments = tt;
+  unbroken = refl;
+  counted = refl;
+}
+
+-- the texts handed out are the same
+serving_along : (limit : ℕ) (received : ℕ → List Shown) (begin now : Sight) (unread fed : List ℕ) (ended : Bool) (shards : ℕ) (taken : List Taken) (texts others : List (List ℕ)) → texts ≡ others → Stands limit (KeysFit shards taken received) begin now unread fed ended taken texts → Stands limit (KeysFit shards taken received) begin now unread fed ended taken others
+serving_along limit received begin now unread fed ended shards taken texts others same stands =
+    let P : List (List ℕ) → Type 0 = λ ts. Stands limit (KeysFit shards taken received) begin now unread fed ended taken ts in subst P same stands
+
+-- where the keys fit the pieces of more commands, they fit those of the first
+keys_before : (shards : ℕ) (taken : List Taken) (one : Taken) (received : ℕ → List Shown) → KeysFit shards (taken ++ one ∷ []) received → KeysFit shards taken received
+keys_before shards taken one received keys s i p reply asked came =
+    let more = lane s (pieces_from shards (0 + length taken) (one ∷ [])) in
+    keys s i p reply (ap (λ ps. slice_get ps i) (due-append shards s taken (one ∷ [])) ∙ get_front (due shards s taken) more i p asked) came
+
+-- where the keys of more replies fit, those of the first do
+keys_kept : (shards : ℕ) (taken : List Taken) (received later : ℕ → List Shown) → IsKept received later → KeysFit shards taken later → KeysFit shards taken received
+keys_kept shards taken received later kept keys s i p reply asked came = keys s i p reply asked (kept s i reply came)
+
+-- the condition under which nothing was owed is a stronger one
+stands_where : (limit : ℕ) (fits after : Type 0) (begin now : Sight) (unread fed : List ℕ) (ended : Bool) (taken : List Taken) (texts : List (List ℕ)) → (after → fits) → Stands limit fits begin now unread fed ended taken texts → Stands limit after begin now unread fed ended taken texts
+stands_where limit fits after begin now unread fed ended taken texts weaker stands = record {
+  read_is = stands.read_is;
+  ended_is = stands.ended_is;
+  taken_is = stands.taken_is;
+  counted = stands.counted;
+  reads = stands.reads;
+  reads_are = stands.reads_are;
+  owes_nothing = λ f. stands.owes_nothing (weaker f);
+}
+
+-- a command was taken: what was carried is the same
+carries_take : (before ends : Ends Near) (ways : List ℕ) (told : Told) (received : ℕ → List Shown) (one : Taken) (conn : Conn) → IsConn conn told → Carries before ends ways told received → Carries before ends ways (record told { taken = told.taken ++ one ∷ [] }) received
+carries_take before ends ways told received one conn is carries =
+    let sound = is_sound conn told is in
+    let later : Told = record told { taken = told.taken ++ one ∷ [] } in
+    let more = pieces_from told.shards (0 + length told.taken) (one ∷ []) in
+    let out : take told.out (all_pieces told) ≡ take told.out (all_pieces later) = sym (ap (take told.out) (pieces_from-append told.shards 0 told.taken (one ∷ [])) ∙ take-append-le told.out (all_pieces told) more sound.out) in
+    record {
+      width = carries.width;
+      each = carries.each;
+      same = carries.same;
+      sent = λ s below. carries.sent s below ∙ ap (λ ps. sent_on before s ++ map parcel.Piece (lane s ps)) out;
+      came = carries.came;
+      awaited = λ s count here. carries.awaited s count here ∙ ap (λ ps. length (lane s ps)) out;
+      serves = serves_take told.shards told.taken one told.accepted received carries.serves;
+    }
+
+pub turns_take : (shards limit : ℕ) (may_answer : ℕ → Type 0) (begin now : Sight) (before ends : Ends Near) (ways unread : List ℕ) (conn new : Conn) (commands later moment : ℕ) (ticket : Ticket) → may_answer moment → TakeSays conn moment (took.Opened ticket) new → later ≡ min (ticket.0 + 1) (2 ^ 64 - 1) →
+    Turns shards limit may_answer begin now before ends ways unread conn commands → Turns shards limit may_answer begin now before ends ways unread new later
+turns_take shards limit may_answer begin now before ends ways unread conn new commands later moment ticket may says later_is turns =
+    let told = turns.told in
+    let opens : Opens told moment ticket new = says told turns.conn_is in
+    let taken : List Taken = told.taken ++ opens.one ∷ [] in
+    let keeps = keeps_take conn told opens.one turns.conn_is in
+    let short = begins_length told.limit told.fed (commands_of taken) opens.next in
+    let number = opens.number in
+    record {
+      told = record told { taken = taken };
+      received = turns.received;
+      shards_is = turns.shards_is;
+      limit_is = turns.limit_is;
+      conn_is = opens.now;
+      carries = carries_take before ends ways told turns.received opens.one conn turns.conn_is turns.carries;
+      serving = serving_along told.limit turns.received begin now unread told.fed told.ended told.shards taken (handed_texts told) _ (sym keeps.same)
+          (stands_take told.limit (KeysFit told.shards told.taken turns.received) (KeysFit told.shards taken turns.received) begin now unread told.fed told.ended told.taken (handed_texts told) opens.one (keys_before told.shards told.taken opens.one turns.received) turns.serving);
+      moments = all_push (λ (x : Taken). may_answer x.moment) told.taken opens.one turns.moments (rw opens.moment_is may);
+      unbroken = turns.unbroken;
+      counted = omega (arith, later_is, number, short, length-map taken (λ (x : Taken). x.entry), length-append told.taken (opens.one ∷ []));
+    }
+
+-- no further command was taken
+pub record Stops (shards limit : ℕ) (may_answer : ℕ → Type 0) (begin now : Sight) (before ends : Ends Near) (ways unread : List ℕ) (conn : Conn) (commands : ℕ) (stop : Took) : Type 0 where
+  pub turns : Turns shards limit may_answer begin now before ends ways unread conn commands
+  pub stops : StopsAt stop turns.told
+
+-- the same, of the connection as it is now
+turns_now : (shards limit : ℕ) (may_answer : ℕ → Type 0) (begin now : Sight) (before ends : Ends Near) (ways unread : List ℕ) (conn new : Conn) (commands : ℕ) → (turns : Turns shards limit may_answer begin now before ends ways unread conn commands) → IsConn new turns.told → Turns shards limit may_answer begin now before ends ways unread new commands
+turns_now shards limit may_answer begin now before ends ways unread conn new commands turns is = record {
+  told = turns.told;
+  received = turns.received;
+  shards_is = turns.shards_is;
+  limit_is = turns.limit_is;
+  conn_is = is;
+  carries = turns.carries;
+  serving = turns.serving;
+  moments = turns.moments;
+  unbroken = turns.unbroken;
+  counted = turns.counted;
+}
+
+pub stops_take : (shards limit : ℕ) (may_answer : ℕ → Type 0) (begin now : Sight) (before ends : Ends Near) (ways unread : List ℕ) (conn new : Conn) (commands moment : ℕ) (stop : Took) → TakeSays conn moment stop new → ((ticket : Ticket) → stop ≡ took.Opened ticket → ⊥) →
+    Turns shards limit may_answer begin now before ends ways unread conn commands → Stops shards limit may_answer begin now before ends ways unread new commands stop
+unfolding turns_now
+stops_take shards limit may_answer begin now before ends ways unread conn new commands moment (took.Opened ticket) says other turns = absurd (other ticket refl)
+stops_take shards limit may_answer begin now before ends ways unread conn new commands moment took.NeedMore says other turns =
+    let needs = says turns.told turns.conn_is in
+    record { turns = turns_now shards limit may_answer begin now before ends ways unread conn new commands turns needs.now; stops = (needs.all, needs.comes) }
+stops_take shards limit may_answer begin now before ends ways unread conn new commands moment took.Full says other turns =
+    let full = says turns.told turns.conn_is in
+    record { turns = turns_now shards limit may_answer begin now before ends ways unread conn new commands turns full.now; stops = tt }
+stops_take shards limit may_answer begin now before ends ways unread conn new commands moment took.Closed says other turns =
+    let over = says turns.told turns.conn_is in
+    record { turns = turns_now shards limit may_answer begin now before ends ways unread conn new commands turns over.1; stops = over.0 }
+
+pub can_settle : (shards limit : ℕ) (may_answer : ℕ → Type 0) (begin now : Sight) (before ends : Ends Near) (ways unread : List ℕ) (conn : Conn) (commands : ℕ) (stop : Took) → Stops shards limit may_answer begin now before ends ways unread conn commands stop → MayCarry ends ways conn
+can_settle shards limit may_answer begin now before ends ways unread conn commands stop stops =
+    let turns = stops.turns in
+    record { before = before; told = turns.told; received = turns.received; conn_is = turns.conn_is; carries = turns.carries }
+
+-- all pieces of the commands taken were sent, and as many replies received
+pub record Settled (shards limit : ℕ) (may_answer : ℕ → Type 0) (begin now : Sight) (before ends : Ends Near) (ways unread : List ℕ) (conn : Conn) (commands : ℕ) (stop : Took) : Type 0 where
+  pub stopped : Stops shards limit may_answer begin now before ends ways unread conn commands stop
+  pub all : stopped.turns.told.out ≡ length (all_pieces stopped.turns.told)
+  pub idle : IsIdle ways
+
+stops_along : (stop : Took) (told : Told) (out : ℕ) (lent : Bool) (accepted : List Shown) → StopsAt stop told → StopsAt stop (carried told out lent accepted)
+stops_along (took.Opened ticket) told out lent accepted stops = stops
+stops_along took.NeedMore told out lent accepted stops = stops
+stops_along took.Full told out lent accepted stops = stops
+stops_along took.Closed told out lent accepted stops = stops
+
+pub settles : (shards limit : ℕ) (may_answer : ℕ → Type 0) (begin now : Sight) (before ends ends' : Ends Near) (ways ways' unread : List ℕ) (conn new : Conn) (commands : ℕ) (stop : Took) → MovesOn AllOut ends ways conn ends' ways' new → IsIdle ways' → Stops shards limit may_answer begin now before ends ways unread conn commands stop → Settled shards limit may_answer begin now before ends' ways' unread new commands stop
+settles shards limit may_answer begin now before ends ends' ways ways' unread conn new commands stop moves idle stops =
+    let turns = stops.turns in
+    let told = turns.told in
+    let said = moves.moves before told turns.received turns.conn_is turns.carries in
+    let on = said.0 in
+    let later : Told = carried told on.out on.lent on.accepted in
+    let stands = stands_where told.limit (KeysFit told.shards told.taken turns.received) (KeysFit told.shards told.taken on.later) begin now unread told.fed told.ended told.taken (handed_texts told) (keys_kept told.shards told.taken turns.received on.later on.kept) turns.serving in
+    record {
+      stopped = record {
+        turns = record {
+          told = later;
+          received = on.later;
+          shards_is = turns.shards_is;
+          limit_is = turns.limit_is;
+          conn_is = on.conn_is;
+          carries = on.carries;
+          serving = serving_along told.limit on.later begin now unread told.fed told.ended told.shards told.taken (handed_texts told) (handed_texts later) (sym on.handed.same) stands;
+          moments = turns.moments;
+          unbroken = turns.unbroken;
+          counted = turns.counted;
+        };
+        stops = stops_along stop told on.out on.lent on.accepted stops.stops;
+      };
+      all = said.1;
+      idle = idle;
+    }
+
+-- where all pieces have left, those sent to a shard are all that is due there
+sent_all : (told : Told) (shard : ℕ) → told.out ≡ length (all_pieces told) → sent_to told shard ≡ due told.shards shard told.taken
+sent_all told shard all = ap (lane shard) (take_all told.out (all_pieces told) (omega (arith, all)))
+
+-- as many replies were received as pieces were due
+received_all : (before ends : Ends Near) (ways : List ℕ) (told : Told) (received : ℕ → List Shown) (conn : Conn) → IsConn conn told → Carries before ends ways told received → told.out ≡ length (all_pieces told) → IsIdle ways → (shard : ℕ) → length (received shard) ≡ length (due told.shards shard told.taken)
+received_all before ends ways told received conn is carries all idle shard = elim (cases_lt shard told.shards) [
+  | inl below ↦
+      let each = carries.each in
+      let count = get_below ways shard (omega (arith, each, below)) in
+      let none : count.0 ≡ 0 = all_at (λ (c : ℕ). c ≡ 0) ways shard count.0 idle count.1 in
+      let some = carries.awaited shard count.0 count.1 in
+      let whole = ap length (sent_all told shard all) in
+      omega (arith, none, some, whole)
+  | inr beyond ↦
+      let none = ap length (due_beyond told.shards shard told.taken (some_shards conn told is) beyond) in
+      let within = carries.serves.within shard in
+      omega (arith, none, within)
+]
+
+-- so where their keys fit, every command has its reply
+complete_all : (told : Told) (received : ℕ → List Shown) (conn : Conn) → IsConn conn told → Serves told.shards told.taken told.accepted received → ((shard : ℕ) → length (received shard) ≡ length (due told.shards shard told.taken)) → KeysFit told.shards told.taken received → length (all_texts told) ≡ length told.taken
+complete_all told received conn is serves many keys =
+    let whole = take_all (length told.taken) told.taken (omega arith) in
+    let come = count_from_come told.shards (length told.taken) told.taken told.accepted received (omega arith) (serves.fits keys) (λ s.
+    let long = many s in
+    let due_is = ap (λ ts. length (due told.shards s ts)) whole in
+    omega (arith, long, due_is)) in
+    let most = (is_sound conn told is).complete in
+    omega (arith, come, most)
+
+-- what handing out and reading on said of a turn whose commands were all answered
+pub turn_said : (shards limit : ℕ) (may_answer : ℕ → Type 0) (begin now after : Sight) (before ends : Ends Near) (ways unread left : List ℕ) (conn new : Conn) (commands : ℕ) (stop : Took) (turn : Turn) → (settled : Settled shards limit may_answer begin now before ends ways unread conn commands stop) → GoOnSays turn stop conn unread now new left after → TurnSays turn settled.stopped.turns.received begin after settled.stopped.turns.told new left
+turn_said shards limit may_answer begin now after before ends ways unread left conn new commands stop turn settled says =
+    let turns = settled.stopped.turns in
+    let many = received_all before ends ways turns.told turns.received conn turns.conn_is turns.carries settled.all settled.idle in
+    says turns.received begin turns.told turns.conn_is turns.serving turns.unbroken settled.stopped.stops (complete_all turns.told turns.received conn turns.conn_is turns.carries.serves many)
+
+-- the replies were handed out, and perhaps more was read
+pub turns_go : (shards limit : ℕ) (may_answer : ℕ → Type 0) (begin now after : Sight) (before ends : Ends Near) (ways left unread : List ℕ) (conn new : Conn) (commands : ℕ) (turns : Turns shards limit may_answer begin now before ends ways left conn commands) → GoesOn turns.received begin after turns.told new unread → Turns shards limit may_answer begin after before ends ways unread new commands
+turns_go shards limit may_answer begin now after before ends ways left unread conn new commands turns goes = record {
+  told = record turns.told { fed = goes.fed; ended = goes.ended; handed = length (all_texts turns.told) };
+  received = turns.received;
+  shards_is = turns.shards_is;
+  limit_is = turns.limit_is;
+  conn_is = goes.conn_is;
+  carries = record {
+    width = turns.carries.width;
+    each = turns.carries.each;
+    same = turns.carries.same;
+    sent = turns.carries.sent;
+    came = turns.carries.came;
+    awaited = turns.carries.awaited;
+    serves = turns.carries.serves;
+  };
+  serving = goes.serving;
+  moments = turns.moments;
+  unbroken = turns.unbroken;
+  counted = turns.counted;
+}
+
+-- the line was served
+pub turn_ends : (shards limit : ℕ) (may_answer : ℕ → Type 0) (begin now after : Sight) (before ends : Ends Near) (ways unread : List ℕ) (conn last : Conn) (commands : ℕ) (stop : Took) (broke : Bool) → (settled : Settled shards limit may_answer begin now before ends ways unread conn commands stop) → IsServed settled.stopped.turns.received begin after settled.stopped.turns.told broke last → LineServed shards limit may_answer begin after before ends last commands broke
+turn_ends shards limit may_answer begin now after before ends ways unread conn last commands stop broke settled served =
+    let turns = settled.stopped.turns in
+    let told = turns.told in
+    let carries = turns.carries in
+    let many = received_all before ends ways told turns.received conn turns.conn_is carries settled.all settled.idle in
+    record {
+      told = record told { broken = broke; handed = served.handed };
+      shards_is = turns.shards_is;
+      limit_is = turns.limit_is;
+      conn_is = served.conn_is;
+      over = served.over;
+      out = settled.all;
+      received = turns.received;
+      exchanges = record {
+        same = carries.same;
+        sent = λ s below. carries.sent s below ∙ ap (λ ps. sent_on before s ++ map parcel.Piece ps) (sent_all told s settled.all);
+        came = carries.came;
+        answered = many;
+      };
+      serves = carries.serves;
+      story = served.story;
+      moments = turns.moments;
+      counted = turns.counted;
+      reads = served.reads;
+      complete = complete_all told turns.received conn turns.conn_is carries.serves many;
+    }

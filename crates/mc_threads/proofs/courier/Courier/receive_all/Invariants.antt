@@ -1,0 +1,12 @@
+-- Replies have come in, and no piece has left.
+use Rattle.std.proofs.Common.{◌≡◌, length}
+use Rattle.mc_threads.specs.internal.Carrying.{MovesOn, NoneOut}
+use Rattle.mc_threads.proofs.courier.Courier.receive_all.Given as goal
+
+abbrev pub invariant-loop-shard : goal.invariant-loop-shard
+invariant-loop-shard l = record {
+  goes : MovesOn NoneOut l.fn.self.ends l.fn.self.under_way.items l.fn.conn l.self.ends l.self.under_way.items l.conn;
+  blocked : l.self.blocked ≡ l.fn.self.blocked;
+  same : length l.self.under_way.items ≡ length l.fn.self.under_way.items;
+  last : l.shard-end ≡ length l.fn.self.under_way.items;
+}

@@ -1,0 +1,11 @@
+-- Replies have come in, and no piece has left.
+use Rattle.std.proofs.Common.{◌≡◌, length}
+use Rattle.mc_threads.specs.internal.Carrying.{MovesOn, NoneOut}
+use Rattle.mc_threads.proofs.courier.Courier.receive_from.Given as goal
+
+abbrev pub invariant-loop : goal.invariant-loop
+invariant-loop l = record {
+  goes : MovesOn NoneOut l.fn.self.ends l.fn.self.under_way.items l.fn.conn l.self.ends l.self.under_way.items l.conn;
+  blocked : l.self.blocked ≡ l.fn.self.blocked;
+  same : length l.self.under_way.items ≡ length l.fn.self.under_way.items;
+}

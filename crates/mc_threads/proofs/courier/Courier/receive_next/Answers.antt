@@ -1,0 +1,19 @@
+-- A reply is received, and accepted or handed back.
+use Rattle.std.proofs.Common.{◌≡◌, ◌+◌, length, refl, arith}
+use Rattle.std.proofs.lemmas.Option.{slice_get_read}
+use Rattle.mc_threads.proofs.Carrying.{received_one, stays_refl, stays_still, still_none}
+use Rattle.mc_threads.proofs.courier.Courier.receive_next.Goals as goal
+
+pub returns-in_default-clause-goes : goal.returns-in_default-clause-goes
+returns-in_default-clause-goes c = stays_refl c.args.self.now.ends c.args.self.now.under_way.items c.args.conn.now
+
+pub returns-in_default-receive-clause-goes : goal.returns-in_default-receive-clause-goes
+returns-in_default-receive-clause-goes c =
+    stays_still c.args.self.now.ends c.receive.new.self c.args.self.now.under_way.items c.args.conn.now (still_none c.args.shard c.args.self.now.ends c.receive.new.self c.in_default-receive.ensures.lane c.in_default-receive.ensures.same)
+
+pub returns-clause-goes : goal.returns-clause-goes
+returns-clause-goes c =
+    let ways = c.args.self.now.under_way.items in
+    let got = slice_get_read ways (length ways) c.args.shard c.index.result.now refl c.requires.shard c.index.ensures in
+    let less : c.index.result.now ≡ c.in-Some.left + 1 = omega arith in
+    received_one c.args.self.now.ends c.receive.new.self ways c.args.conn.now c.accept.new.self c.args.shard c.in-Some.left c.index.result.now c.in-Some-receive.reply c.accept.result got less c.in-Some-receive.ensures.lane c.in-Some-receive.ensures.same (record { ok = c.accept.ensures.ok; err = c.accept.ensures.err })

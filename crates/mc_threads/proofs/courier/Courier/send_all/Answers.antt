@@ -1,0 +1,10 @@
+-- The first piece is sent, and then more.
+use Rattle.mc_threads.specs.internal.Carrying.{AnyOut}
+use Rattle.mc_threads.proofs.Carrying.{may_still, moves_more, moves_unless}
+use Rattle.mc_threads.proofs.courier.Courier.send_all.Goals as goal
+
+pub send_more-requires : goal.send_more-requires
+send_more-requires c = may_still _ _ _ _ _ _ _ c.requires c.send_next.ensures
+
+pub returns : goal.returns
+returns c = moves_unless AnyOut _ _ _ _ _ _ _ (λ so. let bad = so.0 in absurd (cc)) (moves_more _ AnyOut _ _ _ _ _ _ _ _ _ c.send_next.ensures c.send_more.ensures)

@@ -1,0 +1,6 @@
+-- Pieces have left.
+use Rattle.mc_threads.specs.internal.Carrying.{AnyOut, MovesOn}
+use Rattle.mc_threads.proofs.courier.Courier.send_more.Given as goal
+
+abbrev pub invariant-loop : goal.invariant-loop
+invariant-loop l = MovesOn AnyOut l.fn.self.ends l.fn.self.under_way.items l.fn.conn l.self.ends l.self.under_way.items l.conn

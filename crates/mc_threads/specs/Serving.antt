@@ -1,0 +1,33 @@
+-- When a courier may serve a line, and what it does once it serves no more.
+use Rattle.std.specs.Prelude.{ℕ, ◌≡◌, ◌<◌, List, [], ◌∷◌, ◌++◌, length}
+use Rattle.std.specs.List.{AllByRecursion}
+use Rattle.mc_conn.specs.declared.conn.Conn.{Conn}
+use Rattle.mc_conn.specs.Conn.{IsConn}
+use Rattle.mc_conn.specs.Told.{told_nothing}
+use Rattle.mc_threads.specs.declared.courier.Courier.{Courier}
+use Rattle.mc_ring.specs.declared.parcel.Parcel.TheVariants as parcel
+use Rattle.mc_ring.specs.Lane.{Near}
+use Rattle.mc_ring.specs.Ends.{AreSameEnds, Ends, received_on, sent_on}
+
+-- The connection is a new one over so many shards.
+abbrev pub IsNewConn : ℕ → Conn → Type 0
+IsNewConn shards conn = (limit window : ℕ) × IsConn conn (told_nothing shards limit window)
+
+-- Nothing is under way: of no shard are replies awaited.
+abbrev pub IsIdle : List ℕ → Type 0
+IsIdle under_way = AllByRecursion (λ count. count ≡ 0) under_way
+
+-- The ends are those of a seat with so many lanes.
+abbrev pub HasLanes : ℕ → Ends Near → Type 0
+HasLanes shards ends = length ends.lanes ≡ shards
+
+-- The courier may serve a line by the connection.
+pub record IsReady (courier : Courier) (conn : Conn) : Type 0 where
+  pub fresh : IsNewConn (length courier.ends.lanes) conn
+  pub idle : IsIdle courier.under_way.items
+
+-- End was sent on each lane, and nothing else happened there.
+pub record EndsAll (before after : Ends Near) : Type 0 where
+  pub same : AreSameEnds before after
+  pub sent : (shard : ℕ) → shard < length before.lanes → sent_on after shard ≡ sent_on before shard ++ parcel.End ∷ []
+  pub received : (shard : ℕ) → received_on after shard ≡ received_on before shard

@@ -1,0 +1,83 @@
+-- How the pieces of a connection go to the shards over the lanes of a seat, and how their replies come back.
+use Rattle.std.specs.Prelude.{ℕ, ◌≡◌, ◌+◌, ◌<◌, Bool, List, ◌++◌, length, map, take, slice_get, Some}
+use Rattle.mc_split.specs.declared.plan.Piece.{Piece}
+use Rattle.mc_ring.specs.declared.parcel.Parcel.TheVariants as parcel
+use Rattle.mc_ring.specs.Reply.{Shown}
+use Rattle.mc_ring.specs.Lane.{Near}
+use Rattle.mc_ring.specs.Ends.{AreSameEnds, Ends, received_on, sent_on}
+use Rattle.mc_conn.specs.declared.conn.Conn.{Conn}
+use Rattle.mc_conn.specs.Conn.{IsConn}
+use Rattle.mc_conn.specs.Due.{lane}
+use Rattle.mc_conn.specs.Fits.{Serves}
+use Rattle.mc_conn.specs.Told.{KeepsHanded, Told, all_pieces}
+use Rattle.mc_threads.specs.declared.courier.Courier.{Courier}
+
+-- of the pieces that have left the connection those for one shard
+abbrev pub sent_to : Told → ℕ → List Piece
+sent_to told shard = lane shard (take told.out (all_pieces told))
+
+-- Since the ends were as before, the pieces that have left the connection were sent, each to its shard, and these replies were
+-- received; of the other pieces sent to each shard, so many, the replies are awaited.
+pub record Carries (before now : Ends Near) (under_way : List ℕ) (told : Told) (received : ℕ → List Shown) : Type 0 where
+  pub width : length now.lanes ≡ told.shards
+  pub each : length under_way ≡ told.shards
+  pub same : AreSameEnds before now
+  pub sent : (shard : ℕ) → shard < told.shards → sent_on now shard ≡ sent_on before shard ++ map parcel.Piece (sent_to told shard)
+  pub came : (shard : ℕ) → shard < told.shards → received_on now shard ≡ received_on before shard ++ received shard
+  pub awaited : (shard count : ℕ) → slice_get under_way shard ≡ Some count → length (received shard) + count ≡ length (sent_to told shard)
+  pub serves : Serves told.shards told.taken told.accepted received
+
+-- what is told once so many pieces have left, and these replies were accepted
+abbrev pub carried : Told → ℕ → Bool → List Shown → Told
+carried told out lent accepted = record told { out = out; lent = lent; accepted = accepted }
+
+-- What was received is the beginning of what is received now.
+abbrev pub IsKept : (ℕ → List Shown) → (ℕ → List Shown) → Type 0
+IsKept received later = (shard place : ℕ) (reply : Shown) → slice_get (received shard) place ≡ Some reply → slice_get (later shard) place ≡ Some reply
+
+-- Pieces have left the connection, and replies were accepted, and all of it went over the lanes.
+pub record CarriesOn (before : Ends Near) (told : Told) (received : ℕ → List Shown) (ends : Ends Near) (under_way : List ℕ) (conn : Conn) : Type 0 where
+  pub out : ℕ
+  pub lent : Bool
+  pub accepted : List Shown
+  pub later : ℕ → List Shown
+  pub conn_is : IsConn conn (carried told out lent accepted)
+  pub carries : Carries before ends under_way (carried told out lent accepted) later
+  pub handed : KeepsHanded told (carried told out lent accepted)
+  pub kept : IsKept received later
+
+-- what is known before anything is carried
+pub record MayCarry (ends : Ends Near) (under_way : List ℕ) (conn : Conn) : Type 0 where
+  pub before : Ends Near
+  pub told : Told
+  pub received : ℕ → List Shown
+  pub conn_is : IsConn conn told
+  pub carries : Carries before ends under_way told received
+
+-- Whatever was carried, it goes on; and of what was carried then, this holds.
+pub record MovesOn (says : Told → ℕ → Type 0) (ends : Ends Near) (under_way : List ℕ) (conn : Conn) (ends' : Ends Near) (under_way' : List ℕ) (conn' : Conn) : Type 0 where
+  pub moves : (before : Ends Near) (told : Told) (received : ℕ → List Shown) → IsConn conn told → Carries before ends under_way told received →
+      (on : CarriesOn before told received ends' under_way' conn') × says told on.out
+
+-- nothing more
+abbrev pub AnyOut : Told → ℕ → Type 0
+AnyOut told out = Unit {0}
+
+-- Every piece has left.
+abbrev pub AllOut : Told → ℕ → Type 0
+AllOut told out = out ≡ length (all_pieces told)
+
+-- Where this is so, every piece has left.
+abbrev pub AllOutWhere : Type 0 → Told → ℕ → Type 0
+AllOutWhere so told out = so → AllOut told out
+
+-- No piece has left meanwhile.
+abbrev pub NoneOut : Told → ℕ → Type 0
+NoneOut told out = out ≡ told.out
+
+-- The courier and the connection carry on.
+abbrev pub Goes : (Told → ℕ → Type 0) → Courier → Conn → Courier → Conn → Type 0
+Goes says courier conn courier' conn' = MovesOn says courier.ends courier.under_way.items conn courier'.ends courier'.under_way.items conn'
+
+abbrev pub CanCarry : Courier → Conn → Type 0
+CanCarry courier conn = MayCarry courier.ends courier.under_way.items conn

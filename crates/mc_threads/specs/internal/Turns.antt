@@ -1,0 +1,24 @@
+-- What stands between the turns of a line that is served over lanes.
+use Rattle.std.specs.Prelude.{ℕ, ◌≡◌, false, List, length}
+use Rattle.std.specs.List.{AllByRecursion}
+use Rattle.mc_wire.specs.Outlet.{Sight}
+use Rattle.mc_ring.specs.Reply.{Shown}
+use Rattle.mc_ring.specs.Lane.{Near}
+use Rattle.mc_ring.specs.Ends.{Ends}
+use Rattle.mc_conn.specs.declared.conn.Conn.{Conn}
+use Rattle.mc_conn.specs.Conn.{IsConn}
+use Rattle.mc_conn.specs.Told.{Told}
+use Rattle.mc_seat.specs.internal.Stands.{Serving}
+use Rattle.mc_threads.specs.internal.Carrying.{Carries}
+
+pub record Turns (shards limit : ℕ) (may_answer : ℕ → Type 0) (begin now : Sight) (before ends : Ends Near) (under_way unread : List ℕ) (conn : Conn) (commands : ℕ) : Type 0 where
+  pub told : Told
+  pub received : ℕ → List Shown
+  pub shards_is : told.shards ≡ shards
+  pub limit_is : told.limit ≡ limit
+  pub conn_is : IsConn conn told
+  pub carries : Carries before ends under_way told received
+  pub serving : Serving received begin now unread told
+  pub moments : AllByRecursion (λ one. may_answer one.moment) told.taken
+  pub unbroken : told.broken ≡ false
+  pub counted : commands ≡ length told.taken
