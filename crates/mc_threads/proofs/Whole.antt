@@ -154,9 +154,9 @@ serves_all sizes may_answer sats roses begun ended some started served finished 
     let count : length ended ≡ sizes.shards = zips_length Finishes begun ended finished ∙ workers in
     let came : length roses ≡ length sats = zips_length S sats roses served in
     let have = have_logs sizes 0 sizes.ring begun ended (λ i desk here.
-        let at : i ≡ 0 + i = omega arith in
-        let N : ℕ → Type 0 = λ n. AreNewEnds n sizes.seats sizes.ring desk.ends in
-        subst N at (lanes.each_shard i desk.ends (get_map (λ (one : Desk). one.ends) begun i desk here))) started.fresh finished in
+    let at : i ≡ 0 + i = omega arith in
+    let N : ℕ → Type 0 = λ n. AreNewEnds n sizes.seats sizes.ring desk.ends in
+    subst N at (lanes.each_shard i desk.ends (get_map (λ (one : Desk). one.ends) begun i desk here))) started.fresh finished in
     let told : length (lines_told (map (λ (sat : Sat). sat.line) sats) (map back_of roses)) ≡ sizes.seats = length_told sats roses came ∙ seats in
     record {
       as_many = length-map roses back_of ∙ (came ∙ sym (length-map sats (λ (sat : Sat). sat.line)));

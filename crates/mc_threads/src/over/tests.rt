@@ -7,8 +7,8 @@ use mc_seat::{Clock, Line, LineFault};
 use mc_split::Ticket;
 use mc_wire::{OutFault, Outlet};
 use std::alloc::{AllocError, Global};
-use std::sync::atomic::{AtomicBool, AtomicU64, Ordering};
 use std::sync::Arc;
+use std::sync::atomic::{AtomicBool, AtomicU64, Ordering};
 use std::test::Fail;
 use std::thread;
 

@@ -19,17 +19,17 @@ settle-requires g c =
     record {
       none = c.in_ok-report.ensures.items;
       lanes = lanes_are sizes may sitting seats working workers c.args.lines.items []
-      (λ seating. record { line = g.L.Outlet.sight seating.line; ends = seating.courier.ends })
-      (λ seating. record { line = g.L.Outlet.sight seating.line; ends = seating.courier.ends; commands = seating.commands; broke = seating.broke })
-      (λ seating. seating.line) (λ one. one.worker) (λ line. g.L.Outlet.sight line) (λ one. one)
-      (record {
-        seen = λ seat. refl;
-        lines_are = begun.lines;
-        lanes = begun.lanes;
-        fresh = begun.fresh;
-        served = zips_map sitting seats (λ seating. (seating.clock ≡ c.args.clock) × (seating.sizes ≡ c.args.sizes)) _ (SeatServed sizes.shards sizes.value may) _ _ (λ x y same did. rw (← same.0, ← same.1) did) begun.same (rw c.begin-2.ensures at c.in_ok-seats.ensures);
-        finished = zips_seen working workers Finishes (λ one. one.worker) (λ one. one.worker) (rw c.begin.ensures at c.in_ok-workers.ensures);
-      });
+          (λ seating. record { line = g.L.Outlet.sight seating.line; ends = seating.courier.ends })
+          (λ seating. record { line = g.L.Outlet.sight seating.line; ends = seating.courier.ends; commands = seating.commands; broke = seating.broke })
+          (λ seating. seating.line) (λ one. one.worker) (λ line. g.L.Outlet.sight line) (λ one. one)
+          (record {
+            seen = λ seat. refl;
+            lines_are = begun.lines;
+            lanes = begun.lanes;
+            fresh = begun.fresh;
+            served = zips_map sitting seats (λ seating. (seating.clock ≡ c.args.clock) × (seating.sizes ≡ c.args.sizes)) _ (SeatServed sizes.shards sizes.value may) _ _ (λ x y same did. rw (← same.0, ← same.1) did) begun.same (rw c.begin-2.ensures at c.in_ok-seats.ensures);
+            finished = zips_seen working workers Finishes (λ one. one.worker) (λ one. one.worker) (rw c.begin.ensures at c.in_ok-workers.ensures);
+          });
     }
 
 pub returns : goal.returns
@@ -43,16 +43,16 @@ returns g c =
     let workers = c.in_ok-workers.workers.items in
     let some : 0 < c.args.sizes.shards = (let shard = c.requires.size.some_shard in omega (arith, shard)) in
     both c.settle.result _ _ _ (λ report tied lines. all_served sizes may sitting seats working workers c.args.lines.items report.lines.items
-      (λ seating. record { line = g.L.Outlet.sight seating.line; ends = seating.courier.ends })
-      (λ seating. record { line = g.L.Outlet.sight seating.line; ends = seating.courier.ends; commands = seating.commands; broke = seating.broke })
-      (λ seating. seating.line) (λ one. one.worker) (λ line. g.L.Outlet.sight line) (λ one. came_back (g.L.Outlet.sight one.line) one.commands one.broke)
-      some
-      (record {
-        seen = λ seat. refl;
-        lines_are = begun.lines;
-        lanes = begun.lanes;
-        fresh = begun.fresh;
-        served = zips_map sitting seats (λ seating. (seating.clock ≡ c.args.clock) × (seating.sizes ≡ c.args.sizes)) _ (SeatServed sizes.shards sizes.value may) _ _ (λ x y same did. rw (← same.0, ← same.1) did) begun.same (rw c.begin-2.ensures at c.in_ok-seats.ensures);
-        finished = zips_seen working workers Finishes (λ one. one.worker) (λ one. one.worker) (rw c.begin.ensures at c.in_ok-workers.ensures);
-      }) tied lines)
+    (λ seating. record { line = g.L.Outlet.sight seating.line; ends = seating.courier.ends })
+    (λ seating. record { line = g.L.Outlet.sight seating.line; ends = seating.courier.ends; commands = seating.commands; broke = seating.broke })
+    (λ seating. seating.line) (λ one. one.worker) (λ line. g.L.Outlet.sight line) (λ one. came_back (g.L.Outlet.sight one.line) one.commands one.broke)
+    some
+    (record {
+      seen = λ seat. refl;
+      lines_are = begun.lines;
+      lanes = begun.lanes;
+      fresh = begun.fresh;
+      served = zips_map sitting seats (λ seating. (seating.clock ≡ c.args.clock) × (seating.sizes ≡ c.args.sizes)) _ (SeatServed sizes.shards sizes.value may) _ _ (λ x y same did. rw (← same.0, ← same.1) did) begun.same (rw c.begin-2.ensures at c.in_ok-seats.ensures);
+      finished = zips_seen working workers Finishes (λ one. one.worker) (λ one. one.worker) (rw c.begin.ensures at c.in_ok-workers.ensures);
+    }) tied lines)
     c.settle.ensures.tied c.settle.ensures.lines
