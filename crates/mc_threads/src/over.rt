@@ -6,9 +6,6 @@ ghost use Rattle.mc_threads.specs.Over.{ServesAll, came_back};
 ghost use Rattle.mc_threads.specs.Sizes.{MayServe, sizes_of};
 ghost use Rattle.mc_threads.specs.Workers.{IsFresh, ends_of};
 
-#[cfg(test)]
-mod tests;
-
 use crate::seating::{Seating, ServedLine};
 use crate::settling::settle;
 use crate::sizes::{ServeRefusal, Sizes};
