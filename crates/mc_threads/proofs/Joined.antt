@@ -30,7 +30,7 @@ pub on_shard-append : (shard : ℕ) (log more : List Entry) → on_shard shard (
 on_shard-append shard log more = filter-append (λ (entry : Entry). entry.shard == shard) log more
 
 -- The entries are of the shards from this one on, below that number, and asked by seats that are there.
-abbrev IsOwned : Sizes → ℕ → ℕ → Entry → Type 0
+abbrev pub IsOwned : Sizes → ℕ → ℕ → Entry → Type 0
 IsOwned sizes first last entry = (first ≤ entry.shard) × (entry.shard < last) × (entry.asker < sizes.seats)
 
 own_one : (sizes : Sizes) (shard last : ℕ) (desk : Desk) (log : List Entry) → shard < last → IsLogOf sizes shard desk log → AllByRecursion (IsOwned sizes shard last) log

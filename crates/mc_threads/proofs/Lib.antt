@@ -2,6 +2,10 @@ pub mod Fresh
 pub mod Tying
 pub mod Joined
 pub mod Line
+pub mod Lanes
+pub mod Orders
+pub mod Served
+pub mod Whole
 pub mod Carrying
 pub mod Ending
 pub mod Serving

@@ -16,14 +16,10 @@ use Rattle.mc_core.specs.Desk.{Desk}
 use Rattle.mc_ring.specs.Lane.{Near}
 use Rattle.mc_ring.specs.Ends.{Ends}
 use Rattle.mc_ring.specs.Reply.{Shown}
-use Rattle.mc_threads.specs.Asking.{HasAsked, IsTied}
+use Rattle.mc_threads.specs.Asking.{AreTied, HasAsked, IsTied}
 use Rattle.mc_threads.specs.Logs.{AreLogsFrom, IsLogOf, together}
 use Rattle.mc_threads.proofs.Tying.{Agrees, lane_agrees, lane_came, none_came, pieces_ran, ran_of, replies_ran}
 use Rattle.mc_threads.proofs.Joined.{worker_at}
-
--- The seat's ends are tied to those of each worker.
-abbrev pub AreTied : Ends Near → List Desk → Type 0
-AreTied ends desks = (s : ℕ) (desk : Desk) → slice_get desks s ≡ Some desk → IsTied ends desk.ends
 
 -- What one shard ran for the line.
 pub shard_agrees : (sizes : Sizes) (shard : ℕ) (ends : Ends Near) (desks : List Desk) (logs : List (List Entry)) (taken : List Taken) (got : ℕ → List Shown)
@@ -34,7 +30,7 @@ shard_agrees sizes shard ends desks logs taken got below seat count are tied ask
     let at : 0 + shard ≡ shard = omega arith in
     let is : IsLogOf sizes shard worker.desk worker.log = rw at at worker.is in
     let its : on_shard shard (together logs) ≡ worker.log = rw at at worker.its in
-    rw its (lane_agrees sizes shard ends worker.desk taken got worker.log seat asked is (tied shard worker.desk worker.here))
+    rw its (lane_agrees sizes shard ends worker.desk taken got worker.log below seat asked is (tied shard worker.desk worker.here))
 
 -- Each reply came from the shard whose piece it answers.
 pub keys_fit : (sizes : Sizes) (ends : Ends Near) (desks : List Desk) (logs : List (List Entry)) (taken : List Taken) (got : ℕ → List Shown)

@@ -62,19 +62,19 @@ pub record Agrees (shards shard seat : ℕ) (taken : List Taken) (got : List Sho
   pub replies : got ≡ replies_in (of_asker seat log)
 
 pub lane_agrees : (sizes : Sizes) (shard : ℕ) (ends : Ends Near) (desk : Desk) (taken : List Taken) (got : ℕ → List Shown) (log : List Entry)
-    → ends.number < sizes.seats → HasAsked sizes.shards ends taken got → IsLogOf sizes shard desk log → IsTied ends desk.ends
+    → shard < sizes.shards → ends.number < sizes.seats → HasAsked sizes.shards ends taken got → IsLogOf sizes shard desk log → IsTied ends desk.ends
     → Agrees sizes.shards shard ends.number taken (got shard) log
-lane_agrees sizes shard ends desk taken got log here asked ran tied =
+lane_agrees sizes shard ends desk taken got log below here asked ran tied =
     let seat = ends.number in
     let mine = of_asker seat log in
     let popped : received_on desk.ends seat ≡ to_end (pieces_in mine) =
     ran.ran.taken seat ∙ ap (λ live. map parcel.Piece (pieces_in mine) ++ end_come live) (ran.ended seat here) in
     let sent : sent_on ends desk.ends.number ≡ to_end (due sizes.shards shard taken) =
-    ap (λ n. sent_on ends n) ran.number ∙ asked.sent shard in
+    ap (λ n. sent_on ends n) ran.number ∙ asked.sent shard below in
     let pieces : pieces_in mine ≡ due sizes.shards shard taken =
     same_pieces (pieces_in mine) (due sizes.shards shard taken) tied.parcels (ap (λ ps. ps ++ tied.parcels) (sym popped) ∙ (tied.parcels_wait ∙ sent)) in
     let gave : replies_in mine ≡ sent_on desk.ends seat = (rw ran.given at ran.ran.given seat) ∙ append-nil (sent_on desk.ends seat) in
-    let came : received_on ends desk.ends.number ≡ got shard = ap (λ n. received_on ends n) ran.number ∙ asked.received shard in
+    let came : received_on ends desk.ends.number ≡ got shard = ap (λ n. received_on ends n) ran.number ∙ asked.received shard below in
     let waits : got shard ++ tied.replies ≡ replies_in mine = ap (λ rs. rs ++ tied.replies) (sym came) ∙ (tied.replies_wait ∙ sym gave) in
     let many : length (got shard) ≡ length (replies_in mine) = asked.as_many shard ∙ (ap (λ ps. length ps) (sym pieces) ∙ sym (as_many_replies mine)) in
     record { pieces = sym pieces; replies = same_replies (got shard) (replies_in mine) tied.replies waits many }

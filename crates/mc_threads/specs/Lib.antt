@@ -4,4 +4,5 @@ pub mod Working
 pub mod Asking
 pub mod Logs
 pub mod Serving
+pub mod Over
 pub mod internal

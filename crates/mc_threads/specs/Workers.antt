@@ -15,3 +15,7 @@ AreFresh shards ends = (ends.number < shards) × AllByRecursion IsUnused ends.la
 -- The worker has run nothing, over an empty shard.
 abbrev pub IsFresh : Sizes → Desk → Type 0
 IsFresh sizes desk = HasRun (empty_shard sizes desk.ends.number) desk []
+
+-- a worker's ends
+abbrev pub ends_of : Desk → Ends Far
+ends_of desk = desk.ends

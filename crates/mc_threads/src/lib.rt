@@ -3,6 +3,9 @@
 
 mod courier;
 mod door;
+mod over;
+mod seating;
+mod settling;
 mod sizes;
 mod tcp;
 mod tcp_line;
@@ -14,6 +17,8 @@ mod working;
 
 pub use courier::Courier;
 pub use door::Door;
+pub use over::{Report, serve_over};
+pub use seating::{Seating, ServedLine};
 pub use sizes::{ServeRefusal, Sizes};
 pub use tcp::serve_tcp;
 pub use tcp_line::TcpLine;

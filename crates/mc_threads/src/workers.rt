@@ -1,8 +1,8 @@
 //! The workers of a server, and their threads.
-ghost use Rattle.std.specs.Prelude.{◌≡◌, ◌≤◌, ℕ, IfOk};
+ghost use Rattle.std.specs.Prelude.{◌≡◌, ◌≤◌, ◌++◌, ℕ, IfOk, OnOk, map};
 ghost use Rattle.std.specs.List.{AllByRecursion};
 ghost use Rattle.mc_threads.specs.Sizes.{sizes_of};
-ghost use Rattle.mc_threads.specs.Workers.{AreFresh, IsFresh};
+ghost use Rattle.mc_threads.specs.Workers.{AreFresh, IsFresh, ends_of};
 
 use crate::sizes::Sizes;
 use crate::working::Working;
@@ -43,6 +43,8 @@ pub fn make_workers<R: RandomSource>(
     requires most_bytes { sizes.bytes ≤ GREATEST_BUDGET }
     requires value { sizes.value ≤ GREATEST_VALUE_LIMIT }
     requires fresh { AllByRecursion (AreFresh sizes.shards) ends.items }
+    ensures ends { IfOk result (λ workers. map ends_of workers.items ≡ ends.items) }
+    ensures fresh { (seats : ℕ) → IfOk result (λ workers. AllByRecursion (IsFresh (sizes_of seats sizes)) workers.items) }
 {
     let mut workers = Vec::with_capacity(alloc, ends.len())?;
     for ends in ends {
@@ -96,7 +98,9 @@ pub fn start_workers<
     sleepers: Vec<Sleeper>,
     gate: &Arc<G, Global>,
     seats: &Wakers,
-) -> Result<(), CrewRefusal> {
+) -> Result<(), CrewRefusal>
+    ensures { OnOk result (map (λ working. working.worker) crew.new ≡ map (λ working. working.worker) crew.old ++ workers.items) }
+{
     let mut sleepers = sleepers.into_iter();
     for worker in workers {
         let Some(sleeper) = sleepers.next() else {

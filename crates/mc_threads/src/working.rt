@@ -1,9 +1,12 @@
 //! The thread of a shard's worker.
 ghost use Rattle.std.specs.Prelude.{◌≡◌, IfOk, length};
+ghost use Rattle.mc_ring.specs.Ends.{AreSameEnds};
+ghost use Rattle.mc_ring.specs.Made.{IsLane, LooksAtBoth};
 ghost use Rattle.mc_threads.specs.Working.{Finishes};
 
 use mc_core::{Gate, Worker};
 use mc_crew::Task;
+use mc_ring::SeatEnds;
 use mc_wake::{Sleeper, Wakers};
 use std::alloc::{AllocError, Global};
 use std::sync::{Arc, Wait};
@@ -63,6 +66,16 @@ impl<G: Gate + Drop> Working<G> {
             }
         }
         unreachable!()
+    }
+
+    /// How many parcels and how many replies wait on its lane of a seat, whose ends must be of the same call of `lanes`.
+    pub fn beside(&mut self, seat: &mut SeatEnds) -> (usize, usize)
+        requires { IsLane seat.old self.old.worker.ends }
+        ensures looked { LooksAtBoth seat.old seat.new self.old.worker.ends self.new.worker.ends result.0 result.1 }
+        ensures seat { AreSameEnds seat.old seat.new }
+        ensures keeps { AreSameEnds self.old.worker.ends self.new.worker.ends }
+    {
+        self.worker.beside(seat)
     }
 
     /// Wakes the seats that a reply was given to, and tells whether there was one.
