@@ -22,7 +22,7 @@ begins sizes sim within counted seats connections log wired =
       seat_count = counted;
       each_seat = λ c seat here.
           let is = all_at (IsNewSeat sizes) sim.seats.items c seat seats here in
-          subst (λ o. SeatIs sizes empty_world c seat.conn o) (sym is.0) (λ k link at same. absurd (let e : None ≡ Some link = at in cc), is.1);
+          subst (λ o. SeatIs sizes empty_world c seat.conn o) (sym is.0) ((λ k link at same. cc), is.1);
       seated = λ k link here. absurd (cc);
       count = ap length connections;
       keeps = λ k link kept here found. absurd (cc);
@@ -30,7 +30,7 @@ begins sizes sim within counted seats connections log wired =
       wires = new_wires sizes;
       wired = wired;
       mirrors = record {
-        lanes = λ c k link at s. absurd (let here = at.here in cc);
+        lanes = λ c k link at s. let here : None ≡ Some link = at.here in absurd (cc);
         unused = λ c unused s. (refl, refl);
         hands = λ s below k link here. absurd (cc);
         left = λ s below. refl;
