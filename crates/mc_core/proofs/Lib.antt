@@ -19,6 +19,7 @@ pub mod Receiving
 pub mod Popping
 pub mod Feeding
 pub mod Handing
+pub mod SimRun
 pub mod Opening
 pub mod Sweeping
 pub mod RingsChange
