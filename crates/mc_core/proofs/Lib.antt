@@ -26,4 +26,5 @@ pub mod RingsChange
 pub mod RingsSteps
 pub mod RingsMaking
 pub mod RingsCalls
+pub mod SimViews
 pub mod Starting

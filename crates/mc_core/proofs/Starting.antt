@@ -37,28 +37,3 @@ begins sizes sim within counted seats connections log wired =
       };
     } in
     world
-
--- lists that agree place by place
-pub shows : {X Y Z : Type 0} (f : X → Z) (g : Y → Z) (xs : List X) (ys : List Y) → length xs ≡ length ys → ((i : ℕ) (x : X) (y : Y) → slice_get ys i ≡ Some y → slice_get xs i ≡ Some x → f x ≡ g y) → map f xs ≡ map g ys
-shows f g [] [] same each = refl
-shows f g [] (y ∷ ys) same each = absurd (omega (arith, same))
-shows f g (x ∷ xs) [] same each = absurd (omega (arith, same))
-shows f g (x ∷ xs) (y ∷ ys) same each =
-    ap (λ z. z ∷ map f xs) (each 0 x y refl refl) ∙ ap (λ zs. g y ∷ zs) (shows f g xs ys (omega (arith, same)) (λ i a b there here. each (suc i) a b there here))
-
--- what is kept shows the connections
-pub seats_shown : (sizes : Sizes) (sim : Sim) (w : World) → Stands sizes sim w → map (λ (one : Connection). one.seat) sim.connections.items ≡ map (λ (link : Link). link.seat) w.links
-unfolding Stands
-seats_shown sizes sim w world = shows (λ (one : Connection). one.seat) (λ (link : Link). link.seat) sim.connections.items w.links world.count (λ i one link there here. (world.keeps i link one there here).seat)
-
-pub ended_shown : (sizes : Sizes) (sim : Sim) (w : World) → Stands sizes sim w → map (λ (one : Connection). one.ended) sim.connections.items ≡ map (λ (link : Link). link.ended) w.links
-unfolding Stands
-ended_shown sizes sim w world = shows (λ (one : Connection). one.ended) (λ (link : Link). link.ended) sim.connections.items w.links world.count (λ i one link there here. (world.keeps i link one there here).ended)
-
-pub broken_shown : (sizes : Sizes) (sim : Sim) (w : World) → Stands sizes sim w → map (λ (one : Connection). one.broken) sim.connections.items ≡ map (λ (link : Link). link.broken) w.links
-unfolding Stands
-broken_shown sizes sim w world = shows (λ (one : Connection). one.broken) (λ (link : Link). link.broken) sim.connections.items w.links world.count (λ i one link there here. (world.keeps i link one there here).broken)
-
-pub log_shown : (sizes : Sizes) (sim : Sim) (w : World) → Stands sizes sim w → sim.log.items ≡ map line_of w.log
-unfolding Stands
-log_shown sizes sim w world = world.log

@@ -1,0 +1,13 @@
+use Rattle.std.proofs.Common.{◌≡◌, Some, ap, ◌∙◌}
+use Rattle.std.specs.List.{slice_get}
+use Rattle.mc_core.proofs.SimViews.{handed_shown, kept_always, kept_is}
+use Rattle.mc_core.proofs.sim.Sim.handed.Goals as goal
+
+pub returns-in_err-kept : goal.returns-in_err-kept
+returns-in_err-kept c sizes w link stands here =
+    absurd (kept_always sizes c.args.self.now w c.args.number link _ stands here c.deref.ensures.value c.in_err-kept.ensures.lookup.3)
+
+pub returns : goal.returns
+returns c sizes w link stands here =
+    let found : slice_get c.args.self.now.connections.items c.args.number ≡ Some c.in_ok-kept.kept.now = kept_is c.args.self.now _ c.args.number c.in_ok-kept.kept.now c.deref.ensures.value c.in_ok-kept.ensures.lookup.3.0 c.in_ok-kept.ensures.lookup.1 in
+    ap (λ bytes. Some bytes) (c.deref-2.ensures.value ∙ handed_shown sizes c.args.self.now w c.args.number link c.in_ok-kept.kept.now stands here found)
