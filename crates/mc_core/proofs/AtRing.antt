@@ -156,10 +156,10 @@ sends old new c number shard piece place after finds below conn same set connect
           ∙ (ap (λ ps. unrun sizes w number t link ++ ps) (sym (lane-no t (shard, piece) [] (λ e. other (sym e)))) ∙ sym (more t))))
     ] in
     let mirrors = mirrors_on sizes w world.wires (record world.wires { pieces = now_pieces }) c number link next world.mirrors at refl
-        (λ t. (mine t, (wait t).1))
-        (λ d t apart. (with_far old_pieces c shard d t (old_pieces c shard ++ piece ∷ []) apart, refl))
-        (λ t below_t. hand_on w t number link next (world.wires.hand t) at.here refl refl (world.mirrors.hands t below_t))
-        (λ t. refl) in (
+    (λ t. (mine t, (wait t).1))
+    (λ d t apart. (with_far old_pieces c shard d t (old_pieces c shard ++ piece ∷ []) apart, refl))
+    (λ t below_t. hand_on w t number link next (world.wires.hand t) at.here refl refl (world.mirrors.hands t below_t))
+    (λ t. refl) in (
       w',
       happens,
       world_on sizes w c number link next old new (record world.wires { pieces = now_pieces }) world at refl law
@@ -178,12 +178,15 @@ sends_none old new c number place after finds conn same set connections log ring
     let s = f.2 in
     let o = conn (told_of sizes link s.lent s.accepted) s.is in (
       w,
-      (inl (λ e.
-          let one = one_at w c number e.0 link e.1 f.1 e.2 in
-          let may : MaySend sizes w number link = subst (λ x. MaySend sizes w number x) (sym one.1) (subst (λ n. MaySend sizes w n e.1) (sym one.0) e.3) in
-          let within = slice_get_within (pieces sizes.shards link.taken) link.sent may.piece may.next in
-          let all = o.0 in
-          absurd (omega (arith, within, all))), refl),
+      (
+        inl (λ e.
+            let one = one_at w c number e.0 link e.1 f.1 e.2 in
+            let may : MaySend sizes w number link = subst (λ x. MaySend sizes w number x) (sym one.1) (subst (λ n. MaySend sizes w n e.1) (sym one.0) e.3) in
+            let within = slice_get_within (pieces sizes.shards link.taken) link.sent may.piece may.next in
+            let all = o.0 in
+            absurd (omega (arith, within, all))),
+        refl,
+      ),
       inside sizes w old new c number link place after world finds f.1 set same (record { lent = s.lent; accepted = s.accepted; is = o.1; fits = s.fits }) connections log
           (subst (λ r. AreWired sizes r world.wires) (sym rings) world.wired),
     )
@@ -205,13 +208,16 @@ sends_full old new c number shard piece place after finds conn same set connecti
     let full = kept.full (seat, there_is sizes link shard piece link.sent world.within.shards.0 o.0) in
     let count = waiting sizes w old c number link shard world at in (
       w,
-      (inl (λ e.
-          let one = one_at w c number e.0 link e.1 at e.2 in
-          let may : MaySend sizes w number link = subst (λ x. MaySend sizes w number x) (sym one.1) (subst (λ n. MaySend sizes w n e.1) (sym one.0) e.3) in
-          let this : may.piece ≡ (shard, piece) = same_Some may.piece (shard, piece) (sym may.next ∙ o.0) in
-          let to : may.piece.0 ≡ shard = ap (λ (p : ℕ × Piece). p.0) this in
-          let room : sent_to sizes shard link < ran w number shard + sizes.ring = subst (λ t. sent_to sizes t link < ran w number t + sizes.ring) to may.room in
-          absurd (omega (arith, room, full, count))), refl),
+      (
+        inl (λ e.
+            let one = one_at w c number e.0 link e.1 at e.2 in
+            let may : MaySend sizes w number link = subst (λ x. MaySend sizes w number x) (sym one.1) (subst (λ n. MaySend sizes w n e.1) (sym one.0) e.3) in
+            let this : may.piece ≡ (shard, piece) = same_Some may.piece (shard, piece) (sym may.next ∙ o.0) in
+            let to : may.piece.0 ≡ shard = ap (λ (p : ℕ × Piece). p.0) this in
+            let room : sent_to sizes shard link < ran w number shard + sizes.ring = subst (λ t. sent_to sizes t link < ran w number t + sizes.ring) to may.room in
+            absurd (omega (arith, room, full, count))),
+        refl,
+      ),
       inside sizes w old new c number link place after world finds at set same (record { lent = false; accepted = s.accepted; is = o.1; fits = s.fits }) connections log kept.now,
     )
 
@@ -331,9 +337,9 @@ gives old new shard give seats connections log sizes w world =
     ] in
     let wires' : Wires = record world.wires { replies = now_replies; hand = with_shard world.wires.hand shard None } in
     let mirrors = mirrors_on sizes w world.wires wires' c k link next world.mirrors at refl
-        (λ t. ((wait t).0, mine t))
-        (λ d t apart. (refl, with_far old_replies c shard d t (old_replies c shard ++ reply ∷ []) apart))
-        hands (λ t. refl) in
+    (λ t. ((wait t).0, mine t))
+    (λ d t apart. (refl, with_far old_replies c shard d t (old_replies c shard ++ reply ∷ []) apart))
+    hands (λ t. refl) in
     let same_serving : (conn : Conn) → IsServing sizes (of_asker k w.log) link conn → IsServing sizes (of_asker k w.log) next conn = λ conn s.
     record { lent = s.lent; accepted = s.accepted; is = s.is; fits = s.fits } in (
       w',
@@ -360,30 +366,33 @@ unfolding Stands
 gives_none old new shard give seats connections log sizes w world =
     let g = give sizes world.wires world.wired in (
       w,
-      (inl (λ e.
-          let k = e.0 in
-          let link = e.1 in
-          let here = e.2.here in
-          let ungiven = e.2.ungiven in
-          let room = e.3 in
-          let below : shard < sizes.shards = elim (cases_lt shard sizes.shards) [
-            | inl less ↦ less
-            | inr beyond ↦
-                let within = ran_within sizes (of_asker k w.log) link (world.law.links k link here) shard in
-                let none = ap length (due_beyond sizes.shards shard link.taken world.within.shards.0 beyond) in
-                absurd (omega (arith, within, none, ungiven))
-          ] in
-          elim (world.wires.hand shard) as (λ o. world.wires.hand shard ≡ o → HandIs w shard o → ⊥) [
-            | None ↦ λ is empty. let bound = empty k link here in absurd (omega (arith, bound, ungiven))
-            | Some held ↦ λ is h.
-                let number : h.number ≡ k = world.law.one_asker shard h.number k h.link link h.at.here here h.ungiven ungiven in
-                let this : h.link ≡ link = at_once w.links h.number k h.link link h.at.here here number in
-                let given = ap (λ (x : Link). x.given shard) this in
-                let received = ap (λ (x : Link). x.received shard) this in
-                let count = replies_wait sizes w old held.0 h.number h.link shard world h.at in
-                let full = g.full below held.0 held.1 is in
-                absurd (omega (arith, count, full, room, given, received))
-          ] refl (world.mirrors.hands shard below)), refl),
+      (
+        inl (λ e.
+            let k = e.0 in
+            let link = e.1 in
+            let here = e.2.here in
+            let ungiven = e.2.ungiven in
+            let room = e.3 in
+            let below : shard < sizes.shards = elim (cases_lt shard sizes.shards) [
+              | inl less ↦ less
+              | inr beyond ↦
+                  let within = ran_within sizes (of_asker k w.log) link (world.law.links k link here) shard in
+                  let none = ap length (due_beyond sizes.shards shard link.taken world.within.shards.0 beyond) in
+                  absurd (omega (arith, within, none, ungiven))
+            ] in
+            elim (world.wires.hand shard) as (λ o. world.wires.hand shard ≡ o → HandIs w shard o → ⊥) [
+              | None ↦ λ is empty. let bound = empty k link here in absurd (omega (arith, bound, ungiven))
+              | Some held ↦ λ is h.
+                  let number : h.number ≡ k = world.law.one_asker shard h.number k h.link link h.at.here here h.ungiven ungiven in
+                  let this : h.link ≡ link = at_once w.links h.number k h.link link h.at.here here number in
+                  let given = ap (λ (x : Link). x.given shard) this in
+                  let received = ap (λ (x : Link). x.received shard) this in
+                  let count = replies_wait sizes w old held.0 h.number h.link shard world h.at in
+                  let full = g.full below held.0 held.1 is in
+                  absurd (omega (arith, count, full, room, given, received))
+            ] refl (world.mirrors.hands shard below)),
+        refl,
+      ),
       only_rings sizes w old new world seats connections log g.now,
     )
 

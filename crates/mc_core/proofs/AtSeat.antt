@@ -124,10 +124,13 @@ ended_before old new c number place kept finds at_kept ended same sizes w world 
     let f = found sizes w old c number place world finds.here finds.current in
     let h = world.keeps number f.0 kept f.1.here at_kept in (
       w,
-      (inl (λ e.
-          let one = one_at w c number e.0 f.0 e.1 f.1 e.2 in
-          let unset : f.0.ended ≡ false = ap (λ (x : Link). x.ended) one.1 ∙ e.3 in
-          absurd (let a : true ≡ false = sym ended ∙ (h.ended ∙ unset) in cc)), refl),
+      (
+        inl (λ e.
+            let one = one_at w c number e.0 f.0 e.1 f.1 e.2 in
+            let unset : f.0.ended ≡ false = ap (λ (x : Link). x.ended) one.1 ∙ e.3 in
+            absurd (let a : true ≡ false = sym ended ∙ (h.ended ∙ unset) in cc)),
+        refl,
+      ),
       world_stays sizes w old new world same,
     )
 
@@ -161,10 +164,13 @@ broken_before old new c number place kept finds at_kept broken same sizes w worl
     let f = found sizes w old c number place world finds.here finds.current in
     let h = world.keeps number f.0 kept f.1.here at_kept in (
       w,
-      (inl (λ e.
-          let one = one_at w c number e.0 f.0 e.1 f.1 e.2 in
-          let unset : f.0.broken ≡ false = ap (λ (x : Link). x.broken) one.1 ∙ e.3 in
-          absurd (let a : true ≡ false = sym broken ∙ (h.broken ∙ unset) in cc)), refl),
+      (
+        inl (λ e.
+            let one = one_at w c number e.0 f.0 e.1 f.1 e.2 in
+            let unset : f.0.broken ≡ false = ap (λ (x : Link). x.broken) one.1 ∙ e.3 in
+            absurd (let a : true ≡ false = sym broken ∙ (h.broken ∙ unset) in cc)),
+        refl,
+      ),
       world_stays sizes w old new world same,
     )
 
@@ -255,11 +261,14 @@ takes_none old new c number moment place after finds same differs connections co
     let link = f.0 in
     let s = f.2 in (
       w,
-      (inl (λ e.
-          let one = one_at w c number e.0 link e.1 f.1 e.2 in
-          let may : ((command : Command) × IsNextCommand sizes link command) × HasWindow sizes link × (link.broken ≡ false) =
-          subst (λ x. ((command : Command) × IsNextCommand sizes x command) × HasWindow sizes x × (x.broken ≡ false)) (sym one.1) e.3 in
-          none sizes link s.lent s.accepted may.0.0 s.is may.0.1 may.1 may.2), refl),
+      (
+        inl (λ e.
+            let one = one_at w c number e.0 link e.1 f.1 e.2 in
+            let may : ((command : Command) × IsNextCommand sizes link command) × HasWindow sizes link × (link.broken ≡ false) =
+            subst (λ x. ((command : Command) × IsNextCommand sizes x command) × HasWindow sizes x × (x.broken ≡ false)) (sym one.1) e.3 in
+            none sizes link s.lent s.accepted may.0.0 s.is may.0.1 may.1 may.2),
+        refl,
+      ),
       seat_again sizes w old new c number link place after world finds f.1 differs same (record { lent = s.lent; accepted = s.accepted; is = conn (told_of sizes link s.lent s.accepted) s.is; fits = s.fits }) connections,
     )
 

@@ -196,9 +196,12 @@ feeds_not old new c number bytes f kept at_kept not same sizes w world =
     let g = found sizes w old c number f.0 world f.1 f.2 in
     let h = world.keeps number g.0 kept g.1.here at_kept in (
       w,
-      (inl (λ e.
-          let one = one_at w c number e.0 g.0 e.1 g.1 e.2 in
-          not (h.ended ∙ (ap (λ (x : Link). x.ended) one.1 ∙ e.3.0), h.broken ∙ (ap (λ (x : Link). x.broken) one.1 ∙ e.3.1), e.3.2)), refl),
+      (
+        inl (λ e.
+            let one = one_at w c number e.0 g.0 e.1 g.1 e.2 in
+            not (h.ended ∙ (ap (λ (x : Link). x.ended) one.1 ∙ e.3.0), h.broken ∙ (ap (λ (x : Link). x.broken) one.1 ∙ e.3.1), e.3.2)),
+        refl,
+      ),
       world_stays sizes w old new world same,
     )
 

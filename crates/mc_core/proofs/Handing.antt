@@ -5,7 +5,6 @@ use Rattle.std.specs.List.{AllByRecursion, concat, slice_get}
 use Rattle.std.specs.Option.{option_map}
 use Rattle.std.proofs.lemmas.Bool.{cases_lt}
 use Rattle.std.proofs.lemmas.List.{length-map, length-take-le, take-append-drop, take_all, take-take}
-
 use Rattle.std.proofs.lemmas.Option.{slice_get_within}
 use Rattle.mc_ring.specs.Reply.{Shown}
 use Rattle.mc_split.specs.declared.plan.Piece.{Piece}
@@ -230,13 +229,16 @@ hands_none old new c number passes place finds pass none same sizes w world =
     let law = world.law.links number link at.here in
     let told = told_of sizes link s.lent s.accepted in (
       w,
-      (inl (λ e.
-          let one = one_at w c number e.0 link e.1 at e.2 in
-          let may : (link.handed < length link.taken) × HasCome sizes.shards link.taken link.received (link.handed + 1) × (link.broken ≡ false) =
-          subst (λ (x : Link). (x.handed < length x.taken) × HasCome sizes.shards x.taken x.received (x.handed + 1) × (x.broken ≡ false)) (sym one.1) e.3 in
-          let less = may.0 in
-          let count = pass told s.is may.2 in
-          let more = count_from_come sizes.shards (link.handed + 1) link.taken s.accepted (received_by link own) (omega (arith, less)) s.fits (come_on sizes own link (link.handed + 1) law may.1) in
-          absurd (omega (arith, count, more, none))), refl),
+      (
+        inl (λ e.
+            let one = one_at w c number e.0 link e.1 at e.2 in
+            let may : (link.handed < length link.taken) × HasCome sizes.shards link.taken link.received (link.handed + 1) × (link.broken ≡ false) =
+            subst (λ (x : Link). (x.handed < length x.taken) × HasCome sizes.shards x.taken x.received (x.handed + 1) × (x.broken ≡ false)) (sym one.1) e.3 in
+            let less = may.0 in
+            let count = pass told s.is may.2 in
+            let more = count_from_come sizes.shards (link.handed + 1) link.taken s.accepted (received_by link own) (omega (arith, less)) s.fits (come_on sizes own link (link.handed + 1) law may.1) in
+            absurd (omega (arith, count, more, none))),
+        refl,
+      ),
       world_stays sizes w old new world same,
     )

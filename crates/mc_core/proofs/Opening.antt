@@ -301,21 +301,24 @@ pub opens_not : (old new : Sim) (c : ℕ) (place : Seat) → slice_get old.seats
 unfolding Stands
 opens_not old new c place here not same sizes w world = (
   w,
-  (inl (λ e.
-      elim place.current as (λ o. ((told : Told) → IsConn place.conn told → MayBegin told o → ⊥) → SeatIs sizes w c place.conn o → ⊥) [
-        | None ↦ λ never is. never (told_nothing sizes.shards sizes.value sizes.window) is.1 (inl refl)
-        | Some k ↦ λ never is.
-            let link = is.0 in
-            let at = is.1 in
-            let s = is.2 in
-            elim e.3.1 [
-              | inl unused ↦ unused k link at.here at.seat_is
-              | inr free ↦
-                  let one = one_at w c free.0 k free.1 link free.2 at in
-                  let renews : MayRenew sizes link = subst (λ x. MayRenew sizes x) one.1 free.3 in
-                  never (told_of sizes link s.lent s.accepted) s.is (inr (rests_back sizes (of_asker k w.log) link place.conn (world.law.links k link at.here) s renews.0, overs_back sizes link s.lent s.accepted renews.1))
-            ]
-      ] not (world.each_seat c place here)), refl),
+  (
+    inl (λ e.
+        elim place.current as (λ o. ((told : Told) → IsConn place.conn told → MayBegin told o → ⊥) → SeatIs sizes w c place.conn o → ⊥) [
+          | None ↦ λ never is. never (told_nothing sizes.shards sizes.value sizes.window) is.1 (inl refl)
+          | Some k ↦ λ never is.
+              let link = is.0 in
+              let at = is.1 in
+              let s = is.2 in
+              elim e.3.1 [
+                | inl unused ↦ unused k link at.here at.seat_is
+                | inr free ↦
+                    let one = one_at w c free.0 k free.1 link free.2 at in
+                    let renews : MayRenew sizes link = subst (λ x. MayRenew sizes x) one.1 free.3 in
+                    never (told_of sizes link s.lent s.accepted) s.is (inr (rests_back sizes (of_asker k w.log) link place.conn (world.law.links k link at.here) s renews.0, overs_back sizes link s.lent s.accepted renews.1))
+              ]
+        ] not (world.each_seat c place here)),
+    refl,
+  ),
   world_stays sizes w old new world same,
 )
 

@@ -252,7 +252,7 @@ pops old new c number shard ran' f run seats connections log sizes w world =
       count = ap length connections ∙ world.count;
       keeps = λ k one kept at_k here. kept_run sizes w entry k one kept (world.law.links k one at_k) (world.keeps k one kept at_k (ap (λ xs. slice_get xs k) (sym connections) ∙ here));
       log = log ∙ (ap (λ es. es ++ record { shard = shard; connection = number; ticket = ran'.ticket; part = ran'.part; moment = ran'.moment } ∷ []) world.log
-      ∙ (ap (λ x. map line_of w.log ++ x ∷ []) line ∙ sym (map-append line_of w.log (entry ∷ []))));
+          ∙ (ap (λ x. map line_of w.log ++ x ∷ []) line ∙ sym (map-append line_of w.log (entry ∷ []))));
       wires = record {
         pieces = now_pieces;
         replies = world.wires.replies;
@@ -272,19 +272,22 @@ unfolding Stands
 pops_none old new c number shard f run seats connections log sizes w world =
     let r = run sizes world.wires world.wired in (
       w,
-      (inl (λ e.
-          let k = e.0 in
-          let link = e.1 in
-          let at = e.2 in
-          let empty = e.3.0 in
-          let less = e.3.1 in
-          let seat : c < sizes.seats = let below = world.seated k link at.here in let is = at.seat_is in omega (arith, below, is) in
-          let there = sent_there sizes link shard world.within.shards.0 (omega (arith, less)) in
-          let count = waiting sizes w old c k link shard world at in
-          elim (world.wires.hand shard) as (λ o. world.wires.hand shard ≡ o → HandIs w shard o → ⊥) [
-            | None ↦ λ is free. let none = ap length (r.0 (seat, there) is) in absurd (omega (arith, none, count, less))
-            | Some held ↦ λ is h. let bound = empty h.number h.link h.at.here in let ungiven = h.ungiven in absurd (omega (arith, bound, ungiven))
-          ] refl (world.mirrors.hands shard there)), refl),
+      (
+        inl (λ e.
+            let k = e.0 in
+            let link = e.1 in
+            let at = e.2 in
+            let empty = e.3.0 in
+            let less = e.3.1 in
+            let seat : c < sizes.seats = let below = world.seated k link at.here in let is = at.seat_is in omega (arith, below, is) in
+            let there = sent_there sizes link shard world.within.shards.0 (omega (arith, less)) in
+            let count = waiting sizes w old c k link shard world at in
+            elim (world.wires.hand shard) as (λ o. world.wires.hand shard ≡ o → HandIs w shard o → ⊥) [
+              | None ↦ λ is free. let none = ap length (r.0 (seat, there) is) in absurd (omega (arith, none, count, less))
+              | Some held ↦ λ is h. let bound = empty h.number h.link h.at.here in let ungiven = h.ungiven in absurd (omega (arith, bound, ungiven))
+            ] refl (world.mirrors.hands shard there)),
+        refl,
+      ),
       only_rings sizes w old new world seats connections log r.1,
     )
 

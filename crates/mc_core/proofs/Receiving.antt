@@ -129,10 +129,10 @@ receives old new c number shard reply place after finds below receive conn same 
     ] in
     let wires' : Wires = record world.wires { replies = now_replies } in
     let mirrors = mirrors_on sizes w world.wires wires' c number link next world.mirrors at refl
-        (λ t. ((wait t).0, mine t))
-        (λ d t apart. (refl, with_far old_replies c shard d t r.rest apart))
-        (λ t below_t. hand_on w t number link next (world.wires.hand t) at.here refl refl (world.mirrors.hands t below_t))
-        (λ t. refl) in (
+    (λ t. ((wait t).0, mine t))
+    (λ d t apart. (refl, with_far old_replies c shard d t r.rest apart))
+    (λ t below_t. hand_on w t number link next (world.wires.hand t) at.here refl refl (world.mirrors.hands t below_t))
+    (λ t. refl) in (
       w',
       happens,
       world_on sizes w c number link next old new wires' world at refl law'
@@ -149,22 +149,25 @@ unfolding Stands
 receives_none old new c number shard f receive seats connections log sizes w world =
     let r = receive sizes world.wires world.wired in (
       w,
-      (inl (λ e.
-          let link = e.1 in
-          let at = e.2 in
-          let less = e.3 in
-          let law = world.law.links e.0 link at.here in
-          let given = law.given shard in
-          let seat : c < sizes.seats = let below = world.seated e.0 link at.here in let is = at.seat_is in omega (arith, below, is) in
-          let there : shard < sizes.shards = elim (cases_lt shard sizes.shards) [
-            | inl below ↦ below
-            | inr beyond ↦
-                let within = ran_within sizes (of_asker e.0 w.log) link law shard in
-                let none = ap length (due_beyond sizes.shards shard link.taken world.within.shards.0 beyond) in
-                absurd (omega (arith, within, none, given, less))
-          ] in
-          let count = replies_wait sizes w old c e.0 link shard world at in
-          let none = ap length (r.none (seat, there)) in
-          absurd (omega (arith, count, none, less))), refl),
+      (
+        inl (λ e.
+            let link = e.1 in
+            let at = e.2 in
+            let less = e.3 in
+            let law = world.law.links e.0 link at.here in
+            let given = law.given shard in
+            let seat : c < sizes.seats = let below = world.seated e.0 link at.here in let is = at.seat_is in omega (arith, below, is) in
+            let there : shard < sizes.shards = elim (cases_lt shard sizes.shards) [
+              | inl below ↦ below
+              | inr beyond ↦
+                  let within = ran_within sizes (of_asker e.0 w.log) link law shard in
+                  let none = ap length (due_beyond sizes.shards shard link.taken world.within.shards.0 beyond) in
+                  absurd (omega (arith, within, none, given, less))
+            ] in
+            let count = replies_wait sizes w old c e.0 link shard world at in
+            let none = ap length (r.none (seat, there)) in
+            absurd (omega (arith, count, none, less))),
+        refl,
+      ),
       only_rings sizes w old new world seats connections log r.now,
     )

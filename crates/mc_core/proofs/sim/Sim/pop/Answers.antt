@@ -16,8 +16,8 @@ pub returns-in_default-pop : goal.returns-in_default-pop
 returns-in_default-pop c =
     pops_none _ _ c.args.seat c.in-Some.connection c.args.shard c.in-Some.ensures.current
     (λ sizes wires wired.
-        let t = c.waits.ensures sizes wires wired in
-        let r = c.in_default-pop.ensures.none sizes wires t.now in (r.none, r.now)) refl refl c.reserve.ensures.items
+    let t = c.waits.ensures sizes wires wired in
+    let r = c.in_default-pop.ensures.none sizes wires t.now in (r.none, r.now)) refl refl c.reserve.ensures.items
 
 pub returns : goal.returns
 returns c =
