@@ -1,16 +1,12 @@
--- A new core stands in the world in which nothing has happened; and what is kept of the connections shows them.
-use Rattle.std.proofs.Common.{◌≡◌, ℕ, zero, suc, inl, inr, Option, Some, None, List, [], ◌∷◌, length, map, refl, sym, ap, ◌∙◌, subst, arith}
-use Rattle.std.specs.List.{AllByRecursion, slice_get}
-use Rattle.mc_conn.specs.Conn.{IsConn}
-use Rattle.mc_conn.specs.Told.{told_nothing}
-use Rattle.mc_conn.proofs.Gets.{all_at, get_below}
-use Rattle.mc_core.specs.declared.sim.Connection.{Connection}
-use Rattle.mc_core.specs.declared.sim.Seat.{Seat}
+-- A new core stands in the world in which nothing has happened.
+use Rattle.std.proofs.Common.{◌≡◌, None, Some, [], length, refl, sym, ap, subst}
+use Rattle.std.specs.List.{AllByRecursion}
+use Rattle.mc_conn.proofs.Gets.{all_at}
 use Rattle.mc_core.specs.declared.sim.Sim.{Sim}
 use Rattle.mc_core.specs.Sizes.{AreWithin, Sizes}
-use Rattle.mc_core.specs.World.{Link, World, empty_world}
+use Rattle.mc_core.specs.World.{empty_world}
 use Rattle.mc_core.specs.Rings.{AreWired, new_wires}
-use Rattle.mc_core.specs.Stands.{IsNewSeat, IsWorld, SeatIs, Stands, line_of}
+use Rattle.mc_core.specs.Stands.{IsNewSeat, IsWorld, SeatIs, Stands}
 use Rattle.mc_core.proofs.Worlds.{at_begin}
 
 pub begins : (sizes : Sizes) (sim : Sim) → AreWithin sizes → length sim.seats.items ≡ sizes.seats → AllByRecursion (IsNewSeat sizes) sim.seats.items → sim.connections.items ≡ [] → sim.log.items ≡ [] → AreWired sizes sim.rings (new_wires sizes) → Stands sizes sim empty_world
