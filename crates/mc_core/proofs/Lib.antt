@@ -21,7 +21,7 @@ pub mod Feeding
 pub mod Handing
 pub mod SimRun
 pub mod Opening
-pub mod Sweeping
+pub mod Marking
 pub mod RingsChange
 pub mod RingsSteps
 pub mod RingsMaking

@@ -13,8 +13,8 @@ pub mod Served
 pub mod Desk
 pub mod DeskLaws
 pub mod Turns
+pub mod Marks
 pub mod Asked
-pub mod Sweeps
 pub mod Numbers
 pub mod Feeding
 pub mod Stands

@@ -8,8 +8,8 @@ ghost use Rattle.mc_ring.specs.Made.{IsLane, IsUnused, LooksAtBoth};
 ghost use Rattle.mc_store.specs.Shard.{IsShard};
 ghost use Rattle.mc_store.specs.State.{State};
 ghost use Rattle.mc_core.specs.Desk.{Goes, HasEnded, HasRun, RunsNoMore};
-ghost use Rattle.mc_core.specs.Turns.{Gives, Grows, Turned};
-ghost use Rattle.mc_core.specs.Sweeps.{IsIdle, Marks, Rests};
+ghost use Rattle.mc_core.specs.Turns.{FindsNothing, Gives, Grows, Turned};
+ghost use Rattle.mc_core.specs.Marks.{Marks};
 
 #[cfg(test)]
 mod tests;
@@ -21,7 +21,7 @@ use mc_store::Shard;
 use std::alloc::{AllocError, Global};
 use std::marker::Model;
 
-/// So many turns a sweep makes for one seat before it looks at the next. A piece takes two: it is run, and its reply is given.
+/// So many turns are made for one seat before the worker looks at the next. A piece takes two: it is run, and its reply is given.
 const LANE_TURNS: usize = 64;
 
 /// What a turn of a worker did.
@@ -146,36 +146,28 @@ impl Worker {
         beside(seat, &mut self.ends)
     }
 
-    /// Turns for all seats, one after the other, each as long as its lane brings something. It marks the seats that a reply was
-    /// given to, so that their threads can be woken, and answers false where there was nothing to do.
-    pub fn sweep<G: Gate>(&mut self, alloc: Global, gate: &G, given: &mut [bool]) -> bool
-        requires { length given.old ≡ length self.old.ends.lanes }
-        ensures goes { Goes self.old self.new }
-        ensures marks { Marks self.old self.new given.old given.new }
-        ensures idle { OnFalse result (IsIdle self.old self.new) }
-    {
-        let _ = &self.shard;
-        let mut busy = false;
-        for seat in 0..self.seats() {
-            if self.serve(alloc, seat, gate, given) {
-                busy = true;
-            }
-        }
-        busy || self.hand.is_some()
-    }
-
-    /// Turns for one seat as long as its lane brings something, but no more than `LANE_TURNS`. Whether it brought anything.
-    fn serve<G: Gate>(&mut self, alloc: Global, seat: usize, gate: &G, given: &mut [bool]) -> bool
+    /// Turns for one seat as long as its lane brings something, but no more than `LANE_TURNS`. It marks the seats that a reply
+    /// was given to, so that their threads can be woken. False where nothing was on the lane, and no reply waits to be given:
+    /// then nothing was done.
+    pub fn serve<G: Gate>(
+        &mut self,
+        alloc: Global,
+        seat: usize,
+        gate: &G,
+        given: &mut [bool],
+    ) -> bool
         requires seat { seat < length self.old.ends.lanes }
         requires given { length given.old ≡ length self.old.ends.lanes }
         ensures goes { Goes self.old self.new }
         ensures marks { Marks self.old self.new given.old given.new }
-        ensures rests { OnFalse result (Rests self.old seat self.new) }
+        ensures rests { OnFalse result (FindsNothing self.old seat self.new) }
     {
+        let _ = &self.shard;
         for turns in 0..LANE_TURNS {
             let holder = self.holder();
             match self.turn(alloc, seat, gate) {
-                Turn::Nothing | Turn::Blocked => return turns > 0,
+                Turn::Nothing => return turns > 0,
+                Turn::Blocked => return true,
                 Turn::Gave => {
                     if let Some(holder) = holder {
                         given[holder] = true;

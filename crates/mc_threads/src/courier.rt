@@ -201,7 +201,7 @@ impl Courier {
     fn wake_shards(&self) {
         for (shard, count) in self.under_way.iter().enumerate() {
             if *count > 0 {
-                self.shards.wake(shard);
+                self.shards.call(shard, self.ends.number());
             }
         }
     }
@@ -265,7 +265,7 @@ impl Courier {
     {
         for shard in 0..self.ends.shards() {
             self.send_end(rt, shard);
-            self.shards.wake(shard);
+            self.shards.call(shard, self.ends.number());
         }
     }
 

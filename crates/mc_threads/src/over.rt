@@ -107,8 +107,8 @@ fn start<
     let count = lines.len();
     let (near, far) = lanes(alloc, count, sizes.shards, sizes.ring)?;
     let patience = Patience::among(rt, sizes.shards.saturating_add(count));
-    let worker_sleepers = make_sleepers(alloc, sizes.shards, patience)?;
-    let seat_sleepers = make_sleepers(alloc, count, patience)?;
+    let worker_sleepers = make_sleepers(alloc, sizes.shards, patience, count)?;
+    let seat_sleepers = make_sleepers(alloc, count, patience, 0)?;
     let shards = Wakers::of(alloc, &worker_sleepers)?;
     let seats = Wakers::of(alloc, &seat_sleepers)?;
     let workers = make_workers(rt, alloc, far, sizes)?;

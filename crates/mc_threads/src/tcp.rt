@@ -85,10 +85,9 @@ fn start<
     requires { MayServe seats sizes }
 {
     let ends = lanes(alloc, seats, sizes.shards, sizes.ring)?;
-    // The threads that always have something to do are those of the shards and one seat's.
-    let patience = Patience::among(rt, sizes.shards.saturating_add(1));
-    let worker_sleepers = make_sleepers(alloc, sizes.shards, patience)?;
-    let seat_sleepers = make_sleepers(alloc, seats, patience)?;
+    let patience = Patience::among(rt, sizes.shards.saturating_add(seats));
+    let worker_sleepers = make_sleepers(alloc, sizes.shards, patience, seats)?;
+    let seat_sleepers = make_sleepers(alloc, seats, patience, 0)?;
     let shards = Wakers::of(alloc, &worker_sleepers)?;
     let wakers = Wakers::of(alloc, &seat_sleepers)?;
     let workers = make_workers(rt, alloc, ends.1, sizes)?;

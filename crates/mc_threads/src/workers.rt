@@ -18,15 +18,16 @@ use std::random::RandomSource;
 use std::sync::{Arc, Wait};
 use std::thread::Threads;
 
-/// So many sleepers with this patience.
+/// So many sleepers with this patience, each with so many callers.
 pub fn make_sleepers(
     alloc: Global,
     count: usize,
     patience: Patience,
+    callers: usize,
 ) -> Result<Vec<Sleeper>, AllocError> {
     let mut sleepers = Vec::with_capacity(alloc, count)?;
     for _ in 0..count {
-        sleepers.push(Sleeper::new(alloc, patience)?)?;
+        sleepers.push(Sleeper::new(alloc, patience, callers)?)?;
     }
     Ok(sleepers)
 }

@@ -2,6 +2,7 @@
 ghost use Rattle.std.specs.Prelude.{◌≡◌, IfOk, length};
 ghost use Rattle.mc_ring.specs.Ends.{AreSameEnds};
 ghost use Rattle.mc_ring.specs.Made.{IsLane, LooksAtBoth};
+ghost use Rattle.mc_core.specs.Desk.{Goes};
 ghost use Rattle.mc_threads.specs.Working.{Finishes};
 
 use mc_core::{Gate, Worker};
@@ -19,10 +20,13 @@ pub struct Working<G> {
     gate: Arc<G, Global>,
     sleeper: Sleeper,
     seats: Wakers,
+    /// Of each seat, whether its lane may hold more.
+    waiting: Vec<bool>,
     /// Of each seat, whether a reply was given to it since it was woken last.
     given: Vec<bool>,
     alloc: Global,
     ghost each_seat: { length given.items ≡ length worker.ends.lanes },
+    ghost each_lane: { length waiting.items ≡ length worker.ends.lanes },
 }
 
 impl<G: Gate + Drop> Working<G> {
@@ -37,12 +41,14 @@ impl<G: Gate + Drop> Working<G> {
     ) -> Result<Working<G>, AllocError>
         ensures { IfOk result (λ working. working.worker ≡ worker) }
     {
+        let waiting = vec![in alloc; false; worker.seats()]?;
         let given = vec![in alloc; false; worker.seats()]?;
         Ok(Working {
             worker,
             gate,
             sleeper,
             seats,
+            waiting,
             given,
             alloc,
         })
@@ -53,7 +59,7 @@ impl<G: Gate + Drop> Working<G> {
         ensures { Finishes self.old.worker self.new.worker }
     {
         for _ in rt.forever() {
-            if self.worker.sweep(self.alloc, &*self.gate, &mut self.given) {
+            if self.serve_callers() {
                 self.sleeper.found();
                 if !self.wake_seats() {
                     // A reply waits for room on its ring, which its seat makes.
@@ -66,6 +72,21 @@ impl<G: Gate + Drop> Working<G> {
             }
         }
         unreachable!()
+    }
+
+    /// Serves the seats that called, and those whose lanes may hold more. Whether there was anything to do.
+    fn serve_callers(&mut self) -> bool
+        ensures { Goes self.old.worker self.new.worker }
+    {
+        let mut busy = false;
+        for seat in 0..self.waiting.len() {
+            if self.sleeper.was_called_by(seat) || self.waiting[seat] {
+                let more = (self.worker).serve(self.alloc, seat, &*self.gate, &mut self.given);
+                self.waiting[seat] = more;
+                busy = busy || more;
+            }
+        }
+        busy
     }
 
     /// How many parcels and how many replies wait on its lane of a seat, whose ends must be of the same call of `lanes`.

@@ -1,13 +1,15 @@
 //! How long a thread looks in vain before it sleeps.
+ghost use Rattle.std.specs.Prelude.{◌≡◌, ◌≤◌, ◌<◌};
+
 use std::thread;
 use std::thread::Threads;
 
 /// So often a thread looks again at once, where each thread has a core of its own. A look takes some nanoseconds, to sleep
 /// and wake some microseconds.
-const LOOKS: usize = 1_000;
+const LOOKS: usize = 200;
 
 /// So often it then lets other threads run before it looks again.
-const YIELDS: usize = 20;
+const YIELDS: usize = 2;
 
 /// How often a thread looks in vain before it sleeps: at first at once, then after it let other threads run.
 #[derive(Clone, Copy, Debug, PartialEq, Eq)]
@@ -17,8 +19,7 @@ pub struct Patience {
 }
 
 impl Patience {
-    /// The patience where so many threads share the machine: to look again at once serves only while the thread that is
-    /// waited for can run meanwhile, so with fewer cores than threads it is done less often, and on a single core never.
+    /// The patience where so many threads share the machine.
     pub fn among<R: Threads>(rt: &R, threads: usize) -> Patience {
         let cores = match thread::available_parallelism(rt) {
             Ok(cores) => cores.get(),
@@ -30,14 +31,12 @@ impl Patience {
         }
     }
 
-    /// How often a thread looks again at once, where so many threads share so many cores.
-    fn looks_of(cores: usize, threads: usize) -> usize {
-        if cores == 1 {
-            return 0;
-        }
-        if threads <= cores {
-            return LOOKS;
-        }
-        LOOKS.saturating_mul(cores) / threads
+    /// How often a thread looks again at once, where so many threads share so many cores. With fewer cores than threads it
+    /// never does: it would keep the thread that it waits for from running.
+    fn looks_of(cores: usize, threads: usize) -> usize
+        ensures own { threads ≤ cores → result ≡ LOOKS }
+        ensures shared { cores < threads → result ≡ 0 }
+    {
+        if threads <= cores { LOOKS } else { 0 }
     }
 }

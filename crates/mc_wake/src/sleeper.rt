@@ -16,6 +16,7 @@ pub struct Sleeper {
     patience: Patience,
     /// How often it has looked in vain since it last found something.
     vain: Cell<usize>,
+    called: Arc<Vec<AtomicBool>, Global>,
 }
 
 /// Wakes one thread.
@@ -23,16 +24,23 @@ pub struct Sleeper {
 pub struct Waker {
     unparker: Unparker,
     asleep: Arc<AtomicBool, Global>,
+    /// Of each caller, whether it has called since it was last asked.
+    called: Arc<Vec<AtomicBool>, Global>,
 }
 
 impl Sleeper {
-    /// The sleep of one thread that has this patience.
-    pub fn new(alloc: Global, patience: Patience) -> Result<Sleeper, AllocError> {
+    /// The sleep of one thread that has this patience, and so many callers, who are numbered from 0.
+    pub fn new(alloc: Global, patience: Patience, callers: usize) -> Result<Sleeper, AllocError> {
+        let mut called = Vec::with_capacity(alloc, callers)?;
+        for _ in 0..callers {
+            called.push(AtomicBool::new(false))?;
+        }
         Ok(Sleeper {
             parker: Parker::new(alloc)?,
             asleep: Arc::new(alloc, AtomicBool::new(false))?,
             patience,
             vain: Cell::new(0),
+            called: Arc::new(alloc, called)?,
         })
     }
 
@@ -41,7 +49,20 @@ impl Sleeper {
         Ok(Waker {
             unparker: self.parker.unparker().clone()?,
             asleep: Arc::try_clone(&self.asleep)?,
+            called: Arc::try_clone(&self.called)?,
         })
+    }
+
+    /// Whether the caller has called since this was last asked. What it pushed before it called is found from now on.
+    pub fn was_called_by(&self, caller: usize) -> bool {
+        let Some(called) = self.called.get(caller) else {
+            return false;
+        };
+        if !called.load(Ordering::SeqCst) {
+            return false;
+        }
+        called.store(false, Ordering::SeqCst);
+        true
     }
 
     /// The thread's last look found something. To be said before it waits for others.
@@ -80,6 +101,15 @@ impl Sleeper {
 }
 
 impl Waker {
+    /// Tells the thread that the caller has pushed something for it, and wakes it where it sleeps or is about to. To be called
+    /// once for all that was pushed together.
+    pub fn call(&self, caller: usize) {
+        if let Some(called) = self.called.get(caller) {
+            called.store(true, Ordering::SeqCst);
+        }
+        self.wake();
+    }
+
     /// Wakes the thread where it sleeps or is about to. To be called after something was pushed for it, once for all that
     /// was pushed together.
     pub fn wake(&self) {

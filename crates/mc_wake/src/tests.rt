@@ -20,7 +20,7 @@ fn take_turns<R: Wait>(rt: &R, sleeper: &Sleeper, other: &Waker, count: &AtomicU
         if now % 2 == mine {
             sleeper.found();
             count.store(now + 1, Ordering::SeqCst);
-            other.wake();
+            other.call(0);
         } else {
             sleeper.wait(rt);
         }
@@ -35,8 +35,8 @@ fn turns_of_two<R: Threads + Wait + Copy + Send + 'static>(
 ) -> Result<u64, AllocError> {
     let count = Arc::new(alloc, AtomicU64::new(0))?;
     let shared = Arc::try_clone(&count)?;
-    let first = Sleeper::new(alloc, patience)?;
-    let second = Sleeper::new(alloc, patience)?;
+    let first = Sleeper::new(alloc, patience, 1)?;
+    let second = Sleeper::new(alloc, patience, 1)?;
     let wakes_first = first.waker()?;
     let wakes_second = second.waker()?;
     let own = *rt;
@@ -63,5 +63,20 @@ fn both_end_where_they_sleep_at_once(rt: HostRuntime) -> Result<(), Fail> {
 fn both_end_where_they_look_again_first(rt: HostRuntime) -> Result<(), Fail> {
     let turns = turns_of_two(&rt, rt.alloc(), Patience::among(&rt, 2))?;
     assert_eq!(rt; turns, 2 * ROUNDS);
+    Ok(())
+}
+
+#[test]
+fn a_call_is_told_once(rt: HostRuntime) -> Result<(), Fail> {
+    let alloc = rt.alloc();
+    let sleeper = Sleeper::new(alloc, Patience::among(&rt, 2), 2)?;
+    let waker = sleeper.waker()?;
+    assert!(rt; !sleeper.was_called_by(1));
+    waker.call(1);
+    assert!(rt; !sleeper.was_called_by(0));
+    assert!(rt; sleeper.was_called_by(1));
+    assert!(rt; !sleeper.was_called_by(1));
+    waker.call(2);
+    assert!(rt; !sleeper.was_called_by(2));
     Ok(())
 }

@@ -28,6 +28,14 @@ impl Wakers {
         })
     }
 
+    /// Tells the thread of this number that the caller has pushed something for it, and wakes it where it sleeps or is about
+    /// to. To be called once for all that was pushed together.
+    pub fn call(&self, number: usize, caller: usize) {
+        if let Some(waker) = self.all.get(number) {
+            waker.call(caller);
+        }
+    }
+
     /// Wakes the thread of this number where it sleeps or is about to. To be called after something was pushed for it, once
     /// for all that was pushed together.
     pub fn wake(&self, number: usize) {

@@ -50,10 +50,10 @@ fn turn(alloc: Global, worker: &mut Worker, seat: usize) -> Option<Turn>
     }
 }
 
-/// A sweep, where there is a mark for each seat.
-fn sweep(alloc: Global, worker: &mut Worker, given: &mut [bool]) -> Option<bool> {
-    if given.len() == worker.seats() {
-        Some(worker.sweep(alloc, &OpenGate, given))
+/// Turns for a seat, where it is there and each seat has a mark.
+fn serve(alloc: Global, worker: &mut Worker, seat: usize, given: &mut [bool]) -> Option<bool> {
+    if seat < worker.seats() && given.len() == worker.seats() {
+        Some(worker.serve(alloc, seat, &OpenGate, given))
     } else {
         None
     }
@@ -119,21 +119,22 @@ fn it_has_ended_when_every_lane_has(rt: HostRuntime) -> Result<(), Fail> {
 }
 
 #[test]
-fn a_sweep_serves_all_seats(rt: HostRuntime) -> Result<(), Fail> {
+fn a_seat_is_served_until_nothing_waits(rt: HostRuntime) -> Result<(), Fail> {
     let alloc = rt.alloc();
     let (mut first, mut second, mut worker) = two_seats(alloc, RandomState::new(&rt)?)?;
     let mut given = [false, false];
-    assert_eq!(rt; sweep(alloc, &mut worker, &mut given), Some(false));
+    assert_eq!(rt; serve(alloc, &mut worker, 1, &mut given), Some(false));
     assert!(rt; sends(&mut second, piece(4)));
-    assert_eq!(rt; sweep(alloc, &mut worker, &mut given), Some(true));
+    assert_eq!(rt; serve(alloc, &mut worker, 1, &mut given), Some(true));
     assert_eq!(rt; given, [false, true]);
     assert!(rt; sends(&mut first, piece(7)));
-    assert_eq!(rt; sweep(alloc, &mut worker, &mut given), Some(true));
+    assert_eq!(rt; serve(alloc, &mut worker, 0, &mut given), Some(true));
     assert_eq!(rt; given, [true, true]);
     assert_eq!(rt;
         (receives(&mut first), receives(&mut second)),
         (Some(7), Some(4))
     );
+    assert_eq!(rt; serve(alloc, &mut worker, 0, &mut given), Some(false));
     Ok(())
 }
 

@@ -1,7 +1,7 @@
 use Rattle.std.proofs.Common.{◌≡◌, ℕ, ◌+◌, false, refl, sym, ◌∙◌, arith, inl, inr}
 use Rattle.mc_core.specs.DeskLaws.{goes_refl, goes_trans}
 use Rattle.mc_core.proofs.Turning.{goes_turn}
-use Rattle.mc_core.proofs.Sweeping.{is_gave, marks_absurd, marks_gave, marks_none, marks_refl, marks_trans}
+use Rattle.mc_core.proofs.Marking.{is_gave, marks_absurd, marks_gave, marks_none, marks_refl, marks_trans}
 use Rattle.mc_core.proofs.worker.Worker.serve.Goals as goal
 use Rattle.mc_core.proofs.worker.Worker.serve.Goals.{in-Gave+in-Some, in-Gave+in_default, in-Ran}
 
@@ -17,7 +17,15 @@ returns-in-Nothing-clause-goes g c = goes_trans _ _ _ c.loop-turns.invariant.goe
 
 pub returns-in-Nothing-clause-marks : goal.returns-in-Nothing-clause-marks
 returns-in-Nothing-clause-marks g c =
-    let none : is_gave c.turn.result ≡ false = elim c.in-Nothing.is [ inl is ↦ rw is refl | inr is ↦ rw is refl ] in
+    let none : is_gave c.turn.result ≡ false = rw c.in-Nothing.is refl in
+    marks_trans c.args.self.now c.loop-turns.self c.turn.new.self c.args.given.now c.loop-turns.given c.loop-turns.given c.loop-turns.invariant.marks (marks_none c.loop-turns.self c.turn.result c.turn.new.self c.loop-turns.given none c.turn.ensures.gives)
+
+pub returns-in-Blocked-clause-goes : goal.returns-in-Blocked-clause-goes
+returns-in-Blocked-clause-goes g c = goes_trans _ _ _ c.loop-turns.invariant.goes (goes_turn _ _ _ _ c.turn.ensures.keeps c.turn.ensures.grows)
+
+pub returns-in-Blocked-clause-marks : goal.returns-in-Blocked-clause-marks
+returns-in-Blocked-clause-marks g c =
+    let none : is_gave c.turn.result ≡ false = rw c.in-Blocked.is refl in
     marks_trans c.args.self.now c.loop-turns.self c.turn.new.self c.args.given.now c.loop-turns.given c.loop-turns.given c.loop-turns.invariant.marks (marks_none c.loop-turns.self c.turn.result c.turn.new.self c.loop-turns.given none c.turn.ensures.gives)
 
 next_turn : (n : ℕ) (P : Type 0) → n + 1 ≡ 0 → P

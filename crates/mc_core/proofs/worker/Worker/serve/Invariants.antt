@@ -1,6 +1,6 @@
 use Rattle.std.specs.Prelude.{◌≡◌}
 use Rattle.mc_core.specs.Desk.{Goes}
-use Rattle.mc_core.specs.Sweeps.{Marks}
+use Rattle.mc_core.specs.Marks.{Marks}
 use Rattle.mc_core.proofs.worker.Worker.serve.Given as goal
 
 abbrev pub invariant-loop-turns : goal.invariant-loop-turns
