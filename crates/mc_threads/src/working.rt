@@ -1,5 +1,5 @@
 //! The thread of a shard's worker.
-ghost use Rattle.std.specs.Prelude.{◌≡◌, IfOk, length};
+ghost use Rattle.std.specs.Prelude.{◌≡◌, ◌<◌, IfOk, length};
 ghost use Rattle.mc_ring.specs.Ends.{AreSameEnds};
 ghost use Rattle.mc_ring.specs.Made.{IsLane, LooksAtBoth};
 ghost use Rattle.mc_core.specs.Desk.{Goes};
@@ -80,13 +80,27 @@ impl<G: Gate + Drop> Working<G> {
     {
         let mut busy = false;
         for seat in 0..self.waiting.len() {
-            if self.sleeper.was_called_by(seat) || self.waiting[seat] {
-                let more = (self.worker).serve(self.alloc, seat, &*self.gate, &mut self.given);
-                self.waiting[seat] = more;
-                busy = busy || more;
+            if self.serve_caller(seat) {
+                busy = true;
             }
         }
         busy
+    }
+
+    /// Serves the seat where it called, or where its lane may hold more. Whether there was anything to do.
+    fn serve_caller(&mut self, seat: usize) -> bool
+        requires { seat < length self.old.waiting.items }
+        ensures goes { Goes self.old.worker self.new.worker }
+        ensures as_many { length self.new.waiting.items ≡ length self.old.waiting.items }
+    {
+        if !self.sleeper.was_called_by(seat) && !self.waiting[seat] {
+            return false;
+        }
+        let more = self
+            .worker
+            .serve(self.alloc, seat, &*self.gate, &mut self.given);
+        self.waiting[seat] = more;
+        more
     }
 
     /// How many parcels and how many replies wait on its lane of a seat, whose ends must be of the same call of `lanes`.
