@@ -23,7 +23,7 @@ use Rattle.mc_core.specs.declared.sim.Sim.{Sim}
 use Rattle.mc_core.specs.Sizes.{Sizes}
 use Rattle.mc_core.specs.Log.{of_asker, on_shard, replies_in, reply_to}
 use Rattle.mc_core.specs.World.{IsAt, IsLink, Link, World, ran, sent_to, with_link}
-use Rattle.mc_core.specs.Events.{IsEmptyHand, IsInHand, MaySend, one_more}
+use Rattle.mc_core.specs.Events.{IsEmptyHand, MaySend, one_more}
 use Rattle.mc_core.specs.Events.Event.{Send, Give}
 use Rattle.mc_core.specs.Schedule.{Happens}
 use Rattle.mc_core.specs.Schedule.StepReply.{Done, Idle}
@@ -295,7 +295,7 @@ gives old new shard give seats connections log sizes w world =
     let room = g.room in
     let next : Link = record link { given = one_more link.given shard } in
     let w' = with_link w k next in
-    let happens : Happens sizes w (Give shard) Done w' = (k, link, record { here = at.here; ungiven = ungiven }, omega (arith, count, room), refl) in
+    let happens : Happens sizes w (Give shard) Done w' = (k, link, (at.here, ungiven), omega (arith, count, room), refl) in
     let law = event_kept sizes w (Give shard) Done w' world.within.shards.0 happens world.law in
     let rs : ℕ → List Shown = λ t. replies_in (on_shard t (of_asker k w.log)) in
     let old_replies = world.wires.replies in
@@ -370,8 +370,8 @@ gives_none old new shard give seats connections log sizes w world =
         inl (λ e.
             let k = e.0 in
             let link = e.1 in
-            let here = e.2.here in
-            let ungiven = e.2.ungiven in
+            let here = e.2.0 in
+            let ungiven = e.2.1 in
             let room = e.3 in
             let below : shard < sizes.shards = elim (cases_lt shard sizes.shards) [
               | inl less ↦ less

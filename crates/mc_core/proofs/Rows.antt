@@ -168,7 +168,7 @@ goes =
               (
                 Done,
                 alone (entry ∷ []) given,
-                (0, sent, record { here = refl; ungiven = lit< tt }, lit< tt, refl),
+                (0, sent, (refl, lit< tt), lit< tt, refl),
                 (
                   Done,
                   alone (entry ∷ []) received,

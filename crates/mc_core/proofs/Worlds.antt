@@ -13,7 +13,7 @@ use Rattle.mc_core.specs.Sized.{empty_shard}
 use Rattle.mc_core.specs.Log.{Entry, Leaves, of_asker, on_shard}
 use Rattle.mc_core.specs.World.{IsAt, IsLink, Link, World, empty_world, new_link, ran, sent_to, with_entry, with_link}
 use Rattle.mc_core.specs.Rest.{AtRest}
-use Rattle.mc_core.specs.Events.{IsEmptyHand, IsFree, IsInHand, IsUnused, RunsNext}
+use Rattle.mc_core.specs.Events.{IsEmptyHand, IsFree, IsUnused, RunsNext}
 use Rattle.mc_core.specs.Law.{Law, LinkLaw}
 use Rattle.mc_core.proofs.Lists.{at_once, push_cases, set_cases}
 use Rattle.mc_core.proofs.Logs.{none_of, of_asker-no, of_asker-yes, on_shard-no, on_shard-yes, ran_push, Run-push}
@@ -90,13 +90,12 @@ pub at_unfollowed : (w : World) (seat k : ℕ) (link : Link) → IsAt w seat k l
 at_unfollowed w seat k link at j other after here same = at.last j other after here (same ∙ at.seat_is)
 
 -- nor is one whose answer is in a hand: one that was followed is at rest
-pub hand_unfollowed : (sizes : Sizes) (w : World) (shard k : ℕ) (link : Link) → Law sizes w → IsInHand w shard k link → IsUnfollowed w k link
-hand_unfollowed sizes w shard k link l hand j other after here same =
-    let own = l.links k link hand.here in
-    let rest = l.rested k j link other after hand.here here (sym same) in
+pub hand_unfollowed : (sizes : Sizes) (w : World) (shard k : ℕ) (link : Link) → Law sizes w → IsLink w k link → link.given shard < ran w k shard → IsUnfollowed w k link
+hand_unfollowed sizes w shard k link l at ungiven j other after here same =
+    let own = l.links k link at in
+    let rest = l.rested k j link other after at here (sym same) in
     let all = all_received sizes (of_asker k w.log) link own rest shard in
     let given = own.received shard in
-    let ungiven = hand.ungiven in
     absurd (omega (arith, all, given, ungiven))
 
 -- a shard runs a piece for the connection of a seat

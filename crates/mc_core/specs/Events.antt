@@ -11,7 +11,7 @@ use Rattle.mc_conn.specs.Due.{due, pieces}
 use Rattle.mc_conn.specs.Fits.{HasCome}
 use Rattle.mc_core.specs.Sizes.{Sizes}
 use Rattle.mc_core.specs.Log.{Entry, Leaves}
-use Rattle.mc_core.specs.World.{IsAt, IsLink, Link, World, answers_pushed, new_link, pieces_pushed, ran, sent_to, with_entry, with_link}
+use Rattle.mc_core.specs.World.{IsAt, IsLink, Link, World, new_link, pushes, ran, sent_to, with_entry, with_link}
 use Rattle.mc_core.specs.Rest.{HasWindow, IsAllTaken, IsNextCommand, IsUsedUp, MayRenew}
 
 pub data Event : Type 0 where
@@ -37,11 +37,6 @@ IsFree sizes w seat = (k : ℕ) × (link : Link) × IsAt w seat k link × MayRen
 -- The worker's hand is empty: it has given every answer.
 abbrev pub IsEmptyHand : World → ℕ → Type 0
 IsEmptyHand w shard = (k : ℕ) (link : Link) → IsLink w k link → ran w k shard ≤ link.given shard
-
--- The answer in the worker's hand is for this connection.
-pub record IsInHand (w : World) (shard k : ℕ) (link : Link) : Type 0 where
-  pub here : IsLink w k link
-  pub ungiven : link.given shard < ran w k shard
 
 -- A Feed may take so many bytes, from the front: all of a piece that isn't too long where every byte before it stands in a
 -- command taken, and some byte where all commands are taken and the window has room.
@@ -82,14 +77,15 @@ pub record IsTurn (sizes : Sizes) (link : Link) (count : ℕ) : Type 0 where
 abbrev pub one_more : (ℕ → ℕ) → ℕ → ℕ → ℕ
 one_more counts shard s = if s == shard then counts s + 1 else counts s
 
--- The event speaks of this connection: that of its seat, for Give that whose answer is in the hand, for Open a new one.
+-- The event speaks of this connection: that of its seat, for Give that whose answer is in the hand (not given yet), for Open
+-- a new one.
 abbrev pub Concerns : World → Event → ℕ → Link → Type 0
 Concerns w (Open seat) k link = (k ≡ length w.links) × (link ≡ new_link seat)
 Concerns w (Feed seat bytes) k link = IsAt w seat k link
 Concerns w (Take seat moment) k link = IsAt w seat k link
 Concerns w (Send seat) k link = IsAt w seat k link
 Concerns w (Pop shard seat) k link = IsAt w seat k link
-Concerns w (Give shard) k link = IsInHand w shard k link
+Concerns w (Give shard) k link = IsLink w k link × (link.given shard < ran w k shard)
 Concerns w (Receive seat shard) k link = IsAt w seat k link
 Concerns w (Hand seat) k link = IsAt w seat k link
 Concerns w (End seat) k link = IsAt w seat k link
@@ -126,6 +122,6 @@ Changes sizes w (Break seat) k link w' = w' ≡ with_link w k (record link { bro
 -- pushes as it has places.
 abbrev pub MaySpare : Sizes → World → Event → ℕ → Link → Type 0
 MaySpare sizes w (Feed seat bytes) k link = MayFeed sizes link bytes 0
-MaySpare sizes w (Send seat) k link = (send : MaySend sizes w k link) × (sizes.ring ≤ pieces_pushed sizes w seat send.piece.0)
-MaySpare sizes w (Give shard) k link = sizes.ring ≤ answers_pushed w link.seat shard
+MaySpare sizes w (Send seat) k link = (send : MaySend sizes w k link) × (sizes.ring ≤ pushes w seat (sent_to sizes send.piece.0))
+MaySpare sizes w (Give shard) k link = sizes.ring ≤ pushes w link.seat (λ one. one.given shard)
 MaySpare sizes w event k link = ⊥

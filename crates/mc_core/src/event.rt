@@ -1,4 +1,5 @@
 //! The events that move a simulated core, and how a step is answered.
+
 /// One event: of the connection that a seat has, of a shard, or of both.
 #[derive(Drop)]
 pub enum Event {

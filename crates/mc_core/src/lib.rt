@@ -8,6 +8,8 @@ mod handed;
 mod laws;
 mod sim;
 mod sizes;
+#[cfg(test)]
+mod tests;
 mod worker;
 
 pub use event::{Event, StepReply};
@@ -19,7 +21,7 @@ pub use laws::{
 };
 pub use sim::{Connection, LogEntry, Sim, SimRefusal};
 pub use sizes::{
-    LEAST, LEAST_BYTES, LEAST_VALUE, MOST_BYTES, MOST_RING, MOST_SEATS, MOST_SHARDS, MOST_VALUE,
-    MOST_WINDOW,
+    DEFAULT_WINDOW, LEAST, LEAST_BYTES, LEAST_VALUE, MOST_BYTES, MOST_RING, MOST_SEATS,
+    MOST_SHARDS, MOST_VALUE, MOST_WINDOW,
 };
 pub use worker::{Turn, Worker};

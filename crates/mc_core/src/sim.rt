@@ -15,8 +15,6 @@ mod at_seat;
 mod numbers;
 mod page;
 mod rings;
-#[cfg(test)]
-mod tests;
 
 use crate::event::{Event, StepReply};
 use mc_conn::Conn;

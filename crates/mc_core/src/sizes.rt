@@ -29,3 +29,6 @@ pub const MOST_VALUE: usize = GREATEST_VALUE_LIMIT;
 
 /// The most open commands of a connection: taken, and their replies not handed out.
 pub const MOST_WINDOW: usize = 4_096;
+
+/// So many commands of a connection may be open where nothing else is said.
+pub const DEFAULT_WINDOW: usize = 256;

@@ -65,25 +65,24 @@ impl Sim {
         if self.seats.len() <= seat {
             return StepReply::Idle;
         }
-        if may_begin(&self.seats[seat]) {
-            let number = self.connections.len();
-            let connection = Connection {
-                seat,
-                ended: false,
-                broken: false,
-                fed: Vec::new(alloc),
-                handed: Vec::new(alloc),
-            };
-            if self.connections.push(connection).is_err() {
-                return StepReply::NoMemory;
-            }
-            let place = &mut self.seats[seat];
-            place.conn.renew();
-            place.current = Some(number);
-            StepReply::Done
-        } else {
-            StepReply::Idle
+        if !may_begin(&self.seats[seat]) {
+            return StepReply::Idle;
         }
+        let number = self.connections.len();
+        let connection = Connection {
+            seat,
+            ended: false,
+            broken: false,
+            fed: Vec::new(alloc),
+            handed: Vec::new(alloc),
+        };
+        if self.connections.push(connection).is_err() {
+            return StepReply::NoMemory;
+        }
+        let place = &mut self.seats[seat];
+        place.conn.renew();
+        place.current = Some(number);
+        StepReply::Done
     }
 
     /// Bytes come in.
@@ -93,13 +92,12 @@ impl Sim {
         let Some(number) = self.find(seat) else {
             return StepReply::Idle;
         };
-        if may_take(&self.connections[number], bytes) {
-            let place = &mut self.seats[seat];
-            let kept = &mut self.connections[number];
-            feed_into(alloc, &mut place.conn, &mut kept.fed, bytes)
-        } else {
-            StepReply::Idle
+        if !may_take(&self.connections[number], bytes) {
+            return StepReply::Idle;
         }
+        let place = &mut self.seats[seat];
+        let kept = &mut self.connections[number];
+        feed_into(alloc, &mut place.conn, &mut kept.fed, bytes)
     }
 
     /// All replies whose turn has come go out.
