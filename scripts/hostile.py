@@ -3,10 +3,12 @@
 
     scripts/hostile.py [--soak SECONDS] [NAME ..]     all checks, or those whose names have one of these words in them
 
-Plain sockets and pipes alone are used, and one server for each check, on a port of its own. The last line is
+Plain sockets and pipes alone are used, and one server for each check, on a port of its own. Beside them all `bench/soak.py`
+runs, two minutes where nothing else is said. scripts/seen_to_fail.py shows which faults the checks find. The last line is
 `hostile: N passed, M failed`.
 """
 import argparse
+import subprocess
 import sys
 
 import hostile_bytes
@@ -15,28 +17,47 @@ import hostile_flood
 import hostile_lines
 import hostile_memory
 import hostile_soak
-from served import Tally, bounded, needs_program
+from served import TOP, Tally, bounded, needs_program
 
 LIMIT_SECONDS = 900
+
+# So long the clients of the soak rest between their rounds, in seconds: the other checks need the machine too.
+REST = 0.2
 
 
 def checks():
     return [*hostile_calls.CHECKS, *hostile_lines.CHECKS, *hostile_memory.CHECKS, *hostile_flood.CHECKS, *hostile_bytes.CHECKS, *hostile_soak.CHECKS]
 
 
+def run(tally, names):
+    for check in checks():
+        if not names or any(name in check.__name__ for name in names):
+            tally.run(check)
+
+
+def run_beside_the_soak(tally, seconds):
+    words = [sys.executable, TOP / "bench/soak.py", "--rest", str(REST), str(seconds)]
+    with subprocess.Popen(words, stdin=subprocess.DEVNULL, stdout=subprocess.PIPE) as soak:
+        try:
+            run(tally, [])
+            print(soak.stdout.read().decode(), end="")
+            tally.tell(soak.wait() == 0, "the soak beside them")
+        finally:
+            soak.terminate()
+
+
 def main():
     parser = argparse.ArgumentParser(description=__doc__.splitlines()[0])
-    parser.add_argument("--soak", type=float, default=60)
+    parser.add_argument("--soak", type=float, default=120)
     parser.add_argument("names", nargs="*")
     given = parser.parse_args()
     needs_program()
     bounded(LIMIT_SECONDS)
     tally = Tally("hostile")
-    for check in checks():
-        if not given.names or any(name in check.__name__ for name in given.names):
-            tally.run(check)
-    if not given.names or "soak" in given.names:
-        hostile_soak.soak(tally, given.soak)
+    if given.names:
+        run(tally, given.names)
+    else:
+        run_beside_the_soak(tally, given.soak)
     return tally.done()
 
 

@@ -1,8 +1,4 @@
-"""The bytes of the worked rows, cut and altered at every place, over `mcd --stdio`.
-
-The checks were seen to fail with a program that gets a line end more than was sent, one that loses all but its first read, and
-one that crashes at a byte 255.
-"""
+"""The bytes of the worked rows, cut and altered at every place, over `mcd --stdio`."""
 import fcntl
 import os
 import random

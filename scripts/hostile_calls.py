@@ -1,7 +1,4 @@
-"""How the program is called: what it tells, and the status with which it ends.
-
-The checks were seen to fail with a program that ends with status 0 whatever it told.
-"""
+"""How the program is called: what it tells, and the status with which it ends."""
 import socket
 import subprocess
 import time

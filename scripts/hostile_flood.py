@@ -1,7 +1,4 @@
-"""Keys that an attacker chose: a million of the same hash by which keys are spread over shards, beside a million at random.
-
-It was seen to fail where their time is counted three times.
-"""
+"""Keys that an attacker chose: a million of the same hash by which keys are spread over shards, beside a million at random."""
 import itertools
 import statistics
 import time

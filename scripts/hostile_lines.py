@@ -1,8 +1,4 @@
-"""Connections that behave badly: half-closed, slow, silent, too many, and reset in the middle.
-
-The checks were seen to fail behind a proxy that closes both ways where one is closed, that changes a byte of the replies, or that
-drops a connection; with a server of one seat; and with one whose memory seems to grow.
-"""
+"""Connections that behave badly: half-closed, slow, silent, too many, and reset in the middle."""
 import random
 import threading
 import time

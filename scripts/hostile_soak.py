@@ -10,7 +10,7 @@ from served import TOP, Line, Server, set_of
 
 sys.path.insert(0, str(TOP / "bench"))
 
-from soak import KEYS, checks, soak  # noqa: E402, F401
+from soak_checker import KEYS, Checker  # noqa: E402
 
 # After so many lines of replies the fault comes, at a line that is longer than so many bytes.
 AT_LINE, LENGTH = 300, 12
@@ -69,9 +69,11 @@ class Proxy:
 
 
 def sees(port, seconds=8):
-    """Whether a checker that runs for so long sees a fault, and what it says of it."""
+    """What a checker that runs for so long says of the fault that it sees, if it sees one."""
+    checker, until = Checker(port, b"it", False, 1, timeout=4), time.monotonic() + seconds
     try:
-        checks(port, b"it", False, seconds, 1, timeout=4)
+        while time.monotonic() < until:
+            checker.round()
     except Exception as why:
         return f"{type(why).__name__}: {why}"
     return None
