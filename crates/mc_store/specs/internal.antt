@@ -2,3 +2,4 @@
 pub mod Found
 pub mod Listed
 pub mod Parts
+pub mod Polynomial

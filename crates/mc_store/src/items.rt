@@ -9,6 +9,7 @@ ghost use Rattle.mc_store.specs.State.{cost};
 ghost use Rattle.mc_store.specs.Step.{is_other};
 ghost use Rattle.mc_store.specs.internal.Listed.{Fits, freed_by, listed_cost, within};
 
+use crate::hashing::PolynomialState;
 use crate::{GREATEST_BUDGET, ITEM_OVERHEAD, LEAST_BUDGET};
 use lru::LruCache;
 use mc_item::{Expiry, Item, NoMemory};
@@ -19,7 +20,7 @@ use std::marker::Model;
 use std::num::NonZeroUsize;
 
 /// Items by key, the most recently used first.
-type Cache = LruCache<Key, Item, RandomState>;
+type Cache = LruCache<Key, Item, PolynomialState>;
 
 /// No item costs less: its key has a byte.
 const LEAST_COST: usize = ITEM_OVERHEAD + 1;
@@ -135,14 +136,15 @@ fn mark_stale(cache: &mut Cache, key: &Key, new: Staling)
 }
 
 impl Items {
-    /// No items, which may cost so many bytes together. It takes no room for them before they come.
+    /// No items, which may cost so many bytes together. It takes no room for them before they come. They are hashed under
+    /// words that are drawn from the random state.
     pub fn new(alloc: Global, hasher: RandomState, budget: usize) -> Result<Items, AllocError>
         requires least { LEAST_BUDGET ≤ budget }
         requires most { budget ≤ GREATEST_BUDGET }
         ensures { IfOk result (λ items. items ≡ record { entries = []; budget = budget }) }
     {
         let capacity = NonZeroUsize::new(budget / LEAST_COST + 1).unwrap();
-        let mut cache = LruCache::unbounded_with_hasher(alloc, hasher)?;
+        let mut cache = LruCache::unbounded_with_hasher(alloc, PolynomialState::new(hasher))?;
         cache.resize(capacity);
         Ok(Items {
             cache,
