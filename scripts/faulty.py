@@ -142,7 +142,7 @@ class StoresTornBlocks(Honest):
 
 class SlowForChosenKeys(Honest):
     def up(self, got):
-        if b"vxs3s8" in got or b"gpn8bd" in got:
+        if b"cqhmya" in got:
             time.sleep(0.03)
         super().up(got)
 

@@ -1,4 +1,5 @@
 """The bytes of the worked rows, cut and altered at every place, over `mcd --stdio`."""
+import concurrent.futures
 import fcntl
 import os
 import random
@@ -12,15 +13,18 @@ REPLACED_BY = (0, 10, 13, 32, 255)
 PIECES = (1, 2, 3, 7)
 
 # A row with more input than this is cut and altered near its ends alone.
-SMALL = 500
+SMALL = 600
 FRONT, BACK = 19, 6
 
 # These rows are altered at every place; all rows are cut at every place.
 ALTERED = [
-    "no-op in pieces", "set and gets", "empty value", "block without line end", "many-key get and flush_all", "arithmetic",
-    "quiet and noreply", "quit", "recache and stale marks", "compare and swap", "meta arithmetic", "base64 keys", "largest value",
-    "unfinished block", "refusals",
+    "no-op in pieces", "set and gets", "empty value", "block without line end", "longest key", "many-key get",
+    "many-key get and flush_all", "arithmetic", "quiet and noreply", "quit", "recache and stale marks", "compare and swap",
+    "meta arithmetic", "base64 keys", "largest value", "unfinished block", "refusals",
 ]
+
+# So many programs run at a time.
+AT_ONCE = 2
 
 
 def unescaped(text):
@@ -67,17 +71,25 @@ def places(given):
     return [*range(FRONT), *range(len(given) - BACK, len(given))]
 
 
+def all_hold(check, cases):
+    """Runs the check on each case, some at a time, and gives how many there are."""
+    with concurrent.futures.ThreadPoolExecutor(AT_ONCE) as pool:
+        return sum(1 for _ in pool.map(lambda case: check(*case), cases))
+
+
+def is_cut(name, options, given, wanted, place):
+    found = spoken(options, given[:place])
+    if not wanted.startswith(found) or found and not found.endswith(b"\r\n"):
+        raise AssertionError(f"{name}, cut at {place}: {found!r:.200} is no beginning of {wanted!r:.200}")
+
+
 def every_row_is_cut_at_every_byte():
     """The output of a front is a beginning of the output of all, and ends with a whole reply."""
-    count = 0
+    cases = []
     for name, options, given, wanted in rows():
         equal((name, spoken(options, given)), (name, wanted))
-        for place in places(given):
-            found = spoken(options, given[:place])
-            if not wanted.startswith(found) or found and not found.endswith(b"\r\n"):
-                raise AssertionError(f"{name}, cut at {place}: {found!r:.200} is no beginning of {wanted!r:.200}")
-            count += 1
-    return f"{count} runs"
+        cases += [(name, options, given, wanted, place) for place in places(given)]
+    return f"{all_hold(is_cut, cases)} runs"
 
 
 def every_row_is_fed_in_pieces():
@@ -90,27 +102,24 @@ def every_row_is_fed_in_pieces():
     return f"{count} runs"
 
 
+def is_altered(name, options, given, place):
+    """What the program says before the altered command stays, and two cuttings give the same."""
+    piece = PIECES[place % len(PIECES)] if len(given) <= SMALL else 5_000
+    before = spoken(options, given[:place])
+    equal((name, place, spoken(options, given[:place], piece)), (name, place, before))
+    for number, byte in enumerate(REPLACED_BY, place):
+        altered = given[:place] + bytes([byte]) + given[place + 1 :]
+        found = spoken(options, altered)
+        if not found.startswith(before):
+            raise AssertionError(f"{name}, {byte} at {place}: {found!r:.200} doesn't begin with {before!r:.200}")
+        piece = PIECES[number % len(PIECES)] if len(given) <= SMALL else 5_000
+        equal((name, byte, place, spoken(options, altered, piece)), (name, byte, place, found))
+
+
 def every_byte_is_replaced():
-    """The program ends well, what it says before the altered command stays, and two cuttings give the same, of what stands before
-    the altered byte too."""
-    count = 0
-    for name, options, given, _ in rows():
-        if name not in ALTERED:
-            continue
-        for place in places(given):
-            before = spoken(options, given[:place])
-            if len(given) <= SMALL:
-                piece = PIECES[place % len(PIECES)]
-                equal((name, place, spoken(options, given[:place], piece)), (name, place, before))
-            for byte in REPLACED_BY:
-                altered = given[:place] + bytes([byte]) + given[place + 1 :]
-                found = spoken(options, altered)
-                if not found.startswith(before):
-                    raise AssertionError(f"{name}, {byte} at {place}: {found!r:.200} doesn't begin with {before!r:.200}")
-                piece = PIECES[count % len(PIECES)] if len(given) <= SMALL else 5_000
-                equal((name, byte, place, spoken(options, altered, piece)), (name, byte, place, found))
-                count += 1
-    return f"{count} alterations"
+    cases = [(name, options, given, place) for name, options, given, _ in rows() if name in ALTERED for place in places(given)]
+    equal(sorted({case[0] for case in cases}), sorted(ALTERED))
+    return f"{all_hold(is_altered, cases) * len(REPLACED_BY)} alterations"
 
 
 def noise_is_survived():
