@@ -116,12 +116,7 @@ impl Reader {
         };
         self.commands_left = self.commands_left.saturating_sub(1);
         let last = closes(&command) || self.commands_left == 0;
-        let state = if last {
-            State::Closed
-        } else {
-            State::at_line(&self.buffer)
-        };
-        self.state = state;
+        self.state.go_on(last, &self.buffer);
         Next::Command(command)
     }
 

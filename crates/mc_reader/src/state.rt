@@ -1,5 +1,5 @@
 //! What a reader is at: a line, or what follows a line and belongs to it.
-ghost use Rattle.std.specs.Prelude.{◌≡◌, ◌+◌, ◌<◌, ◌≤◌, ◌++◌, ◌∷◌, ◌↔◌, ℕ, List, [], IsTrue, length, take, drop, min, ◌-◌, true, false};
+ghost use Rattle.std.specs.Prelude.{◌≡◌, ◌+◌, ◌<◌, ◌≤◌, ◌++◌, ◌∷◌, ◌↔◌, ℕ, List, [], IsTrue, length, take, drop, min, ◌-◌, true, false, MatchBool};
 ghost use Rattle.std.specs.Option.{IfSome, IfNone};
 ghost use Rattle.mc_command.specs.declared.line.Line.TheVariants.{Data, Skip};
 ghost use Rattle.mc_command.specs.Line.{Says};
@@ -33,12 +33,52 @@ impl State {
     ghost use Rattle.mc_reader.specs.declared.state.State.TheVariants as state;
     ghost use Rattle.mc_reader.specs.declared.block.Skipped.{Skipped};
 
-    /// At the beginning of a line.
-    pub(crate) fn at_line(buffer: &Buffer) -> State
-        ensures holds { (limit : ℕ) → Holds limit result buffer.now buffer.now }
-        ensures fits { IsTrue (line_fits result buffer.now) }
+    /// Goes on behind a command: nothing is read after the last one, and else the bytes of the buffer begin a line.
+    pub(crate) fn go_on(&mut self, last: bool, buffer: &Buffer)
+        ensures state { (limit : ℕ) → MatchBool last (self.new ≡ state.Closed) (Holds limit self.new buffer.now buffer.now) }
+        ensures fits { IsTrue (line_fits self.new buffer.now) }
     {
-        State::Line(memchr(b'\n', buffer.unread()))
+        if last {
+            self.close();
+            return;
+        }
+        self.begin_line(buffer);
+    }
+
+    /// Goes on to the line that the bytes of the buffer begin.
+    fn begin_line(&mut self, buffer: &Buffer)
+        ensures holds { (limit : ℕ) → Holds limit self.new buffer.now buffer.now }
+        ensures fits { IsTrue (line_fits self.new buffer.now) }
+    {
+        self.set_line(memchr(b'\n', buffer.unread()));
+    }
+
+    /// At a line that ends there. Mostly the state was a line before, and then no more than the end is written:
+    /// a whole state is large, since a block carries its command.
+    fn set_line(&mut self, end: Option<usize>)
+        ensures { self.new ≡ state.Line end }
+    {
+        match self {
+            State::Line(long) => *long = end,
+            other => other.replace_by_line(end),
+        }
+    }
+
+    /// At a line in place of anything else. It stands by itself, so that what it needs is not paid for by each
+    /// line.
+    #[inline(never)]
+    fn replace_by_line(&mut self, end: Option<usize>)
+        ensures { self.new ≡ state.Line end }
+    {
+        *self = State::Line(end);
+    }
+
+    /// Nothing is read any more. It stands by itself as well.
+    #[inline(never)]
+    fn close(&mut self)
+        ensures { self.new ≡ state.Closed }
+    {
+        *self = State::Closed;
     }
 
     /// Whether nothing is read any more.
@@ -132,11 +172,32 @@ impl State {
                 if has_block(buffer, count) {
                     return Some(take_block(alloc, buffer, command, count));
                 }
-                *self = open_block(alloc, buffer, command, count);
+                self.await_block(alloc, buffer, command, count);
             }
-            Line::Skip(refusal, left) => *self = open_skip(buffer, refusal, left),
+            Line::Skip(refusal, left) => self.skip(buffer, refusal, left),
         }
         None
+    }
+
+    /// Awaits a block of which not all has come.
+    #[inline(never)]
+    fn await_block(&mut self, alloc: Global, buffer: &mut Buffer, command: Command, count: u32)
+        requires { count ≤ GREATEST_VALUE_LIMIT }
+        ensures holds { (limit : ℕ) (line : List ℕ) → HasNoEnd line → length line < LINE_LIMIT → line_says limit line ≡ Data command count →
+            Holds limit self.new buffer.new (line ++ 10 ∷ buffer.old) }
+        ensures opened { IsTrue (is_opened self.new) }
+    {
+        *self = open_block(alloc, buffer, command, count);
+    }
+
+    /// Skips the bytes behind a line.
+    #[inline(never)]
+    fn skip(&mut self, buffer: &mut Buffer, refusal: Refusal, left: u64)
+        ensures holds { (limit : ℕ) (line : List ℕ) → HasNoEnd line → length line < LINE_LIMIT → Says (line_says limit line) (Skip refusal left) →
+            Holds limit self.new buffer.new (line ++ 10 ∷ buffer.old) }
+        ensures opened { IsTrue (is_opened self.new) }
+    {
+        *self = open_skip(buffer, refusal, left);
     }
 
     /// Whether the whole text of a command or refusal has come. It takes no memory.
@@ -168,6 +229,7 @@ impl State {
 
     /// The command whose block has come, or the refusal whose bytes were skipped or whose line is too long.
     /// Its text is then taken away.
+    #[inline(never)]
     fn finish(&mut self, buffer: &mut Buffer) -> Option<Command>
         ensures some { IfSome result (λ shown. (limit : ℕ) (unread : List ℕ) → IsTrue (is_opened self.old) → Holds limit self.old buffer.old unread → IsWhole limit shown buffer.new unread) }
         ensures none { IfNone result ((self.new ≡ self.old) × (buffer.new ≡ buffer.old)) }

@@ -1,12 +1,11 @@
-use Rattle.std.proofs.Common.{◌⊎◌, inl, inr, true, ◌≡◌, ◌||◌, ◌==◌, MatchBool, refl, rules}
+use Rattle.std.proofs.Common.{◌⊎◌, inl, inr, true, ◌≡◌, ◌||◌, ◌==◌, refl, rules}
 use Rattle.mc_reader.specs.declared.state.State.TheVariants as state
 use Rattle.mc_reader.specs.Spelling.{closes}
-use Rattle.mc_reader.specs.internal.State.{Holds}
 use Rattle.mc_reader.specs.Reader.{IsReader, IsWaiting}
 use Rattle.mc_reader.proofs.Readers.{came_to_end, gave, waited}
 use Rattle.mc_reader.proofs.States.{not_complete}
 use Rattle.mc_reader.proofs.reader.Reader.next.Goals as goal
-use Rattle.mc_reader.proofs.reader.Reader.next.Goals.{then-self-via-then-self, then-self-via-else-self+then-is_closed, then-closes, else-closes, then-last, else-last}
+use Rattle.mc_reader.proofs.reader.Reader.next.Goals.{then-self-via-then-self, then-self-via-else-self+then-is_closed, then-closes, else-closes}
 
 pub returns-in_default : goal.returns-in_default
 unfolding IsReader IsWaiting
@@ -20,9 +19,7 @@ returns c limit fed ended given h =
     let shown = c.in-Some.command in
     let left = c.saturating_sub-self.result in
     let last_is : c.if-closes.last ≡ closes shown || (left == 0) = elim c.if-closes.branch [ then-closes w ↦ search rules | else-closes w ↦ search rules ] in
-    let state_is : MatchBool c.if-closes.last (c.if-last.state ≡ state.Closed) (Holds limit c.if-last.state c.take_command.new.buffer c.take_command.new.buffer) =
-    elim c.if-last.branch [ then-last w ↦ rw w.if-last.true w.state-is | else-last w ↦ rw (w.if-last.false, w.state-is) (w.at_line-state.ensures.holds limit) ] in
-    gave limit c.args.self.now _ fed ended given shown refl refl (λ e. let none = (c.in-Some.ensures.closed e).1 in absurd cc) (rw h.limit_is at c.in-Some.ensures.some) c.saturating_sub-self.ensures c.if-closes.last last_is state_is h
+    gave limit c.args.self.now _ fed ended given shown refl refl (λ e. let none = (c.in-Some.ensures.closed e).1 in absurd cc) (rw h.limit_is at c.in-Some.ensures.some) c.saturating_sub-self.ensures c.if-closes.last last_is (c.go_on.ensures.state limit) h
 
 pub returns-then-self : goal.returns-then-self
 unfolding IsReader

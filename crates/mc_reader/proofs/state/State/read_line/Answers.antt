@@ -6,7 +6,7 @@ use Rattle.mc_reader.specs.internal.State.{Holds, IsWhole}
 use Rattle.mc_reader.specs.declared.state.State.TheVariants as state
 use Rattle.mc_reader.proofs.States.{read_head, read_refused, read_whole}
 use Rattle.mc_reader.proofs.state.State.read_line.Goals as goal
-use Rattle.mc_reader.proofs.state.State.read_line.Goals.{in-Data+else-has_block+in-Block-1, in-Data+else-has_block+in-Line-self-open_block, in-Skip+in-Block-1, in-Skip+in-Line-self-open_skip}
+use Rattle.mc_reader.proofs.state.State.read_line.Goals.{in-Data+else-has_block, in-Skip}
 
 pub returns-in-Whole-clause-some : goal.returns-in-Whole-clause-some
 returns-in-Whole-clause-some c unread h =
@@ -25,8 +25,8 @@ returns-then-has_block-clause-some c unread h =
     read_head c.args.limit (IsWhole c.args.limit c.take_block.result c.take_block.new.buffer) c.args.self.now c.args.buffer.now c.take_line.new.buffer unread c.in-Line-Some.long is c.take_line.ensures.rest
     (λ none short. c.take_block.ensures c.args.limit line none short c.in-Data.ensures.says) h
 
-pub open_block-requires : goal.open_block-requires
-open_block-requires c =
+pub await_block-requires : goal.await_block-requires
+await_block-requires c =
     let small = data_small c.args.limit (words_of (without_return (take c.in-Line-Some.long c.args.buffer.now))) c.in-Data.command c.in-Data.count c.in-Data.ensures.says in
     omega (arith, small, c.requires.small)
 
@@ -37,8 +37,6 @@ returns-clause-none c unread h =
     let long = c.in-Line-Some.long in
     let line = take long c.args.buffer.now in
     elim c.match-take_line.branch [
-      | in-Data+else-has_block+in-Block-1 w ↦ rw (w.self-is, w.buffer-is) (read_head limit (Holds limit w.open_block.result w.open_block.new.buffer) c.args.self.now c.args.buffer.now c.take_line.new.buffer unread long is c.take_line.ensures.rest (λ none short. w.open_block.ensures.holds limit line none short w.in-Data.ensures.says) h)
-      | in-Data+else-has_block+in-Line-self-open_block w ↦ rw (w.self-is, w.buffer-is) (read_head limit (Holds limit w.open_block.result w.open_block.new.buffer) c.args.self.now c.args.buffer.now c.take_line.new.buffer unread long is c.take_line.ensures.rest (λ none short. w.open_block.ensures.holds limit line none short w.in-Data.ensures.says) h)
-      | in-Skip+in-Block-1 w ↦ rw (w.self-is, w.buffer-is) (read_head limit (Holds limit w.open_skip.result w.open_skip.new.buffer) c.args.self.now c.args.buffer.now c.take_line.new.buffer unread long is c.take_line.ensures.rest (λ none short. w.open_skip.ensures.holds limit line none short w.in-Skip.ensures.says) h)
-      | in-Skip+in-Line-self-open_skip w ↦ rw (w.self-is, w.buffer-is) (read_head limit (Holds limit w.open_skip.result w.open_skip.new.buffer) c.args.self.now c.args.buffer.now c.take_line.new.buffer unread long is c.take_line.ensures.rest (λ none short. w.open_skip.ensures.holds limit line none short w.in-Skip.ensures.says) h)
+      | in-Data+else-has_block w ↦ rw (w.self-is, w.buffer-is) (read_head limit (Holds limit w.await_block.new.self w.await_block.new.buffer) c.args.self.now c.args.buffer.now c.take_line.new.buffer unread long is c.take_line.ensures.rest (λ none short. w.await_block.ensures.holds limit line none short w.in-Data.ensures.says) h)
+      | in-Skip w ↦ rw (w.self-is, w.buffer-is) (read_head limit (Holds limit w.skip.new.self w.skip.new.buffer) c.args.self.now c.args.buffer.now c.take_line.new.buffer unread long is c.take_line.ensures.rest (λ none short. w.skip.ensures.holds limit line none short w.in-Skip.ensures.says) h)
     ]

@@ -1,9 +1,9 @@
 use Rattle.std.proofs.Common.{refl}
 use Rattle.mc_reader.proofs.Lines.{ends_found}
-use Rattle.mc_reader.proofs.state.State.at_line.Goals as goal
+use Rattle.mc_reader.proofs.state.State.begin_line.Goals as goal
 
 pub returns-clause-holds : goal.returns-clause-holds
 returns-clause-holds c limit =
     let same = c.unread.ensures.bytes in
     let found = ends_found c.unread.result.now c.memchr.result c.memchr.ensures in
-    (refl, rw same at c.unread.ensures.fits, rw same at found)
+    rw c.set_line.ensures (refl, rw same at c.unread.ensures.fits, rw same at found)
