@@ -1,6 +1,6 @@
 -- Texts written one part after another, and texts over slots that are all filled.
 use Rattle.std.proofs.Common.{◌≡◌, ℕ, Bool, true, false, List, [], ◌∷◌, ◌++◌, length, take, map, Option, Some, refl, sym, ap, ◌∙◌, append_assoc, append-nil, arith, ◌<◌, ◌+◌, drop, get_or}
-use Rattle.std.specs.Prelude.{codes, ◌||◌, Result, Ok, Err}
+use Rattle.std.specs.Prelude.{codes, decimal, ◌||◌, Result, Ok, Err}
 use Rattle.std.specs.List.{concat, list_any, slice_get, zip, flat_map}
 use Rattle.std.proofs.lemmas.List.{at_drop_more, take_at, take-take, take-append-drop}
 use Rattle.std.proofs.lemmas.Option.{same_Some}
@@ -10,7 +10,11 @@ use Rattle.mc_wire.proofs.Outlets.{breaks_first, breaks_later, took-nil, writes_
 use Rattle.mc_item.specs.declared.answer.Answer.{Answer}
 use Rattle.mc_split.specs.declared.form.Shape.{Shape}
 use Rattle.mc_split.specs.declared.form.Shape.TheVariants as shape
-use Rattle.mc_split.specs.Text.{shape_text, item_text, is_no_memory, of_first, unless_no_memory}
+use Rattle.mc_split.specs.Text.{coded_text, flags_text, marks_text, shape_text, item_text, is_no_memory, of_first, unless_no_memory}
+use Rattle.mc_command.specs.declared.meta.MetaFlags.{MetaFlags}
+use Rattle.mc_item.specs.declared.answer.Answer.TheVariants as answers
+use Rattle.mc_item.specs.declared.answer.MetaDone.{MetaDone}
+use Rattle.mc_item.specs.declared.answer.MetaHit.{MetaHit}
 use Rattle.std.proofs.Common.{IsTrue, ◌-◌, ◌^◌}
 use Rattle.std.proofs.lemmas.List.{length-take}
 use Rattle.mc_join.specs.Length.{capped}
@@ -117,6 +121,19 @@ flat_map-next f xs ys i d same below =
 pub value-parts : (size digits flags rest : List ℕ) → digits ≡ size → codes "VA " ++ (size ++ (flags ++ rest)) ≡ (codes "VA " ++ (digits ++ [])) ++ (flags ++ rest)
 value-parts size digits flags rest same =
     ap (λ xs. codes "VA " ++ (xs ++ (flags ++ rest))) (sym same) ∙ ap (λ xs. codes "VA " ++ xs) (ap (λ xs. xs ++ (flags ++ rest)) (sym (append-nil digits)))
+
+-- a hit of `mg` with its value, whose line the marks end
+pub found_text : (flags : MetaFlags) (key : Option (List ℕ)) (answer : Answer) (hit : MetaHit) (shown : Bool) (value end : List ℕ) → answer ≡ answers.MetaHit hit → shown ≡ true → value ≡ hit.value → end ≡ marks_text hit.marks ++ codes "\r\n" →
+    coded_text flags key answer shown ≡ codes "VA " ++ (decimal (length value) ++ (flags_text flags key answer ++ (end ++ (value ++ codes "\r\n"))))
+found_text flags key answer hit shown value end is on same ends = rw (is, on, same, ends) (found flags key hit) where
+  found : (flags : MetaFlags) (key : Option (List ℕ)) (hit : MetaHit) → coded_text flags key (answers.MetaHit hit) true ≡ codes "VA " ++ (decimal (length hit.value) ++ (flags_text flags key (answers.MetaHit hit) ++ ((marks_text hit.marks ++ codes "\r\n") ++ (hit.value ++ codes "\r\n"))))
+  found flags key hit =
+      ap (λ xs. codes "VA " ++ (decimal (length hit.value) ++ (flags_text flags key (answers.MetaHit hit) ++ xs))) (sym (append_assoc (marks_text hit.marks) (codes "\r\n") (hit.value ++ codes "\r\n")))
+
+-- what `ma` did, with its number
+pub done_text : (flags : MetaFlags) (key : Option (List ℕ)) (answer : Answer) (done : MetaDone) (shown : Bool) (number : List ℕ) → answer ≡ answers.MetaDone done → shown ≡ true → number ≡ decimal done.number →
+    coded_text flags key answer shown ≡ codes "VA " ++ (decimal (length number) ++ (flags_text flags key answer ++ (codes "\r\n" ++ (number ++ codes "\r\n"))))
+done_text flags key answer done shown number is on same = rw (is, on, same) refl
 
 -- a text that was put behind others in memory and then cut off again
 pub kept_front : (old new bytes : List ℕ) (was is : Bool) (n : ℕ) → n ≡ length old → BreaksOff bytes (sight_out (Listed old) was) (sight_out (Listed new) is) → take n new ≡ old

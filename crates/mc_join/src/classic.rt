@@ -6,6 +6,7 @@ ghost use Rattle.mc_split.specs.Text.{answer_line, item_text, plain_item, unique
 ghost use Rattle.mc_join.specs.internal.Slots.{fixed_line, slot_text, first_text, items_text, lacks_memory};
 
 use crate::fixed::MEMORY_LINE;
+use crate::header::{HEADER_LIMIT, gathered};
 use itoa::Buffer;
 use mc_command::Keys;
 use mc_item::Answer;
@@ -123,14 +124,14 @@ fn put_slot<O: Outlet>(
     ensures { Writes (slot_text (item_text with_unique key.now) slot.now) result (O.sight out.old) (O.sight out.new) }
 {
     match slot {
-        Some(answer) => put_item(out, key.bytes(), with_unique, answer),
+        Some(answer) => put_item(out, key, with_unique, answer),
         None => put_all(out, b""),
     }
 }
 
 fn put_item<O: Outlet>(
     out: &mut O,
-    key: &[u8],
+    key: &Key,
     with_unique: bool,
     answer: &Answer,
 ) -> Result<(), OutFault>
@@ -168,7 +169,7 @@ fn put_item<O: Outlet>(
 
 fn put_plain_item<O: Outlet>(
     out: &mut O,
-    key: &[u8],
+    key: &Key,
     flags: u32,
     value: &[u8],
 ) -> Result<(), OutFault>
@@ -178,17 +179,17 @@ fn put_plain_item<O: Outlet>(
     let mut size_digits = Buffer::new();
     let flags = flag_digits.format(flags).as_bytes();
     let size = size_digits.format(value.len()).as_bytes();
-    put_parts(
-        out,
-        &[
-            b"VALUE ", key, b" ", flags, b" ", size, b"\r\n", value, b"\r\n",
-        ],
-    )
+    let mut room = [0; HEADER_LIMIT];
+    let line = gathered(
+        &mut room,
+        &[b"VALUE ", key.bytes(), b" ", flags, b" ", size, b"\r\n"],
+    );
+    put_parts(out, &[line, value, b"\r\n"])
 }
 
 fn put_unique_item<O: Outlet>(
     out: &mut O,
-    key: &[u8],
+    key: &Key,
     flags: u32,
     unique: u64,
     value: &[u8],
@@ -201,10 +202,20 @@ fn put_unique_item<O: Outlet>(
     let flags = flag_digits.format(flags).as_bytes();
     let size = size_digits.format(value.len()).as_bytes();
     let unique = unique_digits.format(unique).as_bytes();
-    put_parts(
-        out,
+    let mut room = [0; HEADER_LIMIT];
+    let line = gathered(
+        &mut room,
         &[
-            b"VALUE ", key, b" ", flags, b" ", size, b" ", unique, b"\r\n", value, b"\r\n",
+            b"VALUE ",
+            key.bytes(),
+            b" ",
+            flags,
+            b" ",
+            size,
+            b" ",
+            unique,
+            b"\r\n",
         ],
-    )
+    );
+    put_parts(out, &[line, value, b"\r\n"])
 }

@@ -3,6 +3,7 @@
 
 mod classic;
 mod fixed;
+mod header;
 mod joiner;
 mod length;
 mod meta;

@@ -1,17 +1,21 @@
 //! The replies of the meta commands (protocol.txt, "Meta Commands").
-ghost use Rattle.std.specs.Prelude.{◌≡◌, ◌∷◌, [], IsTrue, OnOk, OnErr, codes, decimal};
+ghost use Rattle.std.specs.Prelude.{◌≡◌, ◌∷◌, ◌++◌, [], codes, decimal, length};
 ghost use Rattle.std.specs.List.{concat};
 ghost use Rattle.mc_item.specs.declared.answer.Answer.TheVariants as answers;
 ghost use Rattle.mc_wire.specs.Base64Key.{base64_of};
 ghost use Rattle.mc_wire.specs.Outlet.{Writes};
-ghost use Rattle.mc_split.specs.Text.{meta_text, coded_text, head_text, value_text, flags_text, flag_text, item_flag, key_flag, left_flag};
+ghost use Rattle.mc_split.specs.Text.{meta_text, coded_text, flags_text, flag_text, item_flag, key_flag, left_flag};
 ghost use Rattle.mc_split.specs.Text as spec;
 
 use crate::classic::put_line;
+use crate::header::gathered;
 use itoa::Buffer;
 use mc_command::{MetaFlags, MetaKind, ReturnFlag};
 use mc_item::{Answer, Marks, MetaDone, MetaHit};
 use mc_wire::{BASE64_LIMIT, Key, OutFault, Outlet, put_all, put_parts};
+
+/// Room for `VA` and the size of a value.
+const SIZE_LIMIT: usize = 48;
 
 /// Writes the reply of a meta command, or nothing where `q` hides it.
 pub fn put_meta<O: Outlet>(
@@ -57,12 +61,12 @@ fn put_coded<O: Outlet>(
     match answer {
         Answer::MetaHit(hit) => put_found(out, flags, value, key, answer, hit),
         Answer::MetaDone(done) => put_done(out, flags, value, key, answer, done),
-        Answer::Deleted => put_head(out, b"HD", flags, key, answer, b""),
-        Answer::Done => put_head(out, b"HD", flags, key, answer, b""),
-        Answer::Miss => put_head(out, b"EN", flags, key, answer, b""),
-        Answer::NotStored => put_head(out, b"NS", flags, key, answer, b""),
-        Answer::Exists => put_head(out, b"EX", flags, key, answer, b""),
-        Answer::NotFound => put_head(out, b"NF", flags, key, answer, b""),
+        Answer::Deleted => put_head(out, b"HD", flags, key, answer, b"\r\n"),
+        Answer::Done => put_head(out, b"HD", flags, key, answer, b"\r\n"),
+        Answer::Miss => put_head(out, b"EN", flags, key, answer, b"\r\n"),
+        Answer::NotStored => put_head(out, b"NS", flags, key, answer, b"\r\n"),
+        Answer::Exists => put_head(out, b"EX", flags, key, answer, b"\r\n"),
+        Answer::NotFound => put_head(out, b"NF", flags, key, answer, b"\r\n"),
         Answer::Stored
         | Answer::TooLarge
         | Answer::NoCas
@@ -86,11 +90,11 @@ fn put_found<O: Outlet>(
     requires { answer.now ≡ answers.MetaHit hit.now }
     ensures { Writes (coded_text flags.now key.now answer.now value) result (O.sight out.old) (O.sight out.new) }
 {
-    let marks = marks_text(hit.marks);
+    let end = marks_line(hit.marks);
     if value {
-        put_value(out, hit.value.bytes(), flags, key, answer, marks)
+        put_value(out, hit.value.bytes(), flags, key, answer, end)
     } else {
-        put_head(out, b"HD", flags, key, answer, marks)
+        put_head(out, b"HD", flags, key, answer, end)
     }
 }
 
@@ -109,58 +113,60 @@ fn put_done<O: Outlet>(
     if value {
         let mut digits = Buffer::new();
         let number = digits.format(done.number).as_bytes();
-        put_value(out, number, flags, key, answer, b"")
+        put_value(out, number, flags, key, answer, b"\r\n")
     } else {
-        put_head(out, b"HD", flags, key, answer, b"")
+        put_head(out, b"HD", flags, key, answer, b"\r\n")
     }
 }
 
-/// Writes a reply without a value.
+/// Writes a reply without a value: a code, the flags, and what ends the line.
 fn put_head<O: Outlet>(
     out: &mut O,
     code: &[u8],
     flags: &MetaFlags,
     key: &Option<Key>,
     answer: &Answer,
-    marks: &[u8],
+    end: &[u8],
 ) -> Result<(), OutFault>
-    ensures { Writes (head_text code.now (flags_text flags.now key.now answer.now) marks.now) result (O.sight out.old) (O.sight out.new) }
+    ensures { Writes (code.now ++ (flags_text flags.now key.now answer.now ++ end.now)) result (O.sight out.old) (O.sight out.new) }
 {
     put_all(out, code)?;
     put_flags(out, flags, key, answer)?;
-    put_parts(out, &[marks, b"\r\n"])
+    put_all(out, end)
 }
 
-/// Writes a reply with a value.
+/// Writes a reply with a value, behind its size, the flags, and what ends the line.
 fn put_value<O: Outlet>(
     out: &mut O,
     value: &[u8],
     flags: &MetaFlags,
     key: &Option<Key>,
     answer: &Answer,
-    marks: &[u8],
+    end: &[u8],
 ) -> Result<(), OutFault>
-    ensures { Writes (value_text value.now (flags_text flags.now key.now answer.now) marks.now) result (O.sight out.old) (O.sight out.new) }
+    ensures { Writes (codes "VA " ++ (decimal (length value.now) ++ (flags_text flags.now key.now answer.now ++ (end.now ++ (value.now ++ codes "\r\n"))))) result (O.sight out.old) (O.sight out.new) }
 {
     let mut digits = Buffer::new();
-    put_parts(out, &[b"VA ", digits.format(value.len()).as_bytes()])?;
+    let mut room = [0; SIZE_LIMIT];
+    let size = digits.format(value.len()).as_bytes();
+    put_all(out, gathered(&mut room, &[b"VA ", size]))?;
     put_flags(out, flags, key, answer)?;
-    put_parts(out, &[marks, b"\r\n", value, b"\r\n"])
+    put_parts(out, &[end, value, b"\r\n"])
 }
 
-/// The marks of a hit, in their order.
-pub fn marks_text(marks: Marks) -> &'static [u8]
-    ensures { result.now ≡ spec.marks_text marks }
+/// The marks of a hit, in their order, and the end of the line.
+pub fn marks_line(marks: Marks) -> &'static [u8]
+    ensures { result.now ≡ spec.marks_text marks ++ codes "\r\n" }
 {
     match (marks.won, marks.stale, marks.sent) {
-        (false, false, false) => b"",
-        (false, false, true) => b" Z",
-        (false, true, false) => b" X",
-        (false, true, true) => b" X Z",
-        (true, false, false) => b" W",
-        (true, false, true) => b" W Z",
-        (true, true, false) => b" W X",
-        (true, true, true) => b" W X Z",
+        (false, false, false) => b"\r\n",
+        (false, false, true) => b" Z\r\n",
+        (false, true, false) => b" X\r\n",
+        (false, true, true) => b" X Z\r\n",
+        (true, false, false) => b" W\r\n",
+        (true, false, true) => b" W Z\r\n",
+        (true, true, false) => b" W X\r\n",
+        (true, true, true) => b" W X Z\r\n",
     }
 }
 

@@ -1,6 +1,6 @@
 //! Replies of a few commands, whose answers come in any order, and outlets that count or fail.
-ghost use Rattle.std.specs.Prelude.{◌≡◌, ◌+◌, ◌≤◌, Some, IfOk, OnOk};
-ghost use Rattle.mc_wire.specs.Outlet.{Listed, sight_out};
+ghost use Rattle.std.specs.Prelude.{◌≡◌, ◌+◌, ◌≤◌, Some, IfOk, IfSome, OnOk, false};
+ghost use Rattle.mc_wire.specs.Outlet.{Listed, Untold, sight_out};
 ghost use Rattle.mc_join.specs.Held.{opened_count};
 
 use crate::{Full, Joiner, Stranger};
@@ -364,9 +364,86 @@ fn a_large_value_goes_out_by_itself(rt: HostRuntime) -> Result<(), Fail> {
     assert_eq!(rt; out.taken.len(), len);
     assert!(rt; out.taken.as_slice().starts_with(text));
     assert!(rt; out.taken.as_slice().ends_with(b"\x07\r\nEND\r\nMN\r\n"));
-    // The first reply; nine parts of the item and the line that ends them; the last reply.
-    assert_eq!(rt; out.writes, 12);
+    // The first reply; the line before the value, the value and the end of its line; the line that ends the items;
+    // the last reply.
+    assert_eq!(rt; out.writes, 6);
     Ok(())
+}
+
+/// A value of this length is larger than the room in which replies are gathered.
+const LARGE: usize = 100_000;
+
+/// Counts its writes, those of at least `LARGE` bytes by themselves, and keeps nothing.
+#[derive(Drop)]
+struct Tally {
+    small: u64,
+    large: u64,
+    bytes: u64,
+}
+
+impl Outlet for Tally {
+    ghost sight = { λ _. sight_out Untold false };
+
+    fn write(&mut self, bytes: &[u8]) -> Result<usize, OutFault> {
+        let (small, large) = if bytes.len() < LARGE { (1, 0) } else { (0, 1) };
+        self.small = self.small.wrapping_add(small);
+        self.large = self.large.wrapping_add(large);
+        self.bytes = self.bytes.wrapping_add(bytes.len() as u64);
+        Ok(bytes.len())
+    }
+}
+
+/// A large value, as an item holds it, and the form of a get of one key; none where memory was refused.
+fn large_value(alloc: Global) -> Option<(Value, Form)>
+    ensures { IfSome result (λ made. made.1.ticket.0 ≡ 0) }
+{
+    let bytes = vec![in alloc; 7; LARGE].ok()?;
+    let value = Value::new(bytes).ok()?;
+    let keys = Keys::one(alloc, Key::from_word(alloc, b"a").ok()?);
+    let command = Command::Get(Retrieval {
+        keys,
+        touch: None,
+        with_unique: false,
+    });
+    let plan = split(alloc, command, Ticket(0), 1000, 2).ok()?;
+    Some((value, plan.form))
+}
+
+/// A hit shares the value of its item: it goes to the outlet in one write of its whole length, beside the few that
+/// stand around it, and nothing on its way takes memory. Holds whichever one allocation is refused, as by
+/// `rt try --test --fail-alloc N` for each N.
+#[test]
+fn a_hit_copies_no_value(rt: HostRuntime) {
+    let alloc = rt.alloc();
+    let Ok(mut joiner) = Joiner::new(alloc, 1) else {
+        return;
+    };
+    let Some((item, form)) = large_value(alloc) else {
+        return;
+    };
+    open(&rt, &mut joiner, form);
+    let Ok(value) = item.clone() else {
+        panic!(&rt; "the clone of a value takes memory")
+    };
+    let found = Answer::Hit {
+        flags: 0,
+        unique: 1,
+        value,
+    };
+    let found = reply(&rt, 0, 0, Kind::Fetch, found);
+    assert!(&rt; takes(&mut joiner, found));
+    let mut out = Tally {
+        small: 0,
+        large: 0,
+        bytes: 0,
+    };
+    let len = b"VALUE a 0 100000\r\n".len() + LARGE + b"\r\nEND\r\n".len();
+    assert_eq!(&rt; joiner.ready(), len as u64);
+    assert_eq!(&rt; joiner.hand(&mut out), Ok(1));
+    assert_eq!(&rt; out.bytes, len as u64);
+    assert_eq!(&rt; out.large, 1);
+    // The line before the value, the end of its line, and the line that ends the items.
+    assert_eq!(&rt; out.small, 3);
 }
 
 #[test]
