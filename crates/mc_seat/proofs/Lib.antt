@@ -1,3 +1,4 @@
 pub mod Fronts
 pub mod Standing
 pub mod Turns
+pub mod Along

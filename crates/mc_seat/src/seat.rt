@@ -44,6 +44,13 @@ impl Seat {
         })
     }
 
+    /// The seat before its next line, in the room that it has.
+    pub fn renew(&mut self)
+        ensures { self.new.unread ≡ [] }
+    {
+        self.unread.clear();
+    }
+
     /// Hands out the replies to the commands taken, all of which are answered; where no further command was taken because more
     /// bytes are needed, it reads on.
     pub fn go_on<L: Line>(&mut self, conn: &mut Conn, line: &mut L, stop: Taken) -> Turn

@@ -63,6 +63,13 @@ impl Unread {
         self.start += count;
     }
 
+    /// Lets go of those that are there.
+    pub(crate) fn clear(&mut self)
+        ensures { self.new ≡ [] }
+    {
+        self.start = self.end;
+    }
+
     /// Reads more bytes in place of those that are there: none only at the end of the line.
     pub(crate) fn refill<L: Line>(&mut self, line: &mut L) -> Result<(), LineFault>
         ensures ok { OnOk result (L.sight line.new ≡ gave self.new (asked (L.sight line.old))) }

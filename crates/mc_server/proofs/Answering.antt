@@ -30,6 +30,7 @@ use Rattle.mc_core.proofs.Lists.{take_next}
 use Rattle.mc_core.proofs.Logs.{on_shard-no, on_shard-yes}
 use Rattle.mc_server.specs.internal.Answering.{Answers, AnswersMore, Backs, piece_in, replies_on}
 use Rattle.mc_server.proofs.Backing.{Backs-push}
+use Rattle.mc_seat.proofs.Along.{keeps_trans}
 
 -- the entry of a piece that was run, and the reply to it
 abbrev pub entry_for : ℕ → Piece → Answer → Entry
@@ -104,12 +105,6 @@ answers_next sizes told shards log place piece answer was shard answers next got
       fits = next_fits told.shards place told.taken told.accepted (replies_on log) (replies_on (log ++ entry ∷ [])) piece (reply_to entry) answers.fits
           (next_due sizes told shards log place piece answers next) (record { ticket = refl; part = refl; kind = refl }) (receives_entry log entry);
     }
-
-keeps_trans : (told mid later : Told) → told.handed ≡ mid.handed → KeepsHanded told mid → KeepsHanded mid later → KeepsHanded told later
-keeps_trans told mid later same one two =
-    let within = two.within in
-    let P : ℕ → Type 0 = λ handed. take handed (all_texts later) ≡ take handed (all_texts mid) in
-    record { within = omega (arith, within, same); same = subst P (sym same) two.same ∙ one.same }
 
 -- before any of them is run
 pub more_none : (sizes : Sizes) (told : Told) (conn : Conn) (shards : List Shard) (log : List Entry) → IsConn conn told → Answers sizes told shards log → AnswersMore sizes told conn shards

@@ -24,6 +24,7 @@ use Rattle.mc_core.specs.Log.{Entry, replies_in}
 use Rattle.mc_seat.specs.declared.seat.Turn.{Turn}
 use Rattle.mc_seat.specs.internal.Stands.{Serving, Stands, handed_texts}
 use Rattle.mc_seat.specs.internal.Steps.{GoOnSays, GoesOn, IsServed, StopsAt, TurnSays}
+use Rattle.mc_seat.proofs.Along.{serving_along, stops_along}
 use Rattle.mc_seat.proofs.Fronts.{begins_length}
 use Rattle.mc_seat.proofs.Standing.{stands_first, stands_fits, stands_take}
 use Rattle.mc_server.specs.Explains.{IsExplained}
@@ -43,10 +44,6 @@ turns_first sizes may_answer now unread conn shards window some count backs none
   unbroken = refl;
   counted = refl;
 }
-
--- the texts handed out are the same
-serving_along : (limit : ℕ) (received : ℕ → List Shown) (begin now : Sight) (unread fed : List ℕ) (ended : Bool) (shards : ℕ) (taken : List Taken) (texts others : List (List ℕ)) → texts ≡ others → Stands limit (KeysFit shards taken received) begin now unread fed ended taken texts → Stands limit (KeysFit shards taken received) begin now unread fed ended taken others
-serving_along limit received begin now unread fed ended shards taken texts others same stands = let P : List (List ℕ) → Type 0 = λ ts. Stands limit (KeysFit shards taken received) begin now unread fed ended taken ts in subst P same stands
 
 -- a command was taken: the answers so far stay in their places
 answers_take : (sizes : Sizes) (told : Told) (shards : List Shard) (log : List Entry) (one : Taken) (conn : Conn) → IsConn conn told → Answers sizes told shards log → Answers sizes (record told { taken = told.taken ++ one ∷ [] }) shards log
@@ -123,12 +120,6 @@ can_answer sizes may_answer begin now unread conn shards commands stop stops =
 pub record Answered (sizes : Sizes) (may_answer : ℕ → Type 0) (begin now : Sight) (unread : List ℕ) (conn : Conn) (shards : List Shard) (commands : ℕ) (stop : Took) : Type 0 where
   pub stopped : Stops sizes may_answer begin now unread conn shards commands stop
   pub ran : RanAll sizes stopped.turns.told shards stopped.turns.log
-
-stops_along : (stop : Took) (told : Told) (out : ℕ) (lent : Bool) (accepted : List Shown) → StopsAt stop told → StopsAt stop (record told { out = out; lent = lent; accepted = accepted })
-stops_along (took.Opened ticket) told out lent accepted stops = stops
-stops_along took.NeedMore told out lent accepted stops = stops
-stops_along took.Full told out lent accepted stops = stops
-stops_along took.Closed told out lent accepted stops = stops
 
 pub answers_stop : (sizes : Sizes) (may_answer : ℕ → Type 0) (begin now : Sight) (unread : List ℕ) (conn new : Conn) (shards after : List Shard) (commands : ℕ) (stop : Took) → AnswersAll conn shards new after → Stops sizes may_answer begin now unread conn shards commands stop → Answered sizes may_answer begin now unread new after commands stop
 answers_stop sizes may_answer begin now unread conn new shards after commands stop all stops =

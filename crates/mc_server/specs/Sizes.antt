@@ -1,7 +1,12 @@
 -- The sizes of a server, as its definitions name them.
+use Rattle.std.specs.Prelude.{ℕ}
 use Rattle.mc_core.specs.Sizes.{Sizes}
 use Rattle.mc_server.specs.declared.serve as serve
 
+-- those of a server with so many lines
+abbrev pub sizes_of : ℕ → serve.Sizes.Sizes → Sizes
+sizes_of seats sizes = record { seats = seats; shards = sizes.shards; bytes = sizes.bytes; ring = sizes.ring; value = sizes.value; window = sizes.window }
+
 -- those of a server with one line
 abbrev pub line_sizes : serve.Sizes.Sizes → Sizes
-line_sizes sizes = record { seats = 1; shards = sizes.shards; bytes = sizes.bytes; ring = sizes.ring; value = sizes.value; window = sizes.window }
+line_sizes sizes = sizes_of 1 sizes

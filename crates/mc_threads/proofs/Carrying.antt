@@ -28,6 +28,7 @@ use Rattle.mc_conn.proofs.Staying.{is_sound, keeps_accept}
 use Rattle.mc_core.proofs.Lists.{take_next}
 use Rattle.mc_threads.specs.internal.Carrying.{AllOut, AllOutWhere, AnyOut, Carries, CarriesOn, IsKept, MayCarry, MovesOn, NoneOut, carried, sent_to}
 use Rattle.mc_threads.specs.internal.Ending.{StandsStill}
+use Rattle.mc_seat.proofs.Along.{keeps_trans}
 
 -- a connection has some shards
 pub some_shards : (conn : Conn) (told : Told) → IsConn conn told → 0 < told.shards
@@ -36,12 +37,6 @@ some_shards conn told is =
     let some = conn.some_shards in
     let same = is.shards in
     omega (arith, some, same)
-
-keeps_trans : (told mid later : Told) → told.handed ≡ mid.handed → KeepsHanded told mid → KeepsHanded mid later → KeepsHanded told later
-keeps_trans told mid later same one two =
-    let within = two.within in
-    let P : ℕ → Type 0 = λ handed. take handed (all_texts later) ≡ take handed (all_texts mid) in
-    record { within = omega (arith, within, same); same = subst P (sym same) two.same ∙ one.same }
 
 -- nothing was carried
 pub on_none : (before : Ends Near) (told : Told) (received : ℕ → List Shown) (ends : Ends Near) (ways : List ℕ) (conn new : Conn) → IsConn conn told → IsConn new told → Carries before ends ways told received → CarriesOn before told received ends ways new

@@ -27,6 +27,7 @@ use Rattle.mc_seat.specs.LineServed.{LineServed}
 use Rattle.mc_seat.specs.declared.seat.Turn.{Turn}
 use Rattle.mc_seat.specs.internal.Stands.{Serving, Stands, handed_texts}
 use Rattle.mc_seat.specs.internal.Steps.{GoOnSays, GoesOn, IsServed, StopsAt, TurnSays}
+use Rattle.mc_seat.proofs.Along.{serving_along, stops_along}
 use Rattle.mc_seat.proofs.Fronts.{begins_length}
 use Rattle.mc_seat.proofs.Standing.{stands_first, stands_take}
 use Rattle.mc_threads.specs.Serving.{IsIdle}
@@ -70,11 +71,6 @@ turns_first may_answer now ends ways unread conn limit window each idle none is 
   unbroken = refl;
   counted = refl;
 }
-
--- the texts handed out are the same
-serving_along : (limit : ℕ) (received : ℕ → List Shown) (begin now : Sight) (unread fed : List ℕ) (ended : Bool) (shards : ℕ) (taken : List Taken) (texts others : List (List ℕ)) → texts ≡ others → Stands limit (KeysFit shards taken received) begin now unread fed ended taken texts → Stands limit (KeysFit shards taken received) begin now unread fed ended taken others
-serving_along limit received begin now unread fed ended shards taken texts others same stands =
-    let P : List (List ℕ) → Type 0 = λ ts. Stands limit (KeysFit shards taken received) begin now unread fed ended taken ts in subst P same stands
 
 -- where the keys fit the pieces of more commands, they fit those of the first
 keys_before : (shards : ℕ) (taken : List Taken) (one : Taken) (received : ℕ → List Shown) → KeysFit shards (taken ++ one ∷ []) received → KeysFit shards taken received
@@ -182,12 +178,6 @@ pub record Settled (shards limit : ℕ) (may_answer : ℕ → Type 0) (begin now
   pub stopped : Stops shards limit may_answer begin now before ends ways unread conn commands stop
   pub all : stopped.turns.told.out ≡ length (all_pieces stopped.turns.told)
   pub idle : IsIdle ways
-
-stops_along : (stop : Took) (told : Told) (out : ℕ) (lent : Bool) (accepted : List Shown) → StopsAt stop told → StopsAt stop (carried told out lent accepted)
-stops_along (took.Opened ticket) told out lent accepted stops = stops
-stops_along took.NeedMore told out lent accepted stops = stops
-stops_along took.Full told out lent accepted stops = stops
-stops_along took.Closed told out lent accepted stops = stops
 
 pub settles : (shards limit : ℕ) (may_answer : ℕ → Type 0) (begin now : Sight) (before ends ends' : Ends Near) (ways ways' unread : List ℕ) (conn new : Conn) (commands : ℕ) (stop : Took) → MovesOn AllOut ends ways conn ends' ways' new → IsIdle ways' → Stops shards limit may_answer begin now before ends ways unread conn commands stop → Settled shards limit may_answer begin now before ends' ways' unread new commands stop
 settles shards limit may_answer begin now before ends ends' ways ways' unread conn new commands stop moves idle stops =

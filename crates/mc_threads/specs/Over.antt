@@ -10,10 +10,10 @@ use Rattle.mc_core.specs.Sizes.{Sizes}
 use Rattle.mc_seat.specs.LineServed.{LineServed}
 use Rattle.mc_server.specs.Explains.{Explains, LineTold}
 use Rattle.mc_threads.specs.Serving.{EndsAll, IsIdle}
-use Rattle.mc_threads.specs.declared.sizes as own
+use Rattle.mc_server.specs.declared.serve as serve
 
 -- A line may be served over these ends, by this connection.
-pub record CanServe (sizes : own.Sizes.Sizes) (conn : Conn) (unread : List ℕ) (ends : Ends Near) (under_way : List ℕ) : Type 0 where
+pub record CanServe (sizes : serve.Sizes.Sizes) (conn : Conn) (unread : List ℕ) (ends : Ends Near) (under_way : List ℕ) : Type 0 where
   pub conn_is : IsConn conn (told_nothing sizes.shards sizes.value sizes.window)
   pub none_read : unread ≡ []
   pub width : length ends.lanes ≡ sizes.shards

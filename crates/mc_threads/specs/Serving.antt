@@ -1,10 +1,11 @@
 -- When a courier may serve a line, and what it does once it serves no more.
-use Rattle.std.specs.Prelude.{ℕ, ◌≡◌, ◌<◌, List, [], ◌∷◌, ◌++◌, length}
+use Rattle.std.specs.Prelude.{ℕ, ◌≡◌, ◌<◌, List, [], ◌∷◌, ◌++◌, length, map}
 use Rattle.std.specs.List.{AllByRecursion}
 use Rattle.mc_conn.specs.declared.conn.Conn.{Conn}
 use Rattle.mc_conn.specs.Conn.{IsConn}
 use Rattle.mc_conn.specs.Told.{told_nothing}
 use Rattle.mc_threads.specs.declared.courier.Courier.{Courier}
+use Rattle.mc_split.specs.declared.plan.Piece.{Piece}
 use Rattle.mc_ring.specs.declared.parcel.Parcel.TheVariants as parcel
 use Rattle.mc_ring.specs.Lane.{Near}
 use Rattle.mc_ring.specs.Ends.{AreSameEnds, Ends, received_on, sent_on}
@@ -31,3 +32,14 @@ pub record EndsAll (before after : Ends Near) : Type 0 where
   pub same : AreSameEnds before after
   pub sent : (shard : ℕ) → shard < length before.lanes → sent_on after shard ≡ sent_on before shard ++ parcel.End ∷ []
   pub received : (shard : ℕ) → received_on after shard ≡ received_on before shard
+
+-- On each lane some pieces were sent, and nothing else.
+pub record SendsPieces (before after : Ends Near) : Type 0 where
+  pub same : AreSameEnds before after
+  pub sent : (shard : ℕ) → shard < length before.lanes → (sent : List Piece) × (sent_on after shard ≡ sent_on before shard ++ map parcel.Piece sent)
+
+-- On each lane some pieces were sent, and then End, for the last time.
+pub record ServesAndEnds (before after : Ends Near) : Type 0 where
+  pub served : Ends Near
+  pub pieces : SendsPieces before served
+  pub closed : EndsAll served after

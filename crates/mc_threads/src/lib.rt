@@ -4,9 +4,9 @@
 mod courier;
 mod door;
 mod over;
+mod refusal;
 mod seating;
 mod settling;
-mod sizes;
 mod tcp;
 mod tcp_line;
 mod tcp_seat;
@@ -17,9 +17,10 @@ mod working;
 
 pub use courier::Courier;
 pub use door::Door;
+pub use mc_server::Sizes;
 pub use over::{Report, serve_over};
+pub use refusal::ServeRefusal;
 pub use seating::{Seating, ServedLine};
-pub use sizes::{ServeRefusal, Sizes};
 pub use tcp::serve_tcp;
 pub use tcp_line::TcpLine;
 pub use tcp_seat::TcpSeat;

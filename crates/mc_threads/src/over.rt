@@ -1,20 +1,23 @@
 //! Serves lines, each in a thread of its own, over shards in threads of their own.
-ghost use Rattle.std.specs.Prelude.{◌≡◌, ◌<◌, ◌≤◌, [], IfOk, OnOk, length, map};
+ghost use Rattle.std.specs.Prelude.{◌≡◌, ◌≢◌, ◌<◌, ◌≤◌, [], IfErr, IfOk, OnOk, length, map};
 ghost use Rattle.std.specs.List.{AllByRecursion};
 ghost use Rattle.mc_ring.specs.Made.{AreLanes};
 ghost use Rattle.mc_threads.specs.Over.{ServesAll, came_back};
-ghost use Rattle.mc_threads.specs.Sizes.{MayServe, sizes_of};
+ghost use Rattle.mc_server.specs.Sizes.{sizes_of};
+ghost use Rattle.mc_threads.specs.Sizes.{MayServe};
 ghost use Rattle.mc_threads.specs.Workers.{IsFresh, ends_of};
+ghost use Rattle.mc_threads.specs.declared.refusal.ServeRefusal.TheVariants.{Bind};
 
+use crate::refusal::ServeRefusal;
 use crate::seating::{Seating, ServedLine};
 use crate::settling::settle;
-use crate::sizes::{ServeRefusal, Sizes};
 use crate::workers::{make_sleepers, make_workers, start_workers};
 use crate::working::Working;
 use mc_core::Gate;
-use mc_crew::Crew;
+use mc_crew::{Crew, CrewRefusal};
 use mc_ring::{SeatEnds, lanes};
 use mc_seat::{Clock, Line};
+use mc_server::Sizes;
 use mc_wake::{Patience, Sleeper, Wakers};
 use mc_wire::GREATEST_VALUE_LIMIT;
 use std::alloc::Global;
@@ -46,6 +49,32 @@ pub fn serve_over<
 ) -> Result<Report<L>, ServeRefusal>
     requires { MayServe (length lines.items) sizes }
     // One log explains what was read of all lines, what was written to them and what the shards did.
+    ensures explained { IfOk result (λ report. ServesAll (sizes_of (length lines.items) sizes) (K.may_answer clock)
+        (map (λ line. L.sight line) lines.items)
+        (map (λ one. came_back (L.sight one.line) one.commands one.broke) report.lines.items)) }
+    ensures refused { IfErr result (λ refusal. refusal ≢ Bind) }
+{
+    match serve_lines(rt, alloc, lines, sizes, gate, clock) {
+        Ok(report) => Ok(report),
+        Err(refusal) => Err(ServeRefusal::from(refusal)),
+    }
+}
+
+/// Serves the lines, in threads that begin together or not at all.
+fn serve_lines<
+    R: Threads + Wait + RandomSource + Copy + Send + Drop + 'static,
+    L: Line + Send + Drop + 'static,
+    G: Gate + Send + Sync + Drop + 'static,
+    K: Clock + Copy + Send + Drop + 'static,
+>(
+    rt: &R,
+    alloc: Global,
+    lines: Vec<L>,
+    sizes: Sizes,
+    gate: G,
+    clock: K,
+) -> Result<Report<L>, CrewRefusal>
+    requires { MayServe (length lines.items) sizes }
     ensures { IfOk result (λ report. ServesAll (sizes_of (length lines.items) sizes) (K.may_answer clock)
         (map (λ line. L.sight line) lines.items)
         (map (λ one. came_back (L.sight one.line) one.commands one.broke) report.lines.items)) }
@@ -55,7 +84,7 @@ pub fn serve_over<
     // The room for the report comes first: the lines are not lost once they were served.
     let report = Vec::with_capacity(alloc, lines.len())?;
     let Ok(gate) = Arc::new(alloc, gate) else {
-        return Err(ServeRefusal::Memory);
+        return Err(CrewRefusal::Memory);
     };
     let started = start(
         rt,
@@ -94,7 +123,7 @@ fn start<
     sizes: Sizes,
     gate: &Arc<G, Global>,
     clock: K,
-) -> Result<(), ServeRefusal>
+) -> Result<(), CrewRefusal>
     requires size { MayServe (length lines.items) sizes }
     requires working { working.old ≡ [] }
     requires sitting { sitting.old ≡ [] }
@@ -105,7 +134,10 @@ fn start<
     ensures same { OnOk result (AllByRecursion (λ seating. (seating.clock ≡ clock) × (seating.sizes ≡ sizes)) sitting.new) }
 {
     let count = lines.len();
-    let (near, far) = lanes(alloc, count, sizes.shards, sizes.ring)?;
+    let Ok((near, far)) = lanes(alloc, count, sizes.shards, sizes.ring) else {
+        // The sizes are within the limits.
+        return Err(CrewRefusal::Memory);
+    };
     let patience = Patience::among(rt, sizes.shards.saturating_add(count));
     let worker_sleepers = make_sleepers(alloc, sizes.shards, patience, count)?;
     let seat_sleepers = make_sleepers(alloc, count, patience, 0)?;
@@ -142,7 +174,7 @@ fn start_seats<
     shards: &Wakers,
     sizes: Sizes,
     clock: K,
-) -> Result<(), ServeRefusal>
+) -> Result<(), CrewRefusal>
     requires shards { 0 < sizes.shards }
     requires value { sizes.value ≤ GREATEST_VALUE_LIMIT }
     requires window { 0 < sizes.window }
@@ -157,10 +189,10 @@ fn start_seats<
     let mut sleepers = sleepers.into_iter();
     for ends in ends {
         let Some(line) = lines.next() else {
-            return Err(ServeRefusal::Memory);
+            return Err(CrewRefusal::Memory);
         };
         let Some(sleeper) = sleepers.next() else {
-            return Err(ServeRefusal::Memory);
+            return Err(CrewRefusal::Memory);
         };
         let shards = shards.share()?;
         let seating = Seating::new(alloc, line, ends, sleeper, shards, sizes, clock)?;

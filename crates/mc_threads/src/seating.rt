@@ -3,14 +3,14 @@ ghost use Rattle.std.specs.Prelude.{◌≡◌, ◌<◌, ◌≤◌, IfOk, length}
 ghost use Rattle.mc_threads.specs.Over.{CanServe, SeatServed};
 
 use crate::courier::Courier;
-use crate::sizes::{ServeRefusal, Sizes};
 use mc_conn::Conn;
 use mc_crew::Task;
 use mc_ring::SeatEnds;
 use mc_seat::{Clock, Line, Seat};
+use mc_server::Sizes;
 use mc_wake::{Sleeper, Wakers};
 use mc_wire::GREATEST_VALUE_LIMIT;
-use std::alloc::Global;
+use std::alloc::{AllocError, Global};
 use std::sync::Wait;
 
 /// A line as it came back.
@@ -50,7 +50,7 @@ impl<L: Line + Drop, K: Clock + Drop> Seating<L, K> {
         shards: Wakers,
         sizes: Sizes,
         clock: K,
-    ) -> Result<Seating<L, K>, ServeRefusal>
+    ) -> Result<Seating<L, K>, AllocError>
         requires shards { 0 < sizes.shards }
         requires value { sizes.value ≤ GREATEST_VALUE_LIMIT }
         requires window { 0 < sizes.window }
@@ -62,7 +62,7 @@ impl<L: Line + Drop, K: Clock + Drop> Seating<L, K> {
         ensures clock { IfOk result (λ seating. seating.clock ≡ clock) }
     {
         let Ok(conn) = Conn::new(alloc, sizes.shards, sizes.value, sizes.window) else {
-            return Err(ServeRefusal::Memory);
+            return Err(AllocError);
         };
         let seat = Seat::new(alloc)?;
         let courier = Courier::new(alloc, ends, sleeper, shards)?;

@@ -6,9 +6,9 @@ ghost use Rattle.mc_threads.specs.Over.{came_back};
 
 use crate::over::Report;
 use crate::seating::{Seating, ServedLine};
-use crate::sizes::ServeRefusal;
 use crate::working::Working;
 use mc_core::Gate;
+use mc_crew::CrewRefusal;
 use mc_ring::SeatEnds;
 use mc_seat::{Clock, Line};
 
@@ -18,7 +18,7 @@ pub(crate) fn settle<L: Line + Drop, G: Gate + Drop, K: Clock + Drop>(
     seats: Vec<Seating<L, K>>,
     workers: &mut Vec<Working<G>>,
     report: Vec<ServedLine<L>>,
-) -> Result<Report<L>, ServeRefusal>
+) -> Result<Report<L>, CrewRefusal>
     requires none { report.items ≡ [] }
     requires lanes { AllByRecursion (λ seating. HasLanes seating.courier.ends (map (λ one. one.worker) workers.old.items)) seats.items }
     ensures tied { IfOk result (λ _. AllByRecursion (λ seating. AreTied seating.courier.ends (map (λ one. one.worker) workers.old.items)) seats.items) }
@@ -30,7 +30,7 @@ pub(crate) fn settle<L: Line + Drop, G: Gate + Drop, K: Clock + Drop>(
         let (mut ends, line) = seating.rise();
         tie(&mut ends, workers);
         let Ok(()) = lines.push(line) else {
-            return Err(ServeRefusal::Memory);
+            return Err(CrewRefusal::Memory);
         };
     }
     Ok(Report { lines })

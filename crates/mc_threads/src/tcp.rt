@@ -5,7 +5,7 @@ ghost use Rattle.mc_threads.specs.Sizes.{MayServe};
 
 use crate::courier::Courier;
 use crate::door::Door;
-use crate::sizes::{ServeRefusal, Sizes};
+use crate::refusal::ServeRefusal;
 use crate::tcp_seat::TcpSeat;
 use crate::workers::{make_sleepers, make_workers, start_workers};
 use crate::working::Working;
@@ -13,7 +13,8 @@ use mc_conn::Conn;
 use mc_core::OpenGate;
 use mc_crew::Crew;
 use mc_ring::{SeatEnds, lanes};
-use mc_seat::Clock;
+use mc_seat::{Clock, Seat};
+use mc_server::Sizes;
 use mc_wake::{Patience, Sleeper, Wakers};
 use mc_wire::GREATEST_VALUE_LIMIT;
 use std::alloc::Global;
@@ -135,9 +136,10 @@ fn make_seat<R: time::Clock + Copy + Drop, K: Clock + Copy + Drop>(
     let Ok(conn) = Conn::new(alloc, sizes.shards, sizes.value, sizes.window) else {
         return Err(ServeRefusal::Memory);
     };
+    let seat = Seat::new(alloc)?;
     let courier = Courier::new(alloc, ends, sleeper, shards)?;
     let door = Arc::try_clone(door)?;
-    Ok(TcpSeat::new(*rt, alloc, conn, courier, door, clock))
+    Ok(TcpSeat::new(*rt, alloc, conn, seat, courier, door, clock))
 }
 
 /// How many connections the seats have served.

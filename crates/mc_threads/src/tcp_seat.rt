@@ -1,6 +1,6 @@
 //! The thread of a seat that serves connections over TCP, one after another.
 ghost use Rattle.std.specs.Prelude.{IsTrue};
-ghost use Rattle.mc_threads.specs.Serving.{IsReady};
+ghost use Rattle.mc_threads.specs.Serving.{IsReady, SendsPieces, ServesAndEnds};
 
 use crate::courier::Courier;
 use crate::door::Door;
@@ -18,6 +18,7 @@ pub struct TcpSeat<R, K> {
     rt: R,
     alloc: Global,
     conn: Conn,
+    seat: Seat,
     courier: Courier,
     door: Arc<Door, Global>,
     clock: K,
@@ -34,6 +35,7 @@ impl<R: time::Clock, K: Clock> TcpSeat<R, K> {
         rt: R,
         alloc: Global,
         conn: Conn,
+        seat: Seat,
         courier: Courier,
         door: Arc<Door, Global>,
         clock: K,
@@ -45,6 +47,7 @@ impl<R: time::Clock, K: Clock> TcpSeat<R, K> {
             rt,
             alloc,
             conn,
+            seat,
             courier,
             door,
             clock,
@@ -56,6 +59,7 @@ impl<R: time::Clock, K: Clock> TcpSeat<R, K> {
     /// Serves connections, one after another, as long as the door lets it.
     fn serve_all<W: Wait>(&mut self, rt: &W)
         requires { IsReady self.old.courier self.old.conn }
+        ensures { SendsPieces self.old.courier.ends self.new.courier.ends }
     {
         for _ in rt.forever() {
             if !self.door.draw() {
@@ -67,25 +71,26 @@ impl<R: time::Clock, K: Clock> TcpSeat<R, K> {
             }
             self.ended = self.ended.saturating_add(1);
         }
+        unreachable!()
     }
 
-    /// Serves the next connection, and tells whether one came.
+    /// Serves the next connection, in the room of the one before, and tells whether one came.
+    #[tactic(auto, using(crate::proofs::Ending::pieces_none))]
     fn serve_next<W: Wait>(&mut self, rt: &W) -> bool
         requires { IsReady self.old.courier self.old.conn }
-        ensures { IsTrue result → IsReady self.new.courier self.new.conn }
+        ensures ready { IsTrue result → IsReady self.new.courier self.new.conn }
+        ensures pieces { SendsPieces self.old.courier.ends self.new.courier.ends }
     {
         let Ok(stream) = self.door.accept(&self.rt) else {
             return false;
         };
         let mut line = TcpLine::new(stream);
-        let Ok(mut seat) = Seat::new(self.alloc) else {
-            return true;
-        };
+        self.seat.renew();
         self.courier.serve_line(
             rt,
             self.alloc,
             &mut self.conn,
-            &mut seat,
+            &mut self.seat,
             &mut line,
             &self.clock,
         );
@@ -97,7 +102,7 @@ impl<R: time::Clock, K: Clock> TcpSeat<R, K> {
 impl<R: time::Clock + Drop, K: Clock + Drop> Task for TcpSeat<R, K> {
     ghost is_ready = { λ seat. IsReady seat.courier seat.conn };
 
-    ghost does = { λ _ _. Unit {0} };
+    ghost does = { λ sat rose. ServesAndEnds sat.courier.ends rose.courier.ends };
 
     fn work<W: Wait>(self, rt: &W) -> TcpSeat<R, K> {
         let mut seat = self;

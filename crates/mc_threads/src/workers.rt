@@ -1,14 +1,14 @@
 //! The workers of a server, and their threads.
 ghost use Rattle.std.specs.Prelude.{◌≡◌, ◌≤◌, ◌++◌, ℕ, IfOk, OnOk, map};
 ghost use Rattle.std.specs.List.{AllByRecursion};
-ghost use Rattle.mc_threads.specs.Sizes.{sizes_of};
+ghost use Rattle.mc_server.specs.Sizes.{sizes_of};
 ghost use Rattle.mc_threads.specs.Workers.{AreFresh, IsFresh, ends_of};
 
-use crate::sizes::Sizes;
 use crate::working::Working;
 use mc_core::{Gate, Worker};
 use mc_crew::{Crew, CrewRefusal};
 use mc_ring::ShardEnds;
+use mc_server::Sizes;
 use mc_store::{GREATEST_BUDGET, LEAST_BUDGET, Shard};
 use mc_wake::{Patience, Sleeper, Wakers};
 use mc_wire::GREATEST_VALUE_LIMIT;

@@ -2,7 +2,7 @@
 use Rattle.std.proofs.Common.{◌≡◌, ℕ, ◌++◌, map}
 use Rattle.std.specs.List.{AllByRecursion}
 use Rattle.std.specs.Vec.Iter.{into_iter_items}
-use Rattle.mc_threads.specs.Sizes.{sizes_of}
+use Rattle.mc_server.specs.Sizes.{sizes_of}
 use Rattle.mc_threads.specs.Workers.{AreFresh, IsFresh, ends_of}
 use Rattle.mc_threads.proofs.workers.make_workers.Given as goal
 

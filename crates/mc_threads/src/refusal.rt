@@ -1,22 +1,7 @@
-//! How large a server is, and why it doesn't serve.
+//! Why a server doesn't serve.
 use mc_crew::CrewRefusal;
 use mc_ring::RingRefusal;
 use std::alloc::AllocError;
-
-/// How large a server is.
-#[derive(Clone, Copy, Debug, PartialEq, Eq)]
-pub struct Sizes {
-    /// How many shards there are.
-    pub shards: usize,
-    /// How many bytes the items of a shard may cost together.
-    pub bytes: usize,
-    /// How many pieces, or replies, a ring holds at most.
-    pub ring: usize,
-    /// How many bytes a value has at most.
-    pub value: usize,
-    /// How many commands of a line may be open: taken, and their replies not handed out.
-    pub window: usize,
-}
 
 /// Why lines were not served. Of `Memory` and `Thread` nothing was read of any line nor written to it.
 #[derive(Clone, Copy, Debug, PartialEq, Eq)]
@@ -31,7 +16,7 @@ pub enum ServeRefusal {
 
 impl From<AllocError> for ServeRefusal {
     ghost use Rattle.std.specs.Prelude.{◌≡◌};
-    ghost use Rattle.mc_threads.specs.declared.sizes.ServeRefusal.TheVariants.{Memory};
+    ghost use Rattle.mc_threads.specs.declared.refusal.ServeRefusal.TheVariants.{Memory};
 
     ghost from_gives = { λ _ refusal. refusal ≡ Memory };
 
@@ -41,6 +26,11 @@ impl From<AllocError> for ServeRefusal {
 }
 
 impl From<CrewRefusal> for ServeRefusal {
+    ghost use Rattle.std.specs.Prelude.{◌≢◌};
+    ghost use Rattle.mc_threads.specs.declared.refusal.ServeRefusal.TheVariants.{Bind};
+
+    ghost from_gives = { λ _ refusal. refusal ≢ Bind };
+
     fn from(refusal: CrewRefusal) -> ServeRefusal {
         match refusal {
             CrewRefusal::Memory => ServeRefusal::Memory,

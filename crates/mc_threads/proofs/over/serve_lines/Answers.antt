@@ -1,11 +1,11 @@
 -- All lines, once all threads are joined.
 use Rattle.std.proofs.Common.{◌≡◌, ◌<◌, [], length, map, refl, arith}
 use Rattle.mc_threads.specs.Over.{SeatServed, came_back}
-use Rattle.mc_threads.specs.Sizes.{sizes_of}
+use Rattle.mc_server.specs.Sizes.{sizes_of}
 use Rattle.mc_threads.specs.Working.{Finishes}
 use Rattle.mc_threads.proofs.Orders.{both}
 use Rattle.mc_threads.proofs.Whole.{all_served, lanes_are, zips_map, zips_seen}
-use Rattle.mc_threads.proofs.over.serve_over.Goals as goal
+use Rattle.mc_threads.proofs.over.serve_lines.Goals as goal
 
 pub settle-requires : goal.settle-requires
 settle-requires g c =

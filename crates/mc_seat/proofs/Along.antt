@@ -1,0 +1,30 @@
+-- What a connection was told stays true where only what its shards were sent and answered has changed.
+use Rattle.std.proofs.Common.{◌≡◌, ℕ, ◌≤◌, Bool, List, take, sym, subst, ◌∙◌, arith}
+use Rattle.mc_wire.specs.Outlet.{Sight}
+use Rattle.mc_ring.specs.Reply.{Shown}
+use Rattle.mc_conn.specs.declared.conn.Taken.{Taken as Took}
+use Rattle.mc_conn.specs.declared.conn.Taken.TheVariants as took
+use Rattle.mc_conn.specs.Fits.{KeysFit}
+use Rattle.mc_conn.specs.History.{Taken}
+use Rattle.mc_conn.specs.Told.{KeepsHanded, Told, all_texts}
+use Rattle.mc_seat.specs.internal.Stands.{Stands}
+use Rattle.mc_seat.specs.internal.Steps.{StopsAt}
+
+-- the texts handed out stay those, and stay those again
+pub keeps_trans : (told mid later : Told) → told.handed ≡ mid.handed → KeepsHanded told mid → KeepsHanded mid later → KeepsHanded told later
+keeps_trans told mid later same one two =
+    let within = two.within in
+    let P : ℕ → Type 0 = λ handed. take handed (all_texts later) ≡ take handed (all_texts mid) in
+    record { within = omega (arith, within, same); same = subst P (sym same) two.same ∙ one.same }
+
+-- the texts handed out are the same
+pub serving_along : (limit : ℕ) (received : ℕ → List Shown) (begin now : Sight) (unread fed : List ℕ) (ended : Bool) (shards : ℕ) (taken : List Taken) (texts others : List (List ℕ)) → texts ≡ others → Stands limit (KeysFit shards taken received) begin now unread fed ended taken texts → Stands limit (KeysFit shards taken received) begin now unread fed ended taken others
+serving_along limit received begin now unread fed ended shards taken texts others same stands =
+    let P : List (List ℕ) → Type 0 = λ ts. Stands limit (KeysFit shards taken received) begin now unread fed ended taken ts in subst P same stands
+
+-- why no further command was taken is the same
+pub stops_along : (stop : Took) (told : Told) (out : ℕ) (lent : Bool) (accepted : List Shown) → StopsAt stop told → StopsAt stop (record told { out = out; lent = lent; accepted = accepted })
+stops_along (took.Opened ticket) told out lent accepted stops = stops
+stops_along took.NeedMore told out lent accepted stops = stops
+stops_along took.Full told out lent accepted stops = stops
+stops_along took.Closed told out lent accepted stops = stops
