@@ -143,7 +143,7 @@ class StoresTornBlocks(Honest):
 class SlowForChosenKeys(Honest):
     def up(self, got):
         if b"cqhmya" in got:
-            time.sleep(0.03)
+            time.sleep(0.06)
         super().up(got)
 
 
