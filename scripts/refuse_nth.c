@@ -1,6 +1,6 @@
 /* Loaded before a program (LD_PRELOAD), it refuses one allocation: the one whose number, counted from 1, stands in
-   the environment as REFUSE_NTH. It then says so on standard error, so that the caller knows that the program came
-   that far. */
+   the environment as REFUSE_NTH; where REFUSE_REST stands there too, all that follow it as well. At the first it says
+   so on standard error, so that the caller knows that the program came that far. */
 #define _GNU_SOURCE
 #include <dlfcn.h>
 #include <errno.h>
@@ -11,17 +11,21 @@
 static const char said[] = "an allocation was refused\n";
 
 static int is_refused(void) {
-    static unsigned long left;
-    static int is_read;
-    if (!is_read) {
-        const char *nth = getenv("REFUSE_NTH");
-        left = nth ? strtoul(nth, NULL, 10) : 0;
-        is_read = 1;
+    static long nth = -1, count;
+    static int is_rest_refused;
+    if (nth < 0) {
+        const char *word = getenv("REFUSE_NTH");
+        is_rest_refused = getenv("REFUSE_REST") != NULL;
+        nth = word ? strtol(word, NULL, 10) : 0;
     }
-    if (left == 0 || __atomic_sub_fetch(&left, 1, __ATOMIC_SEQ_CST) != 0) {
+    if (nth == 0) {
         return 0;
     }
-    if (write(STDERR_FILENO, said, sizeof said - 1) < 0) {
+    long place = __atomic_add_fetch(&count, 1, __ATOMIC_SEQ_CST);
+    if (place < nth || (place > nth && !is_rest_refused)) {
+        return 0;
+    }
+    if (place == nth && write(STDERR_FILENO, said, sizeof said - 1) < 0) {
         abort();
     }
     errno = ENOMEM;

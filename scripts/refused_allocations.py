@@ -4,8 +4,10 @@ run meets no refusal.
 
     scripts/refused_allocations.py        after `rt ci`, or after `rt test` in the crates below
 
-It fails where such a run fails, and where a test makes fewer allocations than it must: then the test no longer goes
-where memory is taken. The programs of the tests are those that were just built, crates/NAME/out/NAME_tests.
+The tests of what takes no memory are run so with all allocations from the first on refused, then with all from the
+second on, and so on: in the last such run every call that they test finds none. It fails where such a run fails, and
+where a test makes fewer allocations than it must: then the test no longer goes where memory is taken. The programs of
+the tests are those that were just built, crates/NAME/out/NAME_tests.
 """
 import os
 import pathlib
@@ -27,6 +29,15 @@ TESTS = [
     ("mc_server", "a_refused_allocation", 40),
 ]
 
+# The tests of what takes no memory once all that it needs was made, and how many allocations that takes at least.
+WITHOUT_MEMORY = [
+    ("mc_server", "without_memory::words_numbers_and_items", 4),
+    ("mc_server", "without_memory::lines_without_a_key_and_skipped_blocks", 1),
+    ("mc_server", "without_memory::operations_on_a_present_key", 10),
+    ("mc_server", "without_memory::rings_that_have_room", 4),
+    ("mc_server", "without_memory::a_connection_whose_commands_are_taken", 8),
+]
+
 # No test makes as many allocations as this: one that seems to never ends.
 MOST = 5_000
 SECONDS = 60
@@ -40,13 +51,11 @@ def shim(folder):
     return made
 
 
-def runs(program, test, library):
+def runs(program, test, refusing):
     """Runs the test with each allocation refused in turn, and gives how many it makes, or what failed."""
     for nth in range(1, MOST):
-        ran = subprocess.run(
-            [program, f"tests::{test}"], capture_output=True, timeout=SECONDS,
-            env={**os.environ, "LD_PRELOAD": str(library), "REFUSE_NTH": str(nth)},
-        )
+        environment = {**os.environ, **refusing, "REFUSE_NTH": str(nth)}
+        ran = subprocess.run([program, f"tests::{test}"], capture_output=True, timeout=SECONDS, env=environment)
         if ran.returncode != 0:
             said = (ran.stdout + ran.stderr).decode(errors="replace").strip()
             return nth, f"fails with its allocation {nth} refused: {said[-300:]}"
@@ -58,12 +67,14 @@ def runs(program, test, library):
 def main():
     passed, failed = 0, 0
     with tempfile.TemporaryDirectory() as folder:
-        library = shim(pathlib.Path(folder))
-        for crate, test, least in TESTS:
-            count, fault = runs(TOP / f"crates/{crate}/out/{crate}_tests", test, library)
+        alone = {"LD_PRELOAD": str(shim(pathlib.Path(folder)))}
+        rest = {**alone, "REFUSE_REST": "1"}
+        plans = [(alone, "", *test) for test in TESTS] + [(rest, " and all behind it", *test) for test in WITHOUT_MEMORY]
+        for refusing, behind, crate, test, least in plans:
+            count, fault = runs(TOP / f"crates/{crate}/out/{crate}_tests", test, refusing)
             if fault is None and count < least:
                 fault = f"makes {count} allocations, and should make at least {least}"
-            print(f"{crate}: {test}: " + (fault or f"holds with each of its {count} allocations refused"))
+            print(f"{crate}: {test}: " + (fault or f"holds with each of its {count} allocations{behind} refused"))
             failed += fault is not None
             passed += fault is None
     print(f"allocations: {passed} passed, {failed} failed")

@@ -2,6 +2,8 @@
 //! crate mc_rows.
 ghost use Rattle.std.specs.Prelude.{◌≡◌, ◌≤◌, None, IsTrue, length, take};
 
+mod without_memory;
+
 use crate::{DEFAULT_RING, ServeRefusal, Sizes, StillClock, serve_one};
 use mc_seat::{Clock, Line, LineFault, Served};
 use mc_wire::{DEFAULT_VALUE_LIMIT, OutFault, Outlet};
