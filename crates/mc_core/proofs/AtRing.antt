@@ -1,9 +1,8 @@
 -- The events of the rings lead a core on: send, give and receive.
-use Rattle.std.proofs.Common.{◌≡◌, ◌≢◌, ℕ, zero, suc, ◌+◌, ◌<◌, ◌≤◌, ◌==◌, inl, inr, cond, Bool, true, false, Option, Some, None, List, [], ◌∷◌, ◌++◌, length, map, take, drop, refl, sym, ap, ◌∙◌, subst, arith, slice_set, slice_index_or, append-nil, length-append, eq-eqb, ne_eqb}
+use Rattle.std.proofs.Common.{◌≡◌, ◌≢◌, ℕ, zero, suc, ◌+◌, ◌<◌, ◌≤◌, ◌==◌, inl, inr, cond, true, false, Option, Some, None, List, [], ◌∷◌, ◌++◌, length, take, drop, refl, sym, ap, ◌∙◌, subst, arith, slice_set, slice_index_or, append-nil, length-append, eq-eqb, ne_eqb}
 use Rattle.std.specs.Prelude.{IsTrue}
 use Rattle.std.specs.List.{slice_get}
 use Rattle.std.proofs.lemmas.Bool.{cases_eq, cases_lt}
-use Rattle.std.proofs.lemmas.Bool.Decides.{eqb_tells}
 use Rattle.std.proofs.lemmas.List.{drop-append-le, length-map, length-take-le, take-append-drop}
 use Rattle.std.proofs.lemmas.Option.{same_Some, slice_get_within}
 use Rattle.mc_ring.specs.Reply.{Shown}
@@ -12,29 +11,27 @@ use Rattle.mc_split.specs.declared.plan.Piece.{Piece}
 use Rattle.mc_conn.specs.declared.conn.Conn.{Conn}
 use Rattle.mc_conn.specs.Conn.{IsConn}
 use Rattle.mc_conn.specs.Told.{Told, all_pieces}
-use Rattle.mc_conn.specs.Due.{due, lane, pieces}
+use Rattle.mc_conn.specs.Due.{lane, pieces}
 use Rattle.mc_conn.proofs.Counting.{due_beyond}
 use Rattle.mc_conn.proofs.Gets.{get_below}
 use Rattle.mc_conn.proofs.Places.{lane-append, lane-no, lane-yes}
 use Rattle.mc_core.specs.declared.event.StepReply.TheVariants as replied
-use Rattle.mc_core.specs.declared.sim.Connection.{Connection}
 use Rattle.mc_core.specs.declared.sim.Seat.{Seat}
 use Rattle.mc_core.specs.declared.sim.Sim.{Sim}
 use Rattle.mc_core.specs.Sizes.{Sizes}
 use Rattle.mc_core.specs.Log.{of_asker, on_shard, replies_in, reply_to}
-use Rattle.mc_core.specs.World.{IsAt, IsLink, Link, World, ran, sent_to, with_link}
+use Rattle.mc_core.specs.World.{IsAt, Link, World, ran, sent_to, with_link}
 use Rattle.mc_core.specs.Events.{IsEmptyHand, MaySend, one_more}
 use Rattle.mc_core.specs.Events.Event.{Send, Give}
 use Rattle.mc_core.specs.Schedule.{Happens}
-use Rattle.mc_core.specs.Schedule.StepReply.{Done, Idle}
-use Rattle.mc_core.specs.Law.{LinkLaw}
-use Rattle.mc_core.specs.Rings.{AreThere, AreWired, GivesNone, GivesReply, KeepsPiece, SendsPiece, Wires, with_lane, with_shard}
-use Rattle.mc_core.specs.Stands.{HandIs, IsHolding, IsServing, IsWorld, Keeps, Mirrors, SeatIs, Stands, Steps, told_of, unreceived, unrun}
+use Rattle.mc_core.specs.Schedule.StepReply.{Done}
+use Rattle.mc_core.specs.Rings.{AreWired, GivesNone, GivesReply, KeepsPiece, SendsPiece, Wires, with_lane, with_shard}
+use Rattle.mc_core.specs.Stands.{HandIs, IsHolding, IsServing, IsWorld, Keeps, SeatIs, Stands, Steps, told_of, unreceived, unrun}
 use Rattle.mc_core.proofs.Lists.{at_once, set_cases, take_next}
 use Rattle.mc_core.proofs.Every.{event_kept}
 use Rattle.mc_core.proofs.Links.{ran_within}
-use Rattle.mc_core.proofs.Changing.{at_apart, at_same, hand_on, mirrors_on, one_at, set_here, set_other}
-use Rattle.mc_core.proofs.Standing.{KeptBut, SeatsBut, found, kept_same, seats_set, world_on}
+use Rattle.mc_core.proofs.Changing.{at_same, hand_on, mirrors_on, one_at}
+use Rattle.mc_core.proofs.Standing.{found, kept_same, seats_set, world_on}
 use Rattle.mc_core.proofs.AtSeat.{Finds, get_index}
 
 pub length_drop : {X : Type 0} (n : ℕ) (xs : List X) → n ≤ length xs → n + length (drop n xs) ≡ length xs

@@ -1,5 +1,5 @@
 -- The events of a connection lead a core on: end, break and take.
-use Rattle.std.proofs.Common.{◌≡◌, ◌≢◌, ℕ, zero, suc, ◌+◌, ◌<◌, ◌≤◌, inl, inr, Bool, true, false, Some, None, List, [], ◌∷◌, ◌++◌, length, map, take, drop, refl, sym, ap, ◌∙◌, subst, arith, slice_set, slice_index_or, append-nil, length-append}
+use Rattle.std.proofs.Common.{◌≡◌, ℕ, zero, suc, ◌+◌, ◌<◌, ◌≤◌, inl, inr, Bool, true, false, Some, None, List, [], ◌∷◌, ◌++◌, length, take, drop, refl, sym, ap, ◌∙◌, subst, arith, slice_set, slice_index_or, append-nil, length-append}
 use Rattle.std.specs.Prelude.{IsTrue}
 use Rattle.std.specs.List.{concat, slice_get}
 use Rattle.std.proofs.lemmas.Bool.{cases_eq}
@@ -11,7 +11,6 @@ use Rattle.mc_reader.proofs.Fronts.{commands_begin, last_of}
 use Rattle.mc_ring.specs.Reply.{Shown}
 use Rattle.mc_split.specs.declared.plan.Ticket.{Ticket}
 use Rattle.mc_join.specs.Replies.{replies}
-use Rattle.mc_conn.specs.declared.conn.Conn.{Conn}
 use Rattle.mc_conn.specs.Conn.{FillsWindow, IsConn, NeedsMore, Opens}
 use Rattle.mc_conn.specs.Told.{IsOver, Told}
 use Rattle.mc_conn.specs.History.{Taken}
@@ -25,12 +24,12 @@ use Rattle.mc_core.specs.declared.sim.Sim.{Sim}
 use Rattle.mc_core.specs.Sizes.{Sizes}
 use Rattle.mc_core.specs.Log.{of_asker, replies_in}
 use Rattle.mc_core.specs.Sized.{SpellAll, SpellFirst}
-use Rattle.mc_core.specs.World.{IsAt, IsLink, Link, World, entries, ran, with_link}
+use Rattle.mc_core.specs.World.{IsAt, Link, World, entries, ran, with_link}
 use Rattle.mc_core.specs.Rest.{HasWindow, IsAllTaken, IsNextCommand}
 use Rattle.mc_core.specs.Events.{Concerns, Event}
-use Rattle.mc_core.specs.Events.Event.{Open, Feed, Take, Hand, End, Break}
+use Rattle.mc_core.specs.Events.Event.{Take, End, Break}
 use Rattle.mc_core.specs.Schedule.{Happens}
-use Rattle.mc_core.specs.Schedule.StepReply.{Done, Idle, NoMemory}
+use Rattle.mc_core.specs.Schedule.StepReply.{Done}
 use Rattle.mc_core.specs.Headline.{handed_bytes}
 use Rattle.mc_core.specs.Law.{Law, LinkLaw}
 use Rattle.mc_core.specs.Rings.{AreWired}

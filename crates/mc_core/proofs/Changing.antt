@@ -1,14 +1,14 @@
 -- What stays of the places of connections, hands and rings where one connection of a world changes.
-use Rattle.std.proofs.Common.{◌≡◌, ◌≢◌, ℕ, zero, suc, ◌+◌, ◌<◌, ◌≤◌, ◌⊎◌, inl, inr, Option, Some, None, List, [], ◌∷◌, ◌++◌, length, set, refl, sym, ap, ◌∙◌, subst, arith}
+use Rattle.std.proofs.Common.{◌≡◌, ◌≢◌, ℕ, zero, suc, ◌<◌, ◌⊎◌, inl, inr, Option, Some, None, List, [], ◌∷◌, set, refl, sym, ap, ◌∙◌, subst, arith}
 use Rattle.std.specs.List.{slice_get}
 use Rattle.std.proofs.lemmas.Bool.{cases_eq, cases_lt}
 use Rattle.mc_ring.specs.Reply.{Shown}
 use Rattle.mc_core.specs.Sizes.{Sizes}
 use Rattle.mc_core.specs.Log.{Leaves, of_asker, on_shard, replies_in}
 use Rattle.mc_core.specs.World.{IsAt, IsLink, Link, World, ran, with_link}
-use Rattle.mc_core.specs.Events.{IsEmptyHand, IsUnused}
+use Rattle.mc_core.specs.Events.{IsUnused}
 use Rattle.mc_core.specs.Rings.{Wires}
-use Rattle.mc_core.specs.Stands.{HandIs, IsHolding, Mirrors, unreceived, unrun}
+use Rattle.mc_core.specs.Stands.{HandIs, Mirrors, unreceived, unrun}
 use Rattle.mc_core.proofs.Lists.{at_once, set_cases}
 
 pub set_here : {X : Type 0} (xs : List X) (k : ℕ) (v x : X) → slice_get xs k ≡ Some x → slice_get (set xs k v) k ≡ Some v

@@ -1,11 +1,10 @@
 -- Bytes that came in lead a core on.
-use Rattle.std.proofs.Common.{◌≡◌, ◌≢◌, ℕ, zero, suc, ◌+◌, ◌<◌, ◌≤◌, ◌⊎◌, inl, inr, Bool, true, false, Some, List, [], ◌∷◌, ◌++◌, length, map, take, drop, refl, sym, ap, ◌∙◌, subst, arith, slice_set, append-nil, length-append}
+use Rattle.std.proofs.Common.{◌≡◌, ℕ, ◌+◌, ◌<◌, ◌≤◌, inl, inr, Bool, true, false, Some, List, [], ◌∷◌, ◌++◌, length, take, refl, sym, ap, ◌∙◌, subst, arith, slice_set, append-nil, length-append}
 use Rattle.std.specs.List.{slice_get}
-use Rattle.std.proofs.lemmas.List.{length-map, map-append}
+use Rattle.std.proofs.lemmas.List.{length-map}
 use Rattle.std.proofs.Math.Seq.{take-append-add}
 use Rattle.mc_wire.specs.declared.TheConstants.{LINE_LIMIT}
-use Rattle.mc_command.specs.declared.command.Command.{Command}
-use Rattle.mc_reader.specs.Spelling.{SpellsFront, is_closed}
+use Rattle.mc_reader.specs.Spelling.{is_closed}
 use Rattle.mc_reader.proofs.Fronts.{commands_begin}
 use Rattle.mc_reader.specs.Spelling.{AreCommands, BeginCommands}
 use Rattle.mc_conn.specs.declared.conn.Conn.{Conn}
@@ -13,7 +12,7 @@ use Rattle.mc_conn.specs.declared.conn.Taken.{Taken as Took}
 use Rattle.mc_conn.specs.declared.conn.Taken.TheVariants as took
 use Rattle.mc_conn.specs.History.{Taken}
 use Rattle.mc_conn.specs.Conn.{IsAwaiting, IsConn, TakeSays}
-use Rattle.mc_conn.specs.Told.{IsAllTaken, IsClosed, IsOpen, IsOver, IsShut, IsUsedUp, Told, commands_of}
+use Rattle.mc_conn.specs.Told.{IsAllTaken, IsOpen, IsOver, IsShut, IsUsedUp, Told, commands_of}
 use Rattle.mc_core.specs.declared.event.StepReply.{StepReply as Replied}
 use Rattle.mc_core.specs.declared.event.StepReply.TheVariants as replied
 use Rattle.mc_core.specs.declared.sim.Connection.{Connection}
@@ -26,8 +25,8 @@ use Rattle.mc_core.specs.World.{IsAt, IsLink, Link, World, with_link}
 use Rattle.mc_core.specs.Events.{MayFeed}
 use Rattle.mc_core.specs.Events.Event.{Feed}
 use Rattle.mc_core.specs.Schedule.{Happens}
-use Rattle.mc_core.specs.Schedule.StepReply.{Done, Idle, NoMemory}
-use Rattle.mc_core.specs.Feeding.{FeedsInto, HasPlace, MayTake, Refreshed, TakesBytes}
+use Rattle.mc_core.specs.Schedule.StepReply.{Done}
+use Rattle.mc_core.specs.Feeding.{FeedsInto, MayTake, Refreshed, TakesBytes}
 use Rattle.mc_core.specs.Stands.{IsServing, IsWorld, Keeps, SeatIs, Stands, Steps, told_of}
 use Rattle.mc_core.proofs.Every.{event_kept}
 use Rattle.mc_core.proofs.Changing.{one_at}

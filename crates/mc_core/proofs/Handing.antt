@@ -1,9 +1,8 @@
 -- Replies that were handed out lead a core on.
-use Rattle.std.proofs.Common.{◌≡◌, ◌≢◌, ℕ, zero, suc, ◌+◌, ◌<◌, ◌≤◌, ◌==◌, inl, inr, Bool, true, false, Some, Option, None, List, [], ◌∷◌, ◌++◌, length, map, take, drop, refl, sym, ap, ◌∙◌, subst, arith, slice_set, length-append}
+use Rattle.std.proofs.Common.{◌≡◌, ℕ, zero, suc, ◌+◌, ◌<◌, ◌≤◌, inl, true, false, Some, Option, List, [], ◌∷◌, ◌++◌, length, map, take, drop, refl, sym, ap, ◌∙◌, subst, arith, slice_set}
 use Rattle.std.specs.Prelude.{IsTrue}
 use Rattle.std.specs.List.{AllByRecursion, concat, slice_get}
 use Rattle.std.specs.Option.{option_map}
-use Rattle.std.proofs.lemmas.Bool.{cases_lt}
 use Rattle.std.proofs.lemmas.List.{length-map, length-take-le, take-append-drop, take_all, take-take}
 use Rattle.std.proofs.lemmas.Option.{slice_get_within}
 use Rattle.mc_ring.specs.Reply.{Shown}
@@ -16,11 +15,10 @@ use Rattle.mc_split.specs.Pieces.{Asked, pieces_of}
 use Rattle.mc_conn.specs.declared.conn.Conn.{Conn}
 use Rattle.mc_conn.specs.Conn.{IsConn}
 use Rattle.mc_conn.specs.History.{Taken, planned, text_done}
-use Rattle.mc_conn.specs.Told.{Told, all_texts, handed_text, waiting_text}
+use Rattle.mc_conn.specs.Told.{Told, all_texts, waiting_text}
 use Rattle.mc_conn.specs.Due.{done_at, due, forms_of, history_from, lane, pieces, pieces_at, pieces_from, ticket_at}
 use Rattle.mc_conn.specs.Fits.{Fits, HasCome, counts}
 use Rattle.mc_conn.proofs.Counting.{come_from_count, count_from_come, due_first}
-use Rattle.mc_conn.proofs.Gets.{get_take, take_get}
 use Rattle.mc_conn.proofs.Places.{lane_there}
 use Rattle.mc_conn.proofs.Staying.{is_sound}
 use Rattle.mc_conn.proofs.Telling.{tells}
@@ -32,12 +30,12 @@ use Rattle.mc_core.specs.declared.sim.Sim.{Sim}
 use Rattle.mc_core.specs.Asked.{reply_of}
 use Rattle.mc_core.specs.Sizes.{Sizes}
 use Rattle.mc_core.specs.Log.{Entry, of_asker, on_shard, replies_in, reply_to}
-use Rattle.mc_core.specs.World.{IsAt, Link, World, with_link}
+use Rattle.mc_core.specs.World.{Link, World, with_link}
 use Rattle.mc_core.specs.Events.{IsTurn}
 use Rattle.mc_core.specs.Events.Event.{Hand}
 use Rattle.mc_core.specs.Schedule.{Happens}
-use Rattle.mc_core.specs.Schedule.StepReply.{Done, Idle, NoMemory}
-use Rattle.mc_core.specs.Feeding.{HandsAll, HandsInto}
+use Rattle.mc_core.specs.Schedule.StepReply.{Done}
+use Rattle.mc_core.specs.Feeding.{HandsInto}
 use Rattle.mc_core.specs.Rings.{AreWired}
 use Rattle.mc_core.specs.Law.{LinkLaw}
 use Rattle.mc_core.specs.Headline.{handed_bytes}

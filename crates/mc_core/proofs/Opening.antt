@@ -1,5 +1,5 @@
 -- A new connection leads a core on.
-use Rattle.std.proofs.Common.{◌≡◌, ◌≢◌, ℕ, zero, suc, ◌+◌, ◌<◌, ◌≤◌, ◌⊎◌, inl, inr, Bool, true, false, Some, Option, None, List, [], ◌∷◌, ◌++◌, length, map, take, drop, refl, sym, ap, ◌∙◌, subst, arith, slice_set, length-append}
+use Rattle.std.proofs.Common.{◌≡◌, ◌≢◌, ℕ, ◌+◌, ◌<◌, ◌≤◌, ◌⊎◌, inl, inr, Bool, true, false, Some, Option, None, List, [], ◌∷◌, ◌++◌, length, take, drop, refl, sym, ap, ◌∙◌, subst, arith, slice_set, length-append}
 use Rattle.std.specs.Prelude.{◌↔◌, IsTrue, MatchBool}
 use Rattle.std.specs.List.{slice_get}
 use Rattle.std.proofs.lemmas.Bool.{cases_eq}
@@ -14,7 +14,7 @@ use Rattle.mc_conn.specs.Due.{due, lane, pieces}
 use Rattle.mc_conn.specs.Fits.{HasCome}
 use Rattle.mc_conn.proofs.Counting.{come_from_count, count_from_come}
 use Rattle.mc_conn.proofs.Fitting.{fits_none, push_here}
-use Rattle.mc_conn.proofs.Gets.{get_cases, get_front}
+use Rattle.mc_conn.proofs.Gets.{get_front}
 use Rattle.mc_conn.proofs.Places.{lane-append}
 use Rattle.mc_conn.proofs.Staying.{is_sound}
 use Rattle.mc_core.specs.declared.event.StepReply.TheVariants as replied
@@ -28,7 +28,7 @@ use Rattle.mc_core.specs.Rest.{AtRest, IsAllReceived, IsAllSent, IsAllTaken, IsC
 use Rattle.mc_core.specs.Events.{IsFree, IsUnused}
 use Rattle.mc_core.specs.Events.Event.{Open}
 use Rattle.mc_core.specs.Schedule.{Happens}
-use Rattle.mc_core.specs.Schedule.StepReply.{Done, Idle, NoMemory}
+use Rattle.mc_core.specs.Schedule.StepReply.{Done}
 use Rattle.mc_core.specs.Rings.{AreWired}
 use Rattle.mc_core.specs.Feeding.{MayBegin}
 use Rattle.mc_core.specs.Law.{LinkLaw}
@@ -36,8 +36,8 @@ use Rattle.mc_core.proofs.Lists.{at_once, push_cases}
 use Rattle.mc_core.proofs.Logs.{none_of}
 use Rattle.mc_core.proofs.Every.{event_kept}
 use Rattle.mc_core.proofs.Changing.{one_at}
-use Rattle.mc_core.specs.Stands.{HandIs, IsHolding, IsServing, IsWorld, Keeps, Mirrors, SeatIs, Stands, Steps, received_by, told_of, unreceived, unrun}
-use Rattle.mc_core.proofs.Links.{all_received, ran_within}
+use Rattle.mc_core.specs.Stands.{HandIs, IsServing, IsWorld, Keeps, Mirrors, SeatIs, Stands, Steps, received_by, told_of, unreceived, unrun}
+use Rattle.mc_core.proofs.Links.{ran_within}
 use Rattle.mc_core.proofs.AtSeat.{IsSame, world_stays}
 use Rattle.mc_core.proofs.Handing.{come_back, come_on}
 

@@ -1,14 +1,11 @@
 -- A piece that was run leads a core on.
-use Rattle.std.proofs.Common.{◌≡◌, ◌≢◌, ℕ, zero, suc, ◌+◌, ◌<◌, ◌≤◌, ◌==◌, inl, inr, true, false, Option, Some, None, List, [], ◌∷◌, ◌++◌, length, map, take, drop, refl, sym, ap, ◌∙◌, subst, arith, append-nil, length-append}
+use Rattle.std.proofs.Common.{◌≡◌, ◌≢◌, ℕ, ◌+◌, ◌<◌, ◌≤◌, ◌==◌, inl, inr, true, Option, Some, None, List, [], ◌∷◌, ◌++◌, length, map, take, drop, refl, sym, ap, ◌∙◌, subst, arith, append-nil, length-append}
 use Rattle.std.specs.List.{concat, slice_get}
 use Rattle.std.proofs.lemmas.Bool.{cases_eq, cases_lt}
-use Rattle.std.proofs.lemmas.Bool.Decides.{eqb_tells}
 use Rattle.std.proofs.lemmas.List.{length-map, map-append, take-append-drop, take-append-le}
 use Rattle.std.proofs.lemmas.List.Elements.{filter-append}
 use Rattle.std.proofs.lemmas.Option.{slice_get_within}
 use Rattle.mc_ring.specs.Reply.{Shown}
-use Rattle.mc_split.specs.declared.plan.Piece.{Piece}
-use Rattle.mc_store.specs.State.{State}
 use Rattle.mc_join.specs.Replies.{replies}
 use Rattle.mc_conn.specs.declared.conn.Conn.{Conn}
 use Rattle.mc_conn.specs.Due.{due, forms_of, lane, pieces}
@@ -19,7 +16,6 @@ use Rattle.mc_conn.proofs.Gets.{get_front}
 use Rattle.mc_conn.proofs.Places.{lane-append}
 use Rattle.mc_core.specs.declared.event.StepReply.TheVariants as replied
 use Rattle.mc_core.specs.declared.sim.Connection.{Connection}
-use Rattle.mc_core.specs.declared.sim.LogEntry.{LogEntry}
 use Rattle.mc_core.specs.declared.sim.Seat.{Seat}
 use Rattle.mc_core.specs.declared.sim.Sim.{Sim}
 use Rattle.mc_core.specs.declared.sim.rings.Ran.{Ran}
@@ -27,10 +23,10 @@ use Rattle.mc_core.specs.Sizes.{Sizes}
 use Rattle.mc_core.specs.Sized.{empty_shard}
 use Rattle.mc_core.specs.Log.{Entry, Leaves, Run, of_asker, on_shard, replies_in, reply_to}
 use Rattle.mc_core.specs.World.{IsAt, IsLink, Link, World, ran, sent_to, with_entry}
-use Rattle.mc_core.specs.Events.{IsEmptyHand, IsUnused, RunsNext}
+use Rattle.mc_core.specs.Events.{IsEmptyHand, RunsNext}
 use Rattle.mc_core.specs.Events.Event.{Pop}
 use Rattle.mc_core.specs.Schedule.{Happens}
-use Rattle.mc_core.specs.Schedule.StepReply.{Done, Idle, NoMemory}
+use Rattle.mc_core.specs.Schedule.StepReply.{Done}
 use Rattle.mc_core.specs.Headline.{handed_bytes}
 use Rattle.mc_core.specs.Law.{LinkLaw}
 use Rattle.mc_core.specs.Rings.{AreThere, AreWired, RunsOldest, TellsWaiting, Wires, with_lane, with_shard}
@@ -42,7 +38,6 @@ use Rattle.mc_core.proofs.Growing.{replies_stay}
 use Rattle.mc_core.proofs.Every.{event_kept}
 use Rattle.mc_core.proofs.Changing.{one_at}
 use Rattle.mc_core.proofs.Standing.{found}
-use Rattle.mc_core.proofs.AtSeat.{Finds}
 use Rattle.mc_core.proofs.AtRing.{drop_first, only_rings, shard_here, shard_not, waiting, with_far, with_here, with_not}
 
 at_entry : (w : World) (entry : Entry) (c k : ℕ) (link : Link) → IsAt w c k link → IsAt (with_entry w entry) c k link

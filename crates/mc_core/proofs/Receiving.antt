@@ -1,10 +1,10 @@
 -- A reply that was received leads a core on.
-use Rattle.std.proofs.Common.{◌≡◌, ◌≢◌, ℕ, zero, suc, ◌+◌, ◌<◌, ◌≤◌, inl, inr, Option, Some, None, Result, Ok, Err, List, [], ◌∷◌, ◌++◌, length, map, take, drop, refl, sym, ap, ◌∙◌, subst, arith, slice_set}
+use Rattle.std.proofs.Common.{◌≡◌, ℕ, zero, suc, ◌+◌, ◌<◌, inl, inr, Some, Result, Ok, Err, List, [], ◌∷◌, ◌++◌, length, map, take, drop, refl, sym, ap, ◌∙◌, subst, arith, slice_set}
 use Rattle.std.specs.Prelude.{OnErr, OnOk}
 use Rattle.std.specs.List.{slice_get}
 use Rattle.std.proofs.lemmas.Bool.{cases_eq, cases_lt}
 use Rattle.std.proofs.lemmas.List.{length-map, length-take-le}
-use Rattle.std.proofs.lemmas.Option.{same_Some, slice_get_within}
+use Rattle.std.proofs.lemmas.Option.{same_Some}
 use Rattle.mc_ring.specs.Reply.{Shown}
 use Rattle.mc_split.specs.declared.plan.Piece.{Piece}
 use Rattle.mc_join.specs.declared.joiner.Stranger.{Stranger}
@@ -13,7 +13,7 @@ use Rattle.mc_conn.specs.declared.conn.Conn.{Conn}
 use Rattle.mc_conn.specs.Conn.{IsConn}
 use Rattle.mc_conn.specs.Told.{Told, all_forms}
 use Rattle.mc_conn.specs.Due.{due}
-use Rattle.mc_conn.specs.Fits.{Fits, IsReplyTo, Receives}
+use Rattle.mc_conn.specs.Fits.{IsReplyTo, Receives}
 use Rattle.mc_conn.proofs.Counting.{due_beyond}
 use Rattle.mc_conn.proofs.Fitting.{next_expected, next_fits}
 use Rattle.mc_conn.proofs.Gets.{get_below, get_take}
@@ -21,19 +21,19 @@ use Rattle.mc_core.specs.declared.event.StepReply.TheVariants as replied
 use Rattle.mc_core.specs.declared.sim.Seat.{Seat}
 use Rattle.mc_core.specs.declared.sim.Sim.{Sim}
 use Rattle.mc_core.specs.Sizes.{Sizes}
-use Rattle.mc_core.specs.Log.{Entry, of_asker, on_shard, pieces_in, replies_in, reply_to}
-use Rattle.mc_core.specs.World.{IsAt, Link, World, with_link}
+use Rattle.mc_core.specs.Log.{Entry, of_asker, on_shard, replies_in, reply_to}
+use Rattle.mc_core.specs.World.{Link, with_link}
 use Rattle.mc_core.specs.Events.{one_more}
 use Rattle.mc_core.specs.Events.Event.{Receive}
 use Rattle.mc_core.specs.Schedule.{Happens}
-use Rattle.mc_core.specs.Schedule.StepReply.{Done, Idle}
+use Rattle.mc_core.specs.Schedule.StepReply.{Done}
 use Rattle.mc_core.specs.Law.{LinkLaw}
 use Rattle.mc_core.specs.Rings.{AreWired, ReceivesNone, ReceivesReply, Wires, with_lane}
-use Rattle.mc_core.specs.Stands.{IsServing, IsWorld, Keeps, SeatIs, Stands, Steps, received_by, told_of, unreceived}
+use Rattle.mc_core.specs.Stands.{IsServing, Keeps, SeatIs, Stands, Steps, received_by, told_of, unreceived}
 use Rattle.mc_core.proofs.Lists.{take_next}
 use Rattle.mc_core.proofs.Links.{ran_within}
 use Rattle.mc_core.proofs.Every.{event_kept}
-use Rattle.mc_core.proofs.Changing.{at_same, hand_on, mirrors_on, one_at}
+use Rattle.mc_core.proofs.Changing.{at_same, hand_on, mirrors_on}
 use Rattle.mc_core.proofs.Standing.{found, kept_same, seats_set, world_on}
 use Rattle.mc_core.proofs.AtSeat.{Finds}
 use Rattle.mc_core.proofs.AtRing.{drop_first, more_here, more_not, only_rings, replies_wait, with_far, with_here, with_not}

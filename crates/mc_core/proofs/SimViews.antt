@@ -52,3 +52,8 @@ unfolding Stands
 kept_always sizes sim w k link xs world here same past =
     let within : k < length w.links = slice_get_within w.links k link here in
     omega (arith, within, past, world.count, ap length same)
+
+-- what is kept is one of the world's connections
+pub kept_within : (sizes : Sizes) (sim : Sim) (w : World) (k : ℕ) (xs : List Connection) → Stands sizes sim w → xs ≡ sim.connections.items → k < length xs → k < length w.links
+unfolding Stands
+kept_within sizes sim w k xs world same within = omega (arith, within, world.count, ap length same)

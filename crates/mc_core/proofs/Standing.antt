@@ -1,5 +1,5 @@
 -- A core stands in the next world where one connection of its world changed, and the core with it.
-use Rattle.std.proofs.Common.{◌≡◌, ◌≢◌, ℕ, ◌+◌, ◌<◌, ◌≤◌, inl, inr, Option, Some, None, List, [], ◌∷◌, length, map, refl, sym, ap, ◌∙◌, subst, arith, slice_set}
+use Rattle.std.proofs.Common.{◌≡◌, ◌≢◌, ℕ, inl, inr, Option, Some, None, List, length, refl, sym, ap, ◌∙◌, subst, arith, slice_set}
 use Rattle.std.specs.List.{slice_get}
 use Rattle.std.proofs.lemmas.Bool.{cases_eq}
 use Rattle.std.proofs.lemmas.List.{length-set}
@@ -10,7 +10,7 @@ use Rattle.mc_core.specs.declared.sim.Seat.{Seat}
 use Rattle.mc_core.specs.declared.sim.Sim.{Sim}
 use Rattle.mc_core.specs.Sizes.{Sizes}
 use Rattle.mc_core.specs.Log.{of_asker}
-use Rattle.mc_core.specs.World.{IsAt, IsLink, Link, World, with_link}
+use Rattle.mc_core.specs.World.{IsAt, Link, World, with_link}
 use Rattle.mc_core.specs.Events.{Concerns, Event}
 use Rattle.mc_core.specs.Schedule.{Happens}
 use Rattle.mc_core.specs.Schedule.StepReply.{Idle}
@@ -18,7 +18,7 @@ use Rattle.mc_core.specs.Law.{Law}
 use Rattle.mc_core.specs.Rings.{AreWired, Wires}
 use Rattle.mc_core.specs.Stands.{IsServing, IsWorld, Keeps, Mirrors, SeatIs}
 use Rattle.mc_core.proofs.Lists.{at_once, set_cases}
-use Rattle.mc_core.proofs.Changing.{at_apart, at_same, one_at, unused_on}
+use Rattle.mc_core.proofs.Changing.{at_apart, unused_on}
 
 -- The seats are those of before, but for one.
 pub record SeatsBut (sizes : Sizes) (w : World) (c : ℕ) (old new : List Seat) : Type 0 where

@@ -1,6 +1,6 @@
 -- When a simulated core stands as a world says.
-use Rattle.std.specs.Prelude.{ℕ, ◌≡◌, ◌<◌, ◌≤◌, Bool, Option, Some, None, List, [], ◌∷◌, ◌++◌, length, map, take, drop}
-use Rattle.std.specs.List.{AllByRecursion, slice_get}
+use Rattle.std.specs.Prelude.{ℕ, ◌≡◌, ◌<◌, Bool, Option, Some, None, List, [], length, map, take, drop}
+use Rattle.std.specs.List.{slice_get}
 use Rattle.mc_split.specs.declared.plan.Piece.{Piece}
 use Rattle.mc_ring.specs.Reply.{Shown}
 use Rattle.mc_conn.specs.declared.conn.Conn.{Conn}
@@ -8,7 +8,6 @@ use Rattle.mc_conn.specs.Conn.{IsConn}
 use Rattle.mc_conn.specs.Told.{Told, told_nothing}
 use Rattle.mc_conn.specs.Due.{lane, pieces}
 use Rattle.mc_conn.specs.Fits.{Fits}
-use Rattle.mc_core.specs.declared.event.Event.{Event as Asked}
 use Rattle.mc_core.specs.declared.event.StepReply.{StepReply as Replied}
 use Rattle.mc_core.specs.declared.sim.Connection.{Connection}
 use Rattle.mc_core.specs.declared.sim.LogEntry.{LogEntry}
@@ -19,7 +18,7 @@ use Rattle.mc_core.specs.Sizes.{AreWithin, Sizes}
 use Rattle.mc_core.specs.Log.{Entry, Leaves, of_asker, on_shard, replies_in}
 use Rattle.mc_core.specs.World.{IsAt, IsLink, Link, World, ran}
 use Rattle.mc_core.specs.Events.{Event, IsEmptyHand, IsUnused}
-use Rattle.mc_core.specs.Schedule.{Happens, StepReply}
+use Rattle.mc_core.specs.Schedule.{Happens}
 use Rattle.mc_core.specs.Headline.{handed_bytes}
 use Rattle.mc_core.specs.Law.{Law}
 use Rattle.mc_core.specs.Rings.{AreWired, Wires}

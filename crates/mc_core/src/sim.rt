@@ -134,20 +134,22 @@ impl Sim {
         &self.connections
     }
 
-    /// All bytes that the connection of this number was fed.
+    /// All bytes that the connection of this number was fed, where there is one.
     pub fn fed(&self, number: usize) -> Option<&[u8]>
-        ensures { (sizes : Sizes) (w : World) (link : Link) → Stands sizes self.now w → IsLink w number link → option_map (λ bytes. bytes.now) result ≡ Some link.fed }
+        ensures kept { (sizes : Sizes) (w : World) (link : Link) → Stands sizes self.now w → IsLink w number link → option_map (λ bytes. bytes.now) result ≡ Some link.fed }
+        ensures within { IfSome result (λ _. (sizes : Sizes) (w : World) → Stands sizes self.now w → number < length w.links) }
     {
         let kept = self.connections.get(number)?;
         Some(&kept.fed)
     }
 
-    /// All bytes that the connection of this number was handed.
+    /// All bytes that the connection of this number was handed, where there is one.
     pub fn handed(&self, number: usize) -> Option<&[u8]>
-        ensures { (sizes : Sizes) (w : World) (link : Link) → Stands sizes self.now w → IsLink w number link → option_map (λ bytes. bytes.now) result ≡ Some (handed_bytes sizes w number link) }
+        ensures kept { (sizes : Sizes) (w : World) (link : Link) → Stands sizes self.now w → IsLink w number link → option_map (λ bytes. bytes.now) result ≡ Some (handed_bytes sizes w number link) }
+        ensures within { IfSome result (λ _. (sizes : Sizes) (w : World) → Stands sizes self.now w → number < length w.links) }
     {
-        let kept = self.connections.get(number)?;
-        Some(&kept.handed)
+        let connection = self.connections.get(number)?;
+        Some(&connection.handed)
     }
 
     /// What the shards ran, in the order in which they did.

@@ -1,4 +1,4 @@
-use Rattle.std.proofs.Common.{refl, sym, subst, ◌∙◌, true, false, ◌≡◌}
+use Rattle.std.proofs.Common.{refl, sym, subst, true, false, ◌≡◌}
 use Rattle.mc_core.specs.Feeding.{MayTake}
 use Rattle.mc_core.proofs.AtSeat.{finds_at, get_index, same_index}
 use Rattle.mc_core.proofs.Feeding.{feeds_into, feeds_not}

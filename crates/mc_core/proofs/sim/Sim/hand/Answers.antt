@@ -1,4 +1,4 @@
-use Rattle.std.proofs.Common.{refl, sym, subst, arith, ◌<◌, ◌≡◌}
+use Rattle.std.proofs.Common.{refl, subst, arith, ◌<◌, ◌≡◌}
 use Rattle.mc_conn.specs.Conn.{IsConn}
 use Rattle.mc_core.specs.declared.sim.Seat.{Seat}
 use Rattle.mc_core.proofs.AtSeat.{finds_at, get_index, same_index}

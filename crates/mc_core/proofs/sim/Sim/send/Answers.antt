@@ -1,4 +1,4 @@
-use Rattle.std.proofs.Common.{refl, sym, ap, ◌≡◌}
+use Rattle.std.proofs.Common.{refl, ap, ◌≡◌}
 use Rattle.mc_core.specs.declared.sim.Seat.{Seat}
 use Rattle.mc_core.proofs.AtSeat.{finds_at}
 use Rattle.mc_core.proofs.AtRing.{mid_is, put_back, sends, sends_full, sends_none, set_twice}

@@ -1,4 +1,4 @@
-use Rattle.std.proofs.Common.{◌≡◌, ◌++◌, ◌<◌, ◌+◌, take, length, arith, rules}
+use Rattle.std.proofs.Common.{◌≡◌, ◌++◌, ◌<◌, length, arith, rules}
 use Rattle.mc_core.proofs.Feeding.{front_of}
 use Rattle.mc_core.proofs.sim.at_seat.feed_into.Goals as goal
 

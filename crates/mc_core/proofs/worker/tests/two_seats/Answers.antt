@@ -1,4 +1,4 @@
-use Rattle.std.proofs.Common.{◌≡◌, rules, length, refl}
+use Rattle.std.proofs.Common.{rules, length, refl}
 use Rattle.std.proofs.lemmas.Option.{slice_get_read}
 use Rattle.mc_core.proofs.worker.tests.two_seats.Goals as goal
 

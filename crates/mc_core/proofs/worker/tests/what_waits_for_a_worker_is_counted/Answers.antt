@@ -1,4 +1,4 @@
-use Rattle.std.proofs.Common.{◌≡◌, rules, length, refl}
+use Rattle.std.proofs.Common.{rules, length, refl}
 use Rattle.std.proofs.lemmas.Option.{slice_get_read}
 use Rattle.mc_ring.specs.EndsLaws.{lane_kept, same_ends-trans}
 use Rattle.mc_core.proofs.worker.tests.what_waits_for_a_worker_is_counted.Goals as goal
