@@ -23,6 +23,7 @@ TESTS = [
     ("mc_reader", "a_refused_allocation_gives_up_one_command", 8),
     ("mc_store", "memory_may_be_refused_once", 50),
     ("mc_split", "a_refused_allocation_refuses_one_plan", 30),
+    ("mc_join", "a_hit_copies_no_value", 5),
     ("mc_conn", "a_refused_allocation_gives_up_one_command", 4),
     ("mc_core", "a_refused_allocation_gives_up_one_command", 40),
     ("mc_core", "a_worker_takes_no_memory", 8),
