@@ -28,6 +28,7 @@ TESTS = [
     ("mc_core", "a_refused_allocation_gives_up_one_command", 40),
     ("mc_core", "a_worker_takes_no_memory", 8),
     ("mc_server", "a_refused_allocation", 40),
+    ("mc_trials", "a_refused_start", 20),
 ]
 
 # The tests of what takes no memory once all that it needs was made, and how many allocations that takes at least.

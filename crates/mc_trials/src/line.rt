@@ -1,0 +1,136 @@
+//! A line over memory: it gives its input in pieces, takes its output in portions, and may fail.
+ghost use Rattle.std.specs.Prelude.{◌≡◌, ◌≤◌, None, length, take};
+
+use mc_seat::{Line, LineFault};
+use mc_wire::{OutFault, Outlet};
+use std::alloc::{AllocError, Global};
+
+/// Where a line fails, if it does: at the read or the write of this number, from 0.
+#[derive(Clone, Copy, Debug, PartialEq, Eq)]
+pub enum Fault {
+    Never,
+    Reading(usize),
+    Writing(usize),
+}
+
+/// How a line is cut, and where it fails.
+#[derive(Clone, Copy)]
+pub struct Cutting {
+    /// At most so many bytes are read at once.
+    pub piece: usize,
+    /// At most so many bytes are written at once.
+    pub portion: usize,
+    pub fault: Fault,
+}
+
+impl Cutting {
+    /// Nothing is cut, and nothing fails.
+    pub const NONE: Cutting = Cutting {
+        piece: usize::MAX,
+        portion: usize::MAX,
+        fault: Fault::Never,
+    };
+}
+
+/// A line that keeps what it takes.
+#[derive(Drop)]
+pub struct MemoryLine {
+    input: Vec<u8>,
+    /// Where the first reads end; of those behind them only the cutting says how much they give.
+    ends: Vec<usize>,
+    cutting: Cutting,
+    /// How many bytes of the input were read.
+    given: usize,
+    pub output: Vec<u8>,
+    reads: usize,
+    writes: usize,
+    pub failed: bool,
+    /// The last read found the end of the input.
+    ended: bool,
+    ghost within: { given ≤ length input.items },
+}
+
+impl MemoryLine {
+    /// A line of which nothing was read, with room for so many bytes of output. The first reads end at these places.
+    pub fn new(
+        alloc: Global,
+        input: Vec<u8>,
+        ends: Vec<usize>,
+        cutting: Cutting,
+        room: usize,
+    ) -> Result<MemoryLine, AllocError> {
+        Ok(MemoryLine {
+            input,
+            ends,
+            cutting,
+            given: 0,
+            output: Vec::with_capacity(alloc, room)?,
+            reads: 0,
+            writes: 0,
+            failed: false,
+            ended: false,
+        })
+    }
+
+    /// A line with this input, cut so.
+    pub fn of(alloc: Global, input: &[u8], cutting: Cutting) -> Result<MemoryLine, AllocError> {
+        let input = Vec::from_slice(alloc, input)?;
+        MemoryLine::new(alloc, input, Vec::new(alloc), cutting, 0)
+    }
+
+    /// The bytes that were read of it.
+    pub fn given(&self) -> &[u8] {
+        self.input.as_slice().split_at(self.given).0
+    }
+
+    /// How many bytes the next read gives at most.
+    fn most(&self) -> usize {
+        match self.ends.get(self.reads) {
+            Some(end) if *end > self.given => *end - self.given,
+            _ => self.cutting.piece,
+        }
+    }
+}
+
+impl Outlet for MemoryLine {
+    ghost use Rattle.std.specs.Prelude.{take};
+    ghost use Rattle.mc_wire.specs.Outlet.{Listed};
+
+    ghost sight = { λ line. record { given = Listed (take line.given line.input.items); ended = line.ended; reads = None; taken = Listed line.output.items; failed = line.failed } };
+
+    fn write(&mut self, bytes: &[u8]) -> Result<usize, OutFault> {
+        if self.failed || self.cutting.fault == Fault::Writing(self.writes) {
+            self.failed = true;
+            return Err(OutFault);
+        }
+        self.writes = self.writes.wrapping_add(1);
+        let count = bytes.len().min(self.cutting.portion.max(1));
+        let (front, _) = bytes.split_at(count);
+        match self.output.extend_from_slice(front) {
+            Ok(()) => Ok(count),
+            Err(_) => {
+                self.failed = true;
+                Err(OutFault)
+            }
+        }
+    }
+}
+
+impl Line for MemoryLine {
+    fn read(&mut self, room: &mut [u8]) -> Result<usize, LineFault> {
+        if self.failed || self.cutting.fault == Fault::Reading(self.reads) {
+            self.failed = true;
+            return Err(LineFault);
+        }
+        let most = self.most();
+        self.reads = self.reads.wrapping_add(1);
+        let (_, rest) = self.input.as_slice().split_at(self.given);
+        let count = most.min(rest.len()).min(room.len());
+        let (front, _) = rest.split_at(count);
+        let (place, _) = room.split_at_mut(count);
+        place.copy_from_slice(front);
+        self.given += count;
+        self.ended = count == 0;
+        Ok(count)
+    }
+}

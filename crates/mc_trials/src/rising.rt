@@ -1,0 +1,25 @@
+//! A clock that is a second further at each call.
+use mc_seat::Clock;
+use std::alloc::{AllocError, Global};
+use std::boxed::Box;
+use std::sync::atomic::{AtomicU64, Ordering};
+
+/// All copies of it are one clock.
+#[derive(Clone, Copy)]
+pub struct Rising(&'static AtomicU64);
+
+impl Rising {
+    /// A clock that answers this moment first. Its memory stays.
+    pub fn new(alloc: Global, moment: u64) -> Result<Rising, AllocError> {
+        let next = Box::new(alloc, AtomicU64::new(moment))?;
+        Ok(Rising(Box::leak(next)))
+    }
+}
+
+impl Clock for Rising {
+    ghost may_answer = { λ _ _. Unit {0} };
+
+    fn now(&self) -> u64 {
+        self.0.fetch_add(1, Ordering::SeqCst)
+    }
+}

@@ -1,0 +1,360 @@
+//! The trials: what lines must have taken once real threads served them.
+use crate::gates::{Meeting, Met};
+use crate::line::{Cutting, Fault, MemoryLine};
+use crate::load::{Loads, wrong_among};
+use crate::rising::Rising;
+use crate::server::{MOMENT, Server};
+use crate::text::split_line;
+use mc_core::OpenGate;
+use mc_server::StillClock;
+use mc_threads::{ServedLine, Sizes};
+use mc_wire::number_u64;
+use std::alloc::AllocError;
+use std::random::RandomSource;
+use std::sync::atomic::{AtomicUsize, Ordering};
+use std::sync::{Arc, Wait};
+use std::thread::Threads;
+
+/// What a line sends, and what it must take, whoever sends the same beside it.
+#[derive(Clone, Copy)]
+struct Conversation {
+    input: &'static [u8],
+    output: &'static [u8],
+    /// How many commands are taken.
+    commands: u64,
+}
+
+const CONVERSATIONS: [Conversation; 4] = [
+    Conversation {
+        input: b"set a 0 0 1\r\n0\r\nget a\r\n",
+        output: b"STORED\r\nVALUE a 0 1\r\n0\r\nEND\r\n",
+        commands: 2,
+    },
+    Conversation {
+        input: b"set b 0 0 1\r\n1\r\nget b\r\n",
+        output: b"STORED\r\nVALUE b 0 1\r\n1\r\nEND\r\n",
+        commands: 2,
+    },
+    Conversation {
+        input: b"set d 0 0 1 noreply\r\n2\r\nget d\r\n",
+        output: b"VALUE d 0 1\r\n2\r\nEND\r\n",
+        commands: 2,
+    },
+    Conversation {
+        input: b"set e 0 0 1\r\n3\r\nset f 0 0 1\r\n4\r\nget e g f\r\nwrong\r\nmn\r\nquit\r\nget e\r\n",
+        output: b"STORED\r\nSTORED\r\nVALUE e 0 1\r\n3\r\nVALUE f 0 1\r\n4\r\nEND\r\nERROR\r\nMN\r\n",
+        commands: 6,
+    },
+];
+
+/// How many lines there are, how large the rings and the windows, and how many bytes are read and written at once.
+const SHAPES: [(usize, usize, usize, usize, usize); 8] = [
+    (1, 1, 1, usize::MAX, usize::MAX),
+    (3, 64, 256, usize::MAX, usize::MAX),
+    (8, 1, 256, usize::MAX, 1),
+    (8, 64, 1, 7, usize::MAX),
+    (8, 1, 1, 1, 1),
+    (64, 64, 256, usize::MAX, usize::MAX),
+    (64, 1, 1, usize::MAX, usize::MAX),
+    (64, 1, 256, 1, 1),
+];
+
+/// What a line sends that fails: no other line names its keys.
+const FAILING: Conversation = Conversation {
+    input: b"set x 0 0 3\r\nabc\r\nget x\r\nappend x 0 0 1\r\nd\r\nget x y z\r\nmn\r\n",
+    output: b"STORED\r\nVALUE x 0 3\r\nabc\r\nEND\r\nSTORED\r\nVALUE x 0 4\r\nabcd\r\nEND\r\nMN\r\n",
+    commands: 5,
+};
+
+/// What a line sends whose item fades away, where each command is a second later than the one before.
+const FADING: Conversation = Conversation {
+    input: b"set a 0 3 1\r\nx\r\nget a\r\nget a\r\nget a\r\nquit\r\n",
+    output: b"STORED\r\nVALUE a 0 1\r\nx\r\nEND\r\nVALUE a 0 1\r\nx\r\nEND\r\nEND\r\n",
+    commands: 5,
+};
+
+/// The reply to a get of keys that nobody stored.
+const NONE_STORED: &[u8] = b"END\r\n";
+
+/// The replies to an add, without their ends.
+const ADDED: [&[u8]; 2] = [b"STORED", b"NOT_STORED"];
+
+/// A line that fails makes no more reads, and no more writes, than this.
+const MOST_CALLS: usize = 200;
+
+/// So often each of two lines counts up.
+const COUNTS: u64 = 1_000;
+
+/// The longest line has so many keys of one letter.
+const MOST_KEYS: usize = 32_766;
+
+/// A server of so many shards, with rings and windows of these sizes.
+fn sizes(shards: usize, ring: usize, window: usize) -> Sizes {
+    Sizes {
+        shards,
+        bytes: 65_536,
+        ring,
+        value: 1_048_576,
+        window,
+    }
+}
+
+impl<R: Threads + Wait + RandomSource + Copy + Send + Drop + 'static> Server<R> {
+    /// The name of each trial, and whether it came out right.
+    pub fn trials(&self) -> Result<Vec<(&'static str, bool)>, AllocError> {
+        vec![in self.alloc;
+            ("lines side by side", self.lines_side_by_side()?),
+            ("two lines count together", self.two_lines_count()?),
+            (
+                "two shards meet for two lines",
+                self.shards_meet(&[b"get a\r\n", b"get b\r\n"])?,
+            ),
+            (
+                "two shards meet for one line",
+                self.shards_meet(&[b"get a b\r\n"])?,
+            ),
+            ("a line fails beside another", self.a_line_fails()?),
+            ("the longest line over rings of 1", self.longest_line()?),
+            ("each command has a moment of its own", self.moments_rise()?),
+            ("a load", self.loads_come_out_right()?),
+        ]
+    }
+
+    /// Lines with these inputs, all cut the same.
+    fn lines_of(&self, inputs: &[&[u8]], cutting: Cutting) -> Result<Vec<MemoryLine>, AllocError> {
+        let mut lines = Vec::with_capacity(self.alloc, inputs.len())?;
+        for input in inputs {
+            lines.push(MemoryLine::of(self.alloc, input, cutting)?)?;
+        }
+        Ok(lines)
+    }
+
+    /// Whether each line has what is its own, however many there are and over whatever shards, rings and windows.
+    fn lines_side_by_side(&self) -> Result<bool, AllocError> {
+        let mut is_right = true;
+        for shards in [1, 2, 16] {
+            is_right = self.lines_over(shards)? && is_right;
+        }
+        Ok(is_right)
+    }
+
+    /// Whether it is so over so many shards.
+    fn lines_over(&self, shards: usize) -> Result<bool, AllocError> {
+        let mut is_right = true;
+        for (lines, ring, window, piece, portion) in SHAPES {
+            let cutting = Cutting {
+                piece,
+                portion,
+                fault: Fault::Never,
+            };
+            is_right = self.converse(lines, sizes(shards, ring, window), cutting)? && is_right;
+        }
+        Ok(is_right)
+    }
+
+    /// Whether it is so of so many lines, which are cut so.
+    fn converse(&self, count: usize, sizes: Sizes, cutting: Cutting) -> Result<bool, AllocError> {
+        let mut lines = Vec::with_capacity(self.alloc, count)?;
+        for number in 0..count {
+            let input = CONVERSATIONS[number % 4].input;
+            lines.push(MemoryLine::of(self.alloc, input, cutting)?)?;
+        }
+        match self.serve(lines, sizes) {
+            Some(served) => Ok(served.len() == count && are_right(served.as_slice())),
+            None => Ok(false),
+        }
+    }
+
+    /// Whether two lines that count up the same number see each count once between them.
+    fn two_lines_count(&self) -> Result<bool, AllocError> {
+        let mut input = Vec::from_slice(self.alloc, b"add c 0 0 1\r\n0\r\n")?;
+        for _ in 0..COUNTS {
+            input.extend_from_slice(b"incr c 1\r\n")?;
+        }
+        let mut is_right = true;
+        for (ring, window) in [(1, 1), (1, 256), (64, 1), (64, 256)] {
+            let inputs = [input.as_slice(), input.as_slice()];
+            let lines = self.lines_of(&inputs, Cutting::NONE)?;
+            is_right = match self.serve(lines, sizes(2, ring, window)) {
+                Some(served) => have_counted(served.as_slice()) && is_right,
+                None => false,
+            };
+        }
+        Ok(is_right)
+    }
+
+    /// Whether both shards were at the gate at once, and each line has its reply.
+    fn shards_meet(&self, inputs: &[&[u8]]) -> Result<bool, AllocError> {
+        let met: Met = Arc::new(self.alloc, AtomicUsize::new(0))?;
+        let lines = self.lines_of(inputs, Cutting::NONE)?;
+        let gate = Meeting::new(&met)?;
+        let Some(served) = self.serve_by(lines, sizes(2, 64, 256), gate, StillClock(MOMENT)) else {
+            return Ok(false);
+        };
+        let all_end = served
+            .iter()
+            .all(|one| one.line.output.as_slice() == NONE_STORED);
+        Ok(all_end && met.load(Ordering::SeqCst) == 2)
+    }
+
+    /// Whether a line that fails at whatever read or write leaves the other one whole.
+    fn a_line_fails(&self) -> Result<bool, AllocError> {
+        let mut is_right = true;
+        for ring in [1, 64] {
+            let reading = self.fails_at_each(ring, Fault::Reading)?;
+            let writing = self.fails_at_each(ring, Fault::Writing)?;
+            is_right = is_right && reading && writing;
+        }
+        Ok(is_right)
+    }
+
+    /// Whether it is so at each of the reads, or at each of the writes, up to the last.
+    fn fails_at_each<F: Fn(usize) -> Fault>(
+        &self,
+        ring: usize,
+        fault: F,
+    ) -> Result<bool, AllocError>
+        requires { F.IsAlwaysCallable fault }
+    {
+        for number in 0..MOST_CALLS {
+            match self.fails_at(ring, fault(number))? {
+                Some(true) => {}
+                Some(false) => return Ok(number > 10),
+                None => return Ok(false),
+            }
+        }
+        Ok(false)
+    }
+
+    /// Whether the line failed that was to fail so; none where it is not as it must be, or the one beside it isn't.
+    fn fails_at(&self, ring: usize, fault: Fault) -> Result<Option<bool>, AllocError> {
+        let cutting = Cutting {
+            piece: 5,
+            portion: 3,
+            fault,
+        };
+        let other = CONVERSATIONS[0];
+        let mut lines = self.lines_of(&[FAILING.input], cutting)?;
+        lines.push(MemoryLine::of(self.alloc, other.input, Cutting::NONE)?)?;
+        let Some(served) = self.serve(lines, sizes(2, ring, 256)) else {
+            return Ok(None);
+        };
+        let [first, second] = served.as_slice() else {
+            return Ok(None);
+        };
+        if !is_right(second, other) || !self.is_right_failed(first, fault)? {
+            return Ok(None);
+        }
+        Ok(Some(first.broke))
+    }
+
+    /// Whether the line was told to have failed where it has, and took a beginning of its output: where a read failed, the
+    /// whole replies to what was read.
+    fn is_right_failed(
+        &self,
+        served: &ServedLine<MemoryLine>,
+        fault: Fault,
+    ) -> Result<bool, AllocError> {
+        let line = &served.line;
+        if !line.failed {
+            return Ok(is_right(served, FAILING));
+        }
+        if !served.broke || !FAILING.output.starts_with(line.output.as_slice()) {
+            return Ok(false);
+        }
+        if let Fault::Writing(_) = fault {
+            return Ok(true);
+        }
+        let mut alone = MemoryLine::of(self.alloc, line.given(), Cutting::NONE)?;
+        let taken = self.serve_alone(&mut alone, sizes(2, 64, 256));
+        Ok(taken.is_some() && alone.output.as_slice() == line.output.as_slice())
+    }
+
+    /// Whether a get of as many keys as a line holds is answered over rings of 1.
+    fn longest_line(&self) -> Result<bool, AllocError> {
+        let mut input = Vec::from_slice(self.alloc, b"get")?;
+        for _ in 0..MOST_KEYS {
+            input.extend_from_slice(b" k")?;
+        }
+        input.push(b'\n')?;
+        let lines = self.lines_of(&[input.as_slice()], Cutting::NONE)?;
+        match self.serve(lines, sizes(2, 1, 1)) {
+            Some(served) => Ok(
+                served
+                    .iter()
+                    .all(|one| one.line.output.as_slice() == NONE_STORED),
+            ),
+            None => Ok(false),
+        }
+    }
+
+    /// Whether the clock is asked for each command: an item that lives for three seconds is there for the next two, and then it
+    /// is gone.
+    fn moments_rise(&self) -> Result<bool, AllocError> {
+        let lines = self.lines_of(&[FADING.input], Cutting::NONE)?;
+        let clock = Rising::new(self.alloc, MOMENT)?;
+        match self.serve_by(lines, sizes(2, 64, 256), OpenGate, clock) {
+            Some(served) => Ok(served.iter().all(|one| is_right(one, FADING))),
+            None => Ok(false),
+        }
+    }
+
+    /// Whether loads come out right, pipelined and one command at a time.
+    fn loads_come_out_right(&self) -> Result<bool, AllocError> {
+        let mut is_right = true;
+        for (lines, shards, batch) in [(1, 1, 256), (8, 4, 256), (8, 2, 1), (2, 16, 7)] {
+            let loads = Loads::new(self.alloc, lines, 1_000, batch)?;
+            let wrong = match self.serve(loads.lines, sizes(shards, 64, 256)) {
+                Some(served) => wrong_among(served.as_slice(), loads.replies.as_slice()),
+                None => lines,
+            };
+            is_right = is_right && wrong == 0;
+        }
+        Ok(is_right)
+    }
+}
+
+/// Whether the line took just the output of the conversation.
+fn is_right(served: &ServedLine<MemoryLine>, conversation: Conversation) -> bool {
+    !served.broke
+        && served.commands == conversation.commands
+        && served.line.output.as_slice() == conversation.output
+}
+
+/// Whether each line took the output of its conversation.
+fn are_right(served: &[ServedLine<MemoryLine>]) -> bool {
+    let mut are_right = true;
+    for (number, one) in served.iter().enumerate() {
+        are_right = is_right(one, CONVERSATIONS[number % 4]) && are_right;
+    }
+    are_right
+}
+
+/// Whether one of the two lines has made the number, and each count is told once.
+fn have_counted(served: &[ServedLine<MemoryLine>]) -> bool {
+    let [first, second] = served else {
+        return false;
+    };
+    let (one, counts) = split_line(first.line.output.as_slice());
+    let (other, other_counts) = split_line(second.line.output.as_slice());
+    let [added, not_added] = ADDED;
+    let made_once = one == added && other == not_added || one == not_added && other == added;
+    made_once && !first.broke && !second.broke && are_all_counts(counts, other_counts)
+}
+
+/// Whether two rising lists hold each count once between them.
+fn are_all_counts(one: &[u8], other: &[u8]) -> bool {
+    let (mut one, mut other) = (one, other);
+    for count in 1..=2 * COUNTS {
+        let (first, after_first) = split_line(one);
+        let (second, after_second) = split_line(other);
+        if number_u64(first).ok() == Some(count) {
+            one = after_first;
+        } else if number_u64(second).ok() == Some(count) {
+            other = after_second;
+        } else {
+            return false;
+        }
+    }
+    one.is_empty() && other.is_empty()
+}
