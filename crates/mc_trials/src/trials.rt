@@ -102,22 +102,18 @@ fn sizes(shards: usize, ring: usize, window: usize) -> Sizes {
 impl<R: Threads + Wait + RandomSource + Copy + Send + Drop + 'static> Server<R> {
     /// The name of each trial, and whether it came out right.
     pub fn trials(&self) -> Result<Vec<(&'static str, bool)>, AllocError> {
-        vec![in self.alloc;
-            ("lines side by side", self.lines_side_by_side()?),
-            ("two lines count together", self.two_lines_count()?),
-            (
-                "two shards meet for two lines",
-                self.shards_meet(&[b"get a\r\n", b"get b\r\n"])?,
-            ),
-            (
-                "two shards meet for one line",
-                self.shards_meet(&[b"get a b\r\n"])?,
-            ),
-            ("a line fails beside another", self.a_line_fails()?),
-            ("the longest line over rings of 1", self.longest_line()?),
-            ("each command has a moment of its own", self.moments_rise()?),
-            ("a load", self.loads_come_out_right()?),
-        ]
+        let mut trials = Vec::with_capacity(self.alloc, 8)?;
+        trials.push(("lines side by side", self.lines_side_by_side()?))?;
+        trials.push(("two lines count together", self.two_lines_count()?))?;
+        let for_two = self.shards_meet(&[b"get a\r\n", b"get b\r\n"])?;
+        trials.push(("two shards meet for two lines", for_two))?;
+        let for_one = self.shards_meet(&[b"get a b\r\n"])?;
+        trials.push(("two shards meet for one line", for_one))?;
+        trials.push(("a line fails beside another", self.a_line_fails()?))?;
+        trials.push(("the longest line over rings of 1", self.longest_line()?))?;
+        trials.push(("each command has a moment of its own", self.moments_rise()?))?;
+        trials.push(("a load", self.loads_come_out_right()?))?;
+        Ok(trials)
     }
 
     /// Lines with these inputs, all cut the same.
