@@ -6,7 +6,7 @@ use std::thread::Threads;
 
 /// So often a thread looks again at once, where each thread has a core of its own. A look takes some nanoseconds, to sleep
 /// and wake some microseconds.
-const LOOKS: usize = 200;
+const LOOKS: usize = 1_000;
 
 /// So often it then lets other threads run before it looks again.
 const YIELDS: usize = 2;
