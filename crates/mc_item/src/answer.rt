@@ -51,14 +51,14 @@ pub enum Answer {
 pub struct MetaHit {
     pub value: Value,
     pub flags: u32,
-    pub unique: u64,
     /// Whether it was fetched before this command.
     pub fetched: bool,
+    pub marks: Marks,
+    pub unique: u64,
     /// The seconds since its last access before this command.
     pub idle: u64,
     /// The seconds left after this command; none is never.
     pub left: Option<u64>,
-    pub marks: Marks,
 }
 
 /// The marks of a hit, shown in this order as `W`, `X`, `Z`.

@@ -22,17 +22,17 @@ pub struct Item {
     pub value: Value,
     /// The client's flags.
     pub flags: u32,
-    pub expiry: Expiry,
-    /// The cas unique.
-    pub unique: u64,
-    /// The second at which it was last made the most recent one.
-    pub last_access: u64,
     /// It was fetched since it was stored.
     pub fetched: bool,
     /// It was marked stale, and not stored since.
     pub stale: bool,
     /// A client was told to recompute it.
     pub sent: bool,
+    pub expiry: Expiry,
+    /// The cas unique.
+    pub unique: u64,
+    /// The second at which it was last made the most recent one.
+    pub last_access: u64,
 }
 
 impl Expiry {

@@ -5,27 +5,29 @@ ghost use Rattle.mc_item.specs.Value.{number_in, number_text, joined};
 ghost use Rattle.mc_wire.specs.Words.{is_space};
 
 use crate::memory::NoMemory;
-use bytes::Bytes;
 use itoa::Buffer;
 use mc_wire::{DIGIT_LIMIT, GREATEST_VALUE_LIMIT, number_u64};
 use std::alloc::{AllocError, Global};
 use std::marker::Model;
+use std::sync::ArcSlice;
 
 /// The bytes that a client stored: at most `GREATEST_VALUE_LIMIT`.
 #[derive(Drop)]
 pub struct Value {
-    bytes: Bytes,
+    /// Shared with every clone; no bytes are none, and take no memory.
+    shared: Option<ArcSlice<u8>>,
 }
 
 impl Model for Value {
     ghost use Rattle.std.specs.Prelude.{ℕ, List, ◌≤◌, length};
     ghost use Rattle.mc_wire.specs.declared.TheConstants.{GREATEST_VALUE_LIMIT};
+    ghost use Rattle.mc_item.specs.internal.Held.{held};
 
     ghost Value = { List ℕ };
 
-    ghost view = { λ value. value.bytes };
+    ghost view = { λ value. held value.shared };
 
-    ghost invariant = { λ value. length value.bytes ≤ GREATEST_VALUE_LIMIT };
+    ghost invariant = { λ value. length (held value.shared) ≤ GREATEST_VALUE_LIMIT };
 }
 
 impl Value {
@@ -34,19 +36,20 @@ impl Value {
         requires { length bytes.items ≤ GREATEST_VALUE_LIMIT }
         ensures { IfOk result (λ value. value ≡ bytes.items) }
     {
-        match Bytes::from_vec(bytes) {
-            Ok(bytes) => Ok(Value { bytes }),
-            Err(_) => Err(NoMemory),
+        if bytes.is_empty() {
+            return Ok(Value::empty());
         }
+        let shared = ArcSlice::from_vec(bytes)?;
+        Ok(Value {
+            shared: Some(shared),
+        })
     }
 
     /// The value with no bytes. It takes no memory.
     pub fn empty() -> Value
         ensures { result ≡ [] }
     {
-        Value {
-            bytes: Bytes::new(),
-        }
+        Value { shared: None }
     }
 
     /// The text of a number: its decimal digits, without padding.
@@ -55,8 +58,8 @@ impl Value {
         ensures short { IfOk result (λ value. length value ≤ DIGIT_LIMIT) }
     {
         let mut buffer = Buffer::new();
-        let bytes = Bytes::copy_from_slice(alloc, buffer.format(number).as_bytes())?;
-        Ok(Value { bytes })
+        let bytes = Vec::from_slice(alloc, buffer.format(number).as_bytes())?;
+        Value::new(bytes)
     }
 
     /// The bytes of the value.
@@ -64,7 +67,10 @@ impl Value {
         ensures value { result.now ≡ self.now }
         ensures within { length self.now ≤ GREATEST_VALUE_LIMIT }
     {
-        self.bytes.as_slice()
+        match &self.shared {
+            Some(bytes) => bytes.as_slice(),
+            None => &[],
+        }
     }
 
     /// How many bytes the value has.
@@ -72,14 +78,14 @@ impl Value {
         ensures value { result ≡ length self.now }
         ensures within { result ≤ GREATEST_VALUE_LIMIT }
     {
-        self.bytes.len()
+        self.bytes().len()
     }
 
     /// Whether the value has no bytes.
     pub fn is_empty(&self) -> bool
         ensures { result ≡ (length self.now == 0) }
     {
-        self.bytes.is_empty()
+        self.bytes().is_empty()
     }
 
     /// The number that the value holds (protocol.txt, "Increment/Decrement"): 1 to 20 digits, and after them spaces
@@ -129,7 +135,10 @@ impl Clone for Value {
     ghost is_clone = { λ value copy. copy ≡ value };
 
     fn clone(&self) -> Result<Value, AllocError> {
-        let bytes = self.bytes.clone()?;
-        Ok(Value { bytes })
+        let shared = match &self.shared {
+            Some(bytes) => Some(bytes.clone()?),
+            None => None,
+        };
+        Ok(Value { shared })
     }
 }
