@@ -1,12 +1,14 @@
 //! Runs the worked rows of data/rows.txt through `serve_one`: each whole and cut into small pieces, its output
 //! taken a few bytes at a time or gathered, and with each of its reads and writes failing in turn. Prints those
-//! whose output isn't the row's.
+//! whose output isn't the row's, and those of whose input a connection held too much.
 #![tactic(auto)]
 
 mod escape;
+mod held;
 mod line;
 mod row;
 
+use held::{blocks_held, is_bounded};
 use line::{Cutting, MemoryLine};
 use mc_seat::{Line, Served};
 use mc_server::{DEFAULT_RING, Sizes, StillClock, serve_one};
@@ -166,6 +168,9 @@ fn fault_of<R: Wait + RandomSource>(rt: &R, alloc: Global, row: &Row) -> Option<
     if !is_right_failing(rt, alloc, row) {
         return Some("wrong where the line fails");
     }
+    if !is_bounded(alloc, row.input.as_slice()) {
+        return Some("held beyond its bound");
+    }
     None
 }
 
@@ -184,5 +189,7 @@ fn main(rt: HostRuntime) -> io::Result<()> {
             println!(rt; "{fault}: {line}")?;
         }
     }
+    let (blocks, wrong) = blocks_held(rt.alloc());
+    println!(rt; "{blocks} blocks, {wrong} held beyond their bounds or not whole")?;
     println!(rt; "{rows} rows, {failed} wrong")
 }
