@@ -1,6 +1,7 @@
 -- The lemmas of this crate.
 pub mod Base64Keys
 pub mod Numbers
+pub mod SameBytes
 pub mod Scanning
 pub mod Splitting
 pub mod Outlets

@@ -5,6 +5,8 @@ ghost use Rattle.std.specs.List.{list_all};
 ghost use Rattle.mc_wire.specs.Base64Key.{base64_of, base64_key, base64_fault, IsBase64Of};
 ghost use Rattle.mc_wire.specs.Key.{key_fault, place_of};
 ghost use Rattle.mc_wire.specs.Key as spec;
+ghost use Rattle.mc_wire.specs.SameKey.{same_key};
+ghost use Rattle.mc_wire.specs.internal.Eight.{IsWord};
 ghost use Rattle.mc_wire.specs.declared.fault.WireFault.TheVariants.{NotBase64};
 
 use crate::fault::WireFault;
@@ -50,7 +52,6 @@ impl Clone for Key {
 }
 
 impl PartialEq for Key {
-    ghost use Rattle.mc_wire.specs.SameKey.{same_key};
     ghost use Rattle.std.specs.Cmp.{partial_equiv_from_equiv};
     ghost use Rattle.std.specs.Cmp.Lexicographic.{nat_list_eq_equiv};
 
@@ -59,7 +60,7 @@ impl PartialEq for Key {
     ghost laws = { partial_equiv_from_equiv nat_list_eq_equiv };
 
     fn eq(&self, other: &Key) -> bool {
-        self.bytes == other.bytes
+        same_bytes(self.bytes(), other.bytes())
     }
 }
 
@@ -169,6 +170,31 @@ impl Key {
         });
         hash as usize % shards
     }
+}
+
+/// Whether the bytes are the same. They are compared eight at a time, as numbers.
+fn same_bytes(one: &[u8], other: &[u8]) -> bool
+    ensures { result ≡ same_key one.now other.now }
+{
+    let (mut rest, mut other_rest) = (one, other);
+    while let (Some((word, behind)), Some((other_word, other_behind))) = (
+        rest.split_first_chunk::<8>(),
+        other_rest.split_first_chunk::<8>(),
+    ) {
+        if read_word(*word) != read_word(*other_word) {
+            return false;
+        }
+        rest = behind;
+        other_rest = other_behind;
+    }
+    rest == other_rest
+}
+
+/// Eight bytes as one number.
+fn read_word(bytes: [u8; 8]) -> u64
+    ensures { IsWord bytes result }
+{
+    u64::from_le_bytes(bytes)
 }
 
 /// Decodes a base64 text into the front of the room, and gives the number of its bytes, or `None`

@@ -1,0 +1,10 @@
+-- What is left is alike just where all is.
+use Rattle.std.proofs.Common.{◌≡◌, ℕ, length}
+use Rattle.mc_wire.specs.SameKey.{same_key}
+use Rattle.mc_wire.proofs.key.same_bytes.Given as goal
+
+abbrev pub invariant-loop-word : goal.invariant-loop-word
+invariant-loop-word l = same_key l.one l.other ≡ same_key l.rest l.other_rest
+
+abbrev pub decreases-loop-word : goal.decreases-loop-word
+decreases-loop-word l = length l.rest
