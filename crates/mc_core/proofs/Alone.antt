@@ -120,7 +120,7 @@ on_its_shard s (entry ∷ log) = elim (cases_Bool (entry.shard == s)) [
   | inr f ↦ rw f (on_its_shard s log)
 ]
 
--- an answer that was accepted isn't want of memory, where none of the replies is
+-- an answer that was accepted isn't "out of memory", where none of the replies is
 abbrev pub AllHad : List Shown → Type 0
 AllHad accepted = AllByRecursion (λ reply. reply.answer ≢ NoMemory) accepted
 

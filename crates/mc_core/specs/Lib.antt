@@ -14,6 +14,7 @@ pub mod Desk
 pub mod DeskLaws
 pub mod Turns
 pub mod Marks
+pub mod Serves
 pub mod Asked
 pub mod Numbers
 pub mod Feeding

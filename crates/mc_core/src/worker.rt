@@ -10,6 +10,7 @@ ghost use Rattle.mc_store.specs.State.{State};
 ghost use Rattle.mc_core.specs.Desk.{Goes, HasEnded, HasRun, RunsNoMore};
 ghost use Rattle.mc_core.specs.Turns.{FindsNothing, Gives, Grows, Turned};
 ghost use Rattle.mc_core.specs.Marks.{Marks};
+ghost use Rattle.mc_core.specs.Serves.{Serves};
 
 #[cfg(test)]
 mod tests;
@@ -147,8 +148,8 @@ impl Worker {
     }
 
     /// Turns for one seat as long as its lane brings something, but no more than `LANE_TURNS`. It marks the seats that a reply
-    /// was given to, so that their threads can be woken. False where nothing was on the lane, and no reply waits to be given:
-    /// then nothing was done.
+    /// was given to, so that their threads can be woken. True where the first turn found something to do; false where nothing was
+    /// on the lane, and no reply waits to be given: then nothing was done.
     pub fn serve<G: Gate>(
         &mut self,
         alloc: Global,
@@ -160,6 +161,7 @@ impl Worker {
         requires given { length given.old ≡ length self.old.ends.lanes }
         ensures goes { Goes self.old self.new }
         ensures marks { Marks self.old self.new given.old given.new }
+        ensures serves { OnTrue result (Serves self.old seat self.new) }
         ensures rests { OnFalse result (FindsNothing self.old seat self.new) }
     {
         let _ = &self.shard;

@@ -2,8 +2,8 @@
 use Rattle.std.specs.Prelude.{ℕ, ◌≤◌, ◌^◌, ◌&&◌, List, Option, Some, None, codes, nat_le, option_and_then, option_map, if◌then◌else◌}
 use Rattle.mc_wire.specs.Number.{number_of}
 use Rattle.mc_wire.specs.declared.TheConstants.{DEFAULT_VALUE_LIMIT}
-use Rattle.mc_core.specs.declared.sizes.TheConstants.{LEAST, MOST_SEATS, MOST_SHARDS, LEAST_BYTES, MOST_BYTES, LEAST_VALUE, MOST_VALUE, MOST_WINDOW}
-use Rattle.mc_options.specs.declared.options.TheConstants.{DEFAULT_BUDGET, DEFAULT_SEATS, DEFAULT_SHARDS, DEFAULT_WINDOW, MOST_CONNECTIONS}
+use Rattle.mc_core.specs.declared.sizes.TheConstants.{DEFAULT_WINDOW, LEAST, MOST_SEATS, MOST_SHARDS, LEAST_BYTES, MOST_BYTES, LEAST_VALUE, MOST_VALUE, MOST_WINDOW}
+use Rattle.mc_options.specs.declared.options.TheConstants.{DEFAULT_BUDGET, DEFAULT_SEATS, DEFAULT_SHARDS, MOST_CONNECTIONS}
 use Rattle.mc_options.specs.declared.options.Limits.{Limits}
 
 -- the number, if it is in the range

@@ -8,4 +8,4 @@ mod program;
 mod tests;
 
 pub use fault::OptionFault;
-pub use options::{DEFAULT_WINDOW, Limits, Options, read_options};
+pub use options::{Limits, Options, read_options};

@@ -10,7 +10,8 @@ use crate::fault::OptionFault;
 use crate::program::program_options;
 use clap::ArgMatches;
 use mc_core::{
-    LEAST, LEAST_BYTES, LEAST_VALUE, MOST_BYTES, MOST_SEATS, MOST_SHARDS, MOST_VALUE, MOST_WINDOW,
+    DEFAULT_WINDOW, LEAST, LEAST_BYTES, LEAST_VALUE, MOST_BYTES, MOST_SEATS, MOST_SHARDS,
+    MOST_VALUE, MOST_WINDOW,
 };
 use mc_wire::{DEFAULT_VALUE_LIMIT, number_u64};
 use std::alloc::Global;
@@ -23,9 +24,6 @@ const DEFAULT_SEATS: usize = 16;
 
 /// What the items of a shard may cost together where nothing else is said, in bytes.
 const DEFAULT_BUDGET: usize = 16_777_216;
-
-/// So many commands of a connection may be open unless it is said otherwise.
-pub const DEFAULT_WINDOW: usize = 256;
 
 /// The most connections after which the program can be told to end.
 const MOST_CONNECTIONS: usize = 4_294_967_295;

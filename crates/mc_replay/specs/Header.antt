@@ -5,8 +5,7 @@ use Rattle.std.specs.Str.{bytes_eq}
 use Rattle.mc_wire.specs.Number.{number_of}
 use Rattle.mc_wire.specs.declared.TheConstants.{DEFAULT_VALUE_LIMIT}
 use Rattle.mc_core.specs.Sizes.{Sizes}
-use Rattle.mc_core.specs.declared.sizes.TheConstants.{LEAST, LEAST_BYTES, LEAST_VALUE, MOST_BYTES, MOST_RING, MOST_SEATS, MOST_SHARDS, MOST_VALUE, MOST_WINDOW}
-use Rattle.mc_replay.specs.declared.header.TheConstants.{DEFAULT_WINDOW}
+use Rattle.mc_core.specs.declared.sizes.TheConstants.{DEFAULT_WINDOW, LEAST, LEAST_BYTES, LEAST_VALUE, MOST_BYTES, MOST_RING, MOST_SEATS, MOST_SHARDS, MOST_VALUE, MOST_WINDOW}
 
 -- the number, if it is in the range
 abbrev pub in_range : ℕ → ℕ → Option ℕ → Option ℕ

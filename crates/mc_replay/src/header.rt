@@ -8,13 +8,10 @@ ghost use Rattle.mc_replay.specs.internal.Read.{sizes_in};
 use crate::number::number_within;
 use crate::parts::{PartWalk, parts};
 use mc_core::{
-    LEAST, LEAST_BYTES, LEAST_VALUE, MOST_BYTES, MOST_RING, MOST_SEATS, MOST_SHARDS, MOST_VALUE,
-    MOST_WINDOW,
+    DEFAULT_WINDOW, LEAST, LEAST_BYTES, LEAST_VALUE, MOST_BYTES, MOST_RING, MOST_SEATS,
+    MOST_SHARDS, MOST_VALUE, MOST_WINDOW,
 };
 use mc_wire::DEFAULT_VALUE_LIMIT;
-
-/// So many commands of a connection may be open where a replay file doesn't say it.
-pub const DEFAULT_WINDOW: usize = 256;
 
 /// What a header says.
 #[derive(Clone, Copy)]

@@ -12,6 +12,5 @@ mod schedule;
 mod tests;
 mod text;
 
-pub use header::DEFAULT_WINDOW;
 pub use run::{ReplayFault, replay};
 pub use schedule::{Schedule, ScheduleFault, read_schedule};

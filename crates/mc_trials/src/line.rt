@@ -30,6 +30,27 @@ impl Cutting {
         portion: usize::MAX,
         fault: Fault::Never,
     };
+
+    /// One byte is written at once.
+    pub const ONE_BYTE_A_WRITE: Cutting = Cutting {
+        piece: usize::MAX,
+        portion: 1,
+        fault: Fault::Never,
+    };
+
+    /// Seven bytes are read at once.
+    pub const SEVEN_BYTES_A_READ: Cutting = Cutting {
+        piece: 7,
+        portion: usize::MAX,
+        fault: Fault::Never,
+    };
+
+    /// One byte is read at once, and one written.
+    pub const ONE_BYTE_A_CALL: Cutting = Cutting {
+        piece: 1,
+        portion: 1,
+        fault: Fault::Never,
+    };
 }
 
 /// A line that keeps what it takes.

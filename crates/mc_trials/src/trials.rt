@@ -47,17 +47,39 @@ const CONVERSATIONS: [Conversation; 4] = [
     },
 ];
 
-/// How many lines there are, how large the rings and the windows, and how many bytes are read and written at once.
-const SHAPES: [(usize, usize, usize, usize, usize); 8] = [
-    (1, 1, 1, usize::MAX, usize::MAX),
-    (3, 64, 256, usize::MAX, usize::MAX),
-    (8, 1, 256, usize::MAX, 1),
-    (8, 64, 1, 7, usize::MAX),
-    (8, 1, 1, 1, 1),
-    (64, 64, 256, usize::MAX, usize::MAX),
-    (64, 1, 1, usize::MAX, usize::MAX),
-    (64, 1, 256, 1, 1),
-];
+/// So many lines, served over rings and windows of these sizes, and cut so.
+#[derive(Clone, Copy)]
+struct Shape {
+    lines: usize,
+    ring: usize,
+    window: usize,
+    cutting: Cutting,
+}
+
+impl Shape {
+    fn new(lines: usize, ring: usize, window: usize, cutting: Cutting) -> Shape {
+        Shape {
+            lines,
+            ring,
+            window,
+            cutting,
+        }
+    }
+}
+
+/// In which shapes lines are served side by side.
+fn shapes() -> [Shape; 8] {
+    [
+        Shape::new(1, 1, 1, Cutting::NONE),
+        Shape::new(3, 64, 256, Cutting::NONE),
+        Shape::new(8, 1, 256, Cutting::ONE_BYTE_A_WRITE),
+        Shape::new(8, 64, 1, Cutting::SEVEN_BYTES_A_READ),
+        Shape::new(8, 1, 1, Cutting::ONE_BYTE_A_CALL),
+        Shape::new(64, 64, 256, Cutting::NONE),
+        Shape::new(64, 1, 1, Cutting::NONE),
+        Shape::new(64, 1, 256, Cutting::ONE_BYTE_A_CALL),
+    ]
+}
 
 /// What a line sends that fails: no other line names its keys.
 const FAILING: Conversation = Conversation {
@@ -137,13 +159,9 @@ impl<R: Threads + Wait + RandomSource + Copy + Send + Drop + 'static> Server<R> 
     /// Whether it is so over so many shards.
     fn lines_over(&self, shards: usize) -> Result<bool, AllocError> {
         let mut is_right = true;
-        for (lines, ring, window, piece, portion) in SHAPES {
-            let cutting = Cutting {
-                piece,
-                portion,
-                fault: Fault::Never,
-            };
-            is_right = self.converse(lines, sizes(shards, ring, window), cutting)? && is_right;
+        for shape in shapes() {
+            let sizes = sizes(shards, shape.ring, shape.window);
+            is_right = self.converse(shape.lines, sizes, shape.cutting)? && is_right;
         }
         Ok(is_right)
     }
@@ -152,7 +170,7 @@ impl<R: Threads + Wait + RandomSource + Copy + Send + Drop + 'static> Server<R> 
     fn converse(&self, count: usize, sizes: Sizes, cutting: Cutting) -> Result<bool, AllocError> {
         let mut lines = Vec::with_capacity(self.alloc, count)?;
         for number in 0..count {
-            let input = CONVERSATIONS[number % 4].input;
+            let input = conversation_of(number).input;
             lines.push(MemoryLine::of(self.alloc, input, cutting)?)?;
         }
         match self.serve(lines, sizes) {
@@ -310,6 +328,11 @@ impl<R: Threads + Wait + RandomSource + Copy + Send + Drop + 'static> Server<R> 
     }
 }
 
+/// What the line of this number sends: the lines take turns.
+fn conversation_of(number: usize) -> Conversation {
+    CONVERSATIONS[number % CONVERSATIONS.len()]
+}
+
 /// Whether the line took just the output of the conversation.
 fn is_right(served: &ServedLine<MemoryLine>, conversation: Conversation) -> bool {
     !served.broke
@@ -321,7 +344,7 @@ fn is_right(served: &ServedLine<MemoryLine>, conversation: Conversation) -> bool
 fn are_right(served: &[ServedLine<MemoryLine>]) -> bool {
     let mut are_right = true;
     for (number, one) in served.iter().enumerate() {
-        are_right = is_right(one, CONVERSATIONS[number % 4]) && are_right;
+        are_right = is_right(one, conversation_of(number)) && are_right;
     }
     are_right
 }

@@ -16,6 +16,7 @@ pub struct Sleeper {
     patience: Patience,
     /// How often it has looked in vain since it last found something.
     vain: Cell<usize>,
+    /// Of each caller, whether it has called since this thread last asked.
     called: Arc<Vec<AtomicBool>, Global>,
 }
 
