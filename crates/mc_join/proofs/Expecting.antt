@@ -11,7 +11,7 @@ use Rattle.mc_split.specs.declared.form.Form.{Form}
 use Rattle.mc_split.specs.declared.plan.Ticket.{Ticket}
 use Rattle.mc_split.specs.Slots.{missing_in}
 use Rattle.mc_join.specs.Expects.{Expects}
-use Rattle.mc_join.specs.Held.{Held, AwaitsAt, IsAwaited}
+use Rattle.mc_join.specs.Held.{Held, IsAwaited}
 use Rattle.mc_join.specs.Joined.{IsJoiner}
 use Rattle.mc_join.specs.Replies.{answered, is_answered}
 use Rattle.mc_join.proofs.Joins.{all_answered, handed_within, slice_get-drop}

@@ -1,12 +1,9 @@
 -- The forms of the open tickets: their numbers, their places, and those whose turn has come.
-use Rattle.std.proofs.Common.{◌≡◌, ◌≢◌, ℕ, zero, suc, ◌+◌, ◌-◌, ◌<◌, ◌≤◌, true, false, List, [], ◌∷◌, ◌++◌, length, drop, get_or, Some, None, refl, sym, ap, subst, ◌∙◌, arith}
+use Rattle.std.proofs.Common.{◌≡◌, ◌≢◌, ℕ, zero, suc, ◌+◌, ◌-◌, ◌<◌, ◌≤◌, true, List, [], ◌∷◌, ◌++◌, length, drop, cond, Some, None, refl, sym, ap, subst, ◌∙◌, arith}
 use Rattle.std.proofs.Common.{length-set}
 use Rattle.std.specs.List.{slice_get, slice_set}
 use Rattle.std.specs.List.{prefix_len}
-use Rattle.std.proofs.Common.{eq-eqb, ne_eqb}
-use Rattle.std.proofs.lemmas.List.Sums.{prefix_len-drop_yes, prefix_len-drop_no, prefix_len-drop_all}
-use Rattle.std.proofs.lemmas.Option.{get_or_from_slice_get, same_Some, slice_get_within}
-use Rattle.mc_split.specs.Slots.{missing_in}
+use Rattle.std.proofs.lemmas.Option.{same_Some, slice_get_within}
 use Rattle.mc_join.specs.Replies.{is_answered}
 use Rattle.mc_item.specs.declared.answer.Answer.{Answer}
 use Rattle.mc_ring.specs.Reply.{Shown}
@@ -91,18 +88,6 @@ fills_length old new place part answer fills = ap length fills.after ∙ length-
 pub left_forms : (forms : List Form) (count : ℕ) → count ≤ length forms → drop (length forms - (length forms - count)) forms ≡ drop count forms
 left_forms forms count within = ap (λ n. drop n forms) (omega (arith, within))
 
--- counting the forms that have all their answers: one more has, or this one has not, or there is none left
-pub counts_yes : (forms : List Form) (i : ℕ) (form : Form) → slice_get forms i ≡ Some form → missing_in form.slots ≡ 0 → i + prefix_len is_answered (drop i forms) ≡ prefix_len is_answered forms → (i + 1) + prefix_len is_answered (drop (i + 1) forms) ≡ prefix_len is_answered forms
-counts_yes forms i form here none so_far =
-    let passes : is_answered (get_or forms i form) ≡ true = ap is_answered (get_or_from_slice_get forms i form form here) ∙ eq-eqb (missing_in form.slots) 0 none in
-    let step = prefix_len-drop_yes is_answered forms i form (slice_get_within forms i form here) passes in
-    omega (arith, step, so_far)
-
-pub counts_no : (forms : List Form) (i : ℕ) (form : Form) → slice_get forms i ≡ Some form → missing_in form.slots ≢ 0 → i + prefix_len is_answered (drop i forms) ≡ prefix_len is_answered forms → i ≡ prefix_len is_answered forms
-counts_no forms i form here some so_far =
-    let fails : is_answered (get_or forms i form) ≡ false = ap is_answered (get_or_from_slice_get forms i form form here) ∙ ne_eqb (missing_in form.slots) 0 some in
-    let step = prefix_len-drop_no is_answered forms i form (slice_get_within forms i form here) fails in
-    omega (arith, step, so_far)
-
-pub counts_all : (forms : List Form) (i : ℕ) → length forms ≤ i → i + prefix_len is_answered (drop i forms) ≡ prefix_len is_answered forms → i ≡ prefix_len is_answered forms
-counts_all forms i all so_far = let step = prefix_len-drop_all is_answered forms i all in omega (arith, step, so_far)
+-- a form that has all its answers, before the others
+pub prefix-next : (form : Form) (forms : List Form) → is_answered form ≡ true → prefix_len is_answered (form ∷ forms) ≡ 1 + prefix_len is_answered forms
+prefix-next form forms whole = ap (λ b. cond b (1 + prefix_len is_answered forms) 0) whole

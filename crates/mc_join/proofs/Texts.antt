@@ -1,12 +1,11 @@
 -- Texts written one part after another, and texts over slots that are all filled.
-use Rattle.std.proofs.Common.{◌≡◌, ℕ, Bool, true, false, List, [], ◌∷◌, ◌++◌, length, take, map, Option, Some, refl, sym, ap, ◌∙◌, append_assoc, append-nil, arith, ◌<◌, ◌+◌, drop, get_or}
+use Rattle.std.proofs.Common.{◌≡◌, ℕ, Bool, true, false, List, [], ◌∷◌, ◌++◌, length, map, Option, Some, refl, sym, ap, ◌∙◌, append_assoc, append-nil, arith, ◌<◌, ◌+◌, drop, get_or}
 use Rattle.std.specs.Prelude.{codes, decimal, ◌||◌, Result, Ok, Err}
-use Rattle.std.specs.List.{concat, list_any, slice_get, zip, flat_map}
-use Rattle.std.proofs.lemmas.List.{at_drop_more, take_at, take-take, take-append-drop}
-use Rattle.std.proofs.lemmas.Option.{same_Some}
-use Rattle.std.proofs.Common.{zero, suc}
-use Rattle.mc_wire.specs.Outlet.{BreaksOff, Counted, Listed, Sight, Trace, Untold, Writes, sight_out, took}
+use Rattle.std.specs.List.{concat, list_any, zip, flat_map}
+use Rattle.std.proofs.lemmas.List.{at_drop_more}
+use Rattle.mc_wire.specs.Outlet.{BreaksOff, Counted, Sight, Writes, sight_out, took}
 use Rattle.mc_wire.proofs.Outlets.{breaks_first, breaks_later, took-nil, writes_on}
+use Rattle.mc_join.proofs.Gatherings.{counted_is}
 use Rattle.mc_item.specs.declared.answer.Answer.{Answer}
 use Rattle.mc_split.specs.declared.form.Shape.{Shape}
 use Rattle.mc_split.specs.declared.form.Shape.TheVariants as shape
@@ -18,8 +17,17 @@ use Rattle.mc_item.specs.declared.answer.MetaHit.{MetaHit}
 use Rattle.std.proofs.Common.{IsTrue, ◌-◌, ◌^◌}
 use Rattle.std.proofs.lemmas.List.{length-take}
 use Rattle.mc_join.specs.Length.{capped}
-use Rattle.mc_join.specs.internal.Written.{WritesBut, WroteBut}
+use Rattle.mc_join.specs.Replies.{complete, form_text, is_answered}
+use Rattle.mc_split.specs.declared.form.Form.{Form}
+use Rattle.std.proofs.Common.{cond}
+use Rattle.std.proofs.lemmas.List.Sums.{take_while-cons}
 use Rattle.mc_join.specs.internal.Slots.{slots_text, items_text, lacks_memory, first_text, slot_text, unless_lacking}
+
+-- of a whole text all was taken but this rest
+pub record WroteBut (whole rest : List ℕ) (old new : Sight) : Type 0 where
+  pub front : List ℕ
+  pub sight : new ≡ took front old
+  pub parts : whole ≡ front ++ rest
 
 pub wrote_none : (whole : List ℕ) (old : Sight) → WroteBut whole whole old old
 wrote_none whole old = record { front = []; sight = sym (took-nil old); parts = refl }
@@ -35,21 +43,9 @@ wrote_more {old} bytes rest so_far more =
 pub wrote_all : {whole : List ℕ} {old now : Sight} → WroteBut whole [] old now → now ≡ took whole old
 wrote_all {old} all = all.sight ∙ ap (λ xs. took xs old) (sym (all.parts ∙ append-nil all.front))
 
-pub wrote_last : {whole : List ℕ} {old mid new : Sight} (bytes : List ℕ) → WroteBut whole bytes old mid → new ≡ took bytes mid → new ≡ took whole old
-wrote_last {old} bytes so_far more =
-    writes_on _ _ _ so_far.front bytes so_far.sight more ∙ ap (λ xs. took xs old) (sym so_far.parts)
-
 pub part_breaks : {whole : List ℕ} {old mid new : Sight} (bytes rest : List ℕ) → WroteBut whole (bytes ++ rest) old mid → BreaksOff bytes mid new → BreaksOff whole old new
 part_breaks bytes rest so_far off =
     rw so_far.parts (breaks_later _ _ _ so_far.front (bytes ++ rest) so_far.sight (breaks_first _ _ bytes rest off))
-
-pub last_breaks : {whole : List ℕ} {old mid new : Sight} (bytes : List ℕ) → WroteBut whole bytes old mid → BreaksOff bytes mid new → BreaksOff whole old new
-last_breaks bytes so_far off = rw so_far.parts (breaks_later _ _ _ so_far.front bytes so_far.sight off)
-
--- what was left, however that went
-pub writes_last : {X E : Type 0} {whole : List ℕ} {old mid : Sight} (bytes : List ℕ) (result : Result X E) (new : Sight) → WroteBut whole bytes old mid → Writes bytes result mid new → Writes whole result old new
-writes_last bytes (Ok done) new so_far wrote = wrote_last bytes so_far wrote
-writes_last bytes (Err fault) new so_far off = last_breaks bytes so_far off
 
 abbrev pub filled : List Answer → List (Option Answer)
 filled answers = map (λ answer. Some answer) answers
@@ -99,8 +95,10 @@ pub second_breaks : (whole a b c : List ℕ) {old one two : Sight} → whole ≡
 second_breaks whole a b c {old} parts first off = rw parts (part_breaks b c (wrote_more a (b ++ c) (wrote_none (a ++ (b ++ c)) old) first) off)
 
 pub third_writes : {X E : Type 0} (whole a b c : List ℕ) (result : Result X E) (old one two three : Sight) → whole ≡ a ++ (b ++ c) → one ≡ took a old → two ≡ took b one → Writes c result two three → Writes whole result old three
-third_writes whole a b c result old one two three parts first second third =
-    rw parts (writes_last c result three (wrote_more b c (wrote_more a (b ++ c) (wrote_none (a ++ (b ++ c)) old) first) second) third)
+third_writes whole a b c (Ok done) old one two three parts first second third =
+    rw parts (writes_on _ _ _ a (b ++ c) first (writes_on _ _ _ b c second third))
+third_writes whole a b c (Err fault) old one two three parts first second off =
+    rw parts (breaks_later _ _ _ a (b ++ c) first (breaks_later _ _ _ b c second off))
 
 pub values-parts : (with_unique : Bool) (keys others : List (List ℕ)) (key : List ℕ) (slots more : List (Option Answer)) (slot : Option Answer) (end : List ℕ) → keys ≡ key ∷ others → slots ≡ slot ∷ more →
     items_text with_unique keys slots ++ end ≡ slot_text (item_text with_unique key) slot ++ (items_text with_unique others more ++ end)
@@ -135,70 +133,13 @@ pub done_text : (flags : MetaFlags) (key : Option (List ℕ)) (answer : Answer) 
     coded_text flags key answer shown ≡ codes "VA " ++ (decimal (length number) ++ (flags_text flags key answer ++ (codes "\r\n" ++ (number ++ codes "\r\n"))))
 done_text flags key answer done shown number is on same = rw (is, on, same) refl
 
--- a text that was put behind others in memory and then cut off again
-pub kept_front : (old new bytes : List ℕ) (was is : Bool) (n : ℕ) → n ≡ length old → BreaksOff bytes (sight_out (Listed old) was) (sight_out (Listed new) is) → take n new ≡ old
-kept_front old new bytes was is n whole off =
-    let taken : Listed new ≡ Listed (old ++ take off.count bytes) = ap (λ (s : Sight). s.taken) off.sight in
-    let after : new ≡ old ++ take off.count bytes = cc in
-    ap (λ xs. take n xs) after ∙ take_at old (take off.count bytes) n (sym whole)
+abbrev pub texts : List Form → List ℕ
+texts forms = concat (map form_text (complete forms))
 
--- the texts that were gathered went out, and then this one, however that went
-pub gathered_last : {X E : Type 0} (result : Result X E) (old mid new : Sight) (room text left : List ℕ) → mid ≡ took room old → left ≡ [] → Writes text result mid new → WritesBut (room ++ text) result left old new
-gathered_last (Ok done) old mid new room text left first empty wrote =
-    record {
-      front = room ++ text;
-      sight = writes_on _ _ _ room text first wrote;
-      parts = sym (append-nil (room ++ text)) ∙ ap (λ xs. (room ++ text) ++ xs) (sym empty);
-    }
-gathered_last (Err fault) old mid new room text left first empty off = breaks_later _ _ _ room text first off
-
--- a text more, of which this is left
-pub wrote_on : (old mid new : Sight) (done room text left : List ℕ) → WroteBut done room old mid → WroteBut (room ++ text) left mid new → WroteBut (done ++ text) left old new
-wrote_on old mid new done room text left so_far more =
-    record {
-      front = so_far.front ++ more.front;
-      sight = writes_on _ _ _ so_far.front more.front so_far.sight more.sight;
-      parts = ap (λ xs. xs ++ text) so_far.parts ∙ (append_assoc so_far.front room text ∙ (ap (λ xs. so_far.front ++ xs) more.parts ∙ sym (append_assoc so_far.front more.front left)));
-    }
-
--- a text more broke off
-pub breaks_on : (old mid new : Sight) (done room text more whole : List ℕ) → whole ≡ (done ++ text) ++ more → WroteBut done room old mid → BreaksOff (room ++ text) mid new → BreaksOff whole old new
-breaks_on old mid new done room text more whole parts so_far off =
-    let joined : so_far.front ++ ((room ++ text) ++ more) ≡ whole =
-    sym (append_assoc so_far.front (room ++ text) more)
-    ∙ (ap (λ xs. xs ++ more) (sym (append_assoc so_far.front room text) ∙ ap (λ xs. xs ++ text) (sym so_far.parts)) ∙ sym parts) in
-    rw (← joined) (breaks_later _ _ _ so_far.front ((room ++ text) ++ more) so_far.sight (breaks_first _ _ (room ++ text) more off))
-
-abbrev pub texts_of : {X : Type 0} → (X → List ℕ) → List X → List ℕ
-texts_of text xs = concat (map text xs)
-
-texts_of-append : {X : Type 0} (text : X → List ℕ) (xs ys : List X) → texts_of text (xs ++ ys) ≡ texts_of text xs ++ texts_of text ys
-texts_of-append text [] ys = refl
-texts_of-append text (x ∷ xs) ys = ap (λ zs. text x ++ zs) (texts_of-append text xs ys) ∙ sym (append_assoc (text x) (texts_of text xs) (texts_of text ys))
-
--- the texts of one more
-pub texts_of-more : {X : Type 0} (text : X → List ℕ) (i : ℕ) (xs : List X) (x : X) → slice_get xs i ≡ Some x → texts_of text (take (i + 1) xs) ≡ texts_of text (take i xs) ++ text x
-texts_of-more text i [] x here = absurd (cc)
-texts_of-more text zero (first ∷ xs) x here = append-nil (text first) ∙ ap text (same_Some first x here)
-texts_of-more text (suc i) (first ∷ xs) x here =
-    let e : suc i + 1 ≡ suc (i + 1) = omega arith in
-    ap (λ k. texts_of text (take k (first ∷ xs))) e
-    ∙ (ap (λ ys. text first ++ ys) (texts_of-more text i xs x here) ∙ sym (append_assoc (text first) (texts_of text (take i xs)) (text x)))
-
--- the texts before one, and it, and those behind it
-pub texts_of-around : {X : Type 0} (text : X → List ℕ) (i n : ℕ) (xs : List X) (x : X) → slice_get xs i ≡ Some x → i < n → texts_of text (take n xs) ≡ (texts_of text (take i xs) ++ text x) ++ texts_of text (drop (i + 1) (take n xs))
-texts_of-around text i n xs x here below =
-    let front : take (i + 1) (take n xs) ≡ take (i + 1) xs = take-take (i + 1) n xs (omega (arith, below)) in
-    ap (λ ys. texts_of text ys) (sym (take-append-drop (i + 1) (take n xs)))
-    ∙ (texts_of-append text (take (i + 1) (take n xs)) (drop (i + 1) (take n xs))
-    ∙ ap (λ ys. ys ++ texts_of text (drop (i + 1) (take n xs))) (ap (λ ys. texts_of text ys) front ∙ texts_of-more text i xs x here))
-
-counted_is : {a b : ℕ} → Counted a ≡ Counted b → a ≡ b
-counted_is same = ap count_of same where
-  count_of : Trace → ℕ
-  count_of Untold = 0
-  count_of (Counted count) = count
-  count_of (Listed bytes) = 0
+-- the first form has all its answers
+pub texts-next : (form : Form) (forms : List Form) → is_answered form ≡ true → texts (form ∷ forms) ≡ form_text form ++ texts forms
+texts-next form forms whole =
+    ap (λ fs. concat (map form_text fs)) (take_while-cons is_answered form forms ∙ ap (λ b. cond b (form ∷ complete forms) []) whole)
 
 -- What a counter tells of a text that was written to it.
 pub counted : {X E : Type 0} (result : Result X E) (text : List ℕ) (count : ℕ) (full : Bool) → (IsTrue full → count ≡ 2 ^ 64 - 1) → count < 2 ^ 64 → Writes text result (sight_out (Counted 0) false) (sight_out (Counted count) full) → count ≡ capped (length text)

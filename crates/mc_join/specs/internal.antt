@@ -1,3 +1,3 @@
 -- Definitions that only private contracts name.
+pub mod Gathered
 pub mod Slots
-pub mod Written

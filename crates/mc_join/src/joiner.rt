@@ -149,7 +149,7 @@ impl Joiner {
         if self.gone {
             return 0;
         }
-        texts_len(&self.forms, count_complete(&self.forms))
+        texts_len(&self.forms)
     }
 
     /// How many tickets are open.
@@ -215,7 +215,7 @@ impl Joiner {
             return Ok(0);
         }
         let count = count_complete(&self.forms);
-        if let Err(_fault) = put_first(out, &mut self.room, &self.forms, count) {
+        if let Err(_fault) = put_first(out, &mut self.room, &self.forms) {
             self.gone = true;
             return Err(Gone);
         }

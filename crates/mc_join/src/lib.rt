@@ -3,6 +3,7 @@
 
 mod classic;
 mod fixed;
+mod gathering;
 mod header;
 mod joiner;
 mod length;

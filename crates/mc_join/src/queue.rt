@@ -8,6 +8,7 @@ ghost use Rattle.mc_join.specs.Held.{Awaits, Fills, HasPart};
 ghost use Rattle.mc_join.specs.Length.{capped};
 ghost use Rattle.mc_join.specs.Replies.{complete, form_text, is_answered};
 
+use crate::gathering::{Gathering, Start};
 use crate::length::Counter;
 use crate::room::Room;
 use crate::text::put_due;
@@ -16,6 +17,7 @@ use mc_item::Answer;
 use mc_ring::Reply;
 use mc_split::Form;
 use mc_wire::{OutFault, Outlet};
+use std::marker::{Brand, PhantomData};
 
 /// Puts a form behind the others, where there is a place for it; else it is let go.
 pub(crate) fn add(forms: &mut HeapCircularBuffer<Form>, form: Form) -> bool
@@ -35,36 +37,67 @@ pub(crate) fn count_complete(forms: &HeapCircularBuffer<Form>) -> usize
     ensures count { result ≡ prefix_len is_answered forms.now.items }
     ensures within { result ≤ length forms.now.items }
 {
-    let len = forms.len();
-    for count in 0..len {
-        let Some(form) = forms.get(count) else {
-            unreachable!()
-        };
-        if !form.slots.is_filled() {
+    // The length is read so that the count is known to fit.
+    let _len = forms.len();
+    let mut count = 0;
+    for form in forms.iter() {
+        if !is_complete(form) {
             return count;
         }
+        count += 1;
     }
-    len
+    count
 }
 
-/// Writes the replies of the first forms, gathered in the room. Where the outlet fails, it took a beginning of them.
+/// Whether every part of a form has its answer.
+fn is_complete(form: &Form) -> bool
+    ensures { result ≡ is_answered form.now }
+{
+    form.slots.is_filled()
+}
+
+/// Writes the replies of the first forms, those that have all their answers, in few writes: what is small waits in the room
+/// and goes out together. Where the outlet fails, it took a beginning of them.
 pub(crate) fn put_first<O: Outlet>(
     out: &mut O,
     room: &mut Room,
     forms: &HeapCircularBuffer<Form>,
-    count: usize,
 ) -> Result<(), OutFault>
-    requires { count ≡ prefix_len is_answered forms.now.items }
+    ensures { Writes (concat (map form_text (complete forms.now.items))) result (O.sight out.old) (O.sight out.new) }
+{
+    put_gathered::<Brand, O>(out, room, forms)
+}
+
+/// Writes these replies by a gathering that begins with the outlet as it is.
+fn put_gathered<S: Start, O: Outlet>(
+    out: &mut O,
+    room: &mut Room,
+    forms: &HeapCircularBuffer<Form>,
+) -> Result<(), OutFault>
+    requires { S.sight ≡ O.sight out.old }
     ensures { Writes (concat (map form_text (complete forms.now.items))) result (O.sight out.old) (O.sight out.new) }
 {
     room.clear();
-    for index in 0..count {
-        let Some(form) = forms.get(index) else {
-            unreachable!()
-        };
-        room.gather(out, form)?;
+    let mut gathering: Gathering<'_, '_, S, O> = Gathering {
+        out,
+        room,
+        start: PhantomData,
+    };
+    put_each(&mut gathering, forms)?;
+    gathering.send()
+}
+
+/// Writes these replies, each by itself. Where the outlet fails, it took a beginning of them.
+fn put_each<O: Outlet>(out: &mut O, forms: &HeapCircularBuffer<Form>) -> Result<(), OutFault>
+    ensures { Writes (concat (map form_text (complete forms.now.items))) result (O.sight out.old) (O.sight out.new) }
+{
+    for form in forms.iter() {
+        if !is_complete(form) {
+            return Ok(());
+        }
+        put_due(out, form)?;
     }
-    room.send(out)
+    Ok(())
 }
 
 /// Lets the first forms go.
@@ -77,32 +110,13 @@ pub(crate) fn drop_first(forms: &mut HeapCircularBuffer<Form>, count: usize)
     forms.truncate_front(left);
 }
 
-/// Writes the replies of the first forms, each by itself. Where the outlet fails, it took a beginning of them.
-fn put_each<O: Outlet>(
-    out: &mut O,
-    forms: &HeapCircularBuffer<Form>,
-    count: usize,
-) -> Result<(), OutFault>
-    requires { count ≡ prefix_len is_answered forms.now.items }
-    ensures { Writes (concat (map form_text (complete forms.now.items))) result (O.sight out.old) (O.sight out.new) }
-{
-    for index in 0..count {
-        let Some(form) = forms.get(index) else {
-            unreachable!()
-        };
-        put_due(out, form)?;
-    }
-    Ok(())
-}
-
-/// How long the replies of the first forms are together.
-pub(crate) fn texts_len(forms: &HeapCircularBuffer<Form>, count: usize) -> u64
-    requires { count ≡ prefix_len is_answered forms.now.items }
+/// How long these replies are together.
+pub(crate) fn texts_len(forms: &HeapCircularBuffer<Form>) -> u64
     ensures { result ≡ capped (length (concat (map form_text (complete forms.now.items)))) }
 {
     let mut counter = Counter::new();
     // A counter that is full tells the greatest number.
-    let _ = put_each(&mut counter, forms, count);
+    let _ = put_each(&mut counter, forms);
     counter.count
 }
 

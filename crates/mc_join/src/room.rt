@@ -1,103 +1,75 @@
-//! Small texts are gathered in a room, and go out in one write.
-ghost use Rattle.std.specs.Prelude.{◌≡◌, [], ◌++◌, IsTrue, IfOk, OnOk, OnErr, take, false, ◌≤◌, length, vec_capacity};
-ghost use Rattle.mc_join.specs.declared.room.TheConstants.{ROOM};
-ghost use Rattle.mc_wire.specs.Outlet.{Writes};
-ghost use Rattle.mc_join.specs.Held.{IsDue};
-ghost use Rattle.mc_join.specs.Replies.{form_text};
-ghost use Rattle.mc_join.specs.internal.Written.{WritesBut};
+//! A room in which small parts wait, so that they go out in one write.
+ghost use Rattle.std.specs.Prelude.{◌≡◌, [], ◌++◌, IsTrue, false, IfOk, ◌≤◌, length, drop};
 
-use crate::text::put_due;
-use mc_split::Form;
-use mc_wire::{OutFault, Outlet, put_all};
 use std::alloc::{AllocError, Global};
+use std::marker::Model;
 
 /// So many bytes are gathered at most.
 const ROOM: usize = 16_384;
 
-/// A room of fixed size. It takes a text whole or not at all.
+/// A room of fixed size. Contracts see the bytes that wait in it.
 #[derive(Drop)]
 pub(crate) struct Room {
     bytes: Vec<u8>,
-    /// A text did not fit since the last one was let go.
-    full: bool,
-    // So what fits takes no memory.
-    ghost room: { ROOM ≤ vec_capacity bytes },
-    ghost within: { length bytes.items ≤ ROOM },
+    /// So many of the bytes went out.
+    sent: usize,
 }
 
-impl Outlet for Room {
-    ghost use Rattle.mc_wire.specs.Outlet.{Listed, sight_out};
+impl Model for Room {
+    ghost use Rattle.std.specs.Prelude.{ℕ, ◌≤◌, List, length, drop, vec_capacity};
+    ghost use Rattle.mc_join.specs.declared.room.TheConstants.{ROOM};
 
-    ghost sight = { λ room. sight_out (Listed room.bytes.items) room.full };
+    ghost Value = { List ℕ };
 
-    fn write(&mut self, bytes: &[u8]) -> Result<usize, OutFault> {
-        if !self.full && bytes.len() <= ROOM.saturating_sub(self.bytes.len()) {
-            if let Ok(()) = self.bytes.extend_from_slice(bytes) {
-                return Ok(bytes.len());
-            }
-        }
-        self.full = true;
-        Err(OutFault)
-    }
+    ghost view = { λ room. drop room.sent room.bytes.items };
+
+    // What fits takes no memory.
+    ghost invariant = { λ room. (ROOM ≤ vec_capacity room.bytes) × (length room.bytes.items ≤ ROOM) × (room.sent ≤ length room.bytes.items) };
 }
 
 impl Room {
     /// An empty room.
     pub(crate) fn new(alloc: Global) -> Result<Room, AllocError>
-        ensures { IfOk result (λ room. room.bytes.items ≡ []) }
+        ensures { IfOk result (λ room. room ≡ []) }
     {
         Ok(Room {
             bytes: Vec::with_capacity(alloc, ROOM)?,
-            full: false,
+            sent: 0,
         })
     }
 
-    /// Lets all texts go.
+    /// Lets all bytes go.
     pub(crate) fn clear(&mut self)
-        ensures { self.new.bytes.items ≡ [] }
+        ensures { self.new ≡ [] }
     {
         self.bytes.clear();
-        self.full = false;
+        self.sent = 0;
     }
 
-    /// Puts a reply behind the others, where it fits.
-    fn keep(&mut self, form: &Form) -> bool
-        requires { IsDue form.now }
-        ensures kept { IsTrue result → self.new.bytes.items ≡ self.old.bytes.items ++ form_text form.now }
-        ensures refused { result ≡ false → self.new.bytes.items ≡ self.old.bytes.items }
+    /// Puts a part behind the others where it fits, else does nothing.
+    #[inline(always)]
+    pub(crate) fn take(&mut self, part: &[u8]) -> bool
+        ensures taken { IsTrue result → self.new ≡ self.old ++ part.now }
+        ensures refused { result ≡ false → self.new ≡ self.old }
     {
-        let before = self.bytes.len();
-        if let Ok(()) = put_due(self, form) {
-            return true;
+        if part.len() > ROOM - self.bytes.len() {
+            return false;
         }
-        self.bytes.truncate(before);
-        self.full = false;
-        false
+        self.bytes.extend_from_slice(part).is_ok()
     }
 
-    /// Writes all texts to the outlet, in one write where it takes them so.
-    pub(crate) fn send<O: Outlet>(&mut self, out: &mut O) -> Result<(), OutFault>
-        ensures writes { Writes self.old.bytes.items result (O.sight out.old) (O.sight out.new) }
-        ensures empty { OnOk result (self.new.bytes.items ≡ []) }
+    /// The bytes that wait.
+    pub(crate) fn waiting(&self) -> &[u8]
+        ensures { result.now ≡ self.now }
     {
-        put_all(out, self.bytes.as_slice())?;
-        self.clear();
-        Ok(())
+        self.bytes.as_slice().split_at(self.sent).1
     }
 
-    /// Puts a reply behind the others. Where it doesn't fit, the others go out first; where it is larger than the
-    /// room, it goes out from its answers themselves.
-    pub(crate) fn gather<O: Outlet>(&mut self, out: &mut O, form: &Form) -> Result<(), OutFault>
-        requires { IsDue form.now }
-        ensures { WritesBut (self.old.bytes.items ++ form_text form.now) result self.new.bytes.items (O.sight out.old) (O.sight out.new) }
+    /// The first bytes went out.
+    pub(crate) fn pass(&mut self, count: usize)
+        requires { count ≤ length self.old }
+        ensures { self.new ≡ drop count self.old }
     {
-        if self.keep(form) {
-            return Ok(());
-        }
-        self.send(out)?;
-        if self.keep(form) {
-            return Ok(());
-        }
-        put_due(out, form)
+        self.sent += count;
     }
 }

@@ -70,6 +70,22 @@ fn get(alloc: Global, ticket: Ticket, words: &[&[u8]]) -> Result<Form, Fail>
     Ok(split(alloc, command, ticket, 1000, 2)?.form)
 }
 
+/// The form of a get that names one key so many times.
+fn get_often(alloc: Global, ticket: Ticket, count: usize) -> Result<Form, Fail>
+    ensures { IfOk result (λ form. form.ticket ≡ ticket) }
+{
+    let mut keys = Keys::one(alloc, Key::from_word(alloc, b"k")?);
+    for _ in 1..count {
+        keys.push(Key::from_word(alloc, b"k")?)?;
+    }
+    let command = Command::Get(Retrieval {
+        keys,
+        touch: None,
+        with_unique: false,
+    });
+    Ok(split(alloc, command, ticket, 1000, 2)?.form)
+}
+
 /// The form of `mn`.
 fn noop(alloc: Global, ticket: Ticket) -> Result<Form, Fail>
     ensures { IfOk result (λ form. form.ticket ≡ ticket) }
@@ -364,9 +380,83 @@ fn a_large_value_goes_out_by_itself(rt: HostRuntime) -> Result<(), Fail> {
     assert_eq!(rt; out.taken.len(), len);
     assert!(rt; out.taken.as_slice().starts_with(text));
     assert!(rt; out.taken.as_slice().ends_with(b"\x07\r\nEND\r\nMN\r\n"));
-    // The first reply; the line before the value, the value and the end of its line; the line that ends the items;
-    // the last reply.
-    assert_eq!(rt; out.writes, 6);
+    // What stands before the value, the value, and what stands behind it.
+    assert_eq!(rt; out.writes, 3);
+    Ok(())
+}
+
+#[test]
+fn a_reply_above_the_room_goes_out_in_few_writes(rt: HostRuntime) -> Result<(), Fail> {
+    let alloc = rt.alloc();
+    let value = vec![in alloc; 7; 1_024]?;
+    let mut joiner = Joiner::new(alloc, 1)?;
+    open(&rt, &mut joiner, get_often(alloc, Ticket(0), 100)?);
+    for part in 0..100 {
+        let found = reply(&rt, 0, part, Kind::Fetch, hit(alloc, value.as_slice())?);
+        assert!(rt; takes(&mut joiner, found));
+    }
+    let item = b"VALUE k 0 1024\r\n".len() + 1_024 + b"\r\n".len();
+    let len = 100 * item + b"END\r\n".len();
+    let mut out = outlet(alloc, usize::MAX);
+    assert_eq!(rt; joiner.ready(), len as u64);
+    assert_eq!(rt; joiner.hand(&mut out), Ok(1));
+    assert_eq!(rt; out.taken.len(), len);
+    // Fifteen items fill the room.
+    assert_eq!(rt; out.writes, 7);
+    Ok(())
+}
+
+/// Takes one byte a write.
+#[derive(Drop)]
+struct Drip {
+    taken: Vec<u8>,
+    failed: bool,
+}
+
+impl Outlet for Drip {
+    ghost sight = { λ out. sight_out (Listed out.taken.items) out.failed };
+
+    fn write(&mut self, bytes: &[u8]) -> Result<usize, OutFault> {
+        let count = bytes.len().min(1);
+        let (front, _) = bytes.split_at(count);
+        if self.failed || self.taken.extend_from_slice(front).is_err() {
+            self.failed = true;
+            return Err(OutFault);
+        }
+        Ok(count)
+    }
+}
+
+/// A joiner whose replies are together a little longer than the room: `mn`, a get of a value, and `mn`.
+fn above_the_room(rt: &impl Abort, alloc: Global) -> Result<Joiner, Fail> {
+    let value = vec![in alloc; 7; 16_360]?;
+    let mut joiner = Joiner::new(alloc, 4)?;
+    open(rt, &mut joiner, noop(alloc, Ticket(0))?);
+    open(rt, &mut joiner, get(alloc, Ticket(1), &[b"a"])?);
+    open(rt, &mut joiner, noop(alloc, Ticket(2))?);
+    let found = reply(rt, 1, 0, Kind::Fetch, hit(alloc, value.as_slice())?);
+    assert!(rt; takes(&mut joiner, found));
+    Ok(joiner)
+}
+
+#[test]
+fn replies_across_the_end_of_the_room(rt: HostRuntime) -> Result<(), Fail> {
+    let alloc = rt.alloc();
+    let mut whole = outlet(alloc, usize::MAX);
+    assert_eq!(rt; above_the_room(&rt, alloc)?.hand(&mut whole), Ok(3));
+    let text = whole.taken.as_slice();
+    assert_eq!(rt; text.len(), 4 + 17 + 16_360 + 7 + 4);
+    let mut drip = Drip {
+        taken: Vec::new(alloc),
+        failed: false,
+    };
+    assert_eq!(rt; above_the_room(&rt, alloc)?.hand(&mut drip), Ok(3));
+    assert_eq!(rt; drip.taken.as_slice(), text);
+    for left in 0..text.len() {
+        let mut out = outlet(alloc, left);
+        assert!(rt; above_the_room(&rt, alloc)?.hand(&mut out).is_err());
+        assert_eq!(rt; out.taken.as_slice(), text.split_at(left).0);
+    }
     Ok(())
 }
 
@@ -442,8 +532,8 @@ fn a_hit_copies_no_value(rt: HostRuntime) {
     assert_eq!(&rt; joiner.hand(&mut out), Ok(1));
     assert_eq!(&rt; out.bytes, len as u64);
     assert_eq!(&rt; out.large, 1);
-    // The line before the value, the end of its line, and the line that ends the items.
-    assert_eq!(&rt; out.small, 3);
+    // The line before the value, and what stands behind it.
+    assert_eq!(&rt; out.small, 2);
 }
 
 #[test]

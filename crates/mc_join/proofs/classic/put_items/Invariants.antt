@@ -1,6 +1,6 @@
 use Rattle.std.proofs.Common.{drop}
 use Rattle.mc_join.specs.internal.Slots.{items_text}
-use Rattle.mc_join.specs.internal.Written.{WroteBut}
+use Rattle.mc_join.proofs.Texts.{WroteBut}
 use Rattle.mc_join.proofs.classic.put_items.Given as goal
 
 abbrev pub invariant-loop-slot : goal.invariant-loop-slot

@@ -1,7 +1,7 @@
 use Rattle.std.proofs.Common.{drop}
 use Rattle.std.specs.List.{flat_map}
 use Rattle.mc_split.specs.Text.{flag_text, flags_text}
-use Rattle.mc_join.specs.internal.Written.{WroteBut}
+use Rattle.mc_join.proofs.Texts.{WroteBut}
 use Rattle.mc_join.proofs.meta.put_flags.Given as goal
 
 abbrev pub invariant-loop-flag : goal.invariant-loop-flag

@@ -1,20 +1,25 @@
-use Rattle.std.proofs.Common.{refl, sym, arith}
-use Rattle.std.proofs.lemmas.Bool.{false≢true}
-use Rattle.mc_join.proofs.Queues.{some_there, counts_yes, counts_no, counts_all}
+use Rattle.std.proofs.Common.{◌≡◌, ◌∷◌, ap, ◌∙◌, arith, rules}
+use Rattle.std.specs.List.{prefix_len}
+use Rattle.std.proofs.lemmas.List.Sums.{prefix_len-le-length}
+use Rattle.mc_join.specs.Held.{IsDue}
+use Rattle.mc_join.specs.Replies.{is_answered}
+use Rattle.mc_join.proofs.Queues.{prefix-next}
 use Rattle.mc_join.proofs.queue.count_complete.Goals as goal
 
-pub unreachable-requires : goal.unreachable-requires
-unreachable-requires c = some_there c.args.forms.now.items c.loop-count.count (omega (arith, c.len-len.ensures.len, c.loop-count-test.true)) (sym c.in_default.ensures)
+pub returns-then-not-is_complete-clause-within : goal.returns-then-not-is_complete-clause-within
+returns-then-not-is_complete-clause-within c =
+    let below = prefix_len-le-length is_answered c.args.forms.now.items in omega (arith, below, c.loop-form.invariant)
 
-pub returns-then-not-is_filled-clause-count : goal.returns-then-not-is_filled-clause-count
-returns-then-not-is_filled-clause-count c =
-    counts_no c.args.forms.now.items c.loop-count.count c.in-Some.form.now (sym c.in-Some.ensures) (λ none. false≢true (c.if-not-is_filled.ensures.1 none)) c.loop-count.invariant
+pub overflow_add-count : goal.overflow_add-count
+overflow_add-count c =
+    let form = c.in-Some.form.now in
+    let rest = c.next.new.self in
+    let due : IsDue form = search rules in
+    let first : c.loop-form.form-iterator ≡ form ∷ rest = search rules in
+    let step = ap (λ forms. prefix_len is_answered forms) first ∙ prefix-next form rest due in
+    let below = prefix_len-le-length is_answered c.args.forms.now.items in
+    omega (arith, below, c.loop-form.invariant, step, c.len-len.ensures.len, c.len-len.ensures.within.0, c.len-len.ensures.within.1)
 
-pub loop-count-preserved : goal.loop-count-preserved
-loop-count-preserved c =
-    counts_yes c.args.forms.now.items c.loop-count.count c.in-Some.form.now (sym c.in-Some.ensures) (c.if-not-is_filled.ensures.0 refl) c.loop-count.invariant
-
-pub returns-clause-count : goal.returns-clause-count
-returns-clause-count c =
-    let all = counts_all c.args.forms.now.items c.loop-count.count (omega (arith, c.len-len.ensures.len, c.loop-count-test.false)) c.loop-count.invariant in
-    omega (arith, all, c.loop-count-test.false, c.loop-count.auto.count-end)
+pub returns-clause-within : goal.returns-clause-within
+returns-clause-within c =
+    let below = prefix_len-le-length is_answered c.args.forms.now.items in omega (arith, below, c.loop-form.invariant)

@@ -1,8 +1,10 @@
-use Rattle.std.proofs.Common.{◌≡◌, take, map}
+-- All was written but the replies of the forms that are left.
+use Rattle.std.proofs.Common.{map}
 use Rattle.std.specs.List.{concat}
-use Rattle.mc_wire.specs.Outlet.{took}
-use Rattle.mc_join.specs.Replies.{form_text}
+use Rattle.mc_join.specs.Replies.{complete, form_text}
+use Rattle.mc_join.proofs.Texts.{WroteBut}
 use Rattle.mc_join.proofs.queue.put_each.Given as goal
 
-abbrev pub invariant-loop-index : goal.invariant-loop-index
-invariant-loop-index g l = g.O.Outlet.sight l.out ≡ took (concat (map form_text (take l.index l.forms.items))) (g.O.Outlet.sight l.fn.out)
+abbrev pub invariant-loop-form : goal.invariant-loop-form
+invariant-loop-form g l =
+    WroteBut (concat (map form_text (complete l.forms.items))) (concat (map form_text (complete l.form-iterator))) (g.O.Outlet.sight l.fn.out) (g.O.Outlet.sight l.out)

@@ -1,9 +1,5 @@
-use Rattle.std.proofs.Common.{take, map}
-use Rattle.std.specs.List.{concat}
-use Rattle.mc_join.specs.Replies.{form_text}
-use Rattle.mc_join.specs.internal.Written.{WroteBut}
+-- The gathering begins with the outlet as it is.
 use Rattle.mc_join.proofs.queue.put_first.Given as goal
 
-abbrev pub invariant-loop-index : goal.invariant-loop-index
-invariant-loop-index g l =
-    WroteBut (concat (map form_text (take l.index l.forms.items))) l.room.bytes.items (g.O.Outlet.sight l.fn.out) (g.O.Outlet.sight l.out)
+abbrev pub ghosts-put_gathered : goal.ghosts-put_gathered
+ghosts-put_gathered g a = record { sight = g.O.Outlet.sight a.out.now }
