@@ -3,7 +3,7 @@
 
     bench/stdio.py [PROGRAM]             commands and megabytes a second, beside `wc -l` on the same bytes
     bench/stdio.py --count [PROGRAM]     instructions a command of each mix, and bytes of memory an item
-    bench/stdio.py --profile [PROGRAM]   instructions a command by function, for half gets and half sets
+    bench/stdio.py --profile [PROGRAM]   instructions a command by function, of the mix that `--mix` names
 
 Instructions are those outside system calls, counted by valgrind's callgrind as the difference of two runs, so that
 the start and the filling of the cache are left out: all keys are stored before anything is counted. With --count the
@@ -118,11 +118,8 @@ def mcd_run(program, folder, commands):
     return data
 
 
-def memcached_run(program, folder, commands):
-    """Runs memcached on the commands, over a socket, and gives callgrind's file."""
-    data, place = folder / "callgrind", folder / "socket"
-    place.unlink(missing_ok=True)
-    server = callgrind(data, [program, "-t", "1", "-m", "256", "-c", "1012", "-u", "root", "-s", str(place)], stdout=subprocess.DEVNULL)
+def connected(place):
+    """A connection to the server at this place, once it listens."""
     line = socket.socket(socket.AF_UNIX)
     for _ in range(200):
         try:
@@ -130,6 +127,15 @@ def memcached_run(program, folder, commands):
             break
         except OSError:
             time.sleep(0.1)
+    return line
+
+
+def memcached_run(program, folder, commands):
+    """Runs memcached on the commands, over a socket, and gives callgrind's file."""
+    data, place = folder / "callgrind", folder / "socket"
+    place.unlink(missing_ok=True)
+    server = callgrind(data, [program, "-t", "1", "-m", "256", "-c", "1012", "-u", "root", "-s", str(place)], stdout=subprocess.DEVNULL)
+    line = connected(place)
     sender = threading.Thread(target=lambda: line.sendall(b"".join(filled() + commands) + b"quit\r\n"))
     sender.start()
     while line.recv(1 << 16):
@@ -159,27 +165,47 @@ def memory_of(process):
     return int(found[1]) * 1024
 
 
-def bytes_an_item(program):
-    """How the process grows for 500,000 items with keys of 16 bytes and values of 100."""
+def grown(process, asked):
+    """How a server grows for each of 500,000 items with keys of 16 bytes and values of 100."""
     items = 500_000
+    asked(b"")
+    before = memory_of(process)
+    for first in range(0, items, 1000):
+        asked(b"".join(b"set k%015d 0 0 100 noreply\r\n%s\r\n" % (i, VALUE) for i in range(first, first + 1000)))
+    return (memory_of(process) - before) / items
+
+
+def until_noop(write, read):
+    """A call that sends commands with a noop behind them, and reads until that is answered."""
+    def asked(commands):
+        write(commands + b"mn\r\n")
+        text = b""
+        while not text.endswith(b"MN\r\n"):
+            text = (text + read(1 << 16))[-16:]
+
+    return asked
+
+
+def mcd_bytes(program):
     server = subprocess.Popen(
         [program, "--stdio", "--bytes", "1073741824"], stdin=subprocess.PIPE, stdout=subprocess.PIPE, bufsize=0,
     )
-
-    def asked(commands):
-        server.stdin.write(commands + b"mn\r\n")
-        text = b""
-        while not text.endswith(b"MN\r\n"):
-            text = (text + server.stdout.read(1 << 16))[-16:]
-
-    asked(b"")
-    before = memory_of(server)
-    for first in range(0, items, 1000):
-        asked(b"".join(b"set k%015d 0 0 100 noreply\r\n%s\r\n" % (i, VALUE) for i in range(first, first + 1000)))
-    after = memory_of(server)
+    found = grown(server, until_noop(server.stdin.write, server.stdout.read))
     server.stdin.close()
     server.wait()
-    return (after - before) / items
+    return found
+
+
+def memcached_bytes(program, folder):
+    place = folder / "socket"
+    place.unlink(missing_ok=True)
+    server = subprocess.Popen([program, "-t", "1", "-m", "1024", "-u", "root", "-s", str(place)], stdout=subprocess.DEVNULL)
+    line = connected(place)
+    found = grown(server, until_noop(line.sendall, line.recv))
+    line.close()
+    server.kill()
+    server.wait()
+    return found
 
 
 def count(program, folder):
@@ -189,7 +215,8 @@ def count(program, folder):
         ours = instructions(mcd_run, program, folder, command)
         theirs = f"{instructions(memcached_run, other, folder, command):12,.0f}" if other else ""
         print(f"{name:24}{ours:12,.0f}{theirs}", flush=True)
-    print(f"{'bytes an item':24}{bytes_an_item(program):12,.0f}")
+    theirs = f"{memcached_bytes(other, folder):12,.0f}" if other else ""
+    print(f"{'bytes an item':24}{mcd_bytes(program):12,.0f}{theirs}")
 
 
 def by_function(data):
@@ -202,9 +229,9 @@ def by_function(data):
     return table
 
 
-def profile(program, folder):
-    few, many = 2_000, 42_000
-    command = dict(MIXES)["half gets, half sets"]
+def profile(program, folder, mix):
+    few, many = 200, 4_200
+    command = dict(MIXES)[mix]
     before = by_function(mcd_run(program, folder, [command(i) for i in range(few)]))
     after = by_function(mcd_run(program, folder, [command(i) for i in range(many)]))
     rows = sorted(((after[name] - before.get(name, 0)) / (many - few), name) for name in after)
@@ -216,11 +243,15 @@ def main():
     parser = argparse.ArgumentParser(description=__doc__.splitlines()[0])
     parser.add_argument("--count", action="store_true")
     parser.add_argument("--profile", action="store_true")
+    parser.add_argument("--mix", choices=list(dict(MIXES)), default="half gets, half sets")
     parser.add_argument("program", nargs="?", default=str(TOP / "crates/mcd/out/mcd"))
     given = parser.parse_args()
     with tempfile.TemporaryDirectory() as folder:
-        work = profile if given.profile else count if given.count else measure
-        work(given.program, pathlib.Path(folder))
+        if given.profile:
+            profile(given.program, pathlib.Path(folder), given.mix)
+        else:
+            work = count if given.count else measure
+            work(given.program, pathlib.Path(folder))
 
 
 if __name__ == "__main__":
