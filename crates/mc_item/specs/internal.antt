@@ -1,2 +1,2 @@
--- Definitions that only the contracts of private functions name: no public contract rests on them.
+-- Definitions that say how a type's model is made of its own fields. No contract names them.
 pub mod Held
