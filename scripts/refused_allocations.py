@@ -19,25 +19,25 @@ TOP = pathlib.Path(__file__).resolve().parent.parent
 
 # Each test that holds whichever allocation is refused, and how many allocations it makes at least.
 TESTS = [
-    ("mc_command", "a_line_without_memory_is_given_up", 25),
-    ("mc_reader", "a_refused_allocation_gives_up_one_command", 8),
-    ("mc_store", "memory_may_be_refused_once", 50),
-    ("mc_split", "a_refused_allocation_refuses_one_plan", 30),
-    ("mc_join", "a_hit_copies_no_value", 5),
-    ("mc_conn", "a_refused_allocation_gives_up_one_command", 4),
-    ("mc_core", "a_refused_allocation_gives_up_one_command", 40),
-    ("mc_core", "a_worker_takes_no_memory", 8),
-    ("mc_server", "a_refused_allocation", 40),
-    ("mc_trials", "a_refused_start", 20),
+    ("mc_protocol_tests", "command::a_line_without_memory_is_given_up", 25),
+    ("mc_protocol_tests", "reader::a_refused_allocation_gives_up_one_command", 8),
+    ("mc_protocol_tests", "store::memory_may_be_refused_once", 50),
+    ("mc_connection_tests", "split::a_refused_allocation_refuses_one_plan", 30),
+    ("mc_connection_tests", "join::a_hit_copies_no_value", 5),
+    ("mc_connection_tests", "conn::a_refused_allocation_gives_up_one_command", 4),
+    ("mc_serving_tests", "sim::a_refused_allocation_gives_up_one_command", 40),
+    ("mc_serving_tests", "sim::a_worker_takes_no_memory", 8),
+    ("mc_serving_tests", "line::a_refused_allocation", 40),
+    ("mc_serving_tests", "start::a_refused_start", 20),
 ]
 
 # The tests of what takes no memory once all that it needs was made, and how many allocations that takes at least.
 WITHOUT_MEMORY = [
-    ("mc_server", "without_memory::words_numbers_and_items", 4),
-    ("mc_server", "without_memory::lines_without_a_key_and_skipped_blocks", 1),
-    ("mc_server", "without_memory::operations_on_a_present_key", 10),
-    ("mc_server", "without_memory::rings_that_have_room", 4),
-    ("mc_server", "without_memory::a_connection_whose_commands_are_taken", 8),
+    ("mc_serving_tests", "without_memory::words_numbers_and_items", 4),
+    ("mc_serving_tests", "without_memory::lines_without_a_key_and_skipped_blocks", 1),
+    ("mc_serving_tests", "without_memory::operations_on_a_present_key", 10),
+    ("mc_serving_tests", "without_memory::rings_that_have_room", 4),
+    ("mc_serving_tests", "without_memory::a_connection_whose_commands_are_taken", 8),
 ]
 
 # No test makes as many allocations as this: one that seems to never ends.
@@ -57,7 +57,7 @@ def runs(program, test, refusing):
     """Runs the test with each allocation refused in turn, and gives how many it makes, or what failed."""
     for nth in range(1, MOST):
         environment = {**os.environ, **refusing, "REFUSE_NTH": str(nth)}
-        ran = subprocess.run([program, f"tests::{test}"], capture_output=True, timeout=SECONDS, env=environment)
+        ran = subprocess.run([program, test], capture_output=True, timeout=SECONDS, env=environment)
         if ran.returncode != 0:
             said = (ran.stdout + ran.stderr).decode(errors="replace").strip()
             return nth, f"fails with its allocation {nth} refused: {said[-300:]}"

@@ -14,8 +14,6 @@ mod meta_line;
 mod name;
 mod refusal;
 mod storage;
-#[cfg(test)]
-mod tests;
 
 pub use announced::announced_bytes;
 pub use block::{Block, Keys};

@@ -16,9 +16,6 @@ use crate::refusal::Refusal;
 use mc_wire::{Key, WordWalk};
 use std::alloc::Global;
 
-#[cfg(test)]
-mod tests;
-
 /// Reads a meta line by its words behind the name, under a value limit.
 #[tactic(auto, unfolding(crate::specs::Meta::meta_line_of))]
 pub(crate) fn read_meta(alloc: Global, name: MetaKind, walk: WordWalk<'_>, limit: usize) -> Line

@@ -5,8 +5,6 @@
 mod conn;
 mod laws;
 mod planning;
-#[cfg(test)]
-mod tests;
 
 pub use conn::{Conn, Taken};
 pub use laws::{

@@ -8,8 +8,6 @@ mod handed;
 mod laws;
 mod sim;
 mod sizes;
-#[cfg(test)]
-mod tests;
 mod worker;
 
 pub use event::{Event, StepReply};

@@ -12,9 +12,6 @@ ghost use Rattle.mc_core.specs.Turns.{FindsNothing, Gives, Grows, Turned};
 ghost use Rattle.mc_core.specs.Marks.{Marks};
 ghost use Rattle.mc_core.specs.Serves.{Serves};
 
-#[cfg(test)]
-mod tests;
-
 use crate::gate::Gate;
 use mc_ring::{Parcel, Reply, SeatEnds, ShardEnds, beside};
 use mc_split::{Piece, Ticket};

@@ -10,8 +10,6 @@ mod length;
 mod meta;
 mod queue;
 mod room;
-#[cfg(test)]
-mod tests;
 mod text;
 
 pub use joiner::{Full, Gone, Joiner, Stranger};

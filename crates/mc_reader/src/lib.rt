@@ -7,8 +7,6 @@ mod laws;
 mod reader;
 mod room;
 mod state;
-#[cfg(test)]
-mod tests;
 
 pub use laws::{
     commands_only_grow, every_input_has_commands, no_text_begins_another, one_list_of_commands,

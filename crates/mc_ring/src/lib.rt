@@ -8,8 +8,6 @@ mod parcel;
 mod reply;
 mod seat;
 mod shard;
-#[cfg(test)]
-mod tests;
 
 pub use making::{RingRefusal, lanes};
 pub use pair::beside;

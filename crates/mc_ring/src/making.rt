@@ -3,9 +3,6 @@ ghost use Rattle.std.specs.Prelude.{◌≡◌, ◌≢◌, ◌↔◌, ◌≤◌, 
 ghost use Rattle.mc_ring.specs.Made.{AreLanes, IsSize, IsUnused};
 ghost use Rattle.mc_ring.specs.internal.Joined.{Joins};
 
-#[cfg(test)]
-mod tests;
-
 use crate::seat::{SeatEnds, SeatLane};
 use crate::shard::{ShardEnds, ShardLane};
 use crate::{RING_LIMIT, SEAT_LIMIT, SHARD_LIMIT};

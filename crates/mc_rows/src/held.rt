@@ -8,43 +8,84 @@ use std::alloc::Global;
 /// The value limits of the connections that are fed.
 const LIMITS: [usize; 3] = [LEAST_VALUE_LIMIT, DEFAULT_VALUE_LIMIT, GREATEST_VALUE_LIMIT];
 
-/// At most so many bytes are fed at once, and so many commands are open. None is answered, so that with a
-/// window of 1 the bytes behind the first command stay unread.
-const WAYS: [(usize, usize); 4] = [(7, MANY), (60_000, MANY), (7, 1), (60_000, 1)];
-
 /// A window that no row fills.
 const MANY: usize = 4_096;
 
 /// Every command's moment; what is held doesn't depend on it.
 const MOMENT: u64 = 1_000;
 
-/// Blocks with bytes behind them, each with its value limit, and the least and the most that a connection must
-/// have held at some moment, where it is fed many bytes at once.
-const BLOCKS: [(&[u8], usize, usize, usize); 4] = [
-    (
-        b"set a 0 0 1024\r\n{1024*x}\r\n{65000*y}",
-        LEAST_VALUE_LIMIT,
-        1_024,
-        66_562,
-    ),
-    (
-        b"set a 0 0 1048576\r\n{1048576*x}\r\n{65000*y}",
-        DEFAULT_VALUE_LIMIT,
-        1_048_576,
-        1_114_114,
-    ),
-    (
-        b"set a 0 0 8388608\r\n{8388608*x}\r\n{65000*y}",
-        GREATEST_VALUE_LIMIT,
-        8_388_608,
-        8_454_146,
-    ),
-    (
-        b"set a 0 0 4294967295\r\n{70000*x}",
-        DEFAULT_VALUE_LIMIT,
-        0,
-        65_536,
-    ),
+/// How a connection is fed.
+#[derive(Clone, Copy)]
+struct Feeding {
+    /// At most so many bytes are fed at once.
+    piece: usize,
+    /// So many commands may be open. None is answered, so that with a window of 1 the bytes behind the first command
+    /// stay unread.
+    window: usize,
+}
+
+/// Many bytes at once, and a window that nothing fills.
+const FAST: Feeding = Feeding {
+    piece: 60_000,
+    window: MANY,
+};
+
+/// The ways in which each input is fed.
+const FEEDINGS: [Feeding; 4] = [
+    FAST,
+    Feeding {
+        piece: 7,
+        window: MANY,
+    },
+    Feeding {
+        piece: 60_000,
+        window: 1,
+    },
+    Feeding {
+        piece: 7,
+        window: 1,
+    },
+];
+
+/// A block with bytes behind it, and how many bytes are held where it is fed fast.
+#[derive(Clone, Copy)]
+struct LongBlock {
+    /// The input, escaped as in a row.
+    text: &'static [u8],
+    /// The value limit of the connection.
+    limit: usize,
+    /// At some moment at least so many bytes are held.
+    least: usize,
+    /// At no moment more than so many.
+    most: usize,
+}
+
+/// Blocks as long as each limit, and one that is skipped.
+const BLOCKS: [LongBlock; 4] = [
+    LongBlock {
+        text: b"set a 0 0 1024\r\n{1024*x}\r\n{65000*y}",
+        limit: LEAST_VALUE_LIMIT,
+        least: 1_024,
+        most: 66_562,
+    },
+    LongBlock {
+        text: b"set a 0 0 1048576\r\n{1048576*x}\r\n{65000*y}",
+        limit: DEFAULT_VALUE_LIMIT,
+        least: 1_048_576,
+        most: 1_114_114,
+    },
+    LongBlock {
+        text: b"set a 0 0 8388608\r\n{8388608*x}\r\n{65000*y}",
+        limit: GREATEST_VALUE_LIMIT,
+        least: 8_388_608,
+        most: 8_454_146,
+    },
+    LongBlock {
+        text: b"set a 0 0 4294967295\r\n{70000*x}",
+        limit: DEFAULT_VALUE_LIMIT,
+        least: 0,
+        most: 65_536,
+    },
 ];
 
 /// A connection, and the most bytes that it was seen to hold.
@@ -107,16 +148,10 @@ impl Watched {
 
 /// The most that a connection held at any moment; none where memory ran out, or where it didn't take the whole
 /// input though the window wasn't full.
-fn most_held(
-    alloc: Global,
-    input: &[u8],
-    limit: usize,
-    size: usize,
-    window: usize,
-) -> Option<usize> {
-    let mut watched = Watched::new(alloc, limit, window)?;
-    let given = watched.feed_all(alloc, input, size);
-    if window == MANY && given != input.len() {
+fn most_held(alloc: Global, input: &[u8], limit: usize, feeding: Feeding) -> Option<usize> {
+    let mut watched = Watched::new(alloc, limit, feeding.window)?;
+    let given = watched.feed_all(alloc, input, feeding.piece);
+    if feeding.window == MANY && given != input.len() {
         return None;
     }
     Some(watched.most)
@@ -124,8 +159,8 @@ fn most_held(
 
 /// Whether no connection with this value limit holds more than its bound, however the input is cut.
 fn is_bounded_below(alloc: Global, input: &[u8], limit: usize) -> bool {
-    for (size, window) in WAYS {
-        match most_held(alloc, input, limit, size, window) {
+    for feeding in FEEDINGS {
+        match most_held(alloc, input, limit, feeding) {
             Some(most) if most <= LINE_LIMIT.saturating_add(limit).saturating_add(2) => {}
             _ => return false,
         }
@@ -143,13 +178,15 @@ pub fn is_bounded(alloc: Global, input: &[u8]) -> bool {
     true
 }
 
-/// Whether of a text with a block no more than the most, and at some moment at least the least, was held.
-fn is_held(alloc: Global, text: &[u8], limit: usize, least: usize, most: usize) -> bool {
-    let Ok(input) = unescape(alloc, text) else {
+/// Whether of the block no more than the most, and at some moment at least the least, was held.
+fn is_held(alloc: Global, block: LongBlock) -> bool {
+    let Ok(input) = unescape(alloc, block.text) else {
         return false;
     };
-    match most_held(alloc, input.as_slice(), limit, 60_000, MANY) {
-        Some(held) => held >= least && held <= most && is_bounded(alloc, input.as_slice()),
+    match most_held(alloc, input.as_slice(), block.limit, FAST) {
+        Some(held) => {
+            held >= block.least && held <= block.most && is_bounded(alloc, input.as_slice())
+        }
         None => false,
     }
 }
@@ -158,9 +195,9 @@ fn is_held(alloc: Global, text: &[u8], limit: usize, least: usize, most: usize) 
 pub fn blocks_held(alloc: Global) -> (u32, u32) {
     let mut blocks = 0u32;
     let mut failed = 0u32;
-    for (text, limit, least, most) in BLOCKS {
+    for block in BLOCKS {
         blocks = blocks.saturating_add(1);
-        if !is_held(alloc, text, limit, least, most) {
+        if !is_held(alloc, block) {
             failed = failed.saturating_add(1);
         }
     }

@@ -3,8 +3,6 @@
 
 mod clocks;
 mod serve;
-#[cfg(test)]
-mod tests;
 
 pub use clocks::{MachineClock, StillClock};
 pub use serve::{DEFAULT_RING, ServeRefusal, Sizes, serve_one};

@@ -7,8 +7,6 @@ mod laws;
 mod meta;
 mod plan;
 mod splitter;
-#[cfg(test)]
-mod tests;
 
 pub use form::{Fixed, Form, Shape, Slots};
 pub use laws::{

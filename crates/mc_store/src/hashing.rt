@@ -8,9 +8,6 @@
 ghost use Rattle.std.specs.Prelude.{◌≡◌, ◌+◌, ◌*◌, ◌%◌, ◌^◌, ◌<◌, ◌≤◌, length};
 ghost use Rattle.mc_store.specs.internal.Polynomial as polynomial;
 
-#[cfg(test)]
-mod tests;
-
 use std::hash::{BuildHasher, Hasher, RandomState};
 
 /// 2^61 - 1, a prime.

@@ -10,8 +10,6 @@ mod settling;
 mod tcp;
 mod tcp_line;
 mod tcp_seat;
-#[cfg(test)]
-mod tests;
 mod workers;
 mod working;
 

@@ -15,8 +15,6 @@ mod load;
 mod measured;
 mod rising;
 mod server;
-#[cfg(test)]
-mod tests;
 mod text;
 mod trials;
 

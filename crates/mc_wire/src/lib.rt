@@ -16,9 +16,6 @@ pub use number::{number_i64, number_u64};
 pub use outlet::{Outlet, put_all, put_parts};
 pub use walk::{WordWalk, words};
 
-#[cfg(test)]
-mod tests;
-
 /// A line has at most this many bytes, its `\n` among them.
 pub const LINE_LIMIT: usize = 65_536;
 

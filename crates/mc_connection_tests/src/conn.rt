@@ -1,0 +1,359 @@
+//! Commands come in, pieces go out, answers come in any order, and outlets fail. What no clause says: that calls succeed where
+//! memory is ample, and the texts of whole conversations.
+ghost use Rattle.std.specs.Prelude.{◌<◌};
+ghost use Rattle.mc_wire.specs.Outlet.{Listed, sight_out};
+
+use mc_conn::{Conn, Taken};
+use mc_item::{Answer, Kind};
+use mc_join::Stranger;
+use mc_ring::Reply;
+use mc_split::{Piece, Ticket};
+use mc_wire::{DEFAULT_VALUE_LIMIT, OutFault, Outlet};
+use std::alloc::Global;
+use std::process::Abort;
+use std::test::Fail;
+
+static LONG: [u8; 65_536] = [b'x'; 65_536];
+
+const CONVERSATION: &[u8] =
+    b"set a 0 0 1\r\nx\r\nget a b\r\nstats\r\nset b 0 0 1 noreply\r\ny\r\nflush_all\r\ndelete c\r\nmn\r\nquit\r\nmn\r\n";
+
+const REPLIES: &[u8] = b"STORED\r\nEND\r\nERROR\r\nOK\r\nNOT_FOUND\r\nMN\r\n";
+
+/// Takes so many bytes, and then fails.
+#[derive(Drop)]
+struct Memory {
+    taken: Vec<u8>,
+    left: usize,
+    failed: bool,
+}
+
+impl Outlet for Memory {
+    ghost sight = { λ out. sight_out (Listed out.taken.items) out.failed };
+
+    fn write(&mut self, bytes: &[u8]) -> Result<usize, OutFault> {
+        if self.failed || (self.left == 0 && !bytes.is_empty()) {
+            self.failed = true;
+            return Err(OutFault);
+        }
+        let count = bytes.len().min(self.left);
+        let (front, _) = bytes.split_at(count);
+        if self.taken.extend_from_slice(front).is_err() {
+            self.failed = true;
+            return Err(OutFault);
+        }
+        self.left -= count;
+        Ok(count)
+    }
+}
+
+fn outlet(alloc: Global, left: usize) -> Memory {
+    Memory {
+        taken: Vec::new(alloc),
+        left,
+        failed: false,
+    }
+}
+
+/// A connection over two shards with this window, which was fed these bytes.
+fn fed(rt: &impl Abort, alloc: Global, window: usize, bytes: &[u8]) -> Result<Conn, Fail>
+    requires { 0 < window }
+{
+    let mut conn = Conn::new(alloc, 2, DEFAULT_VALUE_LIMIT, window)?;
+    assert_eq!(rt; conn.feed(bytes), bytes.len());
+    Ok(conn)
+}
+
+fn reply(rt: &impl Abort, ticket: u64, part: usize, kind: Kind, answer: Answer) -> Reply {
+    assert!(rt; answer.is_lawful(kind));
+    Reply::new(Ticket(ticket), part, kind, answer)
+}
+
+/// The answer of a shard that stores everything and finds nothing.
+fn answer(rt: &impl Abort, piece: &Piece) -> Reply {
+    let kind = piece.op.kind();
+    let answer = match kind {
+        Kind::Store => Answer::Stored,
+        Kind::Fetch => Answer::Miss,
+        Kind::Flush => Answer::Done,
+        _ => Answer::NotFound,
+    };
+    reply(rt, piece.ticket.0, piece.part, kind, answer)
+}
+
+/// Takes commands until one isn't opened.
+fn take_all(alloc: Global, conn: &mut Conn) -> Taken {
+    for _ in 0..CONVERSATION.len() {
+        let taken = conn.take(alloc, 1000);
+        if !matches!(taken, Taken::Opened(_)) {
+            return taken;
+        }
+    }
+    Taken::Full
+}
+
+/// Answers all pieces.
+fn answer_all(rt: &impl Abort, conn: &mut Conn) {
+    for _ in 0..CONVERSATION.len() {
+        let Some((_, piece)) = conn.next_piece() else {
+            return;
+        };
+        assert!(rt; conn.accept(answer(rt, &piece)).is_ok());
+    }
+}
+
+/// Takes, answers and hands out until no more commands are whole or none comes.
+fn serve(rt: &impl Abort, alloc: Global, conn: &mut Conn, out: &mut Memory) -> Taken {
+    for _ in 0..CONVERSATION.len() {
+        let taken = take_all(alloc, conn);
+        answer_all(rt, conn);
+        assert!(rt; conn.hand(out).is_ok());
+        if taken != Taken::Full {
+            return taken;
+        }
+    }
+    Taken::Full
+}
+
+/// Serves the conversation with this window, cut into pieces of this size.
+fn converses(rt: &impl Abort, alloc: Global, window: usize, size: usize) -> Result<(), Fail>
+    requires window { 0 < window }
+    requires size { 0 < size }
+{
+    let mut conn = fed(rt, alloc, window, b"")?;
+    let mut out = outlet(alloc, usize::MAX);
+    let mut taken = Taken::NeedMore;
+    for piece in CONVERSATION.chunks(size) {
+        assert_eq!(rt; conn.feed(piece), piece.len());
+        taken = serve(rt, alloc, &mut conn, &mut out);
+    }
+    assert_eq!(rt; taken, Taken::Closed);
+    assert_eq!(rt; out.taken.as_slice(), REPLIES);
+    assert!(rt; conn.is_at_rest());
+    assert!(rt; conn.renew());
+    Ok(())
+}
+
+#[test]
+fn a_conversation_in_pieces_with_windows(rt: HostRuntime) -> Result<(), Fail> {
+    let alloc = rt.alloc();
+    for window in [1usize, 2, 256] {
+        converses(&rt, alloc, window.max(1), 1)?;
+        converses(&rt, alloc, window.max(1), 16)?;
+        converses(&rt, alloc, window.max(1), CONVERSATION.len().max(1))?;
+    }
+    Ok(())
+}
+
+/// The first and the last command and a silent one between them are answered in this order, by their places; a refusal
+/// stands behind the first.
+fn answers_in_order(rt: &impl Abort, alloc: Global, order: [u64; 3]) -> Result<(), Fail> {
+    let mut conn = fed(
+        rt,
+        alloc,
+        4,
+        b"touch a 0\r\nstats\r\ndelete b noreply\r\ntouch c 0\r\n",
+    )?;
+    let mut out = outlet(alloc, usize::MAX);
+    assert_eq!(rt; take_all(alloc, &mut conn), Taken::Full);
+    let mut answered = [false; 4];
+    for ticket in order {
+        let kind = if ticket == 2 {
+            Kind::Delete
+        } else {
+            Kind::Touch
+        };
+        let reply = reply(rt, ticket, 0, kind, Answer::NotFound);
+        assert!(rt; conn.accept(reply).is_ok());
+        answered = [
+            answered[0] || ticket == 0,
+            true,
+            answered[2] || ticket == 2,
+            answered[3] || ticket == 3,
+        ];
+        let ready = conn.ready();
+        let before = out.taken.len() as u64;
+        assert!(rt; conn.hand(&mut out).is_ok());
+        assert_eq!(rt; out.taken.len() as u64, before.saturating_add(ready));
+        let text: &[u8] = match answered {
+            [false, ..] => b"",
+            [true, _, false, _] | [true, _, _, false] => b"NOT_FOUND\r\nERROR\r\n",
+            [true, _, true, true] => b"NOT_FOUND\r\nERROR\r\nNOT_FOUND\r\n",
+        };
+        assert_eq!(rt; out.taken.as_slice(), text);
+    }
+    assert!(rt; !conn.is_at_rest());
+    Ok(())
+}
+
+#[test]
+fn answers_come_in_every_order(rt: HostRuntime) -> Result<(), Fail> {
+    let alloc = rt.alloc();
+    for order in [
+        [0, 2, 3],
+        [0, 3, 2],
+        [2, 0, 3],
+        [2, 3, 0],
+        [3, 0, 2],
+        [3, 2, 0],
+    ] {
+        answers_in_order(&rt, alloc, order)?;
+    }
+    Ok(())
+}
+
+#[test]
+fn the_last_command_closes_a_full_window(rt: HostRuntime) -> Result<(), Fail> {
+    let alloc = rt.alloc();
+    let mut out = outlet(alloc, usize::MAX);
+    let mut conn = fed(&rt, alloc, 1, b"mn\r\nquit\r\nmn\r\n")?;
+    assert_eq!(rt; conn.take(alloc, 1000), Taken::Opened(Ticket(0)));
+    assert_eq!(rt; conn.take(alloc, 1000), Taken::Full);
+    assert!(rt; conn.hand(&mut out) == Ok(1));
+    assert_eq!(rt; conn.take(alloc, 1000), Taken::Opened(Ticket(1)));
+    assert_eq!(rt; conn.take(alloc, 1000), Taken::Closed);
+    assert!(rt; !conn.renew());
+    assert!(rt; conn.hand(&mut out) == Ok(1));
+    assert!(rt; conn.renew());
+    assert_eq!(rt; conn.feed(b"mn\r\n"), 4);
+    assert_eq!(rt; conn.take(alloc, 1000), Taken::Opened(Ticket(0)));
+    assert_eq!(rt; conn.feed(&LONG), 65_536);
+    assert_eq!(rt; conn.held(), 65_536);
+    assert_eq!(rt; conn.take(alloc, 1000), Taken::Full);
+    assert!(rt; conn.hand(&mut out) == Ok(1));
+    assert_eq!(rt; conn.take(alloc, 1000), Taken::Opened(Ticket(1)));
+    assert_eq!(rt; conn.take(alloc, 1000), Taken::Closed);
+    assert!(rt; conn.hand(&mut out) == Ok(1));
+    assert_eq!(rt;
+        out.taken.as_slice(),
+        b"MN\r\nMN\r\nCLIENT_ERROR line too long\r\n".as_slice()
+    );
+    Ok(())
+}
+
+/// The outlet of a hand fails after so many bytes.
+fn fails_after(rt: &impl Abort, alloc: Global, left: usize) -> Result<(), Fail> {
+    let text = b"END\r\nMN\r\n".as_slice();
+    let mut conn = fed(rt, alloc, 4, b"get a\r\nmn\r\n")?;
+    let mut out = outlet(alloc, left);
+    assert_eq!(rt; take_all(alloc, &mut conn), Taken::NeedMore);
+    answer_all(rt, &mut conn);
+    assert!(rt; conn.hand(&mut out).is_err());
+    let (front, _) = text.split_at(left.min(text.len()));
+    assert_eq!(rt; out.taken.as_slice(), front);
+    assert_eq!(rt; conn.ready(), 0);
+    assert!(rt; conn.hand(&mut out) == Ok(0));
+    assert_eq!(rt; conn.feed(b"mn\r\n"), 0);
+    assert_eq!(rt; conn.take(alloc, 1000), Taken::Closed);
+    assert!(rt; conn.renew());
+    Ok(())
+}
+
+#[test]
+fn an_outlet_fails_at_every_byte(rt: HostRuntime) -> Result<(), Fail> {
+    let alloc = rt.alloc();
+    for left in 0..9usize {
+        fails_after(&rt, alloc, left)?;
+    }
+    Ok(())
+}
+
+#[test]
+fn a_broken_connection_still_answers_its_pieces(rt: HostRuntime) -> Result<(), Fail> {
+    let alloc = rt.alloc();
+    let mut out = outlet(alloc, usize::MAX);
+    let mut conn = fed(&rt, alloc, 4, b"get a b\r\nget c\r\n")?;
+    assert_eq!(rt; take_all(alloc, &mut conn), Taken::NeedMore);
+    let Some((shard, piece)) = conn.next_piece() else {
+        return Err(Fail::from("no piece"));
+    };
+    conn.not_sent(shard, piece);
+    conn.broken();
+    assert!(rt; !conn.is_at_rest());
+    assert!(rt; !conn.renew());
+    answer_all(&rt, &mut conn);
+    assert!(rt; conn.hand(&mut out) == Ok(0));
+    assert!(rt; conn.is_at_rest());
+    assert!(rt; conn.renew());
+    assert_eq!(rt; conn.feed(b"get"), 3);
+    assert!(rt; !conn.whole());
+    assert_eq!(rt; conn.take(alloc, 1000), Taken::NeedMore);
+    assert_eq!(rt; conn.held(), 3);
+    assert_eq!(rt; conn.feed(b" d\r\n"), 4);
+    assert!(rt; conn.whole());
+    conn.end();
+    assert_eq!(rt; serve(&rt, alloc, &mut conn, &mut out), Taken::Closed);
+    assert_eq!(rt; out.taken.as_slice(), b"END\r\n".as_slice());
+    Ok(())
+}
+
+/// Asserts that a reply is handed back as it was.
+fn is_stranger(
+    rt: &impl Abort,
+    conn: &mut Conn,
+    ticket: u64,
+    part: usize,
+    kind: Kind,
+    answer: Answer,
+) {
+    let Err(Stranger { reply }) = conn.accept(reply(rt, ticket, part, kind, answer)) else {
+        return rt.abort();
+    };
+    assert_eq!(rt; reply.ticket, Ticket(ticket));
+    assert_eq!(rt; reply.part, part);
+    assert_eq!(rt; reply.kind, kind);
+}
+
+#[test]
+fn strangers_are_handed_back(rt: HostRuntime) -> Result<(), Fail> {
+    let alloc = rt.alloc();
+    let mut out = outlet(alloc, usize::MAX);
+    let mut conn = fed(&rt, alloc, 2, b"get a b\r\n")?;
+    is_stranger(&rt, &mut conn, 0, 0, Kind::Fetch, Answer::Miss);
+    assert_eq!(rt; conn.take(alloc, 1000), Taken::Opened(Ticket(0)));
+    is_stranger(&rt, &mut conn, 1, 0, Kind::Fetch, Answer::Miss);
+    is_stranger(&rt, &mut conn, 0, 2, Kind::Fetch, Answer::Miss);
+    is_stranger(&rt, &mut conn, 0, 0, Kind::Touch, Answer::NotFound);
+    assert!(rt;
+        conn.accept(reply(&rt, 0, 1, Kind::Fetch, Answer::Miss))
+            .is_ok()
+    );
+    is_stranger(&rt, &mut conn, 0, 1, Kind::Fetch, Answer::NoMemory);
+    assert!(rt;
+        conn.accept(reply(&rt, 0, 0, Kind::Fetch, Answer::Miss))
+            .is_ok()
+    );
+    assert!(rt; conn.hand(&mut out) == Ok(1));
+    is_stranger(&rt, &mut conn, 0, 0, Kind::Fetch, Answer::Miss);
+    assert_eq!(rt; out.taken.as_slice(), b"END\r\n".as_slice());
+    Ok(())
+}
+
+/// Holds whichever single allocation is refused.
+#[test]
+fn a_refused_allocation_gives_up_one_command(rt: HostRuntime) {
+    let alloc = rt.alloc();
+    let Ok(taken) = Vec::with_capacity(alloc, 64) else {
+        return;
+    };
+    let mut out = Memory {
+        taken,
+        left: 64,
+        failed: false,
+    };
+    let Ok(mut conn) = Conn::new(alloc, 2, DEFAULT_VALUE_LIMIT, 4) else {
+        return;
+    };
+    let bytes = b"get a b\r\nset c 0 0 4\r\nmn\r\n\r\nmn\r\n";
+    assert_eq!(&rt; conn.feed(bytes), bytes.len());
+    assert_eq!(&rt; take_all(alloc, &mut conn), Taken::NeedMore);
+    answer_all(&rt, &mut conn);
+    assert!(&rt; conn.hand(&mut out).is_ok());
+    let text = out.taken.as_slice();
+    assert!(&rt;
+        text == b"END\r\nSTORED\r\nMN\r\n".as_slice()
+            || text == b"SERVER_ERROR out of memory\r\nSTORED\r\nMN\r\n".as_slice()
+            || text == b"END\r\nSERVER_ERROR out of memory\r\nMN\r\n".as_slice()
+    );
+    assert!(&rt; conn.is_at_rest());
+}

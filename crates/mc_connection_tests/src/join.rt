@@ -1,0 +1,594 @@
+//! Replies of a few commands, whose answers come in any order, and outlets that count or fail.
+ghost use Rattle.std.specs.Prelude.{◌≡◌, ◌+◌, ◌≤◌, Some, IfOk, IfSome, OnOk, false};
+ghost use Rattle.mc_wire.specs.Outlet.{Listed, Untold, sight_out};
+ghost use Rattle.mc_join.specs.Held.{opened_count};
+
+use mc_command::{Command, Keys, Retrieval};
+use mc_item::{Answer, Kind, Value};
+use mc_join::{Full, Joiner, Stranger};
+use mc_ring::Reply;
+use mc_split::{Form, Ticket, split};
+use mc_wire::{Key, OutFault, Outlet, WireFault};
+use std::alloc::Global;
+use std::process::Abort;
+use std::test::Fail;
+
+/// Takes so many bytes, counts the writes, and fails after them.
+#[derive(Drop)]
+struct Memory {
+    taken: Vec<u8>,
+    writes: u64,
+    left: usize,
+    failed: bool,
+}
+
+impl Outlet for Memory {
+    ghost sight = { λ out. sight_out (Listed out.taken.items) out.failed };
+
+    fn write(&mut self, bytes: &[u8]) -> Result<usize, OutFault> {
+        self.writes = self.writes.wrapping_add(1);
+        if self.failed || (self.left == 0 && !bytes.is_empty()) {
+            self.failed = true;
+            return Err(OutFault);
+        }
+        let count = bytes.len().min(self.left);
+        let (front, _) = bytes.split_at(count);
+        if self.taken.extend_from_slice(front).is_err() {
+            self.failed = true;
+            return Err(OutFault);
+        }
+        self.left -= count;
+        Ok(count)
+    }
+}
+
+fn outlet(alloc: Global, left: usize) -> Memory {
+    Memory {
+        taken: Vec::new(alloc),
+        writes: 0,
+        left,
+        failed: false,
+    }
+}
+
+/// The form of a get of these keys.
+fn get(alloc: Global, ticket: Ticket, words: &[&[u8]]) -> Result<Form, Fail>
+    ensures { IfOk result (λ form. form.ticket ≡ ticket) }
+{
+    let Some((first, others)) = words.split_first() else {
+        return Err(Fail::from("no key"));
+    };
+    let mut keys = Keys::one(alloc, Key::from_word(alloc, first)?);
+    for word in others {
+        keys.push(Key::from_word(alloc, word)?)?;
+    }
+    let command = Command::Get(Retrieval {
+        keys,
+        touch: None,
+        with_unique: false,
+    });
+    Ok(split(alloc, command, ticket, 1000, 2)?.form)
+}
+
+/// The form of a get that names one key so many times.
+fn get_often(alloc: Global, ticket: Ticket, count: usize) -> Result<Form, Fail>
+    ensures { IfOk result (λ form. form.ticket ≡ ticket) }
+{
+    let mut keys = Keys::one(alloc, Key::from_word(alloc, b"k")?);
+    for _ in 1..count {
+        keys.push(Key::from_word(alloc, b"k")?)?;
+    }
+    let command = Command::Get(Retrieval {
+        keys,
+        touch: None,
+        with_unique: false,
+    });
+    Ok(split(alloc, command, ticket, 1000, 2)?.form)
+}
+
+/// The form of `mn`.
+fn noop(alloc: Global, ticket: Ticket) -> Result<Form, Fail>
+    ensures { IfOk result (λ form. form.ticket ≡ ticket) }
+{
+    Ok(split(alloc, Command::MetaNoop, ticket, 1000, 2)?.form)
+}
+
+fn hit(alloc: Global, value: &[u8]) -> Result<Answer, Fail> {
+    let bytes = Vec::from_slice(alloc, value)?;
+    if bytes.len() > 8_388_608 {
+        return Err(Fail::from("too large"));
+    }
+    Ok(Answer::Hit {
+        flags: 0,
+        unique: 1,
+        value: Value::new(bytes)?,
+    })
+}
+
+fn reply(rt: &impl Abort, ticket: u64, part: usize, kind: Kind, answer: Answer) -> Reply {
+    assert!(rt; answer.is_lawful(kind));
+    Reply::new(Ticket(ticket), part, kind, answer)
+}
+
+/// Opens the next ticket, for which there is room.
+fn open(rt: &impl Abort, joiner: &mut Joiner, form: Form)
+    requires { form.ticket.0 ≡ opened_count joiner.old }
+    ensures { opened_count joiner.new ≡ opened_count joiner.old + 1 }
+{
+    assert!(rt; joiner.open(form).is_ok());
+}
+
+/// Whether the reply was taken in.
+fn takes(joiner: &mut Joiner, reply: Reply) -> bool
+    ensures { opened_count joiner.new ≡ opened_count joiner.old }
+{
+    joiner.accept(reply).is_ok()
+}
+
+/// Asserts what a hand answers and writes, and that `ready` told its length.
+fn hands(rt: &impl Abort, alloc: Global, joiner: &mut Joiner, commands: u64, text: &[u8])
+    ensures { opened_count joiner.new ≡ opened_count joiner.old }
+{
+    let mut out = outlet(alloc, usize::MAX);
+    assert_eq!(rt; joiner.ready(), text.len() as u64);
+    assert_eq!(rt; joiner.hand(&mut out), Ok(commands));
+    assert_eq!(rt; out.taken.as_slice(), text);
+    assert_eq!(rt; joiner.ready(), 0);
+}
+
+#[test]
+fn a_get_waits_for_its_first_key(rt: HostRuntime) -> Result<(), Fail> {
+    let alloc = rt.alloc();
+    let mut joiner = Joiner::new(alloc, 1)?;
+    open(&rt, &mut joiner, get(alloc, Ticket(0), &[b"a", b"b"])?);
+    assert_eq!(rt; joiner.waiting(), 1);
+    let miss = reply(&rt, 0, 1, Kind::Fetch, Answer::Miss);
+    assert!(rt; takes(&mut joiner, miss));
+    hands(&rt, alloc, &mut joiner, 0, b"");
+    let again = reply(&rt, 0, 1, Kind::Fetch, Answer::Miss);
+    assert!(rt; !takes(&mut joiner, again));
+    let found = reply(&rt, 0, 0, Kind::Fetch, hit(alloc, b"x")?);
+    assert!(rt; takes(&mut joiner, found));
+    assert_eq!(rt; joiner.ready(), 21);
+    hands(&rt, alloc, &mut joiner, 1, b"VALUE a 0 1\r\nx\r\nEND\r\n");
+    assert_eq!(rt; joiner.waiting(), 0);
+    Ok(())
+}
+
+/// Whether the code names each of so many parts once: its digits to the base 4.
+fn names_each(code: usize, count: usize) -> bool {
+    let mut seen = [false; 4];
+    let mut rest = code;
+    for _ in 0..4 {
+        seen[rest % 4] = true;
+        rest /= 4;
+    }
+    seen.iter().take(count).all(|part| *part)
+}
+
+/// Accepts the answers of a get in the order that the code names; a part that comes again, or isn't there, is not taken
+/// in.
+fn accept_in_order(
+    rt: &impl Abort,
+    alloc: Global,
+    joiner: &mut Joiner,
+    code: usize,
+    count: usize,
+) -> Result<(), Fail> {
+    let values: [&[u8]; 4] = [b"w", b"", b"yy", b"z"];
+    let mut seen = [false; 4];
+    let mut rest = code;
+    for _ in 0..4 {
+        let part = rest % 4;
+        rest /= 4;
+        let answer = if part == 1 {
+            Answer::Miss
+        } else {
+            hit(alloc, values[part])?
+        };
+        let fresh = part < count && !seen[part];
+        assert_eq!(rt;
+            takes(joiner, reply(rt, 0, part, Kind::Fetch, answer)),
+            fresh
+        );
+        seen[part] = true;
+    }
+    Ok(())
+}
+
+#[test]
+fn answers_come_in_every_order(rt: HostRuntime) -> Result<(), Fail> {
+    let alloc = rt.alloc();
+    let keys: [&[u8]; 4] = [b"a", b"b", b"c", b"d"];
+    let texts: [&[u8]; 4] = [
+        b"VALUE a 0 1\r\nw\r\nEND\r\n",
+        b"VALUE a 0 1\r\nw\r\nEND\r\n",
+        b"VALUE a 0 1\r\nw\r\nVALUE c 0 2\r\nyy\r\nEND\r\n",
+        b"VALUE a 0 1\r\nw\r\nVALUE c 0 2\r\nyy\r\nVALUE d 0 1\r\nz\r\nEND\r\n",
+    ];
+    for count in 1..5 {
+        for code in 0..256 {
+            let mut joiner = Joiner::new(alloc, 1)?;
+            open(
+                &rt,
+                &mut joiner,
+                get(alloc, Ticket(0), keys.split_at(count).0)?,
+            );
+            accept_in_order(&rt, alloc, &mut joiner, code, count)?;
+            if names_each(code, count) {
+                hands(&rt, alloc, &mut joiner, 1, texts[count - 1]);
+            } else {
+                hands(&rt, alloc, &mut joiner, 0, b"");
+            }
+        }
+    }
+    Ok(())
+}
+
+#[test]
+fn a_repeated_key_is_shown_each_time(rt: HostRuntime) -> Result<(), Fail> {
+    let alloc = rt.alloc();
+    let mut joiner = Joiner::new(alloc, 1)?;
+    open(
+        &rt,
+        &mut joiner,
+        get(alloc, Ticket(0), &[b"a", b"b", b"a"])?,
+    );
+    let last = reply(&rt, 0, 2, Kind::Fetch, hit(alloc, b"2")?);
+    assert!(rt; takes(&mut joiner, last));
+    let first = reply(&rt, 0, 0, Kind::Fetch, hit(alloc, b"1")?);
+    assert!(rt; takes(&mut joiner, first));
+    let middle = reply(&rt, 0, 1, Kind::Fetch, Answer::Miss);
+    assert!(rt; takes(&mut joiner, middle));
+    hands(
+        &rt,
+        alloc,
+        &mut joiner,
+        1,
+        b"VALUE a 0 1\r\n1\r\nVALUE a 0 1\r\n2\r\nEND\r\n",
+    );
+    Ok(())
+}
+
+/// Asserts that the joiner hands the reply back as it was.
+fn is_stranger(
+    rt: &impl Abort,
+    joiner: &mut Joiner,
+    ticket: u64,
+    part: usize,
+    kind: Kind,
+    answer: Answer,
+)
+    ensures { opened_count joiner.new ≡ opened_count joiner.old }
+{
+    match joiner.accept(reply(rt, ticket, part, kind, answer)) {
+        Ok(()) => panic!(rt; "taken in"),
+        Err(Stranger { reply }) => {
+            assert_eq!(rt; reply.ticket, Ticket(ticket));
+            assert_eq!(rt; reply.part, part);
+            assert_eq!(rt; reply.kind, kind);
+        }
+    }
+}
+
+#[test]
+fn strangers_are_handed_back(rt: HostRuntime) -> Result<(), Fail> {
+    let alloc = rt.alloc();
+    let mut joiner = Joiner::new(alloc, 2)?;
+    // No ticket is open.
+    is_stranger(&rt, &mut joiner, 0, 0, Kind::Fetch, Answer::Miss);
+    open(&rt, &mut joiner, get(alloc, Ticket(0), &[b"a", b"b"])?);
+    // A part that isn't there, a ticket that isn't open yet, another kind.
+    is_stranger(&rt, &mut joiner, 0, 2, Kind::Fetch, Answer::Miss);
+    is_stranger(&rt, &mut joiner, 1, 0, Kind::Fetch, Answer::Miss);
+    is_stranger(&rt, &mut joiner, u64::MAX, 0, Kind::Fetch, Answer::Miss);
+    is_stranger(&rt, &mut joiner, 0, 0, Kind::MetaGet, Answer::Miss);
+    let first = reply(&rt, 0, 0, Kind::Fetch, Answer::Miss);
+    assert!(rt; takes(&mut joiner, first));
+    // A part that is answered, whatever the second answer says.
+    is_stranger(&rt, &mut joiner, 0, 0, Kind::Fetch, hit(alloc, b"x")?);
+    let second = reply(&rt, 0, 1, Kind::Fetch, Answer::Miss);
+    assert!(rt; takes(&mut joiner, second));
+    hands(&rt, alloc, &mut joiner, 1, b"END\r\n");
+    // A ticket that was closed.
+    is_stranger(&rt, &mut joiner, 0, 0, Kind::Fetch, Answer::Miss);
+    assert_eq!(rt; joiner.waiting(), 0);
+    Ok(())
+}
+
+#[test]
+fn a_failed_outlet_is_written_to_no_more(rt: HostRuntime) -> Result<(), Fail> {
+    let alloc = rt.alloc();
+    let text = b"MN\r\nEND\r\n";
+    for left in 0..9 {
+        let mut joiner = Joiner::new(alloc, 4)?;
+        open(&rt, &mut joiner, noop(alloc, Ticket(0))?);
+        open(&rt, &mut joiner, get(alloc, Ticket(1), &[b"a"])?);
+        open(&rt, &mut joiner, get(alloc, Ticket(2), &[b"b"])?);
+        let miss = reply(&rt, 1, 0, Kind::Fetch, Answer::Miss);
+        assert!(rt; takes(&mut joiner, miss));
+        let mut out = outlet(alloc, left);
+        assert_eq!(rt; joiner.ready(), 9);
+        assert!(rt; joiner.hand(&mut out).is_err());
+        assert_eq!(rt; out.taken.as_slice(), text.split_at(left).0);
+        let writes = out.writes;
+        assert_eq!(rt; joiner.ready(), 0);
+        out.left = 99;
+        out.failed = false;
+        assert_eq!(rt; joiner.hand(&mut out), Ok(0));
+        assert_eq!(rt; out.taken.len(), left);
+        assert_eq!(rt; out.writes, writes);
+        // Answers are still taken in.
+        let late = reply(&rt, 2, 0, Kind::Fetch, Answer::Miss);
+        assert!(rt; takes(&mut joiner, late));
+        assert_eq!(rt; joiner.hand(&mut out), Ok(0));
+        assert_eq!(rt; joiner.waiting(), 3);
+        joiner.reset();
+        assert_eq!(rt; joiner.waiting(), 0);
+        open(&rt, &mut joiner, noop(alloc, Ticket(0))?);
+        hands(&rt, alloc, &mut joiner, 1, b"MN\r\n");
+    }
+    Ok(())
+}
+
+/// Opens so many `mn`, one after another.
+fn open_noops(
+    rt: &impl Abort,
+    alloc: Global,
+    joiner: &mut Joiner,
+    from: u64,
+    to: u64,
+) -> Result<(), Fail>
+    requires next { opened_count joiner.old ≡ from }
+    requires order { from ≤ to }
+    ensures { OnOk result (opened_count joiner.new ≡ to) }
+{
+    for ticket in from..to {
+        open(rt, joiner, noop(alloc, Ticket(ticket))?);
+    }
+    Ok(())
+}
+
+#[test]
+fn small_replies_go_out_in_one_write(rt: HostRuntime) -> Result<(), Fail> {
+    let alloc = rt.alloc();
+    let mut joiner = Joiner::new(alloc, 256)?;
+    open_noops(&rt, alloc, &mut joiner, 0, 256)?;
+    let mut out = outlet(alloc, usize::MAX);
+    assert_eq!(rt; joiner.ready(), 1024);
+    assert_eq!(rt; joiner.hand(&mut out), Ok(256));
+    assert_eq!(rt; out.taken.len(), 1024);
+    assert_eq!(rt; out.writes, 1);
+    Ok(())
+}
+
+#[test]
+fn a_large_value_goes_out_by_itself(rt: HostRuntime) -> Result<(), Fail> {
+    let alloc = rt.alloc();
+    let value = vec![in alloc; 7; 16_384]?;
+    let mut joiner = Joiner::new(alloc, 4)?;
+    open(&rt, &mut joiner, noop(alloc, Ticket(0))?);
+    open(&rt, &mut joiner, get(alloc, Ticket(1), &[b"a"])?);
+    open(&rt, &mut joiner, noop(alloc, Ticket(2))?);
+    let found = reply(&rt, 1, 0, Kind::Fetch, hit(alloc, value.as_slice())?);
+    assert!(rt; takes(&mut joiner, found));
+    let mut out = outlet(alloc, usize::MAX);
+    let text = b"MN\r\nVALUE a 0 16384\r\n";
+    let len = text.len() + 16_384 + b"\r\nEND\r\nMN\r\n".len();
+    assert_eq!(rt; joiner.ready(), len as u64);
+    assert_eq!(rt; joiner.hand(&mut out), Ok(3));
+    assert_eq!(rt; out.taken.len(), len);
+    assert!(rt; out.taken.as_slice().starts_with(text));
+    assert!(rt; out.taken.as_slice().ends_with(b"\x07\r\nEND\r\nMN\r\n"));
+    // What stands before the value, the value, and what stands behind it.
+    assert_eq!(rt; out.writes, 3);
+    Ok(())
+}
+
+#[test]
+fn a_reply_above_the_room_goes_out_in_few_writes(rt: HostRuntime) -> Result<(), Fail> {
+    let alloc = rt.alloc();
+    let value = vec![in alloc; 7; 1_024]?;
+    let mut joiner = Joiner::new(alloc, 1)?;
+    open(&rt, &mut joiner, get_often(alloc, Ticket(0), 100)?);
+    for part in 0..100 {
+        let found = reply(&rt, 0, part, Kind::Fetch, hit(alloc, value.as_slice())?);
+        assert!(rt; takes(&mut joiner, found));
+    }
+    let item = b"VALUE k 0 1024\r\n".len() + 1_024 + b"\r\n".len();
+    let len = 100 * item + b"END\r\n".len();
+    let mut out = outlet(alloc, usize::MAX);
+    assert_eq!(rt; joiner.ready(), len as u64);
+    assert_eq!(rt; joiner.hand(&mut out), Ok(1));
+    assert_eq!(rt; out.taken.len(), len);
+    // Fifteen items fill the room.
+    assert_eq!(rt; out.writes, 7);
+    Ok(())
+}
+
+/// Takes one byte a write.
+#[derive(Drop)]
+struct Drip {
+    taken: Vec<u8>,
+    failed: bool,
+}
+
+impl Outlet for Drip {
+    ghost sight = { λ out. sight_out (Listed out.taken.items) out.failed };
+
+    fn write(&mut self, bytes: &[u8]) -> Result<usize, OutFault> {
+        let count = bytes.len().min(1);
+        let (front, _) = bytes.split_at(count);
+        if self.failed || self.taken.extend_from_slice(front).is_err() {
+            self.failed = true;
+            return Err(OutFault);
+        }
+        Ok(count)
+    }
+}
+
+/// A joiner whose replies are together a little longer than the room: `mn`, a get of a value, and `mn`.
+fn above_the_room(rt: &impl Abort, alloc: Global) -> Result<Joiner, Fail> {
+    let value = vec![in alloc; 7; 16_360]?;
+    let mut joiner = Joiner::new(alloc, 4)?;
+    open(rt, &mut joiner, noop(alloc, Ticket(0))?);
+    open(rt, &mut joiner, get(alloc, Ticket(1), &[b"a"])?);
+    open(rt, &mut joiner, noop(alloc, Ticket(2))?);
+    let found = reply(rt, 1, 0, Kind::Fetch, hit(alloc, value.as_slice())?);
+    assert!(rt; takes(&mut joiner, found));
+    Ok(joiner)
+}
+
+#[test]
+fn replies_across_the_end_of_the_room(rt: HostRuntime) -> Result<(), Fail> {
+    let alloc = rt.alloc();
+    let mut whole = outlet(alloc, usize::MAX);
+    assert_eq!(rt; above_the_room(&rt, alloc)?.hand(&mut whole), Ok(3));
+    let text = whole.taken.as_slice();
+    assert_eq!(rt; text.len(), 4 + 17 + 16_360 + 7 + 4);
+    let mut drip = Drip {
+        taken: Vec::new(alloc),
+        failed: false,
+    };
+    assert_eq!(rt; above_the_room(&rt, alloc)?.hand(&mut drip), Ok(3));
+    assert_eq!(rt; drip.taken.as_slice(), text);
+    for left in 0..text.len() {
+        let mut out = outlet(alloc, left);
+        assert!(rt; above_the_room(&rt, alloc)?.hand(&mut out).is_err());
+        assert_eq!(rt; out.taken.as_slice(), text.split_at(left).0);
+    }
+    Ok(())
+}
+
+/// A value of this length is larger than the room in which replies are gathered.
+const LARGE: usize = 100_000;
+
+/// Counts its writes, those of at least `LARGE` bytes by themselves, and keeps nothing.
+#[derive(Drop)]
+struct Tally {
+    small: u64,
+    large: u64,
+    bytes: u64,
+}
+
+impl Outlet for Tally {
+    ghost sight = { λ _. sight_out Untold false };
+
+    fn write(&mut self, bytes: &[u8]) -> Result<usize, OutFault> {
+        let (small, large) = if bytes.len() < LARGE { (1, 0) } else { (0, 1) };
+        self.small = self.small.wrapping_add(small);
+        self.large = self.large.wrapping_add(large);
+        self.bytes = self.bytes.wrapping_add(bytes.len() as u64);
+        Ok(bytes.len())
+    }
+}
+
+/// A large value, as an item holds it, and the form of a get of one key; none where memory was refused.
+fn large_value(alloc: Global) -> Option<(Value, Form)>
+    ensures { IfSome result (λ made. made.1.ticket.0 ≡ 0) }
+{
+    let bytes = vec![in alloc; 7; LARGE].ok()?;
+    let value = Value::new(bytes).ok()?;
+    let keys = Keys::one(alloc, Key::from_word(alloc, b"a").ok()?);
+    let command = Command::Get(Retrieval {
+        keys,
+        touch: None,
+        with_unique: false,
+    });
+    let plan = split(alloc, command, Ticket(0), 1000, 2).ok()?;
+    Some((value, plan.form))
+}
+
+/// A hit shares the value of its item: it goes to the outlet in one write of its whole length, beside the few that
+/// stand around it, and nothing on its way takes memory. Holds whichever one allocation is refused, as by
+/// `rt try --test --fail-alloc N` for each N.
+#[test]
+fn a_hit_copies_no_value(rt: HostRuntime) {
+    let alloc = rt.alloc();
+    let Ok(mut joiner) = Joiner::new(alloc, 1) else {
+        return;
+    };
+    let Some((item, form)) = large_value(alloc) else {
+        return;
+    };
+    open(&rt, &mut joiner, form);
+    let Ok(value) = item.clone() else {
+        panic!(&rt; "the clone of a value takes memory")
+    };
+    let found = Answer::Hit {
+        flags: 0,
+        unique: 1,
+        value,
+    };
+    let found = reply(&rt, 0, 0, Kind::Fetch, found);
+    assert!(&rt; takes(&mut joiner, found));
+    let mut out = Tally {
+        small: 0,
+        large: 0,
+        bytes: 0,
+    };
+    let len = b"VALUE a 0 100000\r\n".len() + LARGE + b"\r\nEND\r\n".len();
+    assert_eq!(&rt; joiner.ready(), len as u64);
+    assert_eq!(&rt; joiner.hand(&mut out), Ok(1));
+    assert_eq!(&rt; out.bytes, len as u64);
+    assert_eq!(&rt; out.large, 1);
+    // The line before the value, and what stands behind it.
+    assert_eq!(&rt; out.small, 2);
+}
+
+#[test]
+fn a_window_of_one_is_full_with_one(rt: HostRuntime) -> Result<(), Fail> {
+    let alloc = rt.alloc();
+    let mut joiner = Joiner::new(alloc, 1)?;
+    open(&rt, &mut joiner, noop(alloc, Ticket(0))?);
+    assert_eq!(rt; joiner.open(noop(alloc, Ticket(1))?), Err(Full));
+    hands(&rt, alloc, &mut joiner, 1, b"MN\r\n");
+    open(&rt, &mut joiner, get(alloc, Ticket(1), &[b"a"])?);
+    hands(&rt, alloc, &mut joiner, 0, b"");
+    let miss = reply(&rt, 1, 0, Kind::Fetch, Answer::Miss);
+    assert!(rt; takes(&mut joiner, miss));
+    hands(&rt, alloc, &mut joiner, 1, b"END\r\n");
+    Ok(())
+}
+
+#[test]
+fn a_window_of_four_goes_round(rt: HostRuntime) -> Result<(), Fail> {
+    let alloc = rt.alloc();
+    let mut joiner = Joiner::new(alloc, 4)?;
+    open(&rt, &mut joiner, get(alloc, Ticket(0), &[b"a"])?);
+    open(&rt, &mut joiner, get(alloc, Ticket(1), &[b"b"])?);
+    open(&rt, &mut joiner, noop(alloc, Ticket(2))?);
+    open(&rt, &mut joiner, get(alloc, Ticket(3), &[b"c"])?);
+    assert_eq!(rt; joiner.open(noop(alloc, Ticket(4))?), Err(Full));
+    // A later reply that is whole waits for the first.
+    let later = reply(&rt, 1, 0, Kind::Fetch, hit(alloc, b"1")?);
+    assert!(rt; takes(&mut joiner, later));
+    hands(&rt, alloc, &mut joiner, 0, b"");
+    let first = reply(&rt, 0, 0, Kind::Fetch, Answer::Miss);
+    assert!(rt; takes(&mut joiner, first));
+    hands(
+        &rt,
+        alloc,
+        &mut joiner,
+        3,
+        b"END\r\nVALUE b 0 1\r\n1\r\nEND\r\nMN\r\n",
+    );
+    assert_eq!(rt; joiner.waiting(), 1);
+    open(&rt, &mut joiner, noop(alloc, Ticket(4))?);
+    open(&rt, &mut joiner, get(alloc, Ticket(5), &[b"d"])?);
+    open(&rt, &mut joiner, noop(alloc, Ticket(6))?);
+    assert_eq!(rt; joiner.open(noop(alloc, Ticket(7))?), Err(Full));
+    let last = reply(&rt, 5, 0, Kind::Fetch, hit(alloc, b"5")?);
+    assert!(rt; takes(&mut joiner, last));
+    let third = reply(&rt, 3, 0, Kind::Fetch, hit(alloc, b"3")?);
+    assert!(rt; takes(&mut joiner, third));
+    hands(
+        &rt,
+        alloc,
+        &mut joiner,
+        4,
+        b"VALUE c 0 1\r\n3\r\nEND\r\nMN\r\nVALUE d 0 1\r\n5\r\nEND\r\nMN\r\n",
+    );
+    assert_eq!(rt; joiner.waiting(), 0);
+    Ok(())
+}

@@ -1,0 +1,143 @@
+//! Lanes are made, filled, emptied and looked at, and a reply is made.
+ghost use Rattle.std.specs.Prelude.{◌<◌, length};
+ghost use Rattle.mc_ring.specs.Ends.{AreSameEnds};
+
+use mc_item::{Answer, Kind, Op};
+use mc_ring::{Parcel, Reply, RingRefusal, SeatEnds, ShardEnds, beside, lanes};
+use mc_split::{Piece, Ticket};
+use std::test::Fail;
+
+/// A piece of the command of this number.
+fn piece(number: u64) -> Parcel {
+    Parcel::Piece(Piece {
+        ticket: Ticket(number),
+        part: 0,
+        op: Op::Flush { delay: 0 },
+        moment: 1000,
+    })
+}
+
+/// The answer to it.
+#[tactic(auto, unfolding(mc_item::specs::Kind::is_lawful))]
+fn reply(number: u64) -> Reply {
+    Reply::new(Ticket(number), 0, Kind::Flush, Answer::Done)
+}
+
+/// The number of the command of a piece.
+fn number_of(parcel: Option<Parcel>) -> Option<u64> {
+    match parcel {
+        Some(Parcel::Piece(piece)) => Some(piece.ticket.0),
+        _ => None,
+    }
+}
+
+#[test]
+fn a_ring_of_one_holds_one_parcel(rt: HostRuntime) -> Result<(), Fail> {
+    let (mut seats, mut shards) = lanes(rt.alloc(), 2, 3, 1)?;
+    let (seat, shard) = (&mut seats[1], &mut shards[2]);
+    assert!(rt; shard.take(1).is_none());
+    assert!(rt; seat.send(2, piece(7)).is_ok());
+    assert_eq!(rt; number_of(seat.send(2, piece(8)).err()), Some(8));
+    assert_eq!(rt; number_of(shard.take(1)), Some(7));
+    assert!(rt; seat.send(2, Parcel::End).is_ok());
+    assert!(rt; matches!(&shard.take(1), Some(Parcel::End)));
+    Ok(())
+}
+
+#[test]
+fn a_ring_of_one_holds_one_reply(rt: HostRuntime) -> Result<(), Fail> {
+    let (mut seats, mut shards) = lanes(rt.alloc(), 2, 3, 1)?;
+    let (seat, shard) = (&mut seats[1], &mut shards[2]);
+    assert!(rt; seat.receive(2).is_none());
+    assert!(rt; shard.give(1, reply(7)).is_ok());
+    assert_eq!(rt;
+        shard.give(1, reply(8)).err().map(|reply| reply.ticket),
+        Some(Ticket(8))
+    );
+    assert_eq!(rt; seat.receive(2).map(|reply| reply.ticket), Some(Ticket(7)));
+    assert!(rt; seat.receive(2).is_none());
+    Ok(())
+}
+
+#[test]
+fn what_waits_is_seen_on_its_lane_alone(rt: HostRuntime) -> Result<(), Fail> {
+    let (mut seats, mut shards) = lanes(rt.alloc(), 2, 3, 1)?;
+    let (seat, shard) = (&mut seats[1], &mut shards[2]);
+    assert_eq!(rt; (seat.number(), seat.shards()), (1, 3));
+    assert_eq!(rt; (shard.number(), shard.seats()), (2, 2));
+    assert!(rt; seat.send(2, piece(7)).is_ok());
+    assert!(rt; shard.has_parcel(1));
+    assert!(rt; !shard.has_parcel(0));
+    assert!(rt; shard.give(1, reply(7)).is_ok());
+    assert!(rt; seat.has_reply(2));
+    assert!(rt; !seat.has_reply(0));
+    Ok(())
+}
+
+/// Sends a piece of the command of this number to the first shard, and tells whether it went out.
+fn sends(seat: &mut SeatEnds, number: u64) -> bool
+    requires { 0 < length seat.old.lanes }
+    ensures { AreSameEnds seat.old seat.new }
+{
+    seat.send(0, piece(number)).is_ok()
+}
+
+/// Gives the first seat the reply to that piece, and tells whether it went out.
+fn gives(shard: &mut ShardEnds, number: u64) -> bool
+    requires { 0 < length shard.old.lanes }
+    ensures { AreSameEnds shard.old shard.new }
+{
+    shard.give(0, reply(number)).is_ok()
+}
+
+/// The number of the command of the piece of the first seat that is taken, if one is.
+fn takes(shard: &mut ShardEnds) -> Option<u64>
+    requires { 0 < length shard.old.lanes }
+    ensures { AreSameEnds shard.old shard.new }
+{
+    number_of(shard.take(0))
+}
+
+#[test]
+fn what_waits_is_counted(rt: HostRuntime) -> Result<(), Fail> {
+    let (mut seats, mut shards) = lanes(rt.alloc(), 1, 1, 3)?;
+    let (seat, shard) = (&mut seats[0], &mut shards[0]);
+    assert_eq!(rt; beside(seat, shard), (0, 0));
+    assert!(rt; sends(seat, 0));
+    assert!(rt; sends(seat, 1));
+    assert_eq!(rt; takes(shard), Some(0));
+    assert!(rt; gives(shard, 0));
+    assert_eq!(rt; beside(seat, shard), (1, 1));
+    Ok(())
+}
+
+#[test]
+fn numbers_out_of_range_are_refused(rt: HostRuntime) {
+    for (seats, shards, capacity) in [
+        (0, 1, 1),
+        (65, 1, 1),
+        (1, 0, 1),
+        (1, 17, 1),
+        (1, 1, 0),
+        (1, 1, 1025),
+    ] {
+        assert_eq!(rt;
+            lanes(rt.alloc(), seats, shards, capacity).err(),
+            Some(RingRefusal::Size)
+        );
+    }
+    assert!(rt; lanes(rt.alloc(), 64, 16, 1).is_ok());
+    assert!(rt; lanes(rt.alloc(), 1, 1, 1024).is_ok());
+}
+
+#[test]
+fn a_lawful_answer_makes_a_reply(rt: HostRuntime) {
+    let answer = Answer::Done;
+    assert!(rt; answer.is_lawful(Kind::Flush));
+    let reply = Reply::new(Ticket(3), 1, Kind::Flush, answer);
+    assert_eq!(rt; reply.ticket, Ticket(3));
+    assert_eq!(rt; reply.part, 1);
+    assert_eq!(rt; reply.kind, Kind::Flush);
+    assert!(rt; matches!(&reply.answer, Answer::Done));
+    assert!(rt; matches!(&Parcel::End, Parcel::End));
+}

@@ -1,0 +1,227 @@
+//! Plans of a few commands, as they are told to shards and to the joiner.
+ghost use Rattle.std.specs.Prelude.{◌<◌};
+
+use mc_command::{
+    Block, Command, Keys, MetaFlags, MetaGet, Opaque, Retrieval, ReturnFlag, Returned, Storage,
+    StoreMode,
+};
+use mc_item::{Answer, Kind, Op};
+use mc_split::{Form, Plan, Shape, Ticket, split};
+use mc_wire::{Key, WireFault};
+use std::alloc::Global;
+use std::process::Abort;
+use std::test::Fail;
+
+const TICKET: Ticket = Ticket(7);
+
+const MOMENT: u64 = 1000;
+
+fn get(alloc: Global) -> Result<Command, WireFault> {
+    let mut keys = Keys::one(alloc, Key::from_word(alloc, b"a")?);
+    keys.push(Key::from_word(alloc, b"b")?)?;
+    keys.push(Key::from_word(alloc, b"a")?)?;
+    keys.push(Key::from_word(alloc, b"c")?)?;
+    Ok(Command::Get(Retrieval {
+        keys,
+        touch: Some(10),
+        with_unique: true,
+    }))
+}
+
+fn set(alloc: Global) -> Result<Command, WireFault> {
+    Ok(Command::Store(Storage {
+        key: Key::from_word(alloc, b"b")?,
+        mode: StoreMode::Set,
+        flags: 5,
+        exptime: 0,
+        noreply: true,
+        block: Block::new(Vec::from_slice(alloc, b"xyz")?),
+    }))
+}
+
+fn meta_get(alloc: Global, shows_key: bool) -> Result<Command, WireFault> {
+    let mut returned = Returned::new();
+    if shows_key {
+        returned.push(ReturnFlag::Key);
+    }
+    Ok(Command::MetaGet(MetaGet {
+        key: Key::from_word(alloc, b"a")?,
+        flags: MetaFlags {
+            base64: false,
+            quiet: false,
+            returned,
+            opaque: Opaque::empty(),
+        },
+        value: true,
+        touch: None,
+        vivify: None,
+        recache: Some(30),
+    }))
+}
+
+/// Asserts the shards of a plan's pieces, that they are numbered, and that each has a slot.
+fn has_shards(rt: &impl Abort, plan: &Plan, shards: &[usize]) {
+    assert_eq!(rt; plan.form.ticket, TICKET);
+    assert_eq!(rt; plan.form.slots.answers().len(), shards.len());
+    assert_eq!(rt; plan.pieces.len(), shards.len());
+    for (part, (shard, piece)) in plan.pieces.iter().enumerate() {
+        assert_eq!(rt; Some(shard), shards.get(part), "of part {part}");
+        assert_eq!(rt; piece.part, part);
+        assert_eq!(rt; piece.ticket, TICKET);
+        assert_eq!(rt; piece.moment, MOMENT);
+        assert_eq!(rt; piece.op.kind(), plan.form.kind);
+    }
+}
+
+#[test]
+fn a_get_asks_its_keys_in_order(rt: HostRuntime) -> Result<(), Fail> {
+    let alloc = rt.alloc();
+    let plan = split(alloc, get(alloc)?, TICKET, MOMENT, 2)?;
+    has_shards(&rt, &plan, &[0, 1, 0, 0]);
+    let Plan { mut form, .. } = plan;
+    for part in [2, 0, 3] {
+        fill(&rt, &mut form, part);
+        assert!(rt; !form.slots.is_filled());
+    }
+    fill(&rt, &mut form, 1);
+    assert!(rt; form.slots.is_filled());
+    Ok(())
+}
+
+fn fill(rt: &impl Abort, form: &mut Form, part: usize) {
+    assert!(rt; part < form.slots.answers().len());
+    form.fill(part, Answer::Miss);
+}
+
+#[test]
+fn one_key_is_one_piece(rt: HostRuntime) -> Result<(), Fail> {
+    let alloc = rt.alloc();
+    let plan = split(alloc, set(alloc)?, TICKET, MOMENT, 2)?;
+    has_shards(&rt, &plan, &[1]);
+    assert!(rt; matches!(&plan.form.shape, Shape::Line { noreply: true }));
+    let Plan {
+        mut form,
+        mut pieces,
+    } = plan;
+    let stores = match pieces.pop_front() {
+        Some((_, piece)) => match &piece.op {
+            Op::Store { value, flags, .. } => value.len() == 3 && *flags == 5,
+            _ => false,
+        },
+        None => false,
+    };
+    assert!(rt; stores);
+    assert!(rt; !form.slots.is_filled());
+    fill(&rt, &mut form, 0);
+    assert!(rt; form.slots.is_filled());
+    Ok(())
+}
+
+#[test]
+fn a_flush_asks_every_shard(rt: HostRuntime) -> Result<(), Fail> {
+    let alloc = rt.alloc();
+    let flush = Command::FlushAll {
+        delay: -1,
+        noreply: false,
+    };
+    let plan = split(alloc, flush, TICKET, MOMENT, 3)?;
+    has_shards(&rt, &plan, &[0, 1, 2]);
+    assert_eq!(rt; plan.form.kind, Kind::Flush);
+    Ok(())
+}
+
+#[test]
+fn some_commands_ask_no_shard(rt: HostRuntime) -> Result<(), Fail> {
+    let alloc = rt.alloc();
+    for noreply in [false, true] {
+        let plan = split(alloc, Command::Verbosity { noreply }, TICKET, MOMENT, 2)?;
+        has_shards(&rt, &plan, &[]);
+        assert!(rt; plan.form.slots.is_filled());
+    }
+    let plan = split(alloc, Command::MetaNoop, TICKET, MOMENT, 2)?;
+    has_shards(&rt, &plan, &[]);
+    Ok(())
+}
+
+#[test]
+fn a_meta_reply_keeps_the_key_where_it_shows_it(rt: HostRuntime) -> Result<(), Fail> {
+    let alloc = rt.alloc();
+    for shows_key in [false, true] {
+        let plan = split(alloc, meta_get(alloc, shows_key)?, TICKET, MOMENT, 2)?;
+        has_shards(&rt, &plan, &[0]);
+        let keeps = match &plan.form.shape {
+            Shape::Meta { key, value, .. } => *value && key.is_some() == shows_key,
+            _ => false,
+        };
+        assert!(rt; keeps);
+    }
+    Ok(())
+}
+
+/// As many keys as the longest line has room for.
+#[test]
+fn a_get_of_32766_keys(rt: HostRuntime) -> Result<(), Fail> {
+    let alloc = rt.alloc();
+    let key = Key::from_word(alloc, b"a")?;
+    let mut keys = Keys::one(alloc, key.clone()?);
+    for _ in 1..32_766u32 {
+        keys.push(key.clone()?)?;
+    }
+    let get = Command::Get(Retrieval {
+        keys,
+        touch: None,
+        with_unique: false,
+    });
+    let mut plan = split(alloc, get, TICKET, MOMENT, 2)?;
+    assert_eq!(rt; plan.pieces.len(), 32_766);
+    assert_eq!(rt; plan.form.slots.answers().len(), 32_766);
+    let last = plan
+        .pieces
+        .pop_back()
+        .map(|(shard, piece)| (shard, piece.part));
+    assert_eq!(rt; last, Some((0, 32_765)));
+    Ok(())
+}
+
+/// Whether the command was made and split over two shards; then its pieces are for these.
+fn is_split(
+    rt: &impl Abort,
+    alloc: Global,
+    command: Result<Command, WireFault>,
+    shards: &[usize],
+) -> bool {
+    let Ok(command) = command else {
+        return false;
+    };
+    let Ok(plan) = split(alloc, command, TICKET, MOMENT, 2) else {
+        return false;
+    };
+    has_shards(rt, &plan, shards);
+    true
+}
+
+/// Holds whichever one allocation is refused, as by `rt try --test --fail-alloc N` for each N: one command isn't
+/// split, and the others are.
+#[test]
+fn a_refused_allocation_refuses_one_plan(rt: HostRuntime) {
+    let alloc = rt.alloc();
+    let mut refused = 0usize;
+    for _ in 0..2u8 {
+        let flush = Command::FlushAll {
+            delay: 0,
+            noreply: false,
+        };
+        let made = [
+            is_split(&rt, alloc, get(alloc), &[0, 1, 0, 0]),
+            is_split(&rt, alloc, set(alloc), &[1]),
+            is_split(&rt, alloc, meta_get(alloc, true), &[0]),
+            is_split(&rt, alloc, Ok(flush), &[0, 1]),
+        ];
+        refused = made
+            .iter()
+            .filter(|one| !**one)
+            .count()
+            .saturating_add(refused);
+    }
+    assert!(rt; refused <= 1);
+}

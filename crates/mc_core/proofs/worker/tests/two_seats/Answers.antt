@@ -1,8 +1,0 @@
-use Rattle.std.proofs.Common.{rules, length, refl}
-use Rattle.std.proofs.lemmas.Option.{slice_get_read}
-use Rattle.mc_core.proofs.worker.tests.two_seats.Goals as goal
-
-pub new-requires-2 : goal.new-requires-2
-new-requires-2 c =
-    let shards = c.in_ok-seats.shards.items in
-    (c.in_ok-seats.ensures.made.each_shard 0 c.remove.result (slice_get_read shards (length shards) 0 c.remove.result refl (search rules) c.remove.ensures.value)).unused

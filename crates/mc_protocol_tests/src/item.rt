@@ -1,0 +1,109 @@
+//! Each public call once, with the values of worked rows.
+ghost use Rattle.std.specs.Prelude.{◌≤◌, length};
+
+use mc_item::{Answer, Expiry, Item, Kind, NoMemory, Op, Value, expiry};
+use mc_wire::Key;
+use std::alloc::Global;
+use std::test::Fail;
+
+#[test]
+fn exptimes_mean_seconds(rt: HostRuntime) {
+    let rows = [
+        (0, 1000, Expiry::Never),
+        (-1, 1000, Expiry::At(1000)),
+        (-1, 0, Expiry::At(0)),
+        (1, 1000, Expiry::At(1001)),
+        (2_592_000, 1000, Expiry::At(2_593_000)),
+        (2_592_001, 1000, Expiry::At(2_592_001)),
+        (2_592_001, 3_000_000, Expiry::At(2_592_001)),
+        (10, 1_099_511_627_776, Expiry::At(1_099_511_627_786)),
+    ];
+    for (exptime, now, want) in rows {
+        assert!(rt; now <= 1_099_511_627_776);
+        assert_eq!(rt; expiry(exptime, now), want, "at {exptime}");
+    }
+}
+
+#[test]
+fn items_die_at_their_second(rt: HostRuntime) {
+    assert!(rt; !Expiry::At(1001).is_dead(1000));
+    assert!(rt; Expiry::At(1001).is_dead(1001));
+    assert!(rt; !Expiry::Never.is_dead(u64::MAX));
+    assert_eq!(rt; Expiry::At(1005).seconds_left(1000), Some(5));
+    assert_eq!(rt; Expiry::At(1005).seconds_left(1010), Some(0));
+    assert_eq!(rt; Expiry::Never.seconds_left(0), None);
+}
+
+fn value_of(alloc: Global, text: &[u8]) -> Result<Value, NoMemory>
+    requires { length text.now ≤ 100 }
+{
+    let bytes = Vec::from_slice(alloc, text)?;
+    Value::new(bytes)
+}
+
+#[test]
+fn values_hold_numbers(rt: HostRuntime) -> Result<(), Fail> {
+    let rows: [(&[u8], Option<u64>); 10] = [
+        (b"7  ", Some(7)),
+        (b"00000000000000000009", Some(9)),
+        (b"000000000000000000009", None),
+        (b" 9", None),
+        (b"", None),
+        (b"18446744073709551615", Some(u64::MAX)),
+        (b"18446744073709551616", None),
+        (b"x", None),
+        (b"5 5", None),
+        (b"5\t", None),
+    ];
+    for (text, want) in rows {
+        assert!(rt; text.len() <= 100);
+        let value = value_of(rt.alloc(), text)?;
+        assert_eq!(rt; value.number(), want, "at {text:?}");
+    }
+    Ok(())
+}
+
+#[test]
+fn values_are_joined(rt: HostRuntime) -> Result<(), Fail> {
+    let alloc = rt.alloc();
+    let item = Item {
+        value: value_of(alloc, b"bc")?,
+        flags: 3,
+        expiry: Expiry::At(1000),
+        unique: 1,
+        last_access: 1000,
+        fetched: false,
+        stale: false,
+        sent: false,
+    };
+    let block = value_of(alloc, b"d")?;
+    assert!(rt; item.value.len() == 2 && !item.value.is_empty() && block.len() == 1);
+    let after = item.joined(alloc, &block, true)?;
+    assert_eq!(rt; after.bytes(), b"bcd".as_slice());
+    let before = item.joined(alloc, &block, false)?;
+    assert_eq!(rt; before.clone()?.bytes(), b"dbc".as_slice());
+    assert_eq!(rt; item.number(), None);
+    assert!(rt; item.is_dead(1000) && !item.is_dead(999));
+    let greatest = Value::of_number(alloc, u64::MAX)?;
+    assert_eq!(rt; greatest.bytes(), b"18446744073709551615".as_slice());
+    let zero = Value::of_number(alloc, 0)?;
+    assert_eq!(rt; zero.bytes(), b"0".as_slice());
+    Ok(())
+}
+
+#[test]
+fn pieces_have_kinds_and_keys(rt: HostRuntime) -> Result<(), Fail> {
+    let touch = Op::Touch {
+        key: Key::from_word(rt.alloc(), b"a")?,
+        exptime: 0,
+    };
+    assert_eq!(rt; touch.kind(), Kind::Touch);
+    assert_eq!(rt; touch.key().map_or(0, |key| key.bytes().len()), 1);
+    let flush = Op::Flush { delay: 0 };
+    assert_eq!(rt; flush.kind(), Kind::Flush);
+    assert!(rt; flush.key().is_none());
+    assert!(rt; Answer::Touched.is_lawful(Kind::Touch));
+    assert!(rt; !Answer::NoMemory.is_lawful(Kind::Touch));
+    assert!(rt; !Answer::Number(1).is_lawful(Kind::MetaCount));
+    Ok(())
+}

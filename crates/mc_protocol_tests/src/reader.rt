@@ -1,0 +1,237 @@
+//! What no clause says: that calls succeed where memory is ample, that a skipped block takes none, and that
+//! reading goes on where an allocation was refused.
+ghost use Rattle.std.specs.Prelude.{◌<◌};
+
+use mc_command::{Command, Refusal};
+use mc_reader::{Next, Reader, readers_give_commands};
+use mc_wire::{DEFAULT_VALUE_LIMIT, GREATEST_VALUE_LIMIT, LEAST_VALUE_LIMIT};
+use std::alloc::Global;
+use std::process::Abort;
+use std::test::Fail;
+
+static PIECE: [u8; 65_536] = [b'x'; 65_536];
+
+/// What came next of a stream, in short.
+#[derive(Clone, Copy, Debug, PartialEq, Eq)]
+enum Came {
+    Store,
+    Get,
+    MetaSet,
+    MetaNoop,
+    Version,
+    Verbosity,
+    Quit,
+    Refused(Refusal),
+    Other,
+    NeedMore,
+    Closed,
+}
+
+fn what_came(next: &Next) -> Came {
+    match next {
+        Next::Command(Command::Store(_)) => Came::Store,
+        Next::Command(Command::Get(_)) => Came::Get,
+        Next::Command(Command::MetaSet(_)) => Came::MetaSet,
+        Next::Command(Command::MetaNoop) => Came::MetaNoop,
+        Next::Command(Command::Version) => Came::Version,
+        Next::Command(Command::Verbosity { .. }) => Came::Verbosity,
+        Next::Command(Command::Quit) => Came::Quit,
+        Next::Command(Command::Refused(refusal)) => Came::Refused(*refusal),
+        Next::Command(_) => Came::Other,
+        Next::NeedMore => Came::NeedMore,
+        Next::Closed => Came::Closed,
+    }
+}
+
+/// Asserts that the whole piece is taken.
+fn feed_all(rt: &impl Abort, reader: &mut Reader, piece: &[u8]) {
+    assert_eq!(rt; reader.feed(piece), piece.len());
+}
+
+/// Asserts that these come next, one after another.
+fn gives(rt: &impl Abort, alloc: Global, reader: &mut Reader, wanted: &[Came]) {
+    for one in wanted {
+        assert_eq!(rt; what_came(&reader.next(alloc)), *one);
+    }
+}
+
+/// Asserts that what comes up to the next `NeedMore` begins the wanted commands, and tells how many came.
+fn gives_some(rt: &impl Abort, alloc: Global, reader: &mut Reader, wanted: &[Came]) -> usize {
+    for (count, one) in wanted.iter().enumerate() {
+        let given = what_came(&reader.next(alloc));
+        if given == Came::NeedMore {
+            return count;
+        }
+        assert_eq!(rt; given, *one);
+    }
+    wanted.len()
+}
+
+/// Asserts that the input, cut into such pieces, gives these commands and nothing else.
+fn gives_cut(
+    rt: &impl Abort,
+    alloc: Global,
+    size: usize,
+    input: &[u8],
+    wanted: &[Came],
+) -> Result<(), Fail>
+    requires { 0 < size }
+{
+    let mut reader = Reader::new(alloc, DEFAULT_VALUE_LIMIT)?;
+    let mut count = 0;
+    for piece in input.chunks(size) {
+        feed_all(rt, &mut reader, piece);
+        let (_, behind) = wanted.split_at(wanted.len().min(count));
+        count = gives_some(rt, alloc, &mut reader, behind).saturating_add(count);
+    }
+    assert_eq!(rt; count, wanted.len());
+    gives(rt, alloc, &mut reader, &[Came::NeedMore]);
+    Ok(())
+}
+
+#[test]
+fn every_cutting_gives_the_same(rt: HostRuntime) -> Result<(), Fail> {
+    let input =
+        b"version x\r\nverbosity 1\r\nverbosity\r\n\r\nmn x\r\nmg a v v\r\nmg a ?\r\nms a 1 C1 ME\r\nx\r\nset a x 0 3\r\nabc\r\nset a 0 0 y\r\nset a 0 0 3\r\nabcde\r\nset a 0 0 4\r\nmn\r\n\r\nget a b\n";
+    let wanted = [
+        Came::Version,
+        Came::Verbosity,
+        Came::Refused(Refusal::BadFormat),
+        Came::Refused(Refusal::Unknown),
+        Came::MetaNoop,
+        Came::Refused(Refusal::DuplicateFlag),
+        Came::Refused(Refusal::InvalidFlag),
+        Came::Refused(Refusal::BadFormat),
+        Came::Refused(Refusal::BadFormat),
+        Came::Refused(Refusal::BadFormat),
+        Came::Refused(Refusal::BadChunk),
+        Came::Refused(Refusal::Unknown),
+        Came::Store,
+        Came::Get,
+    ];
+    let alloc = rt.alloc();
+    gives_cut(&rt, alloc, 1, input, &wanted)?;
+    gives_cut(&rt, alloc, 2, input, &wanted)?;
+    gives_cut(&rt, alloc, 3, input, &wanted)?;
+    gives_cut(&rt, alloc, 7, input, &wanted)?;
+    gives_cut(&rt, alloc, 65_536, input, &wanted)
+}
+
+#[test]
+fn each_call_with_ample_memory(rt: HostRuntime) -> Result<(), Fail> {
+    let alloc = rt.alloc();
+    let mut reader = Reader::new(alloc, DEFAULT_VALUE_LIMIT)?;
+    assert!(rt; !reader.whole());
+    gives(&rt, alloc, &mut reader, &[Came::NeedMore]);
+    feed_all(&rt, &mut reader, b"set a 0 0 2\r\nhi\r\nget a\r\nms c 1");
+    assert!(rt; reader.whole());
+    assert_eq!(rt; reader.held(), 30);
+    gives(
+        &rt,
+        alloc,
+        &mut reader,
+        &[Came::Store, Came::Get, Came::NeedMore],
+    );
+    assert_eq!(rt; reader.held(), 6);
+    reader.end();
+    assert_eq!(rt; reader.feed(b"\r\n"), 0);
+    gives(&rt, alloc, &mut reader, &[Came::Closed]);
+    reader.reset();
+    feed_all(&rt, &mut reader, b"mn\r\nquit\r\nmn\r\n");
+    gives(
+        &rt,
+        alloc,
+        &mut reader,
+        &[Came::MetaNoop, Came::Quit, Came::Closed],
+    );
+    feed_all(&rt, &mut reader, b"mn\r\n");
+    gives(&rt, alloc, &mut reader, &[Came::Closed]);
+    Ok(())
+}
+
+/// The longest block that a line can announce: none of it is kept, and it is skipped to its last byte.
+#[test]
+fn a_skipped_block_is_not_kept(rt: HostRuntime) -> Result<(), Fail> {
+    let alloc = rt.alloc();
+    let mut reader = Reader::new(alloc, DEFAULT_VALUE_LIMIT)?;
+    feed_all(&rt, &mut reader, b"set a 0 0 4294967295\r\n");
+    // These are the block and one of the two bytes behind it.
+    for _ in 0..65_536u32 {
+        gives(&rt, alloc, &mut reader, &[Came::NeedMore]);
+        feed_all(&rt, &mut reader, &PIECE);
+        assert_eq!(rt; reader.held(), 0);
+    }
+    gives(&rt, alloc, &mut reader, &[Came::NeedMore]);
+    feed_all(&rt, &mut reader, b"xmn\r\n");
+    gives(
+        &rt,
+        alloc,
+        &mut reader,
+        &[
+            Came::Refused(Refusal::TooLarge),
+            Came::MetaNoop,
+            Came::NeedMore,
+        ],
+    );
+    Ok(())
+}
+
+/// Holds whichever one allocation is refused, as by `rt try --test --fail-alloc N` for each N: its command is
+/// given up, its block is skipped, and the commands behind it are read.
+#[test]
+fn a_refused_allocation_gives_up_one_command(rt: HostRuntime) {
+    let alloc = rt.alloc();
+    let Ok(mut reader) = Reader::new(alloc, DEFAULT_VALUE_LIMIT) else {
+        return;
+    };
+    feed_all(
+        &rt,
+        &mut reader,
+        b"set a 0 0 4\r\nmn\r\n\r\nget a b c\r\nms YQ== 4 b k\r\nmn\r\n\r\nmn\r\n",
+    );
+    let mut refused = 0u8;
+    for wanted in [Came::Store, Came::Get, Came::MetaSet, Came::MetaNoop] {
+        let given = what_came(&reader.next(alloc));
+        if given == Came::Refused(Refusal::Memory) && wanted != Came::MetaNoop {
+            refused = refused.saturating_add(1);
+        } else {
+            assert_eq!(rt; given, wanted);
+        }
+    }
+    assert!(rt; refused <= 1);
+    gives(&rt, alloc, &mut reader, &[Came::NeedMore]);
+}
+
+/// A value has at most as many bytes as the limit says, whatever limit is chosen.
+#[test]
+fn values_at_the_limit(rt: HostRuntime) -> Result<(), Fail> {
+    let alloc = rt.alloc();
+    for limit in [LEAST_VALUE_LIMIT, DEFAULT_VALUE_LIMIT, GREATEST_VALUE_LIMIT] {
+        let mut reader = Reader::new(alloc, limit)?;
+        for (count, wanted) in [
+            (limit - 1, Came::Store),
+            (limit, Came::Store),
+            (limit + 1, Came::Refused(Refusal::TooLarge)),
+        ] {
+            let line = format!(in alloc; "set a 0 0 {count}\r\n")?;
+            feed_all(&rt, &mut reader, line.as_bytes());
+            gives(&rt, alloc, &mut reader, &[Came::NeedMore]);
+            assert_eq!(rt; reader.is_skipping(), count > limit);
+            let mut left = count;
+            for _ in 0..GREATEST_VALUE_LIMIT {
+                let (piece, _) = PIECE.split_at(left.min(PIECE.len()));
+                feed_all(&rt, &mut reader, piece);
+                left -= piece.len();
+                if left == 0 {
+                    break;
+                }
+                gives(&rt, alloc, &mut reader, &[Came::NeedMore]);
+            }
+            assert_eq!(rt; left, 0);
+            feed_all(&rt, &mut reader, b"\r\n");
+            gives(&rt, alloc, &mut reader, &[wanted, Came::NeedMore]);
+        }
+    }
+    readers_give_commands();
+    Ok(())
+}

@@ -1,0 +1,210 @@
+//! What no clause says: values from outside, success where memory is ample, and outlets that take a
+//! byte at a time and fail in the middle of a text.
+ghost use Rattle.mc_wire.specs.Outlet.{Listed, sight_out};
+
+use mc_wire::{
+    DECODED_KEY_LIMIT, KEY_LIMIT, Key, OutFault, Outlet, WireFault, base64_is_text, number_i64,
+    number_u64, put_all, put_parts, words,
+};
+use std::test::Fail;
+
+/// Takes one byte a write, and fails once it was written to so often.
+#[derive(Drop)]
+struct Dripping {
+    store: Vec<u8>,
+    writes_left: u64,
+    failed: bool,
+}
+
+impl Outlet for Dripping {
+    ghost sight = { λ out. sight_out (Listed out.store.items) out.failed };
+
+    fn write(&mut self, bytes: &[u8]) -> Result<usize, OutFault> {
+        if bytes.is_empty() && !self.failed {
+            return Ok(0);
+        }
+        if self.failed || self.writes_left == 0 {
+            self.failed = true;
+            return Err(OutFault);
+        }
+        self.writes_left -= 1;
+        if self.store.extend_from_slice(bytes.split_at(1).0).is_err() {
+            self.failed = true;
+            return Err(OutFault);
+        }
+        Ok(1)
+    }
+}
+
+#[test]
+fn words_are_the_runs_between_spaces(rt: HostRuntime) {
+    let mut walk = words(b"  set a\t1  0 \r ");
+    assert_eq!(rt; walk.next(), Some(b"set".as_slice()));
+    assert_eq!(rt; walk.next(), Some(b"a\t1".as_slice()));
+    assert_eq!(rt; walk.next(), Some(b"0".as_slice()));
+    assert_eq!(rt; walk.next(), Some(b"\r".as_slice()));
+    assert_eq!(rt; walk.next(), None);
+    assert_eq!(rt; walk.next(), None);
+}
+
+#[test]
+fn numbers_end_where_64_bits_end(rt: HostRuntime) {
+    let unsigned = [
+        (b"00000000000000000042".as_slice(), Ok(42)),
+        (
+            b"000000000000000000042".as_slice(),
+            Err(WireFault::NotNumber),
+        ),
+        (b"18446744073709551615".as_slice(), Ok(u64::MAX)),
+        (
+            b"18446744073709551616".as_slice(),
+            Err(WireFault::NotNumber),
+        ),
+        (b"-1".as_slice(), Err(WireFault::NotNumber)),
+        (b"".as_slice(), Err(WireFault::NotNumber)),
+    ];
+    for (word, want) in unsigned {
+        assert_eq!(rt; number_u64(word), want, "at {word:?}");
+    }
+    let signed = [
+        (b"9223372036854775807".as_slice(), Ok(i64::MAX)),
+        (b"9223372036854775808".as_slice(), Err(WireFault::NotNumber)),
+        (b"-9223372036854775808".as_slice(), Ok(i64::MIN)),
+        (
+            b"-9223372036854775809".as_slice(),
+            Err(WireFault::NotNumber),
+        ),
+        (b"-00000000000000000001".as_slice(), Ok(-1)),
+        (b"--1".as_slice(), Err(WireFault::NotNumber)),
+        (b"-".as_slice(), Err(WireFault::NotNumber)),
+    ];
+    for (word, want) in signed {
+        assert_eq!(rt; number_i64(word), want, "at {word:?}");
+    }
+}
+
+/// The places are those of the published hashes E40C292C, E70C2DE5, E60C2C52, E10C2473 and E00C22E0.
+#[test]
+fn keys_have_their_places(rt: HostRuntime) -> Result<(), Fail> {
+    for (word, shard) in [(b"a", 0), (b"b", 1), (b"c", 0), (b"d", 1), (b"e", 0)] {
+        let key = Key::from_word(rt.alloc(), word)?;
+        assert_eq!(rt; key.place(2), shard, "at {word:?}");
+    }
+    let key = Key::from_word(rt.alloc(), b"foobar")?;
+    assert_eq!(rt; key.place(1 << 32), 0xBF9C_F968);
+    assert_eq!(rt; key.bytes(), b"foobar".as_slice());
+    assert!(rt; key.clone()? == key);
+    assert!(rt; key != Key::from_word(rt.alloc(), b"fooba")?);
+    Ok(())
+}
+
+/// The texts are those of RFC 4648, section 10.
+#[test]
+fn base64_keys_are_shown_as_they_were_read(rt: HostRuntime) -> Result<(), Fail> {
+    let vectors = [
+        (b"Zg==".as_slice(), b"f".as_slice()),
+        (b"Zm8=".as_slice(), b"fo".as_slice()),
+        (b"Zm9v".as_slice(), b"foo".as_slice()),
+        (b"Zm9vYg==".as_slice(), b"foob".as_slice()),
+        (b"Zm9vYmE=".as_slice(), b"fooba".as_slice()),
+        (b"Zm9vYmFy".as_slice(), b"foobar".as_slice()),
+        (b"AAEg/w==".as_slice(), b"\x00\x01\x20\xff".as_slice()),
+    ];
+    for (word, bytes) in vectors {
+        let key = Key::from_base64(rt.alloc(), word)?;
+        assert_eq!(rt; key.bytes(), bytes, "at {word:?}");
+        assert_eq!(rt; key.to_base64(&mut [0; BASE64_LIMIT]), word, "of {bytes:?}");
+    }
+    let longest = Key::from_base64(rt.alloc(), &[b'A'; 248])?;
+    base64_is_text();
+    assert_eq!(rt; longest.bytes(), [0; DECODED_KEY_LIMIT].as_slice());
+    let long = Key::from_word(rt.alloc(), &[b'k'; KEY_LIMIT])?;
+    assert_eq!(rt; long.to_base64(&mut [0; BASE64_LIMIT]).len(), BASE64_LIMIT);
+    Ok(())
+}
+
+/// Also where an allocation is refused: such a word asks for none.
+#[test]
+fn faults_of_words_take_no_memory(rt: HostRuntime) {
+    let words = [
+        (
+            b"".as_slice(),
+            Some(WireFault::NoKey),
+            Some(WireFault::NoKey),
+        ),
+        (
+            b"a b".as_slice(),
+            Some(WireFault::KeyByte),
+            Some(WireFault::NotBase64),
+        ),
+        (
+            b"\x7f".as_slice(),
+            Some(WireFault::KeyByte),
+            Some(WireFault::NotBase64),
+        ),
+        (b"YR==".as_slice(), None, Some(WireFault::NotBase64)),
+        (b"YQ=".as_slice(), None, Some(WireFault::NotBase64)),
+        (b"-_==".as_slice(), None, Some(WireFault::NotBase64)),
+        (
+            [b'A'; 251].as_slice(),
+            Some(WireFault::KeyTooLong),
+            Some(WireFault::KeyTooLong),
+        ),
+    ];
+    for (word, plain, base64) in words {
+        if plain.is_some() {
+            assert_eq!(rt;
+                Key::from_word(rt.alloc(), word).err(),
+                plain,
+                "at {word:?}"
+            );
+        }
+        assert_eq!(rt;
+            Key::from_base64(rt.alloc(), word).err(),
+            base64,
+            "at {word:?}"
+        );
+    }
+}
+
+/// With an allocation refused the answer is `Memory`, and else the key.
+#[test]
+fn memory_is_the_only_other_fault(rt: HostRuntime) {
+    for key in [
+        Key::from_word(rt.alloc(), b"a"),
+        Key::from_base64(rt.alloc(), b"YQ=="),
+    ] {
+        match key {
+            Ok(key) => assert_eq!(rt; key.bytes(), b"a".as_slice()),
+            Err(fault) => assert_eq!(rt; fault, WireFault::Memory),
+        }
+    }
+}
+
+#[test]
+fn a_failing_outlet_has_taken_a_front(rt: HostRuntime) -> Result<(), Fail> {
+    let whole = b"VALUE a 0\r\n";
+    for writes in 0..=11 {
+        let mut at_once = Dripping {
+            store: Vec::new(rt.alloc()),
+            writes_left: writes,
+            failed: false,
+        };
+        let mut in_parts = Dripping {
+            store: Vec::new(rt.alloc()),
+            writes_left: writes,
+            failed: false,
+        };
+        let parts = [b"VALUE ".as_slice(), b"a", b"", b" 0\r\n"];
+        let want = if writes == 11 { Ok(()) } else { Err(OutFault) };
+        assert_eq!(rt; put_all(&mut at_once, whole), want, "after {writes} writes");
+        assert_eq!(rt;
+            put_parts(&mut in_parts, &parts),
+            want,
+            "after {writes} writes"
+        );
+        assert_eq!(rt; at_once.store.as_slice(), &whole[..writes as usize]);
+        assert_eq!(rt; in_parts.store.as_slice(), &whole[..writes as usize]);
+    }
+    Ok(())
+}

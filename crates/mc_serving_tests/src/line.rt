@@ -1,0 +1,110 @@
+//! One line is served: how often it is read and written, when the clock is asked, and what a refused allocation changes.
+//! The worked rows stand in the crate mc_rows.
+use crate::memory_line::MemoryLine;
+use mc_seat::{Clock, Served};
+use mc_server::{DEFAULT_RING, ServeRefusal, Sizes, StillClock, serve_one};
+use mc_wire::DEFAULT_VALUE_LIMIT;
+use std::cell::Cell;
+use std::test::Fail;
+
+const SIZES: Sizes = Sizes {
+    shards: 2,
+    bytes: 1_024,
+    ring: DEFAULT_RING,
+    value: DEFAULT_VALUE_LIMIT,
+    window: 256,
+};
+
+#[test]
+fn replies_in_one_write(rt: HostRuntime) -> Result<(), Fail> {
+    let input =
+        b"set a 7 0 2\r\nhi\r\nget a\r\nstats\r\nset b 0 0 1 noreply\r\nx\r\nmn\r\nquit\r\nmn\r\n";
+    let mut line = MemoryLine::new(rt.alloc(), input.as_slice())?;
+    let served = serve_one(&rt, rt.alloc(), &mut line, SIZES, &StillClock(1000))?;
+    assert_eq!(rt;
+        served,
+        Served {
+            commands: 6,
+            broke: false
+        }
+    );
+    let output = b"STORED\r\nVALUE a 7 2\r\nhi\r\nEND\r\nERROR\r\nMN\r\n";
+    assert_eq!(rt; line.output.as_slice(), output.as_slice());
+    // One read and one write: nothing is read behind `quit`.
+    assert_eq!(rt; line.calls, 2);
+    Ok(())
+}
+
+/// A clock that is a second further at each call.
+#[derive(Drop)]
+struct RisingClock(Cell<u64>);
+
+impl Clock for RisingClock {
+    ghost may_answer = { λ _ _. Unit {0} };
+
+    fn now(&self) -> u64 {
+        let moment = self.0.get();
+        self.0.set(moment.wrapping_add(1));
+        moment
+    }
+}
+
+/// The clock is asked once for each command that is taken: an item that is stored at 1000 and lives for three seconds is
+/// there at 1001 and 1002, and gone at 1003.
+#[test]
+fn a_moment_for_each_command(rt: HostRuntime) -> Result<(), Fail> {
+    let input = b"set a 0 3 1\r\nx\r\nget a\r\nget a\r\nget a\r\nquit\r\n";
+    let mut line = MemoryLine::new(rt.alloc(), input.as_slice())?;
+    let clock = RisingClock(Cell::new(1000));
+    serve_one(&rt, rt.alloc(), &mut line, SIZES, &clock)?;
+    let output = b"STORED\r\nVALUE a 0 1\r\nx\r\nEND\r\nVALUE a 0 1\r\nx\r\nEND\r\nEND\r\n";
+    assert_eq!(rt; line.output.as_slice(), output.as_slice());
+    Ok(())
+}
+
+/// Stores, changes and reads of two shards, after which nothing is read.
+const SCRIPT: &[u8] =
+    b"set a 0 0 1\r\nx\r\nget a b\r\nappend a 0 0 1\r\ny\r\nincr a 1\r\nms c 1 c\r\nz\r\nmg c v\r\nflush_all\r\nmn\r\nget a\r\nquit\r\n";
+
+/// The replies to the script where all commands were done, and where one found no memory: the set, the get of two
+/// keys, the append, the incr, the ms, the mg, the flush_all, the last get.
+const OUTPUTS: [&[u8]; 9] = [
+    b"STORED\r\nVALUE a 0 1\r\nx\r\nEND\r\nSTORED\r\nCLIENT_ERROR cannot increment or decrement non-numeric value\r\nHD c5\r\nVA 1\r\nz\r\nOK\r\nMN\r\nEND\r\n",
+    b"SERVER_ERROR out of memory\r\nEND\r\nNOT_STORED\r\nNOT_FOUND\r\nHD c1\r\nVA 1\r\nz\r\nOK\r\nMN\r\nEND\r\n",
+    b"STORED\r\nSERVER_ERROR out of memory\r\nSTORED\r\nCLIENT_ERROR cannot increment or decrement non-numeric value\r\nHD c5\r\nVA 1\r\nz\r\nOK\r\nMN\r\nEND\r\n",
+    b"STORED\r\nVALUE a 0 1\r\nx\r\nEND\r\nSERVER_ERROR out of memory\r\nCLIENT_ERROR cannot increment or decrement non-numeric value\r\nHD c3\r\nVA 1\r\nz\r\nOK\r\nMN\r\nEND\r\n",
+    b"STORED\r\nVALUE a 0 1\r\nx\r\nEND\r\nSTORED\r\nSERVER_ERROR out of memory\r\nHD c5\r\nVA 1\r\nz\r\nOK\r\nMN\r\nEND\r\n",
+    b"STORED\r\nVALUE a 0 1\r\nx\r\nEND\r\nSTORED\r\nCLIENT_ERROR cannot increment or decrement non-numeric value\r\nSERVER_ERROR out of memory\r\nEN\r\nOK\r\nMN\r\nEND\r\n",
+    b"STORED\r\nVALUE a 0 1\r\nx\r\nEND\r\nSTORED\r\nCLIENT_ERROR cannot increment or decrement non-numeric value\r\nHD c5\r\nSERVER_ERROR out of memory\r\nOK\r\nMN\r\nEND\r\n",
+    b"STORED\r\nVALUE a 0 1\r\nx\r\nEND\r\nSTORED\r\nCLIENT_ERROR cannot increment or decrement non-numeric value\r\nHD c5\r\nVA 1\r\nz\r\nSERVER_ERROR out of memory\r\nMN\r\nVALUE a 0 2\r\nxy\r\nEND\r\n",
+    b"STORED\r\nVALUE a 0 1\r\nx\r\nEND\r\nSTORED\r\nCLIENT_ERROR cannot increment or decrement non-numeric value\r\nHD c5\r\nVA 1\r\nz\r\nOK\r\nMN\r\nSERVER_ERROR out of memory\r\n",
+];
+
+/// Holds with all allocations, and with any one of them refused: then nothing was read, or one command found no
+/// memory.
+#[test]
+fn a_refused_allocation(rt: HostRuntime) -> Result<(), Fail> {
+    let Ok(mut line) = MemoryLine::new(rt.alloc(), SCRIPT) else {
+        return Ok(());
+    };
+    match serve_one(&rt, rt.alloc(), &mut line, SIZES, &StillClock(1000)) {
+        Err(ServeRefusal::Memory) => assert_eq!(rt; line.calls, 0),
+        Ok(served) => {
+            assert_eq!(rt;
+                served,
+                Served {
+                    commands: 10,
+                    broke: false
+                }
+            );
+            let mut is_known = false;
+            for output in OUTPUTS {
+                if line.output.as_slice() == output {
+                    is_known = true;
+                }
+            }
+            assert!(rt; is_known);
+        }
+    }
+    Ok(())
+}

@@ -1,0 +1,69 @@
+//! A line over memory, which tells what it gave and took.
+ghost use Rattle.std.specs.Prelude.{◌≡◌, ◌≤◌, None, length, take};
+
+use mc_seat::{Line, LineFault};
+use mc_wire::{OutFault, Outlet};
+use std::alloc::{AllocError, Global};
+
+/// A line over memory.
+#[derive(Drop)]
+pub struct MemoryLine {
+    input: &'static [u8],
+    /// How many bytes of the input were read.
+    at: usize,
+    pub output: Vec<u8>,
+    /// How many reads and writes there were.
+    pub calls: usize,
+    failed: bool,
+    ended: bool,
+    ghost within: { at ≤ length input.now },
+}
+
+impl MemoryLine {
+    /// A line of which nothing was read, with room for what it will take.
+    pub fn new(alloc: Global, input: &'static [u8]) -> Result<MemoryLine, AllocError> {
+        Ok(MemoryLine {
+            input,
+            at: 0,
+            output: Vec::with_capacity(alloc, 4096)?,
+            calls: 0,
+            failed: false,
+            ended: false,
+        })
+    }
+}
+
+impl Outlet for MemoryLine {
+    ghost use Rattle.std.specs.Prelude.{take};
+    ghost use Rattle.mc_wire.specs.Outlet.{Listed};
+
+    ghost sight = { λ line. record { given = Listed (take line.at line.input.now); ended = line.ended; reads = None; taken = Listed line.output.items; failed = line.failed } };
+
+    fn write(&mut self, bytes: &[u8]) -> Result<usize, OutFault> {
+        self.calls = self.calls.wrapping_add(1);
+        match self.output.extend_from_slice(bytes) {
+            Ok(()) => Ok(bytes.len()),
+            Err(_) => {
+                self.failed = true;
+                Err(OutFault)
+            }
+        }
+    }
+}
+
+impl Line for MemoryLine {
+    fn read(&mut self, room: &mut [u8]) -> Result<usize, LineFault> {
+        self.calls = self.calls.wrapping_add(1);
+        if self.failed {
+            return Err(LineFault);
+        }
+        let (_, rest) = self.input.split_at(self.at);
+        let count = room.len().min(rest.len());
+        let (front, _) = rest.split_at(count);
+        let (place, _) = room.split_at_mut(count);
+        place.copy_from_slice(front);
+        self.at += count;
+        self.ended = count == 0;
+        Ok(count)
+    }
+}

@@ -1,0 +1,236 @@
+//! Schedules, event by event. What no clause says: that a core is made, and an event done, where memory is ample; and that
+//! only one command finds no memory where one allocation is refused.
+use mc_core::{Event, LogEntry, Sim, SimRefusal, StepReply, Worker};
+use mc_ring::lanes;
+use mc_split::Ticket;
+use mc_store::Shard;
+use std::alloc::{AllocError, Global};
+use std::hash::RandomState;
+use std::random::RandomSource;
+use std::test::Fail;
+
+/// The moment of all commands.
+const MOMENT: u64 = 1000;
+
+/// What a shard's items may cost together, in bytes.
+const BUDGET: usize = 1_024;
+
+/// How many places a ring has.
+const RING: usize = 4;
+
+/// How many bytes a value has at most.
+const VALUE_LIMIT: usize = 1_024;
+
+/// How many commands of a connection may be open.
+const WINDOW: usize = 64;
+
+/// A core of so many seats, and two shards.
+fn core_of<R: RandomSource>(rt: &R, alloc: Global, seats: usize) -> Result<Sim, SimRefusal> {
+    Sim::new(rt, alloc, seats, 2, BUDGET, RING, VALUE_LIMIT, WINDOW)
+}
+
+/// These bytes come in at the seat.
+fn feed(alloc: Global, seat: usize, text: &[u8]) -> Result<Event, AllocError> {
+    let bytes = Vec::from_slice(alloc, text)?;
+    Ok(Event::Feed { seat, bytes })
+}
+
+/// The seat's next command is taken.
+fn take(seat: usize) -> Event {
+    Event::Take {
+        seat,
+        moment: MOMENT,
+    }
+}
+
+/// What is kept of a command's first part.
+fn entry(shard: usize, connection: usize, ticket: u64) -> LogEntry {
+    LogEntry {
+        shard,
+        connection,
+        ticket: Ticket(ticket),
+        part: 0,
+        moment: MOMENT,
+    }
+}
+
+/// How many bytes the connection of this number was handed.
+fn handed_to(sim: &Sim, number: usize) -> usize {
+    let Some(bytes) = sim.handed(number) else {
+        return 0;
+    };
+    bytes.len()
+}
+
+/// How an event is answered, how many pieces the shards ran by then, and how many bytes the first two connections were handed.
+fn moved(alloc: Global, sim: &mut Sim, event: &Event) -> (StepReply, usize, usize, usize) {
+    let reply = sim.step(alloc, event);
+    (reply, sim.log().len(), handed_to(sim, 0), handed_to(sim, 1))
+}
+
+/// The second of two connections stores `d`, and then the first gets it.
+fn store_and_get(alloc: Global) -> Result<[Event; 16], AllocError> {
+    Ok([
+        Event::Open { seat: 0 },
+        Event::Open { seat: 1 },
+        feed(alloc, 1, b"set d 0 0 1\r\nz\r\n")?,
+        take(1),
+        Event::Send { seat: 1 },
+        Event::Pop { shard: 1, seat: 1 },
+        Event::Give { shard: 1 },
+        Event::Receive { seat: 1, shard: 1 },
+        Event::Hand { seat: 1 },
+        feed(alloc, 0, b"gets d\r\n")?,
+        take(0),
+        Event::Send { seat: 0 },
+        Event::Pop { shard: 1, seat: 0 },
+        Event::Give { shard: 1 },
+        Event::Receive { seat: 0, shard: 1 },
+        Event::Hand { seat: 0 },
+    ])
+}
+
+#[test]
+fn two_connections(rt: HostRuntime) -> Result<(), Fail> {
+    let alloc = rt.alloc();
+    let mut sim = core_of(&rt, alloc, 2)?;
+    // How many pieces ran by then, and how many bytes each connection was handed.
+    let rows = [
+        (0, 0, 0),
+        (0, 0, 0),
+        (0, 0, 0),
+        (0, 0, 0),
+        (0, 0, 0),
+        (1, 0, 0),
+        (1, 0, 0),
+        (1, 0, 0),
+        (1, 0, 8),
+        (1, 0, 8),
+        (1, 0, 8),
+        (1, 0, 8),
+        (2, 0, 8),
+        (2, 0, 8),
+        (2, 0, 8),
+        (2, 23, 8),
+    ];
+    let events = store_and_get(alloc)?;
+    for (event, row) in events.iter().zip(&rows) {
+        let (ran, first, second) = *row;
+        let seen = moved(alloc, &mut sim, event);
+        assert_eq!(rt; seen, (StepReply::Done, ran, first, second));
+    }
+    assert!(rt; sim.handed(0) == Some(b"VALUE d 0 1 2\r\nz\r\nEND\r\n"));
+    assert!(rt; sim.handed(1) == Some(b"STORED\r\n"));
+    assert!(rt; sim.log() == [entry(1, 1, 0), entry(1, 0, 0)].as_slice());
+    Ok(())
+}
+
+/// Whether the two connections were handed these bytes.
+fn handed_both(sim: &Sim, first: &[u8], second: &[u8]) -> bool {
+    sim.handed(0) == Some(first) && sim.handed(1) == Some(second)
+}
+
+/// Holds with all allocations, and with any one of them refused. An event that finds no memory is given again, and one that
+/// needs none never lacks it.
+#[test]
+fn a_refused_allocation_gives_up_one_command(rt: HostRuntime) {
+    let alloc = rt.alloc();
+    let Ok(events) = store_and_get(alloc) else {
+        return;
+    };
+    let Ok(mut sim) = core_of(&rt, alloc, 2) else {
+        return;
+    };
+    for event in &events {
+        if sim.step(alloc, event) == StepReply::NoMemory {
+            assert!(rt; sim.step(alloc, event) != StepReply::NoMemory);
+            assert!(rt;
+                !matches!(
+                    event,
+                    Event::Send { .. } | Event::Give { .. } | Event::Receive { .. }
+                )
+            );
+        }
+    }
+    let (value, end) = (b"VALUE d 0 1 2\r\nz\r\nEND\r\n", b"END\r\n");
+    let (stored, memory) = (b"STORED\r\n", b"SERVER_ERROR out of memory\r\n");
+    assert!(rt;
+        handed_both(&sim, value, stored)
+            || handed_both(&sim, end, memory)
+            || handed_both(&sim, memory, stored)
+    );
+}
+
+#[test]
+fn an_early_answer(rt: HostRuntime) -> Result<(), Fail> {
+    let alloc = rt.alloc();
+    let mut sim = core_of(&rt, alloc, 1)?;
+    let rows = [
+        (Event::Open { seat: 0 }, StepReply::Done, 0, 0),
+        (
+            feed(alloc, 0, b"get a\r\ntouch b 0\r\n")?,
+            StepReply::Done,
+            0,
+            0,
+        ),
+        (take(0), StepReply::Done, 0, 0),
+        (take(0), StepReply::Done, 0, 0),
+        (Event::Send { seat: 0 }, StepReply::Done, 0, 0),
+        (Event::Send { seat: 0 }, StepReply::Done, 0, 0),
+        (Event::Pop { shard: 1, seat: 0 }, StepReply::Done, 1, 0),
+        (Event::Give { shard: 1 }, StepReply::Done, 1, 0),
+        (Event::Receive { seat: 0, shard: 1 }, StepReply::Done, 1, 0),
+        (Event::Hand { seat: 0 }, StepReply::Idle, 1, 0),
+        (Event::Pop { shard: 0, seat: 0 }, StepReply::Done, 2, 0),
+        (Event::Give { shard: 0 }, StepReply::Done, 2, 0),
+        (Event::Receive { seat: 0, shard: 0 }, StepReply::Done, 2, 0),
+        (Event::Hand { seat: 0 }, StepReply::Done, 2, 16),
+    ];
+    for (event, reply, ran, first) in &rows {
+        assert_eq!(rt; moved(alloc, &mut sim, event), (*reply, *ran, *first, 0));
+    }
+    assert!(rt; sim.handed(0) == Some(b"END\r\nNOT_FOUND\r\n"));
+    assert!(rt; sim.log() == [entry(1, 0, 1), entry(0, 0, 0)].as_slice());
+    Ok(())
+}
+
+#[test]
+fn what_is_kept_of_a_connection(rt: HostRuntime) -> Result<(), Fail> {
+    let alloc = rt.alloc();
+    let mut sim = core_of(&rt, alloc, 2)?;
+    let events = [
+        Event::Open { seat: 1 },
+        feed(alloc, 1, b"mn\r\n")?,
+        take(1),
+        Event::Hand { seat: 0 },
+        Event::Hand { seat: 1 },
+        Event::End { seat: 1 },
+    ];
+    assert_eq!(rt; sim.run(alloc, &events)?, 5);
+    assert!(rt; sim.fed(0) == Some(b"mn\r\n"));
+    assert!(rt; sim.fed(1) == None);
+    let shown = sim.connections();
+    assert!(rt; shown.len() == 1);
+    let kept = &shown[0];
+    assert_eq!(rt; (kept.seat, kept.ended, kept.broken), (1, true, false));
+    Ok(())
+}
+
+/// Holds with all allocations, and with any one of them refused: once a worker is made, only the items of its shard take memory.
+#[test]
+fn a_worker_takes_no_memory(rt: HostRuntime) {
+    let alloc = rt.alloc();
+    let (Ok((mut seats, mut shards)), Ok(hasher)) = (lanes(alloc, 1, 1, 1), RandomState::new(&rt))
+    else {
+        return;
+    };
+    let Ok(shard) = Shard::new(alloc, hasher, 0, 1, BUDGET, 0, VALUE_LIMIT) else {
+        return;
+    };
+    let Ok(mut worker) = Worker::new(alloc, shard, shards.remove(0)) else {
+        return;
+    };
+    let seat = &mut seats[0];
+    assert_eq!(rt; worker.beside(seat), (0, 0));
+    assert!(rt; !worker.ended());
+}

@@ -1,0 +1,84 @@
+//! Lines of which nothing is read where the threads that were to serve them can't all be started.
+use crate::memory_line::MemoryLine;
+use mc_core::OpenGate;
+use mc_seat::{Line, LineFault};
+use mc_server::StillClock;
+use mc_threads::{ServeRefusal, Sizes, serve_over};
+use mc_wire::{OutFault, Outlet};
+use std::alloc::{AllocError, Global};
+use std::sync::Arc;
+use std::sync::atomic::{AtomicU64, Ordering};
+use std::test::Fail;
+
+/// A line whose reads and writes are counted, together with those of others.
+#[derive(Drop)]
+struct Counted<L> {
+    line: L,
+    calls: Arc<AtomicU64, Global>,
+}
+
+impl<L: Outlet> Outlet for Counted<L> {
+    ghost sight = { λ counted. L.sight counted.line };
+
+    fn write(&mut self, bytes: &[u8]) -> Result<usize, OutFault> {
+        self.calls.fetch_add(1, Ordering::SeqCst);
+        self.line.write(bytes)
+    }
+}
+
+impl<L: Line> Line for Counted<L> {
+    fn read(&mut self, room: &mut [u8]) -> Result<usize, LineFault> {
+        self.calls.fetch_add(1, Ordering::SeqCst);
+        self.line.read(room)
+    }
+}
+
+/// Two lines that send what takes no memory once they are served.
+fn two_lines(
+    alloc: Global,
+    calls: &Arc<AtomicU64, Global>,
+) -> Result<Vec<Counted<MemoryLine>>, AllocError> {
+    let mut lines = Vec::with_capacity(alloc, 2)?;
+    for _ in 0..2u8 {
+        lines.push(Counted {
+            line: MemoryLine::new(alloc, b"mn\r\nquit\r\n")?,
+            calls: Arc::try_clone(calls)?,
+        })?;
+    }
+    Ok(lines)
+}
+
+const SIZES: Sizes = Sizes {
+    shards: 2,
+    bytes: 65_536,
+    ring: 64,
+    value: 1_048_576,
+    window: 256,
+};
+
+/// Holds whichever allocation is refused: nothing was read or written and all threads are gone, or all is served.
+#[test]
+fn a_refused_start(rt: HostRuntime) -> Result<(), Fail> {
+    let Ok(calls) = Arc::new(rt.alloc(), AtomicU64::new(0)) else {
+        return Ok(());
+    };
+    let Ok(lines) = two_lines(rt.alloc(), &calls) else {
+        return Ok(());
+    };
+    assert_eq!(rt; lines.len(), 2);
+    match serve_over(&rt, rt.alloc(), lines, SIZES, OpenGate, StillClock(1000)) {
+        Ok(report) => {
+            for one in report.lines {
+                assert_eq!(rt; one.line.line.output.as_slice(), b"MN\r\n".as_slice());
+                assert_eq!(rt; (one.commands, one.broke), (2, false));
+            }
+        }
+        Err(refusal) => {
+            assert!(rt; refusal == ServeRefusal::Memory || refusal == ServeRefusal::Thread);
+            assert_eq!(rt; calls.load(Ordering::SeqCst), 0);
+            // Each thread that held a line is gone.
+            assert_eq!(rt; Arc::strong_count(&calls), 1);
+        }
+    }
+    Ok(())
+}

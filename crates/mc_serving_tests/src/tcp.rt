@@ -1,0 +1,84 @@
+//! Clients over TCP, in the same process.
+ghost use Rattle.std.specs.Prelude.{◌≡◌, ◌≤◌};
+
+use mc_seat::Clock;
+use mc_threads::{Sizes, serve_tcp};
+use std::alloc::Global;
+use std::io::{Read, Write};
+use std::net::{Net, SocketAddr, TcpListener, TcpStream};
+use std::random::RandomSource;
+use std::sync::Wait;
+use std::test::Fail;
+use std::thread::Threads;
+use std::{io, thread, time};
+
+/// A clock that stands still.
+#[derive(Clone, Copy)]
+struct Still(u64);
+
+impl Clock for Still {
+    ghost may_answer = { λ clock moment. moment ≡ clock.0 };
+
+    fn now(&self) -> u64 {
+        self.0
+    }
+}
+
+/// Sends the commands, and reads the replies to their end.
+fn talk<R: Net<Listener = TcpListener, Stream = TcpStream>>(
+    rt: &R,
+    alloc: Global,
+    server: SocketAddr,
+    commands: &[u8],
+) -> io::Result<Vec<u8>> {
+    let stream = TcpStream::connect(rt, server)?;
+    (&stream).write_all(commands)?;
+    let mut replies = Vec::new(alloc);
+    (&stream).read_to_end(&mut replies)?;
+    Ok(replies)
+}
+
+/// Serves one client that sends these commands; the replies, and how many connections ended.
+fn serve_client<
+    R: Threads
+        + Wait
+        + RandomSource
+        + time::Clock
+        + Net<Listener = TcpListener, Stream = TcpStream>
+        + Copy
+        + Send
+        + 'static,
+>(
+    rt: &R,
+    alloc: Global,
+    ring: usize,
+    window: usize,
+    commands: &'static [u8],
+) -> io::Result<(Vec<u8>, Option<u64>)>
+    requires ring { (1 ≤ ring) × (ring ≤ 1024) }
+    requires window { 1 ≤ window }
+{
+    let listener = TcpListener::bind(rt, "127.0.0.1:0")?;
+    let server = listener.local_addr()?;
+    let own = *rt;
+    let client = thread::spawn(rt, move || talk(&own, alloc, server, commands))?;
+    let sizes = Sizes {
+        shards: 2,
+        bytes: 65_536,
+        ring,
+        value: 1_048_576,
+        window,
+    };
+    let ended = serve_tcp(rt, alloc, listener, 2, sizes, Some(1), Still(1000)).ok();
+    Ok((client.join(rt)?, ended))
+}
+
+#[test]
+fn a_client_is_served(rt: HostRuntime) -> Result<(), Fail> {
+    let commands = b"set a 0 0 1\r\nx\r\nget a\r\nquit\r\n";
+    let (replies, ended) = serve_client(&rt, rt.alloc(), 64, 256, commands)?;
+    let expected = b"STORED\r\nVALUE a 0 1\r\nx\r\nEND\r\n";
+    assert_eq!(rt; replies.as_slice(), expected.as_slice());
+    assert_eq!(rt; ended, Some(1));
+    Ok(())
+}

@@ -1,0 +1,312 @@
+//! The calls that take no memory, each made once all that it needs was made. The tests hold whichever allocation is refused,
+//! alone or with all that follow it: where something that a call needs can't be made, its test ends.
+ghost use Rattle.std.specs.Prelude.{◌<◌, ◌≤◌};
+
+use crate::memory_line::MemoryLine;
+use mc_command::{Command, Refusal, StoreMode};
+use mc_conn::{Conn, Taken};
+use mc_item::{Answer, Expiry, Item, Kind, MetaDelete, Op, Value, expiry};
+use mc_reader::{Next, Reader};
+use mc_ring::{Parcel, Reply, SeatEnds, ShardEnds, lanes};
+use mc_split::{Piece, Ticket};
+use mc_store::Shard;
+use mc_wire::{DEFAULT_VALUE_LIMIT, Key, LINE_LIMIT, number_i64, number_u64, put_all, words};
+use std::alloc::{AllocError, Global};
+use std::hash::RandomState;
+use std::process::Abort;
+
+static LONG: [u8; LINE_LIMIT] = [b'x'; LINE_LIMIT];
+
+fn key_of(alloc: Global) -> Result<Key, AllocError> {
+    Key::from_word(alloc, b"a").map_err(|_| AllocError)
+}
+
+/// The value `17`.
+fn value_of(alloc: Global) -> Result<Value, AllocError> {
+    let bytes = Vec::from_slice(alloc, b"17")?;
+    if bytes.len() > DEFAULT_VALUE_LIMIT {
+        return Err(AllocError);
+    }
+    Value::new(bytes).map_err(|_| AllocError)
+}
+
+fn item_of(alloc: Global) -> Result<Item, AllocError> {
+    Ok(Item {
+        value: value_of(alloc)?,
+        flags: 0,
+        expiry: Expiry::At(1_010),
+        unique: 1,
+        last_access: 1_000,
+        fetched: false,
+        stale: false,
+        sent: false,
+    })
+}
+
+#[test]
+fn words_numbers_and_items(rt: HostRuntime) {
+    let alloc = rt.alloc();
+    let (Ok(key), Ok(item), Ok(mut line)) = (
+        key_of(alloc),
+        item_of(alloc),
+        MemoryLine::new(alloc, b""),
+    ) else {
+        return;
+    };
+    let mut walk = words(b" a  bc ");
+    assert_eq!(rt; walk.next(), Some(b"a".as_slice()));
+    assert_eq!(rt; walk.next(), Some(b"bc".as_slice()));
+    assert_eq!(rt; walk.next(), None);
+    assert_eq!(rt; number_u64(b"18446744073709551615"), Ok(u64::MAX));
+    assert_eq!(rt; number_i64(b"-17"), Ok(-17));
+    assert_eq!(rt; key.bytes(), b"a".as_slice());
+    assert!(rt; key.place(16) < 16);
+    assert_eq!(rt; expiry(10, 1_000), Expiry::At(1_010));
+    assert!(rt; !item.is_dead(1_009));
+    assert!(rt; item.is_dead(1_010));
+    assert_eq!(rt; item.number(), Some(17));
+    assert!(rt; Answer::Stored.is_lawful(Kind::Store));
+    assert!(rt; put_all(&mut line, b"abc").is_ok());
+    assert_eq!(rt; line.output.as_slice(), b"abc".as_slice());
+}
+
+/// What comes next of a stream, by name.
+fn next(alloc: Global, reader: &mut Reader) -> &'static str {
+    match reader.next(alloc) {
+        Next::Command(Command::MetaNoop) => "mn",
+        Next::Command(Command::Version) => "version",
+        Next::Command(Command::Verbosity { .. }) => "verbosity",
+        Next::Command(Command::Quit) => "quit",
+        Next::Command(Command::Refused(Refusal::Unknown)) => "unknown",
+        Next::Command(Command::Refused(Refusal::LineTooLong)) => "too long",
+        Next::Command(_) => "another",
+        Next::NeedMore => "more",
+        Next::Closed => "closed",
+    }
+}
+
+/// Feeds the bytes, all of which are taken, and asserts what comes then.
+fn reads(rt: &impl Abort, alloc: Global, reader: &mut Reader, bytes: &[u8], names: &[&str]) {
+    assert_eq!(rt; reader.feed(bytes), bytes.len());
+    for name in names {
+        assert_eq!(rt; next(alloc, reader), *name);
+    }
+}
+
+#[test]
+fn lines_without_a_key_and_skipped_blocks(rt: HostRuntime) {
+    let alloc = rt.alloc();
+    let Ok(mut reader) = Reader::new(alloc, DEFAULT_VALUE_LIMIT) else {
+        return;
+    };
+    let lines = b"mn\r\nversion\r\nverbosity 1\r\nstats\r\n";
+    let names = ["mn", "version", "verbosity", "unknown", "more"];
+    reads(&rt, alloc, &mut reader, lines, &names);
+    // A line that is refused, whose block is longer than what is held at most.
+    reads(&rt, alloc, &mut reader, b"set a 0 0 65536 x\r\n", &["more"]);
+    assert!(rt; reader.is_skipping());
+    reads(&rt, alloc, &mut reader, &LONG, &["more"]);
+    assert!(rt; reader.held() <= LINE_LIMIT);
+    reads(&rt, alloc, &mut reader, b"\r\nmn\r\n", &["another"]);
+    assert!(rt; reader.whole());
+    reads(
+        &rt,
+        alloc,
+        &mut reader,
+        b"quit\r\n",
+        &["mn", "quit", "closed"],
+    );
+    reader.reset();
+    reads(&rt, alloc, &mut reader, &LONG, &["too long", "closed"]);
+    reader.reset();
+    reader.end();
+    assert_eq!(rt; reader.feed(b"mn\r\n"), 0);
+    assert_eq!(rt; next(alloc, &mut reader), "closed");
+}
+
+/// Asks the shard, and asserts the name of its answer.
+fn asks(rt: &impl Abort, alloc: Global, shard: &mut Shard, op: Op, name: &str) {
+    let found = match shard.run(alloc, op, 1_000) {
+        Answer::Stored => "stored",
+        Answer::Touched => "touched",
+        Answer::Deleted => "deleted",
+        Answer::Done => "done",
+        _ => "another",
+    };
+    assert_eq!(rt; found, name);
+}
+
+/// A set of `17` under the key `a`.
+fn set(alloc: Global) -> Result<Op, AllocError> {
+    Ok(Op::Store {
+        key: key_of(alloc)?,
+        mode: StoreMode::Set,
+        flags: 0,
+        exptime: 0,
+        value: value_of(alloc)?,
+    })
+}
+
+/// A shard that holds the key `a`.
+fn holding(rt: &HostRuntime, alloc: Global) -> Result<Shard, AllocError> {
+    let Ok(hasher) = RandomState::new(rt) else {
+        return Err(AllocError);
+    };
+    let Ok(mut shard) = Shard::new(alloc, hasher, 0, 1, 1_024, 0, DEFAULT_VALUE_LIMIT) else {
+        return Err(AllocError);
+    };
+    match shard.run(alloc, set(alloc)?, 1_000) {
+        Answer::Stored => Ok(shard),
+        _ => Err(AllocError),
+    }
+}
+
+/// `md` of the key `a`, which marks the item stale.
+fn invalidation(alloc: Global) -> Result<Op, AllocError> {
+    Ok(Op::MetaDelete(MetaDelete {
+        key: key_of(alloc)?,
+        compare: None,
+        unique: None,
+        invalidate: true,
+        exptime: None,
+    }))
+}
+
+#[test]
+fn operations_on_a_present_key(rt: HostRuntime) {
+    let alloc = rt.alloc();
+    let (Ok(mut shard), Ok(stored), Ok(stale), Ok(touched), Ok(deleted)) = (
+        holding(&rt, alloc),
+        set(alloc),
+        invalidation(alloc),
+        key_of(alloc),
+        key_of(alloc),
+    ) else {
+        return;
+    };
+    asks(&rt, alloc, &mut shard, stored, "stored");
+    asks(&rt, alloc, &mut shard, stale, "done");
+    let touch = Op::Touch {
+        key: touched,
+        exptime: 10,
+    };
+    asks(&rt, alloc, &mut shard, touch, "touched");
+    asks(
+        &rt,
+        alloc,
+        &mut shard,
+        Op::Delete { key: deleted },
+        "deleted",
+    );
+    assert_eq!(rt; shard.len(), 0);
+    asks(&rt, alloc, &mut shard, Op::Flush { delay: 0 }, "done");
+    assert_eq!(rt; shard.now(), 1_000);
+}
+
+fn piece(ticket: u64) -> Piece {
+    Piece {
+        ticket: Ticket(ticket),
+        part: 0,
+        op: Op::Flush { delay: 0 },
+        moment: 1_000,
+    }
+}
+
+/// Whether the first shard's ring takes the parcel.
+fn is_sent(seat: &mut SeatEnds, parcel: Parcel) -> bool {
+    seat.shards() > 0 && seat.send(0, parcel).is_ok()
+}
+
+/// The first seat's next parcel.
+fn taken(shard: &mut ShardEnds) -> Option<Parcel> {
+    if shard.seats() == 0 {
+        return None;
+    }
+    shard.take(0)
+}
+
+/// Whether the first seat's ring takes a reply to this ticket.
+fn is_given(shard: &mut ShardEnds, ticket: u64) -> bool {
+    if shard.seats() == 0 || !Answer::Done.is_lawful(Kind::Flush) {
+        return false;
+    }
+    let reply = Reply::new(Ticket(ticket), 0, Kind::Flush, Answer::Done);
+    shard.give(0, reply).is_ok()
+}
+
+/// The ticket of the first shard's next reply.
+fn received(seat: &mut SeatEnds) -> Option<u64> {
+    if seat.shards() == 0 {
+        return None;
+    }
+    Some(seat.receive(0)?.ticket.0)
+}
+
+#[test]
+fn rings_that_have_room(rt: HostRuntime) {
+    let Ok((mut seats, mut shards)) = lanes(rt.alloc(), 1, 1, 3) else {
+        return;
+    };
+    let (Some(mut seat), Some(mut shard)) = (seats.pop(), shards.pop()) else {
+        return;
+    };
+    assert!(rt; is_sent(&mut seat, Parcel::Piece(piece(0))));
+    assert!(rt; is_sent(&mut seat, Parcel::Piece(piece(1))));
+    assert!(rt; is_sent(&mut seat, Parcel::End));
+    for ticket in 0..2 {
+        assert!(rt; matches!(taken(&mut shard), Some(Parcel::Piece(_))));
+        assert!(rt; is_given(&mut shard, ticket));
+        assert_eq!(rt; received(&mut seat), Some(ticket));
+    }
+    assert!(rt; matches!(taken(&mut shard), Some(Parcel::End)));
+}
+
+/// Misses the next piece of the connection, which is put back once.
+fn misses(rt: &impl Abort, conn: &mut Conn) {
+    let Some((shard, piece)) = conn.next_piece() else {
+        assert!(rt; false, "there is a piece");
+        return;
+    };
+    conn.not_sent(shard, piece);
+    let Some((_, piece)) = conn.next_piece() else {
+        assert!(rt; false, "it was put back");
+        return;
+    };
+    assert!(rt; Answer::Miss.is_lawful(Kind::Fetch));
+    let reply = Reply::new(piece.ticket, piece.part, Kind::Fetch, Answer::Miss);
+    assert!(rt; conn.accept(reply).is_ok());
+}
+
+#[test]
+fn a_connection_whose_commands_are_taken(rt: HostRuntime) {
+    let alloc = rt.alloc();
+    let (Ok(mut conn), Ok(mut line)) = (
+        Conn::new(alloc, 2, DEFAULT_VALUE_LIMIT, 4),
+        MemoryLine::new(alloc, b""),
+    ) else {
+        return;
+    };
+    let bytes = b"get a b\r\nmn\r\n";
+    assert_eq!(rt; conn.feed(bytes), bytes.len());
+    assert!(rt; matches!(conn.take(alloc, 1_000), Taken::Opened(_)));
+    if conn.passes() > 0 {
+        // The get found no memory.
+        return;
+    }
+    misses(&rt, &mut conn);
+    misses(&rt, &mut conn);
+    assert!(rt; conn.next_piece().is_none());
+    assert!(rt; conn.whole());
+    assert!(rt; matches!(conn.take(alloc, 1_000), Taken::Opened(_)));
+    assert_eq!(rt; conn.ready(), 9);
+    assert_eq!(rt; conn.hand(&mut line), Ok(2));
+    assert_eq!(rt; line.output.as_slice(), b"END\r\nMN\r\n".as_slice());
+    assert!(rt; conn.is_at_rest());
+    conn.end();
+    assert!(rt; conn.renew());
+    assert_eq!(rt; conn.feed(b"mn\r\n"), 4);
+    conn.broken();
+    assert_eq!(rt; conn.hand(&mut line), Ok(0));
+    assert!(rt; conn.is_at_rest());
+    assert!(rt; conn.renew());
+}

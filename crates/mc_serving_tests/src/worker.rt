@@ -1,0 +1,180 @@
+//! A worker between two seats, on rings of one place.
+ghost use Rattle.mc_ring.specs.Ends.{AreSameEnds};
+
+use mc_core::{Gate, OpenGate, Turn, Worker};
+use mc_item::Op;
+use mc_ring::{Parcel, SeatEnds, lanes};
+use mc_split::{Piece, Ticket};
+use mc_store::Shard;
+use std::alloc::Global;
+use std::cell::Cell;
+use std::hash::RandomState;
+use std::test::Fail;
+
+/// The moment of all pieces.
+const MOMENT: u64 = 1000;
+
+/// What the shard's items may cost together, in bytes.
+const BUDGET: usize = 65_536;
+
+/// How many bytes a value has at most.
+const VALUE_LIMIT: usize = 1_024;
+
+/// A piece of the command of this number.
+fn piece(number: u64) -> Parcel {
+    Parcel::Piece(Piece {
+        ticket: Ticket(number),
+        part: 0,
+        op: Op::Flush { delay: 0 },
+        moment: MOMENT,
+    })
+}
+
+/// What a turn answers that ran it.
+fn ran(number: u64) -> Option<Turn> {
+    Some(Turn::Ran {
+        ticket: Ticket(number),
+        part: 0,
+        moment: MOMENT,
+    })
+}
+
+/// A turn for a seat, where it is there.
+fn turn(alloc: Global, worker: &mut Worker, seat: usize) -> Option<Turn>
+    ensures { AreSameEnds worker.old.ends worker.new.ends }
+{
+    if seat < worker.seats() {
+        Some(worker.turn(alloc, seat, &OpenGate))
+    } else {
+        None
+    }
+}
+
+/// Turns for a seat, where it is there and each seat has a mark.
+fn serve(alloc: Global, worker: &mut Worker, seat: usize, given: &mut [bool]) -> Option<bool> {
+    if seat < worker.seats() && given.len() == worker.seats() {
+        Some(worker.serve(alloc, seat, &OpenGate, given))
+    } else {
+        None
+    }
+}
+
+/// Sends a parcel to the first shard, and tells whether it went out.
+fn sends(seat: &mut SeatEnds, parcel: Parcel) -> bool
+    ensures { AreSameEnds seat.old seat.new }
+{
+    0 < seat.shards() && seat.send(0, parcel).is_ok()
+}
+
+/// The number of the command that the first shard's next reply is of.
+fn receives(seat: &mut SeatEnds) -> Option<u64> {
+    if seat.shards() == 0 {
+        return None;
+    }
+    seat.receive(0).map(|reply| reply.ticket.0)
+}
+
+/// Both seats, and the worker of one shard.
+fn two_seats(alloc: Global, hasher: RandomState) -> Result<(SeatEnds, SeatEnds, Worker), Fail> {
+    let (mut seats, mut shards) = lanes(alloc, 2, 1, 1)?;
+    let shard = Shard::new(alloc, hasher, 0, 1, BUDGET, 0, VALUE_LIMIT)?;
+    let worker = Worker::new(alloc, shard, shards.remove(0))?;
+    let second = seats.remove(1);
+    let first = seats.remove(0);
+    Ok((first, second, worker))
+}
+
+#[test]
+fn a_full_ring_holds_the_worker_up(rt: HostRuntime) -> Result<(), Fail> {
+    let alloc = rt.alloc();
+    let (mut first, mut second, mut worker) = two_seats(alloc, RandomState::new(&rt)?)?;
+    assert_eq!(rt; turn(alloc, &mut worker, 0), Some(Turn::Nothing));
+    assert!(rt; sends(&mut first, piece(0)));
+    assert_eq!(rt; turn(alloc, &mut worker, 0), ran(0));
+    assert!(rt; sends(&mut first, piece(1)));
+    assert!(rt; sends(&mut second, piece(0)));
+    assert_eq!(rt; turn(alloc, &mut worker, 1), Some(Turn::Gave));
+    assert_eq!(rt; turn(alloc, &mut worker, 0), ran(1));
+    assert_eq!(rt; turn(alloc, &mut worker, 0), Some(Turn::Blocked));
+    assert_eq!(rt; turn(alloc, &mut worker, 1), Some(Turn::Blocked));
+    assert_eq!(rt; receives(&mut first), Some(0));
+    assert_eq!(rt; turn(alloc, &mut worker, 1), Some(Turn::Gave));
+    assert_eq!(rt; receives(&mut first), Some(1));
+    assert_eq!(rt; turn(alloc, &mut worker, 1), ran(0));
+    Ok(())
+}
+
+#[test]
+fn it_has_ended_when_every_lane_has(rt: HostRuntime) -> Result<(), Fail> {
+    let alloc = rt.alloc();
+    let (mut first, mut second, mut worker) = two_seats(alloc, RandomState::new(&rt)?)?;
+    assert!(rt; sends(&mut second, Parcel::End));
+    assert_eq!(rt; turn(alloc, &mut worker, 1), Some(Turn::Ended));
+    assert_eq!(rt; turn(alloc, &mut worker, 1), Some(Turn::Nothing));
+    assert!(rt; !worker.ended());
+    assert!(rt; sends(&mut first, Parcel::End));
+    assert_eq!(rt; turn(alloc, &mut worker, 0), Some(Turn::Ended));
+    assert!(rt; worker.ended());
+    Ok(())
+}
+
+#[test]
+fn a_seat_is_served_until_nothing_waits(rt: HostRuntime) -> Result<(), Fail> {
+    let alloc = rt.alloc();
+    let (mut first, mut second, mut worker) = two_seats(alloc, RandomState::new(&rt)?)?;
+    let mut given = [false, false];
+    assert_eq!(rt; serve(alloc, &mut worker, 1, &mut given), Some(false));
+    assert!(rt; sends(&mut second, piece(4)));
+    assert_eq!(rt; serve(alloc, &mut worker, 1, &mut given), Some(true));
+    assert_eq!(rt; given, [false, true]);
+    assert!(rt; sends(&mut first, piece(7)));
+    assert_eq!(rt; serve(alloc, &mut worker, 0, &mut given), Some(true));
+    assert_eq!(rt; given, [true, true]);
+    assert_eq!(rt;
+        (receives(&mut first), receives(&mut second)),
+        (Some(7), Some(4))
+    );
+    assert_eq!(rt; serve(alloc, &mut worker, 0, &mut given), Some(false));
+    Ok(())
+}
+
+#[test]
+fn what_waits_for_a_worker_is_counted(rt: HostRuntime) -> Result<(), Fail> {
+    let alloc = rt.alloc();
+    let (mut seats, mut shards) = lanes(alloc, 1, 1, 1)?;
+    let shard = Shard::new(alloc, RandomState::new(&rt)?, 0, 1, BUDGET, 0, VALUE_LIMIT)?;
+    let mut worker = Worker::new(alloc, shard, shards.remove(0))?;
+    let seat = &mut seats[0];
+    assert_eq!(rt; worker.beside(seat), (0, 0));
+    assert!(rt; sends(seat, piece(7)));
+    assert_eq!(rt; worker.beside(seat), (1, 0));
+    assert_eq!(rt; turn(alloc, &mut worker, 0), ran(7));
+    assert_eq!(rt; turn(alloc, &mut worker, 0), Some(Turn::Gave));
+    assert_eq!(rt; worker.beside(seat), (0, 1));
+    Ok(())
+}
+
+/// A gate that keeps the ticket that it was last asked for.
+#[derive(Drop)]
+struct Watched(Cell<u64>);
+
+impl Gate for Watched {
+    fn before(&self, _shard: usize, ticket: Ticket) {
+        self.0.set(ticket.0);
+    }
+}
+
+#[test]
+fn the_gate_is_asked_before_a_piece(rt: HostRuntime) -> Result<(), Fail> {
+    let alloc = rt.alloc();
+    let (_first, mut second, mut worker) = two_seats(alloc, RandomState::new(&rt)?)?;
+    let gate = Watched(Cell::new(0));
+    assert!(rt; worker.seats() == 2);
+    worker.turn(alloc, 1, &gate);
+    assert_eq!(rt; gate.0.get(), 0);
+    assert!(rt; sends(&mut second, piece(5)));
+    assert!(rt; worker.seats() == 2);
+    worker.turn(alloc, 1, &gate);
+    assert_eq!(rt; gate.0.get(), 5);
+    Ok(())
+}
