@@ -1,14 +1,14 @@
 //! Commands come in, pieces go out, answers come in any order, and outlets fail. What no clause says: that calls succeed where
 //! memory is ample, and the texts of whole conversations.
 ghost use Rattle.std.specs.Prelude.{◌<◌};
-ghost use Rattle.mc_wire.specs.Outlet.{Listed, sight_out};
 
+use crate::outlet::{Memory, outlet, outlet_over};
 use mc_conn::{Conn, Taken};
 use mc_item::{Answer, Kind};
 use mc_join::Stranger;
 use mc_ring::Reply;
 use mc_split::{Piece, Ticket};
-use mc_wire::{DEFAULT_VALUE_LIMIT, OutFault, Outlet};
+use mc_wire::DEFAULT_VALUE_LIMIT;
 use std::alloc::Global;
 use std::process::Abort;
 use std::test::Fail;
@@ -19,41 +19,6 @@ const CONVERSATION: &[u8] =
     b"set a 0 0 1\r\nx\r\nget a b\r\nstats\r\nset b 0 0 1 noreply\r\ny\r\nflush_all\r\ndelete c\r\nmn\r\nquit\r\nmn\r\n";
 
 const REPLIES: &[u8] = b"STORED\r\nEND\r\nERROR\r\nOK\r\nNOT_FOUND\r\nMN\r\n";
-
-/// Takes so many bytes, and then fails.
-#[derive(Drop)]
-struct Memory {
-    taken: Vec<u8>,
-    left: usize,
-    failed: bool,
-}
-
-impl Outlet for Memory {
-    ghost sight = { λ out. sight_out (Listed out.taken.items) out.failed };
-
-    fn write(&mut self, bytes: &[u8]) -> Result<usize, OutFault> {
-        if self.failed || (self.left == 0 && !bytes.is_empty()) {
-            self.failed = true;
-            return Err(OutFault);
-        }
-        let count = bytes.len().min(self.left);
-        let (front, _) = bytes.split_at(count);
-        if self.taken.extend_from_slice(front).is_err() {
-            self.failed = true;
-            return Err(OutFault);
-        }
-        self.left -= count;
-        Ok(count)
-    }
-}
-
-fn outlet(alloc: Global, left: usize) -> Memory {
-    Memory {
-        taken: Vec::new(alloc),
-        left,
-        failed: false,
-    }
-}
 
 /// A connection over two shards with this window, which was fed these bytes.
 fn fed(rt: &impl Abort, alloc: Global, window: usize, bytes: &[u8]) -> Result<Conn, Fail>
@@ -336,11 +301,7 @@ fn a_refused_allocation_gives_up_one_command(rt: HostRuntime) {
     let Ok(taken) = Vec::with_capacity(alloc, 64) else {
         return;
     };
-    let mut out = Memory {
-        taken,
-        left: 64,
-        failed: false,
-    };
+    let mut out = outlet_over(taken, 64);
     let Ok(mut conn) = Conn::new(alloc, 2, DEFAULT_VALUE_LIMIT, 4) else {
         return;
     };

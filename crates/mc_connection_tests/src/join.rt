@@ -3,6 +3,7 @@ ghost use Rattle.std.specs.Prelude.{◌≡◌, ◌+◌, ◌≤◌, Some, IfOk, I
 ghost use Rattle.mc_wire.specs.Outlet.{Listed, Untold, sight_out};
 ghost use Rattle.mc_join.specs.Held.{opened_count};
 
+use crate::outlet::{Memory, outlet};
 use mc_command::{Command, Keys, Retrieval};
 use mc_item::{Answer, Kind, Value};
 use mc_join::{Full, Joiner, Stranger};
@@ -12,44 +13,6 @@ use mc_wire::{Key, OutFault, Outlet, WireFault};
 use std::alloc::Global;
 use std::process::Abort;
 use std::test::Fail;
-
-/// Takes so many bytes, counts the writes, and fails after them.
-#[derive(Drop)]
-struct Memory {
-    taken: Vec<u8>,
-    writes: u64,
-    left: usize,
-    failed: bool,
-}
-
-impl Outlet for Memory {
-    ghost sight = { λ out. sight_out (Listed out.taken.items) out.failed };
-
-    fn write(&mut self, bytes: &[u8]) -> Result<usize, OutFault> {
-        self.writes = self.writes.wrapping_add(1);
-        if self.failed || (self.left == 0 && !bytes.is_empty()) {
-            self.failed = true;
-            return Err(OutFault);
-        }
-        let count = bytes.len().min(self.left);
-        let (front, _) = bytes.split_at(count);
-        if self.taken.extend_from_slice(front).is_err() {
-            self.failed = true;
-            return Err(OutFault);
-        }
-        self.left -= count;
-        Ok(count)
-    }
-}
-
-fn outlet(alloc: Global, left: usize) -> Memory {
-    Memory {
-        taken: Vec::new(alloc),
-        writes: 0,
-        left,
-        failed: false,
-    }
-}
 
 /// The form of a get of these keys.
 fn get(alloc: Global, ticket: Ticket, words: &[&[u8]]) -> Result<Form, Fail>
@@ -313,8 +276,7 @@ fn a_failed_outlet_is_written_to_no_more(rt: HostRuntime) -> Result<(), Fail> {
         assert_eq!(rt; out.taken.as_slice(), text.split_at(left).0);
         let writes = out.writes;
         assert_eq!(rt; joiner.ready(), 0);
-        out.left = 99;
-        out.failed = false;
+        out.allow(99);
         assert_eq!(rt; joiner.hand(&mut out), Ok(0));
         assert_eq!(rt; out.taken.len(), left);
         assert_eq!(rt; out.writes, writes);

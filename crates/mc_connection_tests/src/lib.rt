@@ -7,6 +7,8 @@ mod conn;
 #[cfg(test)]
 mod join;
 #[cfg(test)]
+mod outlet;
+#[cfg(test)]
 mod ring;
 #[cfg(test)]
 mod split;

@@ -12,7 +12,7 @@ use mc_command::Keys;
 use mc_item::Answer;
 use mc_wire::{Key, OutFault, Outlet, put_all, put_parts};
 
-/// Whether an answer is for want of memory.
+/// Whether an answer says that memory ran out.
 pub fn any_lacks_memory(slots: &[Option<Answer>]) -> bool
     ensures { result ≡ list_any lacks_memory slots.now }
 {

@@ -3,8 +3,8 @@
 ghost use Rattle.mc_wire.specs.Outlet.{Listed, sight_out};
 
 use mc_wire::{
-    DECODED_KEY_LIMIT, KEY_LIMIT, Key, OutFault, Outlet, WireFault, base64_is_text, number_i64,
-    number_u64, put_all, put_parts, words,
+    BASE64_LIMIT, DECODED_KEY_LIMIT, KEY_LIMIT, Key, OutFault, Outlet, WireFault, base64_is_text,
+    number_i64, number_u64, put_all, put_parts, words,
 };
 use std::test::Fail;
 

@@ -49,7 +49,7 @@ abbrev pub is_no_memory : Answer → Bool
 is_no_memory NoMemory = true
 is_no_memory answer = false
 
--- the text, or the memory line where any answer is for want of memory
+-- the text, or the memory line where any answer says that memory ran out
 abbrev pub unless_no_memory : List Answer → List ℕ → List ℕ
 unless_no_memory answers text = if list_any is_no_memory answers then memory_line else text
 

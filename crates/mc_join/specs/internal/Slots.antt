@@ -28,7 +28,7 @@ items_text with_unique (key ∷ keys) (slot ∷ slots) = slot_text (item_text wi
 items_text with_unique [] slots = []
 items_text with_unique (key ∷ keys) [] = []
 
--- a slot has an answer for want of memory
+-- a slot's answer says that memory ran out
 abbrev pub lacks_memory : Option Answer → Bool
 lacks_memory None = false
 lacks_memory (Some answer) = is_no_memory answer

@@ -1,0 +1,57 @@
+//! An outlet over memory.
+ghost use Rattle.mc_wire.specs.Outlet.{Listed, sight_out};
+
+use mc_wire::{OutFault, Outlet};
+use std::alloc::Global;
+
+/// Takes so many bytes, counts the writes, and fails after them.
+#[derive(Drop)]
+pub struct Memory {
+    pub taken: Vec<u8>,
+    pub writes: u64,
+    left: usize,
+    failed: bool,
+}
+
+impl Outlet for Memory {
+    ghost sight = { λ out. sight_out (Listed out.taken.items) out.failed };
+
+    fn write(&mut self, bytes: &[u8]) -> Result<usize, OutFault> {
+        self.writes = self.writes.wrapping_add(1);
+        if self.failed || (self.left == 0 && !bytes.is_empty()) {
+            self.failed = true;
+            return Err(OutFault);
+        }
+        let count = bytes.len().min(self.left);
+        let (front, _) = bytes.split_at(count);
+        if self.taken.extend_from_slice(front).is_err() {
+            self.failed = true;
+            return Err(OutFault);
+        }
+        self.left -= count;
+        Ok(count)
+    }
+}
+
+impl Memory {
+    /// It goes on after a fault, and takes so many bytes more.
+    pub fn allow(&mut self, left: usize) {
+        self.left = left;
+        self.failed = false;
+    }
+}
+
+/// An outlet that takes so many bytes.
+pub fn outlet(alloc: Global, left: usize) -> Memory {
+    outlet_over(Vec::new(alloc), left)
+}
+
+/// The same, which puts them behind these.
+pub fn outlet_over(taken: Vec<u8>, left: usize) -> Memory {
+    Memory {
+        taken,
+        writes: 0,
+        left,
+        failed: false,
+    }
+}
