@@ -26,10 +26,11 @@ impl From<AllocError> for ServeRefusal {
 }
 
 impl From<CrewRefusal> for ServeRefusal {
-    ghost use Rattle.std.specs.Prelude.{◌≢◌};
-    ghost use Rattle.mc_threads.specs.declared.refusal.ServeRefusal.TheVariants.{Bind};
+    ghost use Rattle.std.specs.Prelude.{◌≡◌, ◌≢◌};
+    ghost use Rattle.mc_crew.specs.declared.crew.CrewRefusal.TheVariants as crew;
+    ghost use Rattle.mc_threads.specs.declared.refusal.ServeRefusal.TheVariants.{Bind, Memory, Thread};
 
-    ghost from_gives = { λ _ refusal. refusal ≢ Bind };
+    ghost from_gives = { λ why refusal. (why ≡ crew.Memory → refusal ≡ Memory) × (why ≡ crew.Thread → refusal ≡ Thread) × (refusal ≢ Bind) };
 
     fn from(refusal: CrewRefusal) -> ServeRefusal {
         match refusal {
@@ -40,6 +41,11 @@ impl From<CrewRefusal> for ServeRefusal {
 }
 
 impl From<RingRefusal> for ServeRefusal {
+    ghost use Rattle.std.specs.Prelude.{◌≡◌};
+    ghost use Rattle.mc_threads.specs.declared.refusal.ServeRefusal.TheVariants.{Memory};
+
+    ghost from_gives = { λ _ refusal. refusal ≡ Memory };
+
     fn from(_refusal: RingRefusal) -> ServeRefusal {
         // The caller hands sizes within the limits, so no ring is refused for its size.
         ServeRefusal::Memory

@@ -1,4 +1,5 @@
 //! A TCP connection as a line.
+ghost use Rattle.std.specs.Prelude.{◌≡◌, false};
 ghost use Rattle.std.specs.Io.{ReadsAtMost, WritesAtMost};
 
 use mc_seat::{Line, LineFault};
@@ -28,7 +29,9 @@ pub struct TcpLine {
 
 impl TcpLine {
     /// The stream as a line. What is written to it goes out at once (TCP_NODELAY).
-    pub fn new(stream: TcpStream) -> TcpLine {
+    pub fn new(stream: TcpStream) -> TcpLine
+        ensures { (result.failed ≡ false) × (result.ended ≡ false) }
+    {
         // Where this fails replies are only later.
         let _ = stream.set_nodelay(true);
         TcpLine {

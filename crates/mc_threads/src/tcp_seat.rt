@@ -1,5 +1,5 @@
 //! The thread of a seat that serves connections over TCP, one after another.
-ghost use Rattle.std.specs.Prelude.{IsTrue};
+ghost use Rattle.std.specs.Prelude.{◌≡◌, IsTrue, false};
 ghost use Rattle.mc_threads.specs.Serving.{IsReady, SendsPieces, ServesAndEnds};
 
 use crate::courier::Courier;
@@ -41,7 +41,8 @@ impl<R: time::Clock, K: Clock> TcpSeat<R, K> {
         clock: K,
     ) -> TcpSeat<R, K>
         requires { IsReady courier conn }
-        ensures { IsReady result.courier result.conn }
+        ensures ready { IsReady result.courier result.conn }
+        ensures begins { (result.ended ≡ 0) × (result.failed ≡ false) }
     {
         TcpSeat {
             rt,
