@@ -1,7 +1,7 @@
 //! Clients over TCP, in the same process.
-ghost use Rattle.std.specs.Prelude.{◌≡◌, ◌≤◌};
+ghost use Rattle.std.specs.Prelude.{◌≤◌};
 
-use mc_seat::Clock;
+use mc_server::StillClock;
 use mc_threads::{Sizes, serve_tcp};
 use std::alloc::Global;
 use std::io::{Read, Write};
@@ -11,18 +11,6 @@ use std::sync::Wait;
 use std::test::Fail;
 use std::thread::Threads;
 use std::{io, thread, time};
-
-/// A clock that stands still.
-#[derive(Clone, Copy)]
-struct Still(u64);
-
-impl Clock for Still {
-    ghost may_answer = { λ clock moment. moment ≡ clock.0 };
-
-    fn now(&self) -> u64 {
-        self.0
-    }
-}
 
 /// Sends the commands, and reads the replies to their end.
 fn talk<R: Net<Listener = TcpListener, Stream = TcpStream>>(
@@ -69,7 +57,7 @@ fn serve_client<
         value: 1_048_576,
         window,
     };
-    let ended = serve_tcp(rt, alloc, listener, 2, sizes, Some(1), Still(1000)).ok();
+    let ended = serve_tcp(rt, alloc, listener, 2, sizes, Some(1), StillClock(1000)).ok();
     Ok((client.join(rt)?, ended))
 }
 
