@@ -1,7 +1,6 @@
 -- Numbers of 32 bits by those of 64.
 use Rattle.std.proofs.Common.{◌≡◌, ℕ, ◌^◌, Bool, true, false, ◌&&◌, cond, List, Some, None, nat_lt, refl, arith, inl, inr, Result, Ok, Err}
-use Rattle.std.proofs.lemmas.Bool.{cases_lt}
-use Rattle.std.proofs.lemmas.Bool.Decides.{nat_tests}
+use Rattle.std.proofs.lemmas.Bool.{cases_lt, le-ltb, lt-ltb}
 use Rattle.std.specs.Option.{ok_or}
 use Rattle.std.specs.Str.Parse.{digits_value}
 use Rattle.mc_wire.specs.Number.{number_of, is_digits}
@@ -15,20 +14,11 @@ narrow number = cond (nat_lt number (2 ^ 32)) (Ok number) (Err BadFormat)
 
 narrow_again : (number : ℕ) → ok_or (cond (nat_lt number (2 ^ 32)) (Some number) None) BadFormat ≡ then_of (ok_or (cond (nat_lt number (2 ^ 64)) (Some number) None) BadFormat) narrow
 narrow_again number = elim (cases_lt number (2 ^ 32)) [
-  | inl below ↦
-      let first : nat_lt number (2 ^ 32) ≡ true = grind (arith, nat_tests) in
-      let second : nat_lt number (2 ^ 64) ≡ true = grind (arith, nat_tests) in
-      rw (second, first)
-  | inr past ↦
-      let first : nat_lt number (2 ^ 32) ≡ false = grind (arith, nat_tests) in
-      elim (cases_lt number (2 ^ 64)) [
-        | inl below ↦
-            let second : nat_lt number (2 ^ 64) ≡ true = grind (arith, nat_tests) in
-            rw (second, first)
-        | inr beyond ↦
-            let second : nat_lt number (2 ^ 64) ≡ false = grind (arith, nat_tests) in
-            rw (second, first)
-      ]
+  | inl below ↦ rw (lt-ltb number (2 ^ 64) (omega arith), lt-ltb number (2 ^ 32) below)
+  | inr past ↦ elim (cases_lt number (2 ^ 64)) [
+    | inl below ↦ rw (lt-ltb number (2 ^ 64) below, le-ltb number (2 ^ 32) past)
+    | inr beyond ↦ rw (le-ltb number (2 ^ 64) beyond, le-ltb number (2 ^ 32) past)
+  ]
 ]
 
 narrow_digits : (digits : Bool) (number : ℕ) → ok_or (cond (digits && nat_lt number (2 ^ 32)) (Some number) None) BadFormat ≡ then_of (ok_or (cond (digits && nat_lt number (2 ^ 64)) (Some number) None) BadFormat) narrow

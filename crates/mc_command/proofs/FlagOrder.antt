@@ -1,9 +1,9 @@
 -- Flags in another order are lawful if they were, and each look-up in them finds the same.
-use Rattle.std.proofs.Common.{◌≡◌, ℕ, ◌+◌, ◌^◌, ◌==◌, Bool, true, false, cond, List, [], ◌∷◌, ◌++◌, Option, Some, None, nat_lt, refl, sym, subst, ap, ap₂, ◌∙◌, Result, Ok, Err, IsPermutation}
+use Rattle.std.proofs.Common.{◌≡◌, ℕ, ◌+◌, ◌^◌, ◌==◌, ◌||◌, Bool, true, false, cond, List, [], ◌∷◌, ◌++◌, Option, Some, None, nat_lt, refl, sym, ap, ap₂, ◌∙◌, arith, Result, Ok, Err, IsPermutation}
 use Rattle.std.specs.Prelude.{find}
 use Rattle.std.specs.List.{filter_map}
 use Rattle.std.specs.Option.{option_or}
-use Rattle.std.proofs.lemmas.Bool.{eqb-true}
+use Rattle.std.proofs.lemmas.Bool.{eqb-false, eqb-true, or_parts}
 use Rattle.std.proofs.lemmas.List.Sorted.{list_any-IsPermutation, IsPermutation-sym}
 use Rattle.mc_wire.specs.Number.{number_of}
 use Rattle.mc_command.specs.declared.command.Command.{Command}
@@ -11,7 +11,7 @@ use Rattle.mc_command.specs.declared.line.Line.TheVariants.{Data, Skip}
 use Rattle.mc_command.specs.declared.meta.ReturnFlag.{ReturnFlag}
 use Rattle.mc_command.specs.declared.meta_flags.Asked.{Asked}
 use Rattle.mc_command.specs.declared.meta.MetaKind.{MetaKind}
-use Rattle.mc_command.specs.declared.meta.MetaKind.TheVariants.{Get, Set, Delete, Arithmetic}
+use Rattle.mc_command.specs.declared.meta.MetaKind.TheVariants.{Set}
 use Rattle.mc_command.specs.declared.refusal.Refusal.{Refusal}
 use Rattle.mc_command.specs.declared.refusal.Refusal.TheVariants.{InvalidFlag, DuplicateFlag, TooLarge}
 use Rattle.mc_command.specs.Blocks.{whole_line, block_line}
@@ -30,24 +30,14 @@ both_none : (first second : Option Refusal) → option_or first second ≡ None 
 both_none None second passes = (refl, passes)
 both_none (Some refusal) second passes = absurd cc
 
--- a flag that passes did not stand before
-fresh : (unknown stands : Bool) (rest : Option Refusal) → cond unknown (Some InvalidFlag) (cond stands (Some DuplicateFlag) rest) ≡ None → stands ≡ false
+-- a flag that passes did not stand before, and passes behind whatever flags it is not among
+fresh : (unknown stands : Bool) (rest : Option Refusal) → cond unknown (Some InvalidFlag) (cond stands (Some DuplicateFlag) rest) ≡ None →
+    (stands ≡ false) × ((again : Bool) → again ≡ false → cond unknown (Some InvalidFlag) (cond again (Some DuplicateFlag) rest) ≡ None)
 fresh true stands rest passes = absurd cc
 fresh false true rest passes = absurd cc
-fresh false false rest passes = refl
+fresh false false rest passes = (refl, λ again absent. rw absent passes)
 
--- it passes as well behind other flags than these, if it is not among them
-passes_again : (unknown stands again : Bool) (rest : Option Refusal) → cond unknown (Some InvalidFlag) (cond stands (Some DuplicateFlag) rest) ≡ None → again ≡ false →
-    cond unknown (Some InvalidFlag) (cond again (Some DuplicateFlag) rest) ≡ None
-passes_again true stands again rest passes absent = absurd cc
-passes_again false true again rest passes absent = absurd cc
-passes_again false false again rest passes absent = rw absent passes
-
-neither : (a b : Bool) → cond a true b ≡ false → (a ≡ false) × (b ≡ false)
-neither true b h = absurd cc
-neither false b h = (refl, h)
-
-either : (a b c : Bool) → cond a true (cond b true c) ≡ cond b true (cond a true c)
+either : (a b c : Bool) → (a || (b || c)) ≡ (b || (a || c))
 either true true c = refl
 either true false c = refl
 either false b c = refl
@@ -57,12 +47,6 @@ one_of true true first second rest apart = absurd (apart refl refl)
 one_of true false first second rest apart = refl
 one_of false b first second rest apart = refl
 
-two_letters : (a b letter : ℕ) → (a == b) ≡ false → (a == letter) ≡ true → (b == letter) ≡ true → ⊥
-two_letters a b letter apart is also =
-    let same : b ≡ letter = eqb-true b letter also in
-    let clash : (a == b) ≡ true = rw same is in
-    absurd cc
-
 -- Flags are refused alike behind flags of the same letters.
 same_before : (name : MetaKind) (before other words : List (List ℕ)) → ((letter : ℕ) → has_flag letter before ≡ has_flag letter other) → flags_refusal name before words ≡ flags_refusal name other words
 same_before name before other [] same = refl
@@ -70,7 +54,7 @@ same_before name before other ([] ∷ words) same = refl
 same_before name before other ((first ∷ token) ∷ words) same =
     let one : flag_refusal name before (first ∷ token) ≡ flag_refusal name other (first ∷ token) = rw (same first) refl in
     ap₂ option_or one (same_before name (before ++ (first ∷ token) ∷ []) (other ++ (first ∷ token) ∷ []) words (λ letter.
-    has_flag-append letter before first token ∙ (ap (λ stands. cond (first == letter) true stands) (same letter) ∙ sym (has_flag-append letter other first token))))
+    has_flag-append letter before first token ∙ (ap (λ stands. (first == letter) || stands) (same letter) ∙ sym (has_flag-append letter other first token))))
 
 -- If these flags are lawful behind some, so are those, and each look-up finds the same in both.
 abbrev Keeps : MetaKind → List (List ℕ) → List (List ℕ) → Type 0
@@ -93,16 +77,19 @@ keeps_turn name (a ∷ token) (b ∷ other) words before passes =
     let two : List ℕ = b ∷ other in
     let first = both_none (flag_refusal name before one) (flags_refusal name (before ++ one ∷ []) (two ∷ words)) passes in
     let second = both_none (flag_refusal name (before ++ one ∷ []) two) (flags_refusal name ((before ++ one ∷ []) ++ two ∷ []) words) first.1 in
-    let new_a : has_flag a before ≡ false = fresh _ (has_flag a before) _ first.0 in
-    let new_b : has_flag b (before ++ one ∷ []) ≡ false = fresh _ (has_flag b (before ++ one ∷ [])) _ second.0 in
-    let apart = neither (a == b) (has_flag b before) (sym (has_flag-append b before a token) ∙ new_b) in
-    let a_behind : has_flag a (before ++ two ∷ []) ≡ false = has_flag-append a before b other ∙ rw (eq_comm b a, apart.0) new_a in
-    let two_passes : flag_refusal name before two ≡ None = passes_again _ (has_flag b (before ++ one ∷ [])) (has_flag b before) _ second.0 apart.1 in
-    let one_passes : flag_refusal name (before ++ two ∷ []) one ≡ None = passes_again _ (has_flag a before) (has_flag a (before ++ two ∷ [])) _ first.0 a_behind in
+    let free = fresh _ (has_flag a before) _ first.0 in
+    let next = fresh _ (has_flag b (before ++ one ∷ [])) _ second.0 in
+    let apart = or_parts (a == b) (has_flag b before) (sym (has_flag-append b before a token) ∙ next.0) in
+    let a_behind : has_flag a (before ++ two ∷ []) ≡ false = has_flag-append a before b other ∙ rw (eq_comm b a, apart.0) free.0 in
+    let two_passes : flag_refusal name before two ≡ None = next.1 (has_flag b before) apart.1 in
+    let one_passes : flag_refusal name (before ++ two ∷ []) one ≡ None = free.1 (has_flag a (before ++ two ∷ [])) a_behind in
     let rest : flags_refusal name ((before ++ two ∷ []) ++ one ∷ []) words ≡ None =
     same_before name ((before ++ two ∷ []) ++ one ∷ []) ((before ++ one ∷ []) ++ two ∷ []) words (λ letter.
-    rw (has_flag-append letter (before ++ two ∷ []) a token, has_flag-append letter before b other, has_flag-append letter (before ++ one ∷ []) b other, has_flag-append letter before a token) (either (a == letter) (b == letter) (has_flag letter before))) ∙ second.1 in
-    (ap₂ option_or two_passes (ap₂ option_or one_passes rest), λ letter. one_of (a == letter) (b == letter) one two (find (has_letter letter) words) (two_letters a b letter apart.0))
+    rw (has_flag-append letter (before ++ two ∷ []) a token, has_flag-append letter before b other, has_flag-append letter (before ++ one ∷ []) b other, has_flag-append letter before a token) (either (a == letter) (b == letter) (has_flag letter before))) ∙ second.1 in (
+      ap₂ option_or two_passes (ap₂ option_or one_passes rest),
+      λ letter. one_of (a == letter) (b == letter) one two (find (has_letter letter) words)
+          (λ is also. omega (arith, eqb-true a letter is, eqb-true b letter also, eqb-false a b apart.0)),
+    )
 
 keeps : (name : MetaKind) (words others : List (List ℕ)) → IsPermutation words others → Keeps name words others
 keeps name = along_permutation (Keeps name)
@@ -128,35 +115,28 @@ same_unless None (Some other) asked said there back = let bad : Some other ≡ N
 same_unless (Some refusal) None asked said there back = let bad : Some refusal ≡ None = back refl in absurd cc
 same_unless (Some refusal) (Some other) asked said there back = tt
 
-same_then : (read : Result (List ℕ) Refusal) (one two : List ℕ → Result Command Refusal) → ((key : List ℕ) → SameAsked (one key) (two key)) → SameAsked (then_of read one) (then_of read two)
-same_then (Ok key) one two same = same key
-same_then (Err refusal) one two same = tt
+same_then : (read again : Result (List ℕ) Refusal) (one two : List ℕ → Result Command Refusal) → read ≡ again → ((key : List ℕ) → SameAsked (one key) (two key)) → SameAsked (then_of read one) (then_of again two)
+same_then (Ok key) again one two is same = rw (← is) (same key)
+same_then (Err refusal) again one two is same = rw (← is) tt
+
+with_others : (name : MetaKind) (key : List ℕ) (asked : Asked) (returned : List ReturnFlag) → IsPermutation asked.flags.returned returned →
+    SameAsked (command_by name key asked) (command_by name key (record asked { flags = with_flags asked.flags returned }))
+with_others Set key asked returned moved =
+    same_unless (compare_refusal (set_by key asked)) (compare_refusal (set_by key asked)) _ _ (λ none. (none, record { same = refl; moved = moved })) (λ none. none)
+with_others name key asked returned moved = record { same = refl; moved = moved }
 
 module _ (words others : List (List ℕ)) (moved : IsPermutation words others) (found : (letter : ℕ) → find (has_letter letter) words ≡ find (has_letter letter) others) where
   stands : (letter : ℕ) → has_flag letter words ≡ has_flag letter others
   stands letter = list_any-IsPermutation (has_letter letter) words others moved
 
-  shown : IsPermutation (filter_map shown_flag words) (filter_map shown_flag others)
-  shown = IsPermutation-filter_map shown_flag words others moved
-
   asked_is : (name : MetaKind) → asked_of name others ≡ record (asked_of name words) { flags = with_flags (flags_of words) (filter_map shown_flag others) }
   asked_is name = rw (stands 98, stands 113, found 79, stands 118, stands 73, found 84, found 78, found 82, found 67, found 69, found 68, found 74, found 70, found 77) refl
-
-  with_others : (name : MetaKind) (key : List ℕ) (asked : Asked) (returned : List ReturnFlag) → IsPermutation asked.flags.returned returned →
-      SameAsked (command_by name key asked) (command_by name key (record asked { flags = with_flags asked.flags returned }))
-  with_others Get key asked returned moved = record { same = refl; moved = moved }
-  with_others Set key asked returned moved = same_unless (compare_refusal (set_by key asked)) (compare_refusal (set_by key asked)) _ _ (λ none. (none, record { same = refl; moved = moved })) (λ none. none)
-  with_others Delete key asked returned moved = record { same = refl; moved = moved }
-  with_others Arithmetic key asked returned moved = record { same = refl; moved = moved }
-
-  pub same_command : (name : MetaKind) (key : List ℕ) → SameAsked (command_by name key (asked_of name words)) (command_by name key (asked_of name others))
-  same_command name key = rw (asked_is name) (with_others name key (asked_of name words) (filter_map shown_flag others) shown)
 
   pub same_keyed : (name : MetaKind) (word : List ℕ) →
       SameAsked (then_of (meta_key_of (has_flag 98 words) word) (λ key. command_by name key (asked_of name words))) (then_of (meta_key_of (has_flag 98 others) word) (λ key. command_by name key (asked_of name others)))
   same_keyed name word =
-      let P : Bool → Type 0 = λ base64. SameAsked (then_of (meta_key_of (has_flag 98 words) word) (λ key. command_by name key (asked_of name words))) (then_of (meta_key_of base64 word) (λ key. command_by name key (asked_of name others))) in
-      subst P (stands 98) (same_then (meta_key_of (has_flag 98 words) word) (λ key. command_by name key (asked_of name words)) (λ key. command_by name key (asked_of name others)) (same_command name))
+      same_then _ _ (λ key. command_by name key (asked_of name words)) (λ key. command_by name key (asked_of name others)) (ap (λ base64. meta_key_of base64 word) (stands 98))
+      (λ key. rw (asked_is name) (with_others name key (asked_of name words) (filter_map shown_flag others) (IsPermutation-filter_map shown_flag words others moved)))
 
 same_asked : (name : MetaKind) (word : List ℕ) (words others : List (List ℕ)) → IsPermutation words others → SameAsked (meta_command_of name word words) (meta_command_of name word others)
 same_asked name word words others moved =
@@ -170,9 +150,8 @@ same_asked name word words others moved =
 
 same_whole : (asked other : Result Command Refusal) → SameAsked asked other → SameButOrder (whole_line asked) (whole_line other)
 same_whole (Ok asked) (Ok other) same = same
-same_whole (Ok asked) (Err other) same = absurd same
-same_whole (Err refusal) (Ok other) same = absurd same
 same_whole (Err refusal) (Err other) same = tt
+same_whole asked other same = absurd same
 
 same_sized : (large : Bool) (asked other : Command) (count : ℕ) → IsReordered asked other →
     SameButOrder (cond large (Skip TooLarge (count + 2)) (Data asked count)) (cond large (Skip TooLarge (count + 2)) (Data other count))
@@ -181,19 +160,14 @@ same_sized false asked other count same = (same, refl)
 
 same_block : (limit : ℕ) (count : Option ℕ) (asked other : Result Command Refusal) → SameAsked asked other → SameButOrder (block_line limit count asked) (block_line limit count other)
 same_block limit (Some count) (Ok asked) (Ok other) same = same_sized (nat_lt limit count) asked other count same
-same_block limit (Some count) (Ok asked) (Err other) same = absurd same
-same_block limit (Some count) (Err refusal) (Ok other) same = absurd same
 same_block limit (Some count) (Err refusal) (Err other) same = refl
 same_block limit None (Ok asked) (Ok other) same = tt
-same_block limit None (Ok asked) (Err other) same = absurd same
-same_block limit None (Err refusal) (Ok other) same = absurd same
 same_block limit None (Err refusal) (Err other) same = tt
+same_block limit count asked other same = absurd same
 
 -- a meta line with its flags in another order
 pub flags_reordered : (limit : ℕ) (name : MetaKind) (key count : List ℕ) (flags others : List (List ℕ)) → IsPermutation flags others →
     SameButOrder (line_of limit (before_flags name key count ++ flags)) (line_of limit (before_flags name key count ++ others))
 unfolding line_of name_of meta_line_of
-flags_reordered limit Get key count flags others moved = same_whole _ _ (same_asked Get key flags others moved)
 flags_reordered limit Set key count flags others moved = same_block limit (number_of (2 ^ 32) count) _ _ (same_asked Set key flags others moved)
-flags_reordered limit Delete key count flags others moved = same_whole _ _ (same_asked Delete key flags others moved)
-flags_reordered limit Arithmetic key count flags others moved = same_whole _ _ (same_asked Arithmetic key flags others moved)
+flags_reordered limit name key count flags others moved = same_whole _ _ (same_asked name key flags others moved)

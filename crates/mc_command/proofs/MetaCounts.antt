@@ -1,6 +1,8 @@
 -- There is room for each flag that is given back: no letter stands twice, and eight are given back.
-use Rattle.std.proofs.Common.{◌≡◌, ◌≢◌, ◌⊎◌, ℕ, ◌+◌, ◌<◌, ◌≤◌, ◌==◌, Bool, true, false, ◌&&◌, ◌||◌, cond, not, List, [], ◌∷◌, ◌++◌, length, Option, Some, None, is_some, codes, refl, sym, ap, ◌∙◌, arith, inl, inr, get_or, set, get_or-set_other, get_or-set_same, length-append}
-use Rattle.std.proofs.lemmas.Bool.{eqb-true, eqb-false, eq-eqb}
+use Rattle.std.proofs.Common.{◌≡◌, ℕ, ◌+◌, ◌<◌, ◌≤◌, ◌==◌, Bool, true, false, ◌&&◌, ◌||◌, cond, not, nat_lt, List, [], ◌∷◌, ◌++◌, length, Option, Some, None, is_some, codes, refl, sym, ap, ◌∙◌, arith, inl, inr, get_or, set, get_or-set_other, get_or-set_same, length-append}
+use Rattle.std.proofs.lemmas.Bool.{and_parts, cond_both, eqb-false, eqb-true, ltb-true, not-true, or_cases, or_parts}
+use Rattle.std.proofs.lemmas.Bool.Decides.{eqb_tells, nat_tests}
+use Rattle.std.specs.List.{list_all}
 use Rattle.std.proofs.Math.ListN.{length-set}
 use Rattle.std.proofs.lemmas.List.{length-replicate}
 use Rattle.mc_command.specs.declared.meta.ReturnFlag.{ReturnFlag}
@@ -11,39 +13,11 @@ use Rattle.mc_command.specs.declared.meta_flags.FlagReader.{FlagReader}
 use Rattle.mc_command.specs.Meta.{is_among, return_flag}
 use Rattle.mc_command.specs.internal.FlagReading.{IsCounted, seen_count, shown_count, with_flag, with_shown, unseen, nothing_asked}
 
-pub true_or_false : (b : Bool) → (b ≡ true) ⊎ (b ≡ false)
-true_or_false true = inl refl
-true_or_false false = inr refl
-
--- two letters are one or not
-pub data SameLetter (a b : ℕ) : Type 0 where
-  same : (a == b) ≡ true → a ≡ b → SameLetter a b
-  other : (a == b) ≡ false → a ≢ b → SameLetter a b
-
-pub same_letter : (a b : ℕ) → SameLetter a b
-same_letter a b = elim (true_or_false (a == b)) [
-  | inl t ↦ same t (eqb-true a b t)
-  | inr t ↦ other t (eqb-false a b t)
-]
-
-not_first : (a b : Bool) → (a || b) ≡ false → (a ≡ false) × (b ≡ false)
-not_first true b h = absurd cc
-not_first false b h = (refl, h)
-
-later : (a b : Bool) → a ≡ false → (a || b) ≡ true → b ≡ true
-later true b t h = absurd cc
-later false b t h = h
-
-both : (a b : Bool) → (not a && b) ≡ true → (a ≡ false) × (b ≡ true)
-both true b h = absurd cc
-both false b h = (refl, h)
-
 seen_count-other : (seen : List Bool) (letter : ℕ) (letters : List ℕ) → is_among letters letter ≡ false → seen_count (set seen letter true) letters ≡ seen_count seen letters
 seen_count-other seen letter [] absent = refl
 seen_count-other seen letter (first ∷ letters) absent =
-    let parts = not_first (first == letter) (is_among letters letter) absent in
-    let ne : first ≢ letter = eqb-false first letter parts.0 in
-    rw (get_or-set_other seen letter first true false ne, seen_count-other seen letter letters parts.1)
+    let parts = or_parts (first == letter) (is_among letters letter) absent in
+    rw (get_or-set_other seen letter first true false (eqb-false first letter parts.0), seen_count-other seen letter letters parts.1)
 
 -- Of letters no one stands twice.
 abbrev is_distinct : List ℕ → Bool
@@ -53,46 +27,34 @@ is_distinct (letter ∷ letters) = not (is_among letters letter) && is_distinct 
 seen_count-new : (seen : List Bool) (letter : ℕ) (letters : List ℕ) → is_distinct letters ≡ true → is_among letters letter ≡ true → letter < length seen → get_or seen letter false ≡ false → seen_count (set seen letter true) letters ≡ seen_count seen letters + 1
 seen_count-new seen letter [] distinct among within fresh = absurd cc
 seen_count-new seen letter (first ∷ letters) distinct among within fresh =
-    let parts = both (is_among letters first) (is_distinct letters) distinct in
-    elim (same_letter first letter) [
-      | same t e ↦
-          let absent : is_among letters letter ≡ false = rw (← e) parts.0 in
-          let now : get_or (set seen letter true) first false ≡ true = rw e (get_or-set_same seen letter true false within) in
-          let before : get_or seen first false ≡ false = rw e fresh in
-          rw (now, before, seen_count-other seen letter letters absent) (omega arith)
-      | other t ne ↦
-          let rest = later (first == letter) (is_among letters letter) t among in
-          rw (get_or-set_other seen letter first true false ne) (omega (arith, seen_count-new seen letter letters parts.1 rest within fresh))
+    let parts = and_parts (not (is_among letters first)) (is_distinct letters) distinct in
+    elim (eqb_tells first letter) [
+      | inl w ↦
+          let absent : is_among letters letter ≡ false = rw (← w.1) (not-true (is_among letters first) parts.0) in
+          rw (w.1, get_or-set_same seen letter true false within, fresh, seen_count-other seen letter letters absent) (omega arith)
+      | inr w ↦
+          let rest : is_among letters letter ≡ true = rw w.0 at among in
+          rw (get_or-set_other seen letter first true false w.1) (omega (arith, seen_count-new seen letter letters parts.1 rest within fresh))
     ]
-
-bit_most : (b : Bool) → cond {A = ℕ} b 1 0 ≤ 1
-bit_most true = omega arith
-bit_most false = omega arith
 
 seen_count-most : (seen : List Bool) (letters : List ℕ) → seen_count seen letters ≤ length letters
 seen_count-most seen [] = omega arith
-seen_count-most seen (letter ∷ letters) = omega (arith, bit_most (get_or seen letter false), seen_count-most seen letters)
+seen_count-most seen (letter ∷ letters) =
+    let bit = cond_both {A = ℕ} (get_or seen letter false) 1 0 (λ n. n ≤ 1) (λ _. omega arith) (λ _. omega arith) in
+    omega (arith, bit, seen_count-most seen letters)
 
-seen_count-fresh : (seen : List Bool) (letter : ℕ) (letters : List ℕ) → is_among letters letter ≡ true → get_or seen letter false ≡ false → seen_count seen letters < length letters
-seen_count-fresh seen letter [] among fresh = absurd cc
-seen_count-fresh seen letter (first ∷ letters) among fresh =
-    elim (same_letter first letter) [
-      | same t e ↦
-          let before : get_or seen first false ≡ false = rw e fresh in
-          rw before (omega (arith, seen_count-most seen letters))
-      | other t ne ↦
-          let rest = later (first == letter) (is_among letters letter) t among in
-          omega (arith, bit_most (get_or seen first false), seen_count-fresh seen letter letters rest fresh)
+-- letters of a command's flags are bytes
+pub small_among : (letter : ℕ) (letters : List ℕ) → list_all (λ other. nat_lt other 256) letters ≡ true → is_among letters letter ≡ true → letter < 256
+small_among letter [] small among = absurd cc
+small_among letter (first ∷ letters) small among =
+    let parts = and_parts (nat_lt first 256) (list_all (λ other. nat_lt other 256) letters) small in
+    elim (or_cases (first == letter) (is_among letters letter) among) [
+      | inl is ↦ omega (arith, eqb-true first letter is, ltb-true first 256 parts.0)
+      | inr rest ↦ small_among letter letters parts.1 rest
     ]
 
 pub eq_comm : (a b : ℕ) → (a == b) ≡ (b == a)
-eq_comm a b = elim (same_letter a b) [
-  | same t e ↦ t ∙ sym (eq-eqb b a (sym e))
-  | other t ne ↦ elim (same_letter b a) [
-    | same t' e ↦ absurd (ne (sym e))
-    | other t' ne' ↦ t ∙ sym t'
-  ]
-]
+eq_comm a b = grind (arith, nat_tests)
 
 some_if : (a : Bool) (shown : ReturnFlag) (rest : Option ReturnFlag) (b : Bool) → is_some rest ≡ b → is_some (cond a (Some shown) rest) ≡ (a || b)
 some_if true shown rest b h = refl
@@ -113,9 +75,10 @@ pub room : (reader : FlagReader) (letter : ℕ) (said : Flag) (shown : ReturnFla
 unfolding shown_count
 room reader letter said shown counted fresh is =
     let among : is_among (codes "cfhklOst") letter ≡ true = sym (shown_among letter) ∙ ap is_some is in
-    let below : seen_count reader.seen (codes "cfhklOst") < 8 = seen_count-fresh reader.seen letter (codes "cfhklOst") among fresh in
-    let same : length reader.asked.flags.returned ≡ seen_count reader.seen (codes "cfhklOst") = counted.shown in
-    rw (with_flag-returned reader.asked said, same) below
+    let within = small_among letter (codes "cfhklOst") refl among in
+    let wide = counted.wide in
+    let more = seen_count-new reader.seen letter (codes "cfhklOst") refl among (omega arith) fresh in
+    rw (with_flag-returned reader.asked said) (omega (arith, counted.shown, more, seen_count-most (set reader.seen letter true) (codes "cfhklOst")))
 
 counted_by : (seen : List Bool) (letter : ℕ) (asked : Asked) (shown : Option ReturnFlag) → is_among (codes "cfhklOst") letter ≡ is_some shown → letter < length seen → get_or seen letter false ≡ false → length asked.flags.returned ≡ seen_count seen (codes "cfhklOst") → length (with_shown asked shown).flags.returned ≡ seen_count (set seen letter true) (codes "cfhklOst")
 counted_by seen letter asked None among within fresh was = was ∙ sym (seen_count-other seen letter (codes "cfhklOst") among)

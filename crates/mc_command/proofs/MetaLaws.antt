@@ -14,7 +14,7 @@ use Rattle.mc_command.specs.declared.refusal.Refusal.{Refusal}
 use Rattle.mc_command.specs.declared.refusal.Refusal.TheVariants.{BadKey, TooLarge}
 use Rattle.mc_command.specs.Blocks.{MayBeGivenUp, whole_line, block_line, bytes_with}
 use Rattle.mc_command.specs.Line.{is_given_up, bytes_behind}
-use Rattle.mc_command.proofs.Told.{told_may, told_whole, told_block, behind_whole, behind_block}
+use Rattle.mc_command.proofs.Lines.{Yields, may_then, yields_key, yields_or}
 use Rattle.mc_command.specs.Command.{refusal_takes_memory, can_give_up}
 use Rattle.mc_command.specs.Field.{Reads, is_key, then_of}
 use Rattle.mc_command.specs.Meta.{letters_of, is_among, has_flag, is_set, is_token, flag_refusal, flags_refusal, unless, decoded_key, meta_key_of, compare_refusal, set_by, asked_of, command_by, meta_command_of, line_without_block, line_with_block, meta_line_of, meta_count_in}
@@ -57,38 +57,23 @@ given_up_command Set key asked =
 given_up_command Delete key asked = refl
 given_up_command Arithmetic key asked = refl
 
-given_up_key : (name : MetaKind) (words : List (List ℕ)) (key : Result (List ℕ) Refusal) → ((refusal : Refusal) → key ≡ Err refusal → refusal ≡ BadKey) → MayBeGivenUp (then_of key (λ bytes. command_by name bytes (asked_of name words)))
-given_up_key name words (Ok key) bad = given_up_command name key (asked_of name words)
-given_up_key name words (Err refusal) bad = rw (bad refusal refl) refl
-
-bad_decoded : (key : Option (List ℕ)) (refusal : Refusal) → ok_or key BadKey ≡ Err refusal → refusal ≡ BadKey
-bad_decoded None refusal is = cc
-bad_decoded (Some key) refusal is = absurd cc
-
-bad_plain : (good : Bool) (word : List ℕ) (refusal : Refusal) → cond good (Ok word) (Err BadKey) ≡ Err refusal → refusal ≡ BadKey
-bad_plain true word refusal is = absurd cc
-bad_plain false word refusal is = cc
-
-bad_key : (base64 : Bool) (word : List ℕ) (refusal : Refusal) → meta_key_of base64 word ≡ Err refusal → refusal ≡ BadKey
+yields_meta_key : (base64 : Bool) (word : List ℕ) → Yields (meta_key_of base64 word)
 unfolding decoded_key
-bad_key true word refusal is = bad_decoded (base64_key word) refusal is
-bad_key false word refusal is = bad_plain (is_key word) word refusal is
+yields_meta_key true word = yields_or (base64_key word) BadKey refl
+yields_meta_key false word = yields_key word
 
 -- A meta line may be given up where memory runs out.
 pub meta_given_up : (name : MetaKind) (word : List ℕ) (words : List (List ℕ)) → MayBeGivenUp (meta_command_of name word words)
 meta_given_up name word words =
-    given_up_unless (flags_refusal name [] words) _ (flags_refusal_of_line name [] words) (given_up_key name words (meta_key_of (has_flag 98 words) word) (bad_key (has_flag 98 words) word))
-
-key_then : (name : MetaKind) (words : List (List ℕ)) (read : Result (List ℕ) Refusal) (key : List ℕ) → read ≡ Ok key → command_by name key (asked_of name words) ≡ then_of read (λ bytes. command_by name bytes (asked_of name words))
-key_then name words read key is = rw is refl
+    given_up_unless (flags_refusal name [] words) _ (flags_refusal_of_line name [] words)
+    (may_then _ _ (yields_meta_key (has_flag 98 words) word) (λ key. given_up_command name key (asked_of name words)))
 
 asked_then : (name : MetaKind) (word : List ℕ) (words : List (List ℕ)) (asked : Asked) (key : List ℕ) (refusal : Option Refusal) → Ok asked ≡ unless refusal (Ok (asked_of name words)) → meta_key_of asked.flags.base64 word ≡ Ok key →
     command_by name key asked ≡ unless refusal (then_of (meta_key_of (has_flag 98 words) word) (λ bytes. command_by name bytes (asked_of name words)))
 asked_then name word words asked key (Some refusal) said spelled = absurd cc
 asked_then name word words asked key None said spelled =
     let same : asked ≡ asked_of name words = cc in
-    let spelled' : meta_key_of (has_flag 98 words) word ≡ Ok key = rw same at spelled in
-    ap (command_by name key) same ∙ key_then name words (meta_key_of (has_flag 98 words) word) key spelled'
+    rw (same, rw same at spelled)
 
 reads_same : (asked read : Result Command Refusal) → read ≡ asked → Reads asked read
 reads_same asked (Ok command) same = sym same
@@ -103,70 +88,3 @@ reads_command name word words asked key read said spelled made =
 pub result_ok-ok_or : (value : Option ℕ) (refusal : Refusal) → result_ok (ok_or value refusal) ≡ value
 result_ok-ok_or None refusal = refl
 result_ok-ok_or (Some value) refusal = refl
-
-told_without_block : (name : MetaKind) (words : List (List ℕ)) → is_given_up (line_without_block name words) ≡ false
-told_without_block name [] = refl
-told_without_block name (word ∷ words) = told_whole (meta_command_of name word words) (told_may (meta_command_of name word words) (meta_given_up name word words))
-
-told_with_block : (limit : ℕ) (words : List (List ℕ)) → is_given_up (line_with_block limit words) ≡ false
-told_with_block limit [] = refl
-told_with_block limit (word ∷ []) = refl
-told_with_block limit (word ∷ count ∷ words) = told_block limit (number_of (2 ^ 32) count) (meta_command_of Set word words) (told_may (meta_command_of Set word words) (meta_given_up Set word words))
-
--- no meta line says that memory ran out
-pub meta_told : (limit : ℕ) (name : MetaKind) (words : List (List ℕ)) → is_given_up (meta_line_of limit name words) ≡ false
-unfolding meta_line_of
-meta_told limit Get words = told_without_block Get words
-meta_told limit Set words = told_with_block limit words
-meta_told limit Delete words = told_without_block Delete words
-meta_told limit Arithmetic words = told_without_block Arithmetic words
-
-no_data_whole : (read : Result Command Refusal) (asked : Command) (count : ℕ) → whole_line read ≡ Data asked count → IsTrue (can_give_up asked)
-no_data_whole (Ok command) asked count is = absurd cc
-no_data_whole (Err refusal) asked count is = absurd cc
-
-no_data : (name : MetaKind) (words : List (List ℕ)) (asked : Command) (count : ℕ) → line_without_block name words ≡ Data asked count → IsTrue (can_give_up asked)
-no_data name [] asked count is = absurd cc
-no_data name (word ∷ words) asked count is = no_data_whole (meta_command_of name word words) asked count is
-
-data_sized : (large : Bool) (command asked : Command) (counted count : ℕ) → IsTrue (can_give_up command) → cond large (Skip TooLarge (counted + 2)) (Data command counted) ≡ Data asked count → IsTrue (can_give_up asked)
-data_sized true command asked counted count may is = absurd cc
-data_sized false command asked counted count may is =
-    let same : command ≡ asked = cc in
-    rw (← same) may
-
-data_block : (limit : ℕ) (counted : Option ℕ) (read : Result Command Refusal) (asked : Command) (count : ℕ) → MayBeGivenUp read → block_line limit counted read ≡ Data asked count → IsTrue (can_give_up asked)
-data_block limit (Some counted) (Ok command) asked count may is = data_sized (nat_lt limit counted) command asked counted count may is
-data_block limit (Some counted) (Err refusal) asked count may is = absurd cc
-data_block limit None (Ok command) asked count may is = absurd cc
-data_block limit None (Err refusal) asked count may is = absurd cc
-
-data_with_block : (limit : ℕ) (words : List (List ℕ)) (asked : Command) (count : ℕ) → line_with_block limit words ≡ Data asked count → IsTrue (can_give_up asked)
-data_with_block limit [] asked count is = absurd cc
-data_with_block limit (word ∷ []) asked count is = absurd cc
-data_with_block limit (word ∷ counted ∷ words) asked count is = data_block limit (number_of (2 ^ 32) counted) (meta_command_of Set word words) asked count (meta_given_up Set word words) is
-
--- a meta line with a data block may be given up
-pub meta_data_stores : (limit : ℕ) (name : MetaKind) (words : List (List ℕ)) (asked : Command) (count : ℕ) → meta_line_of limit name words ≡ Data asked count → IsTrue (can_give_up asked)
-unfolding meta_line_of
-meta_data_stores limit Get words asked count is = no_data Get words asked count is
-meta_data_stores limit Set words asked count is = data_with_block limit words asked count is
-meta_data_stores limit Delete words asked count is = no_data Delete words asked count is
-meta_data_stores limit Arithmetic words asked count is = no_data Arithmetic words asked count is
-
-behind_without_block : (name : MetaKind) (words : List (List ℕ)) → bytes_behind (line_without_block name words) ≡ 0
-behind_without_block name [] = refl
-behind_without_block name (word ∷ words) = behind_whole (meta_command_of name word words)
-
-behind_with_block : (limit : ℕ) (words : List (List ℕ)) → bytes_behind (line_with_block limit words) ≡ bytes_with (meta_count_in Set words)
-behind_with_block limit [] = refl
-behind_with_block limit (word ∷ []) = refl
-behind_with_block limit (word ∷ count ∷ words) = behind_block limit (number_of (2 ^ 32) count) (meta_command_of Set word words)
-
--- what stands behind a meta line is told by its count alone
-pub meta_bytes_behind : (limit : ℕ) (name : MetaKind) (words : List (List ℕ)) → bytes_behind (meta_line_of limit name words) ≡ bytes_with (meta_count_in name words)
-unfolding meta_line_of
-meta_bytes_behind limit Get words = behind_without_block Get words
-meta_bytes_behind limit Set words = behind_with_block limit words
-meta_bytes_behind limit Delete words = behind_without_block Delete words
-meta_bytes_behind limit Arithmetic words = behind_without_block Arithmetic words

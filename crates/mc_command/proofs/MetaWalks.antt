@@ -1,9 +1,9 @@
 -- Reading flags one after another gives what the look-ups in all of them give.
-use Rattle.std.proofs.Common.{◌≡◌, ◌≢◌, ℕ, ◌<◌, ◌==◌, ◌^◌, true, false, ◌&&◌, cond, List, [], ◌∷◌, ◌++◌, length, Option, Some, None, is_some, refl, sym, ap, ◌∙◌, arith, inl, inr, Result, Ok, Err, nat_lt, get_or, set, get_or-set_other, get_or-set_same, append_assoc, append-nil, subst}
+use Rattle.std.proofs.Common.{◌≡◌, ℕ, ◌<◌, ◌==◌, ◌^◌, true, false, ◌&&◌, cond, List, [], ◌∷◌, ◌++◌, length, Option, Some, None, is_some, refl, sym, ap, ◌∙◌, arith, inl, inr, Result, Ok, Err, nat_lt, get_or, set, get_or-set_other, get_or-set_same, append_assoc, append-nil}
 use Rattle.std.proofs.lemmas.List.{get_or-replicate, length-replicate}
 use Rattle.std.proofs.Math.ListN.{length-set}
-use Rattle.std.proofs.lemmas.Bool.{ltb-true}
-use Rattle.std.specs.List.{list_all}
+use Rattle.std.proofs.lemmas.Bool.{cases_Bool}
+use Rattle.std.proofs.lemmas.Bool.Decides.{eqb_tells}
 use Rattle.std.specs.Option.{ok_or, option_map}
 use Rattle.mc_wire.specs.Number.{number_of, integer_of}
 use Rattle.mc_wire.specs.declared.TheConstants.{OPAQUE_LIMIT}
@@ -16,10 +16,9 @@ use Rattle.mc_command.specs.declared.meta.MetaKind.TheVariants.{Get, Set, Delete
 use Rattle.mc_command.specs.declared.refusal.Refusal.{Refusal}
 use Rattle.mc_command.specs.declared.refusal.Refusal.TheVariants.{BadFormat, InvalidFlag, DuplicateFlag, OpaqueTooLong}
 use Rattle.mc_command.specs.Field.{then_of}
-use Rattle.mc_command.specs.Meta.{letters_of, is_among, has_flag, is_token, mode_of, direction_of, return_flag, flags_refusal, flag_refusal, unless}
-use Rattle.mc_command.specs.Meta.{asked_of}
+use Rattle.mc_command.specs.Meta.{letters_of, is_among, has_flag, is_token, mode_of, direction_of, return_flag, flags_refusal, flag_refusal, unless, asked_of}
 use Rattle.mc_command.specs.internal.FlagReading.{nothing_asked, flag_of, with_flag, with_shown, with_word, unseen}
-use Rattle.mc_command.proofs.MetaCounts.{same_letter, same, other, true_or_false, eq_comm}
+use Rattle.mc_command.proofs.MetaCounts.{eq_comm, small_among}
 use Rattle.mc_command.proofs.MetaLookups.{asked_next, asked_of-append, has_flag-append, with_shown_is}
 
 -- what is read from here on
@@ -39,80 +38,40 @@ data Tells (name : MetaKind) (letter : ℕ) (token : List ℕ) (before : List (L
       with_shown (with_flag (asked_of name before) flag) (return_flag letter) ≡ asked_of name (before ++ (letter ∷ token) ∷ []) → Tells name letter token before
 
 -- A flag says what the look-ups give.
-IsSaid : MetaKind → ℕ → Type 0
+abbrev IsSaid : MetaKind → ℕ → Type 0
 IsSaid name letter = (token : List ℕ) (before : List (List ℕ)) → has_flag letter before ≡ false → Tells name letter token before
 
-said_base64 : (name : MetaKind) → IsSaid name 98
-unfolding IsSaid token_refusal
-said_base64 name token before fresh = said flag.Base64 refl refl (sym (asked_of-append name before 98 token fresh))
-
-said_quiet : (name : MetaKind) → IsSaid name 113
-unfolding IsSaid token_refusal
-said_quiet name token before fresh = said flag.Quiet refl refl (sym (asked_of-append name before 113 token fresh))
-
-said_value : (name : MetaKind) → IsSaid name 118
-unfolding IsSaid token_refusal
-said_value name token before fresh = said flag.Value refl refl (sym (asked_of-append name before 118 token fresh))
-
-said_invalidate : (name : MetaKind) → IsSaid name 73
-unfolding IsSaid token_refusal
-said_invalidate name token before fresh = said flag.Invalidate refl refl (sym (asked_of-append name before 73 token fresh))
+-- a flag without a token
+said_plain : (name : MetaKind) (letter : ℕ) (flag : Flag) → ((token : List ℕ) → token_refusal name letter token ≡ None) → ((token : List ℕ) → flag_of name letter token ≡ Ok flag) →
+    ((asked : Asked) (token : List ℕ) → with_shown (with_flag asked flag) (return_flag letter) ≡ asked_next name asked letter token (return_flag letter)) → IsSaid name letter
+said_plain name letter flag refusal is agrees token before fresh =
+    said flag (refusal token) (is token) (agrees (asked_of name before) token ∙ sym (asked_of-append name before letter token fresh))
 
 said_opaque : (name : MetaKind) → IsSaid name 79
-unfolding IsSaid token_refusal
-said_opaque name token before fresh = elim (true_or_false (nat_lt OPAQUE_LIMIT (length token))) [
+unfolding token_refusal
+said_opaque name token before fresh = elim (cases_Bool (nat_lt OPAQUE_LIMIT (length token))) [
   | inl t ↦ refused OpaqueTooLong (rw t) (rw t)
   | inr t ↦ said (flag.Opaque token) (rw t) (rw t) (sym (asked_of-append name before 79 token fresh))
 ]
 
 -- a flag whose token is read, or refused
-said_read : {A : Type 0} (name : MetaKind) (letter : ℕ) (token : List ℕ) (before : List (List ℕ)) (read : Option A) (make : A → Flag) → has_flag letter before ≡ false →
-    token_refusal name letter token ≡ cond (is_some read) None (Some BadFormat) → flag_of name letter token ≡ ok_or (option_map make read) BadFormat →
-    ((value : A) → read ≡ Some value → with_shown (with_flag (asked_of name before) (make value)) (return_flag letter) ≡ asked_next name (asked_of name before) letter token (return_flag letter)) → Tells name letter token before
-said_read name letter token before None make fresh refusal flag agrees = refused BadFormat refusal flag
-said_read name letter token before (Some value) make fresh refusal flag agrees = said (make value) refusal flag (agrees value refl ∙ sym (asked_of-append name before letter token fresh))
-
-said_exptime : (name : MetaKind) → IsSaid name 84
-unfolding IsSaid token_refusal
-said_exptime name token before fresh = said_read name 84 token before (integer_of token) flag.Exptime fresh refl refl (λ value is. rw is refl)
-
-said_vivify : (name : MetaKind) → IsSaid name 78
-unfolding IsSaid token_refusal
-said_vivify name token before fresh = said_read name 78 token before (integer_of token) flag.Vivify fresh refl refl (λ value is. rw is refl)
-
-said_recache : (name : MetaKind) → IsSaid name 82
-unfolding IsSaid token_refusal
-said_recache name token before fresh = said_read name 82 token before (integer_of token) flag.Recache fresh refl refl (λ value is. rw is refl)
-
-said_compare : (name : MetaKind) → IsSaid name 67
-unfolding IsSaid token_refusal
-said_compare name token before fresh = said_read name 67 token before (number_of (2 ^ 64) token) flag.Compare fresh refl refl (λ value is. rw is refl)
-
-said_unique : (name : MetaKind) → IsSaid name 69
-unfolding IsSaid token_refusal
-said_unique name token before fresh = said_read name 69 token before (number_of (2 ^ 64) token) flag.Unique fresh refl refl (λ value is. rw is refl)
-
-said_amount : (name : MetaKind) → IsSaid name 68
-unfolding IsSaid token_refusal
-said_amount name token before fresh = said_read name 68 token before (number_of (2 ^ 64) token) flag.Amount fresh refl refl (λ value is. rw is refl)
-
-said_initial : (name : MetaKind) → IsSaid name 74
-unfolding IsSaid token_refusal
-said_initial name token before fresh = said_read name 74 token before (number_of (2 ^ 64) token) flag.Initial fresh refl refl (λ value is. rw is refl)
-
-said_client_flags : (name : MetaKind) → IsSaid name 70
-unfolding IsSaid token_refusal
-said_client_flags name token before fresh = said_read name 70 token before (number_of (2 ^ 32) token) flag.ClientFlags fresh refl refl (λ value is. rw is refl)
+said_read : {A : Type 0} (name : MetaKind) (letter : ℕ) (read : List ℕ → Option A) (make : A → Flag) → ((token : List ℕ) → token_refusal name letter token ≡ cond (is_some (read token)) None (Some BadFormat)) →
+    ((token : List ℕ) → flag_of name letter token ≡ ok_or (option_map make (read token)) BadFormat) →
+    ((before : List (List ℕ)) (token : List ℕ) (value : A) → read token ≡ Some value → with_shown (with_flag (asked_of name before) (make value)) (return_flag letter) ≡ asked_next name (asked_of name before) letter token (return_flag letter)) → IsSaid name letter
+said_read {A = A} name letter read make refusal is agrees token before fresh = by_value (read token) refl where
+  by_value : (found : Option A) → read token ≡ found → Tells name letter token before
+  by_value None none = refused BadFormat (refusal token ∙ rw none) (is token ∙ rw none)
+  by_value (Some value) some = said (make value) (refusal token ∙ rw some) (is token ∙ rw some) (agrees before token value some ∙ sym (asked_of-append name before letter token fresh))
 
 said_mode : (name : MetaKind) → IsSaid name 77
-unfolding IsSaid token_refusal
+unfolding token_refusal
 said_mode Get token before fresh = refused BadFormat refl refl
 said_mode Delete token before fresh = refused BadFormat refl refl
-said_mode Set token before fresh = said_read Set 77 token before (mode_of token) flag.Mode fresh refl refl (λ value is. rw is refl)
-said_mode Arithmetic token before fresh = said_read Arithmetic 77 token before (direction_of token) flag.Direction fresh refl refl (λ value is. rw is refl)
+said_mode Set token before fresh = said_read Set 77 mode_of flag.Mode (λ _. refl) (λ _. refl) (λ _ _ _ is. rw is refl) token before fresh
+said_mode Arithmetic token before fresh = said_read Arithmetic 77 direction_of flag.Direction (λ _. refl) (λ _. refl) (λ _ _ _ is. rw is refl) token before fresh
 
 said_bare : (name : MetaKind) (letter : ℕ) → (letter == 98) ≡ false → (letter == 113) ≡ false → (letter == 118) ≡ false → (letter == 73) ≡ false → (letter == 79) ≡ false → (letter == 77) ≡ false → (letter == 84) ≡ false → (letter == 78) ≡ false → (letter == 82) ≡ false → (letter == 67) ≡ false → (letter == 69) ≡ false → (letter == 68) ≡ false → (letter == 74) ≡ false → (letter == 70) ≡ false → IsSaid name letter
-unfolding IsSaid token_refusal
+unfolding token_refusal
 said_bare name letter t98 t113 t118 t73 t79 t77 t84 t78 t82 t67 t69 t68 t74 t70 token before fresh =
     said flag.Bare
     (rw (eq_comm 84 letter, eq_comm 78 letter, eq_comm 82 letter, eq_comm 67 letter, eq_comm 69 letter, eq_comm 68 letter, eq_comm 74 letter, t79, t84, t78, t82, t67, t69, t68, t74, t70, t77) refl)
@@ -120,38 +79,27 @@ said_bare name letter t98 t113 t118 t73 t79 t77 t84 t78 t82 t67 t69 t68 t74 t70 
     (with_shown_is (asked_of name before) (return_flag letter) ∙ sym (asked_of-append name before letter token fresh ∙ rw (t98, t113, t118, t73, t79, t77, t84, t78, t82, t67, t69, t68, t74, t70) refl))
 
 -- what holds of one letter, and of all others, holds of every letter
-by_letter : (P : ℕ → Type 0) (one letter : ℕ) → P one → ((letter == one) ≡ false → P letter) → P letter
-by_letter P one letter here others = elim (same_letter letter one) [ same t e ↦ subst P (sym e) here | other t ne ↦ others t ]
+by_letter : (name : MetaKind) (one letter : ℕ) → IsSaid name one → ((letter == one) ≡ false → IsSaid name letter) → IsSaid name letter
+by_letter name one letter here others = elim (eqb_tells letter one) [ inl w ↦ rw w.1 here | inr w ↦ others w.0 ]
 
 every_letter : (name : MetaKind) (letter : ℕ) → IsSaid name letter
+unfolding token_refusal
 every_letter name letter =
-    let P = IsSaid name in
-    by_letter P 98 letter (said_base64 name) (λ t98.
-    by_letter P 113 letter (said_quiet name) (λ t113.
-    by_letter P 118 letter (said_value name) (λ t118.
-    by_letter P 73 letter (said_invalidate name) (λ t73.
-    by_letter P 79 letter (said_opaque name) (λ t79.
-    by_letter P 77 letter (said_mode name) (λ t77.
-    by_letter P 84 letter (said_exptime name) (λ t84.
-    by_letter P 78 letter (said_vivify name) (λ t78.
-    by_letter P 82 letter (said_recache name) (λ t82.
-    by_letter P 67 letter (said_compare name) (λ t67.
-    by_letter P 69 letter (said_unique name) (λ t69.
-    by_letter P 68 letter (said_amount name) (λ t68.
-    by_letter P 74 letter (said_initial name) (λ t74.
-    by_letter P 70 letter (said_client_flags name) (λ t70.
+    by_letter name 98 letter (said_plain name 98 flag.Base64 (λ _. refl) (λ _. refl) (λ _ _. refl)) (λ t98.
+    by_letter name 113 letter (said_plain name 113 flag.Quiet (λ _. refl) (λ _. refl) (λ _ _. refl)) (λ t113.
+    by_letter name 118 letter (said_plain name 118 flag.Value (λ _. refl) (λ _. refl) (λ _ _. refl)) (λ t118.
+    by_letter name 73 letter (said_plain name 73 flag.Invalidate (λ _. refl) (λ _. refl) (λ _ _. refl)) (λ t73.
+    by_letter name 79 letter (said_opaque name) (λ t79.
+    by_letter name 77 letter (said_mode name) (λ t77.
+    by_letter name 84 letter (said_read name 84 integer_of flag.Exptime (λ _. refl) (λ _. refl) (λ _ _ _ is. rw is refl)) (λ t84.
+    by_letter name 78 letter (said_read name 78 integer_of flag.Vivify (λ _. refl) (λ _. refl) (λ _ _ _ is. rw is refl)) (λ t78.
+    by_letter name 82 letter (said_read name 82 integer_of flag.Recache (λ _. refl) (λ _. refl) (λ _ _ _ is. rw is refl)) (λ t82.
+    by_letter name 67 letter (said_read name 67 (number_of (2 ^ 64)) flag.Compare (λ _. refl) (λ _. refl) (λ _ _ _ is. rw is refl)) (λ t67.
+    by_letter name 69 letter (said_read name 69 (number_of (2 ^ 64)) flag.Unique (λ _. refl) (λ _. refl) (λ _ _ _ is. rw is refl)) (λ t69.
+    by_letter name 68 letter (said_read name 68 (number_of (2 ^ 64)) flag.Amount (λ _. refl) (λ _. refl) (λ _ _ _ is. rw is refl)) (λ t68.
+    by_letter name 74 letter (said_read name 74 (number_of (2 ^ 64)) flag.Initial (λ _. refl) (λ _. refl) (λ _ _ _ is. rw is refl)) (λ t74.
+    by_letter name 70 letter (said_read name 70 (number_of (2 ^ 32)) flag.ClientFlags (λ _. refl) (λ _. refl) (λ _ _ _ is. rw is refl)) (λ t70.
     said_bare name letter t98 t113 t118 t73 t79 t77 t84 t78 t82 t67 t69 t68 t74 t70))))))))))))))
-
-small_among : (letter : ℕ) (letters : List ℕ) → list_all (λ other. nat_lt other 256) letters ≡ true → is_among letters letter ≡ true → letter < 256
-small_among letter [] small among = absurd cc
-small_among letter (first ∷ letters) small among =
-    elim (true_or_false (nat_lt first 256)) [
-      | inr t ↦ let h = rw t at small in absurd cc
-      | inl t ↦ let rest = rw t at small in elim (same_letter first letter) [
-        | same t' e ↦ let below = ltb-true first 256 t in omega arith
-        | other t' ne ↦ let stands = rw t' at among in small_among letter letters rest stands
-      ]
-    ]
 
 small_letter : (name : MetaKind) (letter : ℕ) → is_among (letters_of name) letter ≡ true → letter < 256
 small_letter Get letter among = small_among letter (letters_of Get) refl among
@@ -178,22 +126,20 @@ has_read_more name reader before letter token flag read small agrees =
     let within : letter < length reader.seen = omega arith in
     record {
       wide = length-set reader.seen letter true ∙ wide;
-      seen = λ any below. rw (has_flag-append any before letter token) (elim (same_letter letter any) [
-        | same t e ↦ rw (t, ← e) (get_or-set_same reader.seen letter true false within)
-        | other t ne ↦
-            let apart : any ≢ letter = λ e. ne (sym e) in
-            rw (t, get_or-set_other reader.seen letter any true false apart) (read.seen any below)
+      seen = λ any below. rw (has_flag-append any before letter token) (elim (eqb_tells letter any) [
+        | inl w ↦ rw (w.0, ← w.1) (get_or-set_same reader.seen letter true false within)
+        | inr w ↦ rw (w.0, get_or-set_other reader.seen letter any true false (λ e. w.1 (sym e))) (read.seen any below)
       ]);
       asked = rw read.asked agrees;
     }
 
 step : (name : MetaKind) (reader : FlagReader) (before : List (List ℕ)) (word : List ℕ) → HasRead name reader before → Step name reader before word
-unfolding IsSaid token_refusal
+unfolding token_refusal
 step name reader before [] read = stops InvalidFlag refl refl
 step name reader before (letter ∷ token) read =
-    elim (true_or_false (is_among (letters_of name) letter)) [
+    elim (cases_Bool (is_among (letters_of name) letter)) [
       | inr t ↦ stops InvalidFlag (rw t refl) (rw t refl)
-      | inl t ↦ elim (true_or_false (has_flag letter before)) [
+      | inl t ↦ elim (cases_Bool (has_flag letter before)) [
         | inl stands ↦
             let seen : get_or reader.seen letter false ≡ true = read.seen letter (small_letter name letter t) ∙ stands in
             stops DuplicateFlag (rw (t, stands) refl) (rw (t, seen) refl)

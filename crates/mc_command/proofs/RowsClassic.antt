@@ -26,6 +26,10 @@ Rows = List (List ℕ × Line)
 abbrev AreSo : Rows → Type 0
 AreSo rows = map (λ row. line_of DEFAULT_VALUE_LIMIT (words_of row.0)) rows ≡ map (λ row. row.1) rows
 
+-- these lines are all the same
+abbrev each_is : Line → List (List ℕ) → Rows
+each_is line texts = map (λ text. (text, line)) texts
+
 abbrev stored : List ℕ → StoreMode → ℕ → ℤ → Bool → Command
 stored key mode flags exptime noreply = command.Store (record { key = key; mode = mode; flags = flags; exptime = exptime; noreply = noreply; block = [] })
 
@@ -43,11 +47,8 @@ bad_key = codes "a" ++ 127 ∷ []
 abbrev a : List ℕ
 a = codes "a"
 
-abbrev storage_rows : Rows
-storage_rows =
-    (codes "set a 5 0 3", Data (stored a Set 5 (pos 0) false) 3)
-    ∷ (codes "  set  a 5 0   3 ", Data (stored a Set 5 (pos 0) false) 3)
-    ∷ (codes "set noreply 0 0 1 noreply", Data (stored (codes "noreply") Set 0 (pos 0) true) 1)
+storage_rows : AreSo (
+    (codes "set noreply 0 0 1 noreply", Data (stored (codes "noreply") Set 0 (pos 0) true) 1)
     ∷ (codes "add a 007 -1 0 noreply", Data (stored a Add 7 (negsuc 0) true) 0)
     ∷ (codes "replace a 0 9223372036854775807 2", Data (stored a Replace 0 (pos 9223372036854775807) false) 2)
     ∷ (codes "append a 4294967295 7 2", Data (stored a Append 4294967295 (pos 7) false) 2)
@@ -57,48 +58,29 @@ storage_rows =
     ∷ (codes "set a 0 0 00000000000000000001", Data (stored a Set 0 (pos 0) false) 1)
     ∷ (codes "set a 0 0 1048576", Data (stored a Set 0 (pos 0) false) 1048576)
     ∷ (codes "set " ++ letters 250 ++ codes " 0 0 2", Data (stored (letters 250) Set 0 (pos 0) false) 2)
-    ∷ []
-
-storage_rows_so : AreSo storage_rows
+    ∷ each_is (Data (stored a Set 5 (pos 0) false) 3) (map codes ("set a 5 0 3" ∷ "  set  a 5 0   3 " ∷ [])))
 unfolding line_of words_of name_of is_key number_of
-storage_rows_so = refl
+storage_rows = refl
 
 -- one fault
-abbrev storage_faults : Rows
-storage_faults =
+storage_faults : AreSo (
     (codes "SET a 0 0 2", Refused Unknown)
-    ∷ (codes "set a 0 1", Refused BadFormat)
-    ∷ (codes "set a 0 0 1 noreply x", Skip BadFormat 3)
-    ∷ (codes "cas a 0 0 1", Skip BadFormat 3)
-    ∷ (codes "cas a 0 0 1 7 noreply x", Skip BadFormat 3)
     ∷ (codes "set " ++ letters 251 ++ codes " 0 0 2", Skip BadKey 4)
     ∷ (codes "set " ++ bad_key ++ codes " 0 0 2", Skip BadKey 4)
-    ∷ (codes "set a x 0 2", Skip BadFormat 4)
-    ∷ (codes "set a +1 0 2", Skip BadFormat 4)
-    ∷ (codes "set a -1 0 2", Skip BadFormat 4)
-    ∷ (codes "append a 4294967296 0 2", Skip BadFormat 4)
-    ∷ (codes "set a 0 - 1", Skip BadFormat 3)
-    ∷ (codes "set a 0 9223372036854775808 1", Skip BadFormat 3)
-    ∷ (codes "set a 0 -9223372036854775809 1", Skip BadFormat 3)
-    ∷ (codes "set a 0 0 -1", Refused BadFormat)
-    ∷ (codes "set a 0 0 000000000000000000001", Refused BadFormat)
-    ∷ (codes "set a 0 0 4294967296", Refused BadFormat)
     ∷ (codes "set a 0 0 4294967295", Skip TooLarge 4294967297)
-    ∷ (codes "set a 0 0 1048577", Skip TooLarge 1048579)
-    ∷ (codes "set a 0 0 1048577 noreply", Skip TooLarge 1048579)
-    ∷ (codes "set a 0 0 1 NOREPLY", Skip BadFormat 3)
-    ∷ (codes "cas a 0 0 1 18446744073709551616", Skip BadFormat 3)
-    ∷ (codes "cas a 0 0 1 -7", Skip BadFormat 3)
-    ∷ (codes "cas a 0 0 1 noreply", Skip BadFormat 3)
-    ∷ []
-
-storage_faults_so : AreSo storage_faults
+    ∷ each_is (Refused BadFormat) (map codes ("set a 0 1" ∷ "set a 0 0 -1" ∷ "set a 0 0 000000000000000000001" ∷ []))
+    ++ each_is (Refused BadFormat) (map codes ("set a 0 0 4294967296" ∷ []))
+    ++ each_is (Skip BadFormat 3) (map codes ("set a 0 0 1 noreply x" ∷ "cas a 0 0 1" ∷ "cas a 0 0 1 7 noreply x" ∷ "set a 0 - 1" ∷ []))
+    ++ each_is (Skip BadFormat 3) (map codes ("set a 0 9223372036854775808 1" ∷ "set a 0 -9223372036854775809 1" ∷ []))
+    ++ each_is (Skip BadFormat 3) (map codes ("set a 0 0 1 NOREPLY" ∷ "cas a 0 0 1 18446744073709551616" ∷ "cas a 0 0 1 -7" ∷ []))
+    ++ each_is (Skip BadFormat 3) (map codes ("cas a 0 0 1 noreply" ∷ []))
+    ++ each_is (Skip BadFormat 4) (map codes ("set a x 0 2" ∷ "set a +1 0 2" ∷ "set a -1 0 2" ∷ "append a 4294967296 0 2" ∷ []))
+    ++ each_is (Skip TooLarge 1048579) (map codes ("set a 0 0 1048577" ∷ "set a 0 0 1048577 noreply" ∷ [])))
 unfolding line_of words_of name_of is_key number_of
-storage_faults_so = refl
+storage_faults = refl
 
 -- two faults in one line: which one it is refused for
-abbrev storage_orders : Rows
-storage_orders =
+storage_orders : AreSo (
     (codes "SET " ++ bad_key ++ codes " 0 0 2", Refused Unknown)
     ∷ (codes "set " ++ bad_key ++ codes " 0 0 1 noreply x", Skip BadFormat 3)
     ∷ (codes "set " ++ bad_key ++ codes " 0", Refused BadFormat)
@@ -108,171 +90,104 @@ storage_orders =
     ∷ (codes "set " ++ bad_key ++ codes " 0 0 1 x", Skip BadKey 3)
     ∷ (codes "cas " ++ bad_key ++ codes " 0 0 1 x", Skip BadKey 3)
     ∷ (codes "set " ++ bad_key ++ codes " 0 0 1048577", Skip BadKey 1048579)
-    ∷ (codes "set a x 0 1048577", Skip BadFormat 1048579)
-    ∷ (codes "set a 0 0 1048577 x", Skip BadFormat 1048579)
     ∷ (codes "set a 0 0 x y", Refused BadFormat)
-    ∷ []
-
-storage_orders_so : AreSo storage_orders
+    ∷ each_is (Skip BadFormat 1048579) (map codes ("set a x 0 1048577" ∷ "set a 0 0 1048577 x" ∷ [])))
 unfolding line_of words_of name_of is_key number_of
-storage_orders_so = refl
+storage_orders = refl
 
-abbrev retrieval_rows : Rows
-retrieval_rows =
+retrieval_rows : AreSo (
     (codes "get a", got (a ∷ []) None false)
     ∷ (codes "gets a b a", got (a ∷ codes "b" ∷ a ∷ []) None true)
     ∷ (codes "get noreply", got (codes "noreply" ∷ []) None false)
     ∷ (codes "gat 10 a", got (a ∷ []) (Some (pos 10)) false)
     ∷ (codes "gats -1 a b", got (a ∷ codes "b" ∷ []) (Some (negsuc 0)) true)
     ∷ (codes "get " ++ 33 ∷ 126 ∷ 128 ∷ 255 ∷ [], got ((33 ∷ 126 ∷ 128 ∷ 255 ∷ []) ∷ []) None false)
-    ∷ (codes "get", Refused BadFormat)
     ∷ (codes "get a " ++ letters 251, Refused BadKey)
     ∷ (codes "get " ++ bad_key ++ codes " a", Refused BadKey)
-    ∷ (codes "gat", Refused BadFormat)
-    ∷ (codes "gat 0", Refused BadFormat)
-    ∷ (codes "gat x a", Refused BadFormat)
     ∷ (codes "gat x " ++ bad_key, Refused BadFormat)
     ∷ (codes "gat 0 " ++ bad_key, Refused BadKey)
     ∷ (codes "get" ++ 9 ∷ codes "a", Refused Unknown)
-    ∷ (codes "", Refused Unknown)
-    ∷ (codes "   ", Refused Unknown)
-    ∷ (codes "stats", Refused Unknown)
-    ∷ []
-
-retrieval_rows_so : AreSo retrieval_rows
+    ∷ each_is (Refused BadFormat) (map codes ("get" ∷ "gat" ∷ "gat 0" ∷ "gat x a" ∷ []))
+    ++ each_is (Refused Unknown) (map codes ("" ∷ "   " ∷ "stats" ∷ [])))
 unfolding line_of words_of name_of is_key keys_of number_of
-retrieval_rows_so = refl
+retrieval_rows = refl
 
-abbrev change_rows : Rows
-change_rows =
-    (codes "delete a", Whole (command.Delete a false))
-    ∷ (codes "delete a 0", Whole (command.Delete a false))
-    ∷ (codes "delete a noreply", Whole (command.Delete a true))
-    ∷ (codes "delete a 0 noreply", Whole (command.Delete a true))
-    ∷ (codes "delete noreply noreply", Whole (command.Delete (codes "noreply") true))
-    ∷ (codes "delete", Refused BadFormat)
-    ∷ (codes "delete a 1", Refused BadFormat)
-    ∷ (codes "delete a 00", Refused BadFormat)
-    ∷ (codes "delete a -0", Refused BadFormat)
-    ∷ (codes "delete a 0 0", Refused BadFormat)
-    ∷ (codes "delete a noreply 0", Refused BadFormat)
-    ∷ (codes "delete a noreply noreply", Refused BadFormat)
+change_rows : AreSo (
+    (codes "delete noreply noreply", Whole (command.Delete (codes "noreply") true))
     ∷ (codes "delete " ++ bad_key ++ codes " 1", Refused BadKey)
     ∷ (codes "delete " ++ bad_key ++ codes " 0 noreply x", Refused BadFormat)
     ∷ (codes "incr a 18446744073709551615", Whole (command.Count a Increment 18446744073709551615 false))
     ∷ (codes "decr a 5 noreply", Whole (command.Count a Decrement 5 true))
-    ∷ (codes "incr a 18446744073709551616", Refused BadFormat)
-    ∷ (codes "incr a -1", Refused BadFormat)
-    ∷ (codes "incr a", Refused BadFormat)
-    ∷ (codes "incr a noreply", Refused BadFormat)
-    ∷ (codes "incr a 1 x", Refused BadFormat)
     ∷ (codes "incr " ++ bad_key ++ codes " x", Refused BadKey)
     ∷ (codes "incr " ++ bad_key ++ codes " 1 noreply x", Refused BadFormat)
     ∷ (codes "touch a -1", Whole (command.Touch a (negsuc 0) false))
     ∷ (codes "touch a 0 noreply", Whole (command.Touch a (pos 0) true))
-    ∷ (codes "touch a x", Refused BadFormat)
     ∷ (codes "touch " ++ bad_key ++ codes " x", Refused BadKey)
-    ∷ (codes "touch a", Refused BadFormat)
     ∷ (codes "flush_all", Whole (command.FlushAll (pos 0) false))
     ∷ (codes "flush_all 10", Whole (command.FlushAll (pos 10) false))
     ∷ (codes "flush_all noreply", Whole (command.FlushAll (pos 0) true))
     ∷ (codes "flush_all -5 noreply", Whole (command.FlushAll (negsuc 4) true))
-    ∷ (codes "flush_all noreply noreply", Refused BadFormat)
-    ∷ (codes "flush_all 1 2", Refused BadFormat)
-    ∷ (codes "flush_all 1 noreply x", Refused BadFormat)
-    ∷ []
-
-change_rows_so : AreSo change_rows
+    ∷ each_is (Whole (command.Delete a false)) (map codes ("delete a" ∷ "delete a 0" ∷ []))
+    ++ each_is (Whole (command.Delete a true)) (map codes ("delete a noreply" ∷ "delete a 0 noreply" ∷ []))
+    ++ each_is (Refused BadFormat) (map codes ("delete" ∷ "delete a 1" ∷ "delete a 00" ∷ "delete a -0" ∷ "delete a 0 0" ∷ []))
+    ++ each_is (Refused BadFormat) (map codes ("delete a noreply 0" ∷ "delete a noreply noreply" ∷ "incr a 18446744073709551616" ∷ []))
+    ++ each_is (Refused BadFormat) (map codes ("incr a -1" ∷ "incr a" ∷ "incr a noreply" ∷ "incr a 1 x" ∷ "touch a x" ∷ "touch a" ∷ []))
+    ++ each_is (Refused BadFormat) (map codes ("flush_all noreply noreply" ∷ "flush_all 1 2" ∷ "flush_all 1 noreply x" ∷ [])))
 unfolding line_of words_of name_of is_key keys_of number_of
-change_rows_so = refl
+change_rows = refl
 
-abbrev other_rows : Rows
-other_rows =
+other_rows : AreSo (
     (codes "version x", Whole command.Version)
     ∷ (codes "verbosity 1", Whole (command.Verbosity false))
     ∷ (codes "verbosity 1 noreply", Whole (command.Verbosity true))
-    ∷ (codes "verbosity", Refused BadFormat)
-    ∷ (codes "verbosity noreply", Refused BadFormat)
-    ∷ (codes "verbosity 1 2", Refused BadFormat)
-    ∷ (codes "verbosity 1 noreply x", Refused BadFormat)
     ∷ (codes "quit now", Whole command.Quit)
     ∷ (codes "mn x y", Whole command.MetaNoop)
     ∷ (codes "quitting", Refused Unknown)
     ∷ (codes "mn" ++ 13 ∷ [], Refused Unknown)
-    ∷ []
-
-other_rows_so : AreSo other_rows
+    ∷ each_is (Refused BadFormat) (map codes ("verbosity" ∷ "verbosity noreply" ∷ "verbosity 1 2" ∷ "verbosity 1 noreply x" ∷ [])))
 unfolding line_of words_of name_of is_key keys_of number_of
-other_rows_so = refl
+other_rows = refl
 
 -- signs, leading zeros, and the most digits
-abbrev number_rows : Rows
-number_rows =
+number_rows : AreSo (
     (codes "set a 00000000000000000007 -0 1", Data (stored a Set 7 (pos 0) false) 1)
     ∷ (codes "set a 0 00000000000000000009 1", Data (stored a Set 0 (pos 9) false) 1)
     ∷ (codes "set a 0 -00000000000000000009 1", Data (stored a Set 0 (negsuc 8) false) 1)
-    ∷ (codes "set a 000000000000000000007 0 1", Skip BadFormat 3)
-    ∷ (codes "set a 0 000000000000000000009 1", Skip BadFormat 3)
-    ∷ (codes "set a 0 -000000000000000000009 1", Skip BadFormat 3)
-    ∷ (codes "set a 0 +1 1", Skip BadFormat 3)
-    ∷ (codes "set a 0 --1 1", Skip BadFormat 3)
-    ∷ (codes "set a 0 0 +1", Refused BadFormat)
     ∷ (codes "cas a 0 0 1 00000000000000000007", Data (stored a (Cas 7) 0 (pos 0) false) 1)
-    ∷ (codes "cas a 0 0 1 000000000000000000007", Skip BadFormat 3)
     ∷ (codes "incr a 007", Whole (command.Count a Increment 7 false))
     ∷ (codes "incr a 00000000000000000005", Whole (command.Count a Increment 5 false))
-    ∷ (codes "incr a 000000000000000000005", Refused BadFormat)
-    ∷ (codes "incr a +1", Refused BadFormat)
     ∷ (codes "decr a 18446744073709551615 noreply", Whole (command.Count a Decrement 18446744073709551615 true))
-    ∷ (codes "decr a 18446744073709551616 noreply", Refused BadFormat)
     ∷ (codes "touch a -00000000000000000001", Whole (command.Touch a (negsuc 0) false))
-    ∷ (codes "touch a -000000000000000000001", Refused BadFormat)
     ∷ (codes "touch a 9223372036854775807", Whole (command.Touch a (pos 9223372036854775807) false))
-    ∷ (codes "touch a 9223372036854775808", Refused BadFormat)
-    ∷ (codes "touch a +1", Refused BadFormat)
     ∷ (codes "gat -0 a", got (a ∷ []) (Some (pos 0)) false)
-    ∷ (codes "gats 18446744073709551615 a", Refused BadFormat)
     ∷ (codes "flush_all -9223372036854775808", Whole (command.FlushAll (negsuc 9223372036854775807) false))
-    ∷ (codes "flush_all -9223372036854775809", Refused BadFormat)
     ∷ (codes "verbosity 18446744073709551615", Whole (command.Verbosity false))
-    ∷ (codes "verbosity 18446744073709551616", Refused BadFormat)
-    ∷ (codes "verbosity -1", Refused BadFormat)
-    ∷ []
-
-number_rows_so : AreSo number_rows
+    ∷ each_is (Skip BadFormat 3) (map codes ("set a 000000000000000000007 0 1" ∷ "set a 0 000000000000000000009 1" ∷ []))
+    ++ each_is (Skip BadFormat 3) (map codes ("set a 0 -000000000000000000009 1" ∷ "set a 0 +1 1" ∷ "set a 0 --1 1" ∷ []))
+    ++ each_is (Skip BadFormat 3) (map codes ("cas a 0 0 1 000000000000000000007" ∷ []))
+    ++ each_is (Refused BadFormat) (map codes ("set a 0 0 +1" ∷ "incr a 000000000000000000005" ∷ "incr a +1" ∷ []))
+    ++ each_is (Refused BadFormat) (map codes ("decr a 18446744073709551616 noreply" ∷ "touch a -000000000000000000001" ∷ []))
+    ++ each_is (Refused BadFormat) (map codes ("touch a 9223372036854775808" ∷ "touch a +1" ∷ "gats 18446744073709551615 a" ∷ []))
+    ++ each_is (Refused BadFormat) (map codes ("flush_all -9223372036854775809" ∷ "verbosity 18446744073709551616" ∷ "verbosity -1" ∷ [])))
 unfolding line_of words_of name_of is_key keys_of number_of
-number_rows_so = refl
+number_rows = refl
 
 -- `noreply` is a key in the place of one, and a bad word in any other place but its own
-abbrev noreply_rows : Rows
-noreply_rows =
-    (codes "set a noreply 0 1", Skip BadFormat 3)
-    ∷ (codes "set a 0 noreply 1", Skip BadFormat 3)
-    ∷ (codes "set a 0 0 noreply", Refused BadFormat)
-    ∷ (codes "set a 0 0 noreply 1", Refused BadFormat)
-    ∷ (codes "set a 0 0 1 noreply noreply", Skip BadFormat 3)
-    ∷ (codes "set a 0 0 1 noreply1", Skip BadFormat 3)
-    ∷ (codes "cas a 0 0 1 noreply 7", Skip BadFormat 3)
-    ∷ (codes "cas noreply 0 0 1 7", Data (stored (codes "noreply") (Cas 7) 0 (pos 0) false) 1)
+noreply_rows : AreSo (
+    (codes "cas noreply 0 0 1 7", Data (stored (codes "noreply") (Cas 7) 0 (pos 0) false) 1)
     ∷ (codes "gets noreply noreply", got (codes "noreply" ∷ codes "noreply" ∷ []) None true)
-    ∷ (codes "gat noreply a", Refused BadFormat)
     ∷ (codes "gat 0 noreply", got (codes "noreply" ∷ []) (Some (pos 0)) false)
     ∷ (codes "delete noreply", Whole (command.Delete (codes "noreply") false))
     ∷ (codes "incr noreply 1", Whole (command.Count (codes "noreply") Increment 1 false))
-    ∷ (codes "decr a noreply 1", Refused BadFormat)
-    ∷ (codes "touch a noreply", Refused BadFormat)
     ∷ (codes "touch noreply 0 noreply", Whole (command.Touch (codes "noreply") (pos 0) true))
-    ∷ (codes "flush_all noreply 5", Refused BadFormat)
-    ∷ (codes "verbosity noreply noreply", Refused BadFormat)
     ∷ (codes "version noreply", Whole command.Version)
     ∷ (codes "quit noreply", Whole command.Quit)
     ∷ (codes "mn noreply", Whole command.MetaNoop)
-    ∷ (codes "mg a noreply", Refused InvalidFlag)
     ∷ (codes "ms a 2 noreply", Skip InvalidFlag 4)
-    ∷ (codes "md a noreply", Refused InvalidFlag)
-    ∷ (codes "ma a noreply", Refused InvalidFlag)
-    ∷ []
-
-noreply_rows_so : AreSo noreply_rows
+    ∷ each_is (Skip BadFormat 3) (map codes ("set a noreply 0 1" ∷ "set a 0 noreply 1" ∷ "set a 0 0 1 noreply noreply" ∷ []))
+    ++ each_is (Skip BadFormat 3) (map codes ("set a 0 0 1 noreply1" ∷ "cas a 0 0 1 noreply 7" ∷ []))
+    ++ each_is (Refused BadFormat) (map codes ("set a 0 0 noreply" ∷ "set a 0 0 noreply 1" ∷ "gat noreply a" ∷ "decr a noreply 1" ∷ []))
+    ++ each_is (Refused BadFormat) (map codes ("touch a noreply" ∷ "flush_all noreply 5" ∷ "verbosity noreply noreply" ∷ []))
+    ++ each_is (Refused InvalidFlag) (map codes ("mg a noreply" ∷ "md a noreply" ∷ "ma a noreply" ∷ [])))
 unfolding line_of words_of name_of is_key keys_of number_of meta_line_of
-noreply_rows_so = refl
+noreply_rows = refl

@@ -45,17 +45,13 @@ few_words = refl
 
 -- each command has letters of its own, and case counts
 foreign_letters :
-    map mg (codes "a ?" ∷ codes "a V" ∷ codes "a C1" ∷ codes "a D1" ∷ codes "a F1" ∷ codes "a I" ∷ codes "a J1" ∷ codes "a MS" ∷ codes "a E1" ∷ codes "a x" ∷ [])
-    ++ map md (codes "a c" ∷ codes "a s" ∷ codes "a v" ∷ codes "a t" ∷ codes "a x" ∷ codes "a N1" ∷ codes "a D1" ∷ codes "a F1" ∷ [])
-    ++ map ma (codes "a s" ∷ codes "a f" ∷ codes "a h" ∷ codes "a l" ∷ codes "a I" ∷ codes "a R1" ∷ codes "a F1" ∷ [])
-    ≡ replicate 25 (Refused InvalidFlag)
-unfolding meta_line_of words_of
-foreign_letters = refl
-
-foreign_letters_of_ms : map ms (codes "a 0 v" ∷ codes "a 0 t" ∷ codes "a 0 I" ∷ codes "a 0 N1" ∷ codes "a 0 R1" ∷ codes "a 0 D1" ∷ codes "a 0 J1" ∷ [])
-    ≡ replicate 7 (Skip InvalidFlag 2)
+    map mg (map codes ("a ?" ∷ "a V" ∷ "a C1" ∷ "a D1" ∷ "a F1" ∷ "a I" ∷ "a J1" ∷ "a MS" ∷ "a E1" ∷ "a x" ∷ []))
+    ++ map md (map codes ("a c" ∷ "a s" ∷ "a v" ∷ "a t" ∷ "a x" ∷ "a N1" ∷ "a D1" ∷ "a F1" ∷ []))
+    ++ map ma (map codes ("a s" ∷ "a f" ∷ "a h" ∷ "a l" ∷ "a I" ∷ "a R1" ∷ "a F1" ∷ []))
+    ++ map ms (map codes ("a 0 v" ∷ "a 0 t" ∷ "a 0 I" ∷ "a 0 N1" ∷ "a 0 R1" ∷ "a 0 D1" ∷ "a 0 J1" ∷ []))
+    ≡ replicate 25 (Refused InvalidFlag) ++ replicate 7 (Skip InvalidFlag 2)
 unfolding meta_line_of words_of number_of
-foreign_letters_of_ms = refl
+foreign_letters = refl
 
 -- over the flags the first fault decides, and within one flag the letter, the duplicate, the long token
 -- and the bad one, in this order
@@ -73,19 +69,18 @@ faults_in_order :
 unfolding meta_line_of words_of number_of is_key
 faults_in_order = refl
 
--- flags that need a token and have none, or one out of range
+-- flags that need a token and have none, or one out of range; signs, and one digit too many
 bad_tokens :
-    map mg (codes "a T" ∷ codes "a N" ∷ codes "a R" ∷ codes "a Tx" ∷ codes "a T9223372036854775808" ∷ codes "a N-9223372036854775809" ∷ codes "a R1.5" ∷ [])
-    ++ map md (codes "a C" ∷ codes "a C-1" ∷ codes "a C18446744073709551616" ∷ codes "a Tx" ∷ codes "a E" ∷ codes "a E18446744073709551616" ∷ codes "a I E+1" ∷ [])
-    ++ map ma (codes "a D" ∷ codes "a J" ∷ codes "a D-1" ∷ codes "a M" ∷ codes "a MX" ∷ codes "a MII" ∷ codes "a MS" ∷ codes "a E" ∷ codes "a E-1" ∷ [])
-    ≡ replicate 23 (Refused BadFormat)
+    map mg (map codes ("a T" ∷ "a N" ∷ "a R" ∷ "a Tx" ∷ "a T9223372036854775808" ∷ "a N-9223372036854775809" ∷ "a R1.5" ∷ []))
+    ++ map md (map codes ("a C" ∷ "a C-1" ∷ "a C18446744073709551616" ∷ "a Tx" ∷ "a E" ∷ "a E18446744073709551616" ∷ "a I E+1" ∷ []))
+    ++ map ma (map codes ("a D" ∷ "a J" ∷ "a D-1" ∷ "a M" ∷ "a MX" ∷ "a MII" ∷ "a MS" ∷ "a E" ∷ "a E-1" ∷ []))
+    ++ map ma (map codes ("a D18446744073709551616" ∷ "a J18446744073709551616" ∷ "a J000000000000000000007" ∷ []))
+    ++ map ma (map codes ("a D+1" ∷ "a N+1" ∷ "a T--1" ∷ "a T-" ∷ []))
+    ++ map ms (map codes ("a 1 F" ∷ "a 1 F4294967296" ∷ "a 1 F-1" ∷ "a 1 C" ∷ "a 1 T" ∷ "a 1 M" ∷ "a 1 MX" ∷ "a 1 MI" ∷ []))
+    ++ map ms (map codes ("a 1 MSS" ∷ "a 1 E" ∷ "a 1 Ex" ∷ "a 1 E000000000000000000001" ∷ []))
+    ≡ replicate 30 (Refused BadFormat) ++ replicate 12 (Skip BadFormat 3)
 unfolding meta_line_of words_of number_of
 bad_tokens = refl
-
-bad_tokens_of_ms : map ms (codes "a 1 F" ∷ codes "a 1 F4294967296" ∷ codes "a 1 F-1" ∷ codes "a 1 C" ∷ codes "a 1 T" ∷ codes "a 1 M" ∷ codes "a 1 MX" ∷ codes "a 1 MI" ∷ codes "a 1 MSS" ∷ codes "a 1 E" ∷ codes "a 1 Ex" ∷ codes "a 1 E000000000000000000001" ∷ [])
-    ≡ replicate 12 (Skip BadFormat 3)
-unfolding meta_line_of words_of number_of
-bad_tokens_of_ms = refl
 
 -- a readable count skips its block; a large value and `C` in another mode are refused last
 counts : map ms (codes "a 4294967296" ∷ codes "a -1" ∷ codes "a 000000000000000000001" ∷ codes "a 4294967295" ∷ codes "a 1048577" ∷ codes "a 1048577 C1 MA" ∷ codes "a 2 C1 Ma" ∷ codes "a 2 Me C1" ∷ codes "a 2 C1 MP" ∷ codes "a 2 C1 Mr" ∷ [])
@@ -101,15 +96,11 @@ limits : map (λ limit. map (λ count. block_line limit (Some count) (Ok MetaNoo
     ∷ []
 limits = refl
 
-least_limit : map (λ text. line_of LEAST_VALUE_LIMIT (words_of text)) (codes "ms a 1025" ∷ codes "set a 0 0 1025" ∷ codes "cas a 0 0 1025 1" ∷ [])
-    ≡ replicate 3 (Skip TooLarge 1027)
+line_limits : map (λ text. line_of LEAST_VALUE_LIMIT (words_of text)) (map codes ("ms a 1025" ∷ "set a 0 0 1025" ∷ "cas a 0 0 1025 1" ∷ []))
+    ++ map (λ text. line_of GREATEST_VALUE_LIMIT (words_of text)) (map codes ("ms a 8388609" ∷ "set a 0 0 8388609" ∷ "cas a 0 0 8388609 1" ∷ []))
+    ≡ replicate 3 (Skip TooLarge 1027) ++ replicate 3 (Skip TooLarge 8388611)
 unfolding line_of name_of meta_line_of words_of number_of is_key
-least_limit = refl
-
-greatest_limit : map (λ text. line_of GREATEST_VALUE_LIMIT (words_of text)) (codes "ms a 8388609" ∷ codes "set a 0 0 8388609" ∷ codes "cas a 0 0 8388609 1" ∷ [])
-    ≡ replicate 3 (Skip TooLarge 8388611)
-unfolding line_of name_of meta_line_of words_of number_of is_key
-greatest_limit = refl
+line_limits = refl
 
 largest_value : ms (codes "a 1048576") ≡ Data (MetaSet (record { key = codes "a"; flags = no_flags; mode = mode.Set; compare = None; unique = None; client_flags = 0; exptime = pos 0; block = [] })) 1048576
 unfolding meta_line_of words_of number_of is_key
@@ -151,15 +142,12 @@ unfolding meta_line_of words_of number_of is_key
 other_order = refl
 
 -- a token on a flag that takes none is ignored, `O` alone has the empty token, and 32 bytes are the most
-tokens_ignored : map mg (codes "a vxyz kq O" ∷ [])
-    ≡ Whole (MetaGet (record { key = codes "a"; flags = record { base64 = false; quiet = false; returned = Key ∷ Opaque ∷ []; opaque = [] }; value = true; touch = None; vivify = None; recache = None })) ∷ []
+tokens_ignored : map mg (codes "a vxyz kq O" ∷ (codes "a O" ++ replicate 32 120) ∷ [])
+    ≡ Whole (MetaGet (record { key = codes "a"; flags = record no_flags { returned = Key ∷ Opaque ∷ [] }; value = true; touch = None; vivify = None; recache = None }))
+    ∷ Whole (MetaGet (record { key = codes "a"; flags = record no_flags { returned = Opaque ∷ []; opaque = replicate 32 120 }; value = false; touch = None; vivify = None; recache = None }))
+    ∷ []
 unfolding meta_line_of words_of is_key
 tokens_ignored = refl
-
-longest_opaque : mg (codes "a O" ++ replicate 32 120)
-    ≡ Whole (MetaGet (record { key = codes "a"; flags = record { base64 = false; quiet = false; returned = Opaque ∷ []; opaque = replicate 32 120 }; value = false; touch = None; vivify = None; recache = None }))
-unfolding meta_line_of words_of is_key
-longest_opaque = refl
 
 -- a key in base64, wherever `b` stands; canonical only, and of 1 to 186 bytes
 base64_keys : map mg (codes "YQ== k b" ∷ codes "YQ== b k" ∷ [])
@@ -228,11 +216,6 @@ widest_tokens : map ma (codes "a D18446744073709551615 J00000000000000000007 N-9
     ≡ Whole (MetaArithmetic (record { key = codes "a"; flags = no_flags; value = false; compare = None; unique = None; direction = Increment; amount = 18446744073709551615; initial = 7; vivify = Some (negsuc 9223372036854775807); exptime = Some (pos 0) })) ∷ []
 unfolding meta_line_of words_of number_of is_key
 widest_tokens = refl
-
-too_wide_tokens : map ma (codes "a D18446744073709551616" ∷ codes "a J18446744073709551616" ∷ codes "a J000000000000000000007" ∷ codes "a D+1" ∷ codes "a N+1" ∷ codes "a T--1" ∷ codes "a T-" ∷ [])
-    ≡ replicate 7 (Refused BadFormat)
-unfolding meta_line_of words_of number_of
-too_wide_tokens = refl
 
 -- 186 bytes are the most that a word of base64 gives
 longest_base64 : md (replicate 248 65 ++ codes " b")

@@ -1,11 +1,12 @@
 -- What each call makes of what a connection was told.
-use Rattle.std.proofs.Common.{◌≡◌, ℕ, zero, suc, ◌+◌, ◌<◌, ◌==◌, ◌↔◌, Bool, true, false, not, inl, inr, List, [], ◌∷◌, ◌++◌, length, drop, Some, None, IsTrue, refl, sym, ap, subst, ◌∙◌, arith, length-drop}
+use Rattle.std.proofs.Common.{◌≡◌, ℕ, ◌+◌, ◌<◌, ◌≤◌, ◌==◌, ◌↔◌, Bool, true, false, not, inl, inr, List, [], ◌∷◌, ◌++◌, length, drop, Some, None, IsTrue, refl, sym, ap, subst, ◌∙◌, arith, length-drop}
 use Rattle.std.specs.Prelude.{Option, Result, Ok, Err, OnOk, OnErr, IfSome, is_some}
 use Rattle.std.specs.Option.{option_to_list}
 use Rattle.std.specs.List.{slice_get}
 use Rattle.std.proofs.lemmas.Bool.{false≢true}
 use Rattle.std.proofs.lemmas.Bool.Decides.{nat_tests}
-use Rattle.std.proofs.lemmas.Option.{slice_get_within}
+use Rattle.std.proofs.lemmas.List.{at_drop_more}
+use Rattle.std.proofs.lemmas.Option.{get_or_from_slice_get, slice_get_within}
 use Rattle.mc_command.specs.declared.command.Command.{Command}
 use Rattle.mc_reader.specs.Reader.{IsAmidSkipped, IsClosedLine, IsReader, entries_of}
 use Rattle.mc_reader.specs.Spelling.{Given, SpellsFront, is_closed}
@@ -15,12 +16,43 @@ use Rattle.mc_split.specs.declared.plan.Piece.{Piece}
 use Rattle.mc_join.specs.Held.{Held, TakesIn}
 use Rattle.mc_join.specs.Joined.{IsJoiner}
 use Rattle.mc_join.specs.Replies.{replies}
-use Rattle.mc_join.proofs.Joins.{opened_length}
+use Rattle.mc_join.proofs.Joins.{opened_length, slice_get-drop}
 use Rattle.mc_conn.specs.declared.conn.Conn.{Conn}
 use Rattle.mc_conn.specs.internal.Inside.{HasBeenTold, put_first}
 use Rattle.mc_join.specs.Expects.{Expects}
 use Rattle.mc_conn.specs.Told.{Told, IsAllTaken, IsAtRest, IsOver, IsShut, IsSkipping, LeavesUnread, all_forms, all_pieces, all_texts}
 use Rattle.mc_conn.proofs.Forms.{length-forms}
+
+-- A call took no command and handed out nothing: what it made of the reader, of the answers and of the pieces is all that is new.
+pub stays_told : (old new : Conn) (told : Told) (out : ℕ) (lent : Bool) (accepted : List Shown) (h : HasBeenTold old told) → new.shards ≡ old.shards → new.broken ≡ old.broken →
+    IsReader new.reader told.limit told.fed told.ended h.given → new.joiner.window ≡ old.joiner.window → new.joiner.gone ≡ old.joiner.gone → IsJoiner new.joiner (all_forms told) accepted h.texts →
+    out ≤ length (all_pieces told) → put_first new.put_back new.unsent.items ≡ drop out (all_pieces told) → (IsTrue lent → (new.put_back ≡ None) × (0 < out)) →
+    HasBeenTold new (record told { out = out; lent = lent; accepted = accepted })
+stays_told old new told out lent accepted h shards broken read window gone joined within unsent lent_is = record {
+  given = h.given;
+  texts = h.texts;
+  shards = shards ∙ h.shards;
+  window = window ∙ h.window;
+  broken = broken ∙ h.broken;
+  read = read;
+  spelled = h.spelled;
+  may = h.may;
+  joined = joined;
+  handed = h.handed;
+  bounded = h.bounded;
+  works = λ whole. gone ∙ h.works (sym broken ∙ whole);
+  within = within;
+  unsent = unsent;
+  lent = lent_is;
+}
+
+-- And the joiner is the same.
+pub joiner_stays : (old new : Conn) (told : Told) (out : ℕ) (lent : Bool) (h : HasBeenTold old told) → new.shards ≡ old.shards → new.broken ≡ old.broken →
+    IsReader new.reader told.limit told.fed told.ended h.given → new.joiner ≡ old.joiner →
+    out ≤ length (all_pieces told) → put_first new.put_back new.unsent.items ≡ drop out (all_pieces told) → (IsTrue lent → (new.put_back ≡ None) × (0 < out)) →
+    HasBeenTold new (record told { out = out; lent = lent })
+joiner_stays old new told out lent h shards broken read joiner =
+    stays_told old new told out lent told.accepted h shards broken read (ap (λ (held : Held). held.window) joiner) (ap (λ (held : Held). held.gone) joiner) (rw joiner h.joined)
 
 -- A reply is accepted.
 pub accepts : {A B : Type 0} (result : Result A B) (old new : Conn) (reply : Shown) →
@@ -30,23 +62,8 @@ pub accepts : {A B : Type 0} (result : Result A B) (old new : Conn) (reply : Sho
     OnOk result ((told : Told) → HasBeenTold old told → Expects (all_forms told) told.accepted reply × HasBeenTold new (record told { accepted = told.accepted ++ reply ∷ [] }))
 accepts (Ok done) old new reply reader unsent put_back shards broken expected takes joins = λ told h. (
   expected (all_forms told) told.accepted h.texts h.joined,
-  record {
-    given = h.given;
-    texts = h.texts;
-    shards = shards ∙ h.shards;
-    window = ap (λ (held : Held). held.window) takes.after ∙ h.window;
-    broken = broken ∙ h.broken;
-    read = rw reader h.read;
-    spelled = h.spelled;
-    may = h.may;
-    joined = joins (all_forms told) told.accepted h.texts h.joined;
-    handed = h.handed;
-    bounded = h.bounded;
-    works = λ whole. ap (λ (held : Held). held.gone) takes.after ∙ h.works (sym broken ∙ whole);
-    within = h.within;
-    unsent = rw (put_back, unsent) h.unsent;
-    lent = rw put_back h.lent;
-  },
+  stays_told old new told told.out told.lent (told.accepted ++ reply ∷ []) h shards broken (rw reader h.read) (ap (λ (held : Held). held.window) takes.after) (ap (λ (held : Held). held.gone) takes.after)
+      (joins (all_forms told) told.accepted h.texts h.joined) h.within (rw (put_back, unsent) h.unsent) (rw put_back h.lent),
 )
 accepts (Err fault) old new reply reader unsent put_back shards broken expected takes joins = tt
 
@@ -58,42 +75,18 @@ pub refuses : {A B : Type 0} (result : Result A B) (old new : Conn) (reply : Sho
 refuses (Ok done) old new reply reader unsent put_back shards broken unexpected same = tt
 refuses (Err fault) old new reply reader unsent put_back shards broken unexpected same = λ told h. (
   unexpected (all_forms told) told.accepted h.texts h.joined,
-  record {
-    given = h.given;
-    texts = h.texts;
-    shards = shards ∙ h.shards;
-    window = rw same h.window;
-    broken = broken ∙ h.broken;
-    read = rw reader h.read;
-    spelled = h.spelled;
-    may = h.may;
-    joined = rw same h.joined;
-    handed = h.handed;
-    bounded = h.bounded;
-    works = λ whole. rw same (h.works (sym broken ∙ whole));
-    within = h.within;
-    unsent = rw (put_back, unsent) h.unsent;
-    lent = rw put_back h.lent;
-  },
+  joiner_stays old new told told.out told.lent h shards broken (rw reader h.read) same h.within (rw (put_back, unsent) h.unsent) (rw put_back h.lent),
 )
 
 drop_at : {X : Type 0} (n : ℕ) (xs : List X) (x : X) → slice_get xs n ≡ Some x → drop n xs ≡ x ∷ drop (n + 1) xs
-drop_at n [] x here = absurd cc
-drop_at zero (first ∷ xs) x here = let e : first ≡ x = cc in ap (λ y. y ∷ xs) e
-drop_at (suc n) (first ∷ xs) x here =
-    let e : suc (n + 1) ≡ suc n + 1 = omega arith in
-    drop_at n xs x here ∙ ap (λ k. x ∷ drop k (first ∷ xs)) e
+drop_at n xs x here = at_drop_more (λ ys. ys) xs n x (slice_get_within xs n x here) ∙ ap (λ y. y ∷ drop (n + 1) xs) (get_or_from_slice_get xs n x x here)
 
 get_drop : {X : Type 0} (n : ℕ) (xs : List X) (x : X) (rest : List X) → drop n xs ≡ x ∷ rest → (slice_get xs n ≡ Some x) × (rest ≡ drop (n + 1) xs)
-get_drop n [] x rest here = absurd (nothing n here) where
-  nothing : {X : Type 0} {x : X} {rest : List X} (n : ℕ) → drop n [] ≡ x ∷ rest → ⊥
-  nothing zero e = cc
-  nothing (suc n) e = cc
-get_drop zero (first ∷ xs) x rest here = (let e : first ≡ x = cc in ap Some e, let e : xs ≡ rest = cc in sym e)
-get_drop (suc n) (first ∷ xs) x rest here =
-    let e : suc (n + 1) ≡ suc n + 1 = omega arith in
-    let found = get_drop n xs x rest here in
-    (found.0, found.1 ∙ ap (λ k. drop k (first ∷ xs)) e)
+get_drop n xs x rest here =
+    let at : n ≡ n + 0 = omega arith in
+    let found : slice_get xs n ≡ Some x = ap (λ k. slice_get xs k) at ∙ (sym (slice_get-drop n 0 xs) ∙ ap (λ ys. slice_get ys 0) here) in
+    let next = drop_at n xs x found in
+    (found, cc)
 
 -- The oldest piece is taken out.
 pub gives : (old new : Conn) (piece : ℕ × Piece) →
@@ -104,23 +97,7 @@ gives old new piece reader joiner shards broken none left told h =
     let at = get_drop told.out (all_pieces told) piece new.unsent.items (sym h.unsent ∙ left) in
     let below = slice_get_within (all_pieces told) told.out piece at.0 in (
       at.0,
-      record {
-        given = h.given;
-        texts = h.texts;
-        shards = shards ∙ h.shards;
-        window = rw joiner h.window;
-        broken = broken ∙ h.broken;
-        read = rw reader h.read;
-        spelled = h.spelled;
-        may = h.may;
-        joined = rw joiner h.joined;
-        handed = h.handed;
-        bounded = h.bounded;
-        works = λ whole. rw joiner (h.works (sym broken ∙ whole));
-        within = omega (arith, below);
-        unsent = rw none at.1;
-        lent = λ _. (none, omega arith);
-      },
+      joiner_stays old new told (told.out + 1) true h shards broken (rw reader h.read) joiner (omega (arith, below)) (rw none at.1) (λ _. (none, omega arith)),
     )
 
 -- The same where none was put back.
@@ -141,23 +118,9 @@ takes_back old new piece reader joiner shards broken back unsent told before h l
     let within = h.within in
     let none = (h.lent lent).0 in
     let items : old.unsent.items ≡ drop told.out (all_pieces told) = rw none at h.unsent in
-    record {
-      given = h.given;
-      texts = h.texts;
-      shards = shards ∙ h.shards;
-      window = rw joiner h.window;
-      broken = broken ∙ h.broken;
-      read = rw reader h.read;
-      spelled = h.spelled;
-      may = h.may;
-      joined = rw joiner h.joined;
-      handed = h.handed;
-      bounded = h.bounded;
-      works = λ whole. rw joiner (h.works (sym broken ∙ whole));
-      within = omega (arith, within, out);
-      unsent = rw (back, unsent) (ap (λ rest. piece ∷ rest) (items ∙ ap (λ n. drop n (all_pieces told)) out) ∙ sym (drop_at before (all_pieces told) piece here));
-      lent = λ yes. absurd (false≢true yes);
-    }
+    joiner_stays old new told before false h shards broken (rw reader h.read) joiner (omega (arith, within, out))
+    (rw (back, unsent) (ap (λ rest. piece ∷ rest) (items ∙ ap (λ n. drop n (all_pieces told)) out) ∙ sym (drop_at before (all_pieces told) piece here)))
+    (λ yes. absurd (false≢true yes))
 
 -- how many tickets are open
 pub waiting_is : (conn : Conn) (told : Told) → HasBeenTold conn told → told.handed + length conn.joiner.forms ≡ length told.taken
@@ -220,9 +183,6 @@ pub empty_is : (len n : ℕ) → true ≡ (len == 0) → len ≡ n → n ≡ 0
 empty_is len n e same =
     let none = (same_number len 0).0 (sym e) in
     omega (arith, none, same)
-
-pub filled_is : (len n : ℕ) → false ≡ (len == 0) → len ≡ n → 0 < n
-filled_is len n e same = grind (arith, nat_tests)
 
 -- what the reader's test tells of the last command taken
 pub shut_is : (conn : Conn) (closed : Bool) → ((limit : ℕ) (fed : List ℕ) (ended : Bool) (given : List Given) → IsReader conn.reader limit fed ended given → IsTrue closed ↔ IsClosedLine given) →

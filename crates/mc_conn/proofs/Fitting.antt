@@ -1,5 +1,5 @@
 -- Answers fit when a command is taken, and when the reply to the next piece that is due is accepted.
-use Rattle.std.proofs.Common.{◌≡◌, ◌≢◌, ℕ, zero, suc, ◌+◌, ◌<◌, inl, inr, List, [], ◌∷◌, ◌++◌, length, Option, Some, None, refl, sym, ap, ◌∙◌, arith, length-append, append_assoc}
+use Rattle.std.proofs.Common.{◌≡◌, ◌≢◌, ℕ, zero, suc, ◌+◌, ◌<◌, ◌≤◌, inl, inr, List, [], ◌∷◌, ◌++◌, length, Option, Some, None, refl, sym, ap, ◌∙◌, arith, length-append, append_assoc}
 use Rattle.std.specs.List.{slice_get}
 use Rattle.std.specs.Option.{option_map}
 use Rattle.std.proofs.lemmas.Bool.{cases_eq}
@@ -110,6 +110,15 @@ next_expected shards s taken accepted old p reply fits next to =
       kind = kind_at shards (planned of.one) p.part of.asked of.part ∙ (ap kind_of (sym of.op) ∙ sym to.kind);
     }
 
+-- no more was received from any shard than is due there
+pub within_more : (shards s : ℕ) (taken : List Taken) (old new : ℕ → List Shown) (reply : Shown) → ((t : ℕ) → length (old t) ≤ length (due shards t taken)) → length (old s) < length (due shards s taken) → Receives old s reply new → (t : ℕ) → length (new t) ≤ length (due shards t taken)
+within_more shards s taken old new reply within owed receives t = elim (cases_eq t s) [
+  | inl same ↦
+      let grown = ap length receives.here in
+      rw same (omega (arith, owed, grown, length-append (old s) (reply ∷ [])))
+  | inr other ↦ rw (receives.others t other) (within t)
+]
+
 -- and fits where it is accepted
 pub next_fits : (shards s : ℕ) (taken : List Taken) (accepted : List Shown) (old new : ℕ → List Shown) (p : Piece) (reply : Shown) → Fits shards taken accepted old → slice_get (due shards s taken) (length (old s)) ≡ Some p → IsReplyTo p reply → Receives old s reply new → Fits shards taken (accepted ++ reply ∷ []) new
 next_fits shards s taken accepted old new p reply fits next to receives =
@@ -124,13 +133,7 @@ next_fits shards s taken accepted old new p reply fits next to receives =
     let places = one_place shards s t (length (old s)) i taken p q next found same (sym to.part ∙ part) in
     apart places.0 places.1) in
     record {
-      within = λ t. elim (cases_eq t s) [
-        | inl same ↦
-            let grown = ap length receives.here in
-            let below = slice_get_within (due shards s taken) (length (old s)) p next in
-            rw same (omega (arith, grown, below, length-append (old s) (reply ∷ [])))
-        | inr other ↦ rw (receives.others t other) (fits.within t)
-      ];
+      within = within_more shards s taken old new reply fits.within (slice_get_within (due shards s taken) (length (old s)) p next) receives;
       asked =
           let number = of.number_is in
           let below = slice_get_within taken of.place of.one of.here in

@@ -1,5 +1,5 @@
 -- A connection that accepts what is expected keeps its answers in their places, as long as the keys fit.
-use Rattle.std.proofs.Common.{◌≡◌, ℕ, zero, suc, ◌+◌, ◌<◌, ◌≤◌, inl, inr, List, [], ◌∷◌, ◌++◌, length, map, Some, refl, sym, ap, ◌∙◌, arith, length-append}
+use Rattle.std.proofs.Common.{◌≡◌, ℕ, zero, suc, ◌+◌, ◌<◌, inl, inr, List, [], ◌∷◌, ◌++◌, length, map, Some, sym, ap, ◌∙◌, arith, length-append}
 use Rattle.std.specs.List.{slice_get}
 use Rattle.std.proofs.lemmas.Bool.{cases_eq}
 use Rattle.std.proofs.lemmas.Option.{same_Some, slice_get_within}
@@ -12,7 +12,7 @@ use Rattle.mc_conn.specs.Due.{Ran, due, forms_of, lane, pieces_from}
 use Rattle.mc_join.specs.Expects.{Expects}
 use Rattle.mc_conn.specs.Fits.{CameFrom, IsReplyTo, KeysFit, Receives, Serves, reply_of}
 use Rattle.mc_conn.proofs.Gets.{get_below, get_front}
-use Rattle.mc_conn.proofs.Fitting.{due-append, fits_none, fits_take, next_expected, next_fits, push_here}
+use Rattle.mc_conn.proofs.Fitting.{due-append, fits_none, fits_take, next_expected, next_fits, push_here, within_more}
 
 pub serves_none : (shards : ℕ) → Serves shards [] [] (λ s. [])
 serves_none shards = record { within = λ s. omega arith; fits = λ keys. fits_none shards }
@@ -36,14 +36,6 @@ kept old new s reply receives t i r came = elim (cases_eq t s) [
       let here : slice_get (old s) i ≡ Some r = ap (λ k. slice_get (old k) i) (sym same) ∙ came in
       ap (λ k. slice_get (new k) i) same ∙ (ap (λ xs. slice_get xs i) receives.here ∙ get_front (old s) (reply ∷ []) i r here)
   | inr other ↦ ap (λ xs. slice_get xs i) (receives.others t other) ∙ came
-]
-
-within_more : (shards s : ℕ) (taken : List Taken) (old new : ℕ → List Shown) (reply : Shown) → ((t : ℕ) → length (old t) ≤ length (due shards t taken)) → length (old s) < length (due shards s taken) → Receives old s reply new → (t : ℕ) → length (new t) ≤ length (due shards t taken)
-within_more shards s taken old new reply within owed receives t = elim (cases_eq t s) [
-  | inl same ↦
-      let grown = ap length receives.here in
-      rw same (omega (arith, owed, grown, length-append (old s) (reply ∷ [])))
-  | inr other ↦ rw (receives.others t other) (within t)
 ]
 
 -- where the keys fit, the next reply is to the next piece that is due
@@ -84,11 +76,6 @@ reply_at (entry ∷ ran) zero p reply asked came =
     }
 reply_at (entry ∷ ran) (suc i) p reply asked came = reply_at ran i p reply asked came
 
-front_at : {X : Type 0} (xs ys : List X) (i : ℕ) → i < length xs → slice_get (xs ++ ys) i ≡ slice_get xs i
-front_at [] ys i below = absurd (omega (arith, below))
-front_at (x ∷ xs) ys zero below = refl
-front_at (x ∷ xs) ys (suc i) below = front_at xs ys i (omega (arith, below))
-
 -- the keys of replies that the shards gave fit
 pub keys_came : (shards : ℕ) (taken : List Taken) (received : ℕ → List Shown) → ((s : ℕ) → CameFrom shards s taken (received s)) → KeysFit shards taken received
 keys_came shards taken received came s i p reply asked got =
@@ -97,5 +84,7 @@ keys_came shards taken received came s i p reply asked got =
     let here : slice_get (map reply_of from.ran) i ≡ Some reply = ap (λ xs. slice_get xs i) (sym from.replies_are) ∙ got in
     let below = slice_get_within (map reply_of from.ran) i reply here in
     let within : i < length asked_of = omega (arith, below, length-map from.ran reply_of, length-map from.ran (λ (entry : Ran). entry.piece)) in
-    let piece : slice_get asked_of i ≡ Some p = sym (front_at asked_of from.rest i within) ∙ (ap (λ ps. slice_get ps i) (sym from.asked) ∙ asked) in
+    let found = get_below asked_of i within in
+    let whole = get_front asked_of from.rest i found.0 found.1 in
+    let piece : slice_get asked_of i ≡ Some p = found.1 ∙ (sym whole ∙ (ap (λ ps. slice_get ps i) (sym from.asked) ∙ asked)) in
     reply_at from.ran i p reply piece here

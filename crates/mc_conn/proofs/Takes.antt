@@ -27,7 +27,7 @@ use Rattle.mc_conn.specs.Due.{forms_of, pieces_from, ticket_at}
 use Rattle.mc_conn.specs.History.{Taken, MayBeTaken, planned}
 use Rattle.mc_conn.specs.internal.Plans.{Plans, unless_given_up}
 use Rattle.mc_conn.specs.Told.{Told, IsOver, all_forms, all_pieces, commands_of}
-use Rattle.mc_conn.proofs.Calls.{waiting_is}
+use Rattle.mc_conn.proofs.Calls.{joiner_stays, waiting_is}
 use Rattle.mc_conn.proofs.Fitting.{pieces_from-append}
 use Rattle.mc_conn.proofs.Forms.{forms-push, length-forms}
 use Rattle.mc_conn.proofs.Gets.{all_push}
@@ -77,23 +77,7 @@ needs_more old new on room says joiner unsent put_back shards broken told h =
       goes_on = subst On h.spelled said.1.1;
       room = omega (arith, forms, window, room);
       waits = said.3;
-      now = record {
-        given = h.given;
-        texts = h.texts;
-        shards = shards ∙ h.shards;
-        window = rw joiner h.window;
-        broken = broken ∙ h.broken;
-        read = said.2;
-        spelled = h.spelled;
-        may = h.may;
-        joined = rw joiner h.joined;
-        handed = h.handed;
-        bounded = h.bounded;
-        works = λ whole. rw joiner (h.works (sym broken ∙ whole));
-        within = h.within;
-        unsent = rw (put_back, unsent) h.unsent;
-        lent = rw put_back h.lent;
-      };
+      now = joiner_stays old new told told.out told.lent h shards broken said.2 joiner h.within (rw (put_back, unsent) h.unsent) (rw put_back h.lent);
     }
 
 -- what is planned of a command that was given up by the reader or in planning

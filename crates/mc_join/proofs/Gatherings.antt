@@ -6,59 +6,25 @@ use Rattle.mc_wire.specs.Outlet.{BreaksOff, Read, Sight, Trace, Untold, Counted,
 use Rattle.mc_wire.proofs.Outlets.{took-nil}
 use Rattle.mc_join.specs.internal.Gathered.{below, mark, over, told}
 
--- the reads of the outlet below again
-abbrev pub shown : Option (List Read) → Option (List Read)
-shown None = None
-shown (Some []) = None
-shown (Some (name ∷ [])) = None
-shown (Some (name ∷ (first ∷ reads))) = Some reads
+below_is : (a b : Option (List Read)) → below a ≡ below b → a ≡ b
+below_is None None same = refl
+below_is (Some a) (Some b) same = cc
+below_is a b same = absurd cc
 
-shown-below : (name : ℕ) (reads : Option (List Read)) → shown (Some (mark name ∷ below reads)) ≡ reads
-shown-below name None = refl
-shown-below name (Some reads) = refl
-
-abbrev pub under : Sight → Sight
-under sight = record sight { reads = shown sight.reads }
-
-pub under-over : (name : ℕ) (sight : Sight) → under (over name sight) ≡ sight
-under-over name sight = ap (λ reads. record sight { reads = reads }) (shown-below name sight.reads)
-
-count_of : Trace → ℕ
-count_of Untold = 0
-count_of (Counted count) = count
-count_of (Listed bytes) = 0
-
-name_in : Sight → ℕ
-name_in sight = first_name sight.reads where
-  first_name : Option (List Read) → ℕ
-  first_name None = 0
-  first_name (Some []) = 0
-  first_name (Some (name ∷ reads)) = count_of name.given
+-- outlets over others are the same only where they are over the same one
+over_is : (is was : ℕ) (new old : Sight) → over is new ≡ over was old → (is ≡ was) × (new ≡ old)
+over_is is was new old same =
+    let reads : Some (mark is ∷ below new.reads) ≡ Some (mark was ∷ below old.reads) = ap (λ (s : Sight). s.reads) same in
+    let marks : mark is ≡ mark was = cc in
+    let names : Counted is ≡ Counted was = ap (λ (read : Read). read.given) marks in
+    (cc, ap (λ rs. record new { reads = rs }) (below_is new.reads old.reads cc) ∙ ap (λ (s : Sight). record s { reads = old.reads }) same)
 
 -- whatever was written, it is the same outlet, and what waits came behind what that took
-pub writes_under : {X E : Type 0} (text : List ℕ) (result : Result X E) (was is : ℕ) (old new : Sight) → Writes text result (over was old) (over is new) → (is ≡ was) × Writes text result old new
-unfolding name_in count_of
-writes_under text (Ok done) was is old new wrote =
-    (ap name_in wrote, sym (under-over is new) ∙ (ap under wrote ∙ under-over was (took text old)))
-writes_under text (Err fault) was is old new off = (
-  ap name_in off.sight,
-  record {
-    count = off.count;
-    within = off.within;
-    sight = sym (under-over is new) ∙ (ap under off.sight ∙ under-over was (broke (took (take off.count text) old)));
-  },
-)
-
-pub counted_is : {a b : ℕ} → Counted a ≡ Counted b → a ≡ b
-unfolding count_of
-counted_is same = ap count_of same
-
-listed_is : {a b : List ℕ} → Listed a ≡ Listed b → a ≡ b
-listed_is same = ap bytes_of same where
-  bytes_of : Trace → List ℕ
-  bytes_of Untold = []
-  bytes_of (Counted count) = []
-  bytes_of (Listed bytes) = bytes
+writes_under : {X E : Type 0} (text : List ℕ) (result : Result X E) (was is : ℕ) (old new : Sight) → Writes text result (over was old) (over is new) → (is ≡ was) × Writes text result old new
+writes_under text (Ok done) was is old new wrote = over_is is was new (took text old) wrote
+writes_under text (Err fault) was is old new off =
+    let same = over_is is was new (broke (took (take off.count text) old)) off.sight in
+    (same.0, record { count = off.count; within = off.within; sight = same.1 })
 
 -- a list that begins with another, where the end was cut off
 front_of : (now waits old text : List ℕ) → now ++ waits ≡ old ++ text → length old ≤ length now → now ≡ old ++ take (length text - length waits) text
@@ -72,18 +38,13 @@ front_of now waits old text same grown =
 -- the bytes that the outlet took, where the last ones still wait
 traces : (old now : Trace) (waits text : List ℕ) → with_bytes now waits ≡ with_bytes old text → told old ≤ told now → now ≡ with_bytes old (take (length text - length waits) text)
 traces Untold Untold waits text same grown = refl
-traces Untold (Counted m) waits text same grown = absurd (cc)
-traces Untold (Listed xs) waits text same grown = absurd (cc)
-traces (Counted n) Untold waits text same grown = absurd (cc)
-traces (Counted n) (Listed xs) waits text same grown = absurd (cc)
-traces (Listed ys) Untold waits text same grown = absurd (cc)
-traces (Listed ys) (Counted m) waits text same grown = absurd (cc)
 traces (Counted n) (Counted m) waits text same grown =
-    let sums = counted_is same in
-    let cut = length-take (length text - length waits) text in
-    ap (λ k. Counted k) (omega (arith, sums, grown, cut))
+    let sums : m + length waits ≡ n + length text = cc in
+    ap (λ k. Counted k) (omega (arith, sums, grown, length-take (length text - length waits) text))
 traces (Listed ys) (Listed xs) waits text same grown =
-    ap (λ bytes. Listed bytes) (front_of xs waits ys text (listed_is same) grown)
+    let all : xs ++ waits ≡ ys ++ text = cc in
+    ap (λ bytes. Listed bytes) (front_of xs waits ys text all grown)
+traces old now waits text same grown = absurd (cc)
 
 -- it broke off while some bytes waited
 pub waits_and_breaks : (text waits : List ℕ) (old new : Sight) → told old.taken ≤ told new.taken → BreaksOff text old (took waits new) → BreaksOff text old new

@@ -1,10 +1,7 @@
 -- The forms of the open tickets: their numbers, their places, and those whose turn has come.
-use Rattle.std.proofs.Common.{◌≡◌, ◌≢◌, ℕ, zero, suc, ◌+◌, ◌-◌, ◌<◌, ◌≤◌, true, List, [], ◌∷◌, ◌++◌, length, drop, cond, Some, None, refl, sym, ap, subst, ◌∙◌, arith}
-use Rattle.std.proofs.Common.{length-set}
+use Rattle.std.proofs.Common.{◌≡◌, ◌≢◌, ℕ, zero, suc, ◌+◌, ◌-◌, ◌<◌, ◌≤◌, List, [], ◌∷◌, ◌++◌, length, drop, Some, refl, sym, ap, ◌∙◌, arith, length-set}
 use Rattle.std.specs.List.{slice_get, slice_set}
-use Rattle.std.specs.List.{prefix_len}
 use Rattle.std.proofs.lemmas.Option.{same_Some, slice_get_within}
-use Rattle.mc_join.specs.Replies.{is_answered}
 use Rattle.mc_item.specs.declared.answer.Answer.{Answer}
 use Rattle.mc_ring.specs.Reply.{Shown}
 use Rattle.mc_split.specs.declared.form.Form.{Form}
@@ -13,12 +10,8 @@ use Rattle.mc_join.specs.Held.{Held, AreNumbered, Awaits, AwaitsAt, IsAwaited, F
 
 pub numbered_at : (n : ℕ) (forms : List Form) (place : ℕ) (form : Form) → AreNumbered n forms → slice_get forms place ≡ Some form → form.ticket.0 ≡ n + place
 numbered_at n [] place form numbered here = absurd (cc)
-numbered_at n (first ∷ forms) zero form numbered here =
-    let same : first ≡ form = same_Some first form here in
-    let e : first.ticket.0 ≡ form.ticket.0 = ap (λ (f : Form). f.ticket.0) same in
-    omega (arith, numbered.0, e)
-numbered_at n (first ∷ forms) (suc place) form numbered here =
-    let below = numbered_at (n + 1) forms place form numbered.1 here in omega (arith, below)
+numbered_at n (first ∷ forms) zero form numbered here = (rw (same_Some first form here) at numbered.0) ∙ omega arith
+numbered_at n (first ∷ forms) (suc place) form numbered here = numbered_at (n + 1) forms place form numbered.1 here ∙ omega arith
 
 -- one form more, with the next number
 pub numbered_more : (n : ℕ) (forms : List Form) (form : Form) → AreNumbered n forms → form.ticket.0 ≡ n + length forms → AreNumbered n (forms ++ form ∷ [])
@@ -29,8 +22,7 @@ numbered_more n (first ∷ forms) form numbered next = (numbered.0, numbered_mor
 pub numbered_set : (n : ℕ) (forms : List Form) (place : ℕ) (old new : Form) → AreNumbered n forms → slice_get forms place ≡ Some old → new.ticket ≡ old.ticket → AreNumbered n (slice_set forms place new)
 numbered_set n [] place old new numbered here same = tt
 numbered_set n (first ∷ forms) zero old new numbered here same =
-    let e : first ≡ old = same_Some first old here in
-    (ap (λ (t : Ticket). t.0) same ∙ (sym (ap (λ (f : Form). f.ticket.0) e) ∙ numbered.0), numbered.1)
+    (ap (λ (t : Ticket). t.0) same ∙ (rw (same_Some first old here) at numbered.0), numbered.1)
 numbered_set n (first ∷ forms) (suc place) old new numbered here same =
     (numbered.0, numbered_set (n + 1) forms place old new numbered.1 here same)
 
@@ -59,17 +51,10 @@ unwanted held reply place form numbered at here not w =
     let there = numbered_at held.handed held.forms w.0 w.1.form numbered w.1.here in
     let ticket : w.1.form.ticket.0 ≡ reply.ticket.0 = ap (λ (t : Ticket). t.0) w.1.ticket in
     let same : w.0 ≡ place = omega (arith, there, ticket, at) in
-    let found : Some w.1.form ≡ Some form = sym w.1.here ∙ (ap (λ i. slice_get held.forms i) same ∙ here) in
-    let forms : w.1.form ≡ form = same_Some w.1.form form found in
-    let P : Form → Type 0 = λ f. Awaits f reply in
-    not (subst P forms w.1.awaits)
+    let found : Some w.1.form ≡ Some form = sym w.1.here ∙ (rw same here) in
+    not (rw (same_Some w.1.form form found) at w.1.awaits)
 
--- the place of a ticket has a form
-pub some_there : (forms : List Form) (place : ℕ) → place < length forms → slice_get forms place ≡ None → ⊥
-some_there [] place below none = omega (arith, below)
-some_there (form ∷ forms) zero below none = absurd (cc)
-some_there (form ∷ forms) (suc place) below none = some_there forms place (omega (arith, below)) none
-
+-- the form of the reply's ticket awaits it
 pub awaits_at : (held : Held) (reply : Shown) (place : ℕ) (form : Form) → AreNumbered held.handed held.forms → reply.ticket.0 ≡ held.handed + place → slice_get held.forms place ≡ Some form → Awaits form reply → AwaitsAt held reply place
 awaits_at held reply place form numbered at here awaits =
     let there = numbered_at held.handed held.forms place form numbered here in
@@ -78,16 +63,7 @@ awaits_at held reply place form numbered at here awaits =
 -- what a filled slot leaves of the numbers
 pub fills_numbered : (n : ℕ) (old new : List Form) (place part : ℕ) (answer : Answer) → AreNumbered n old → Fills old new place part answer → AreNumbered n new
 fills_numbered n old new place part answer numbered fills =
-    let P : List Form → Type 0 = λ forms. AreNumbered n forms in
-    subst P (sym fills.after) (numbered_set n old place fills.form (with_answer part answer fills.form) numbered fills.here refl)
+    rw fills.after (numbered_set n old place fills.form (with_answer part answer fills.form) numbered fills.here refl)
 
 pub fills_length : (old new : List Form) (place part : ℕ) (answer : Answer) → Fills old new place part answer → length new ≡ length old
 fills_length old new place part answer fills = ap length fills.after ∙ length-set old place (with_answer part answer fills.form)
-
--- the forms that are left behind so many
-pub left_forms : (forms : List Form) (count : ℕ) → count ≤ length forms → drop (length forms - (length forms - count)) forms ≡ drop count forms
-left_forms forms count within = ap (λ n. drop n forms) (omega (arith, within))
-
--- a form that has all its answers, before the others
-pub prefix-next : (form : Form) (forms : List Form) → is_answered form ≡ true → prefix_len is_answered (form ∷ forms) ≡ 1 + prefix_len is_answered forms
-prefix-next form forms whole = ap (λ b. cond b (1 + prefix_len is_answered forms) 0) whole

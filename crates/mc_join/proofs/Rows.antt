@@ -1,4 +1,4 @@
--- A worked row, computed: a get of two keys whose second answer comes first.
+-- Worked rows, computed: a get of two keys whose second answer comes first.
 use Rattle.std.proofs.Common.{◌≡◌, false, [], ◌∷◌, None, length, refl}
 use Rattle.std.specs.Prelude.{codes}
 use Rattle.std.specs.Fmt.{digits}
@@ -20,25 +20,12 @@ second = record { ticket = record { 0 = 0 }; part = 1; kind = kind.Fetch; answer
 abbrev first : Shown
 first = record { ticket = record { 0 = 0 }; part = 0; kind = kind.Fetch; answer = answer.Hit 0 1 (codes "x") }
 
--- while an answer is missing there is no reply
-none_yet : replies (two_keys ∷ []) (second ∷ []) ≡ []
+-- while an answer is missing there is no reply; then it is one, in whichever order the answers came; a complete reply waits
+-- for the one before it; and the text has this length
+two_replies : (replies (two_keys ∷ []) (second ∷ []) ≡ [])
+    × (replies (two_keys ∷ []) (second ∷ first ∷ []) ≡ codes "VALUE a 0 1\r\nx\r\nEND\r\n" ∷ [])
+    × (replies (two_keys ∷ []) (first ∷ second ∷ []) ≡ replies (two_keys ∷ []) (second ∷ first ∷ []))
+    × (replies (two_keys ∷ record two_keys { ticket = record { 0 = 1 } } ∷ []) (record second { ticket = record { 0 = 1 } } ∷ record first { ticket = record { 0 = 1 } } ∷ []) ≡ [])
+    × (length (codes "VALUE a 0 1\r\nx\r\nEND\r\n") ≡ 21)
 unfolding shape_text digits
-none_yet = refl
-
-then_both : replies (two_keys ∷ []) (second ∷ first ∷ []) ≡ codes "VALUE a 0 1\r\nx\r\nEND\r\n" ∷ []
-unfolding shape_text digits
-then_both = refl
-
--- in whichever order the answers come
-either_order : replies (two_keys ∷ []) (first ∷ second ∷ []) ≡ replies (two_keys ∷ []) (second ∷ first ∷ [])
-unfolding shape_text digits
-either_order = refl
-
--- the text has this length
-row_length : length (codes "VALUE a 0 1\r\nx\r\nEND\r\n") ≡ 21
-row_length = refl
-
--- a complete reply waits for the one before it
-waits : replies (two_keys ∷ record two_keys { ticket = record { 0 = 1 } } ∷ []) (record second { ticket = record { 0 = 1 } } ∷ record first { ticket = record { 0 = 1 } } ∷ []) ≡ []
-unfolding shape_text digits
-waits = refl
+two_replies = (refl, refl, refl, refl, refl)

@@ -1,11 +1,10 @@
 -- Texts written one part after another, and texts over slots that are all filled.
-use Rattle.std.proofs.Common.{◌≡◌, ℕ, Bool, true, false, List, [], ◌∷◌, ◌++◌, length, map, Option, Some, refl, sym, ap, ◌∙◌, append_assoc, append-nil, arith, ◌<◌, ◌+◌, drop, get_or}
+use Rattle.std.proofs.Common.{◌≡◌, ℕ, Bool, true, false, List, [], ◌∷◌, ◌++◌, length, map, Option, Some, refl, sym, ap, ◌∙◌, append_assoc, append-nil, arith, ◌<◌, ◌+◌, take, drop, get_or, IsTrue, ◌-◌, ◌^◌}
 use Rattle.std.specs.Prelude.{codes, decimal, ◌||◌, Result, Ok, Err}
 use Rattle.std.specs.List.{concat, list_any, zip, flat_map}
-use Rattle.std.proofs.lemmas.List.{at_drop_more}
+use Rattle.std.proofs.lemmas.List.{at_drop_more, length-take}
 use Rattle.mc_wire.specs.Outlet.{BreaksOff, Counted, Sight, Writes, sight_out, took}
 use Rattle.mc_wire.proofs.Outlets.{breaks_first, breaks_later, took-nil, writes_on}
-use Rattle.mc_join.proofs.Gatherings.{counted_is}
 use Rattle.mc_item.specs.declared.answer.Answer.{Answer}
 use Rattle.mc_split.specs.declared.form.Shape.{Shape}
 use Rattle.mc_split.specs.declared.form.Shape.TheVariants as shape
@@ -14,12 +13,10 @@ use Rattle.mc_command.specs.declared.meta.MetaFlags.{MetaFlags}
 use Rattle.mc_item.specs.declared.answer.Answer.TheVariants as answers
 use Rattle.mc_item.specs.declared.answer.MetaDone.{MetaDone}
 use Rattle.mc_item.specs.declared.answer.MetaHit.{MetaHit}
-use Rattle.std.proofs.Common.{IsTrue, ◌-◌, ◌^◌}
-use Rattle.std.proofs.lemmas.List.{length-take}
+use Rattle.mc_join.specs.Held.{IsDue}
 use Rattle.mc_join.specs.Length.{capped}
 use Rattle.mc_join.specs.Replies.{complete, form_text, is_answered}
 use Rattle.mc_split.specs.declared.form.Form.{Form}
-use Rattle.std.proofs.Common.{cond}
 use Rattle.std.proofs.lemmas.List.Sums.{take_while-cons}
 use Rattle.mc_join.specs.internal.Slots.{slots_text, items_text, lacks_memory, first_text, slot_text, unless_lacking}
 
@@ -82,51 +79,49 @@ pub items-no_slots : (with_unique : Bool) (keys : List (List ℕ)) → items_tex
 items-no_slots with_unique [] = refl
 items-no_slots with_unique (key ∷ keys) = refl
 
--- the next item, of the key that comes first
-pub items-next : (with_unique : Bool) (keys more : List (List ℕ)) (key : List ℕ) (slots : List (Option Answer)) (i : ℕ) (slot : Option Answer) → keys ≡ key ∷ more → i < length slots → slot ≡ get_or slots i slot →
-    items_text with_unique keys (drop i slots) ≡ slot_text (item_text with_unique key) slot ++ items_text with_unique more (drop (i + 1) slots)
-items-next with_unique keys more key slots i slot keys_are below slot_is =
-    ap (λ ks. items_text with_unique ks (drop i slots)) keys_are
-    ∙ (at_drop_more (λ xs. items_text with_unique (key ∷ more) xs) slots i slot below
-    ∙ ap (λ s. slot_text (item_text with_unique key) s ++ items_text with_unique more (drop (i + 1) slots)) (sym slot_is))
+-- the item of the key that comes first is next
+pub item_next : {whole : List ℕ} {old now : Sight} (with_unique : Bool) (keys more : List (List ℕ)) (key : List ℕ) (slots : List (Option Answer)) (i : ℕ) (slot : Option Answer) →
+    keys ≡ key ∷ more → i < length slots → slot ≡ get_or slots i slot → WroteBut whole (items_text with_unique keys (drop i slots)) old now →
+    WroteBut whole (slot_text (item_text with_unique key) slot ++ items_text with_unique more (drop (i + 1) slots)) old now
+item_next with_unique keys more key slots i slot keys_are below slot_is so_far =
+    let next : items_text with_unique keys (drop i slots) ≡ slot_text (item_text with_unique key) slot ++ items_text with_unique more (drop (i + 1) slots) =
+    rw (keys_are, at_drop_more (λ xs. items_text with_unique (key ∷ more) xs) slots i slot below, ← slot_is) in
+    rw next at so_far
 
--- three texts one after another, the last however it went
-pub second_breaks : (whole a b c : List ℕ) {old one two : Sight} → whole ≡ a ++ (b ++ c) → one ≡ took a old → BreaksOff b one two → BreaksOff whole old two
-second_breaks whole a b c {old} parts first off = rw parts (part_breaks b c (wrote_more a (b ++ c) (wrote_none (a ++ (b ++ c)) old) first) off)
+-- the first part was written
+pub wrote_first : (part : List ℕ) {whole rest : List ℕ} {old new : Sight} → whole ≡ part ++ rest → new ≡ took part old → WroteBut whole rest old new
+wrote_first part parts first = record { front = part; sight = first; parts = parts }
 
-pub third_writes : {X E : Type 0} (whole a b c : List ℕ) (result : Result X E) (old one two three : Sight) → whole ≡ a ++ (b ++ c) → one ≡ took a old → two ≡ took b one → Writes c result two three → Writes whole result old three
-third_writes whole a b c (Ok done) old one two three parts first second third =
-    rw parts (writes_on _ _ _ a (b ++ c) first (writes_on _ _ _ b c second third))
-third_writes whole a b c (Err fault) old one two three parts first second off =
-    rw parts (breaks_later _ _ _ a (b ++ c) first (breaks_later _ _ _ b c second off))
+-- the first part broke off
+pub first_breaks : (part rest : List ℕ) {whole : List ℕ} {old new : Sight} → whole ≡ part ++ rest → BreaksOff part old new → BreaksOff whole old new
+first_breaks part rest parts off = rw parts (breaks_first _ _ part rest off)
+
+-- what is left is written last, however that goes
+pub writes_rest : {X E : Type 0} {whole rest : List ℕ} {old mid : Sight} (new : Sight) (result : Result X E) → WroteBut whole rest old mid → Writes rest result mid new → Writes whole result old new
+writes_rest {rest} new (Ok done) so_far last = rw so_far.parts (writes_on _ _ _ so_far.front rest so_far.sight last)
+writes_rest {rest} new (Err fault) so_far off = rw so_far.parts (breaks_later _ _ _ so_far.front rest so_far.sight off)
 
 pub values-parts : (with_unique : Bool) (keys others : List (List ℕ)) (key : List ℕ) (slots more : List (Option Answer)) (slot : Option Answer) (end : List ℕ) → keys ≡ key ∷ others → slots ≡ slot ∷ more →
     items_text with_unique keys slots ++ end ≡ slot_text (item_text with_unique key) slot ++ (items_text with_unique others more ++ end)
-values-parts with_unique keys others key slots more slot end keys_are slots_are =
-    ap (λ ks. items_text with_unique ks slots ++ end) keys_are
-    ∙ (ap (λ xs. items_text with_unique (key ∷ others) xs ++ end) slots_are
-    ∙ append_assoc (slot_text (item_text with_unique key) slot) (items_text with_unique others more) end)
+values-parts with_unique keys others key slots more slot end keys_are slots_are = rw (keys_are, slots_are) (simp append_assoc)
 
--- the first text broke off
-pub first_breaks : (whole a rest : List ℕ) {old new : Sight} → whole ≡ a ++ rest → BreaksOff a old new → BreaksOff whole old new
-first_breaks whole a rest parts off = rw parts (breaks_first _ _ a rest off)
+-- the text of one of some things is next, where their list is known by another name
+pub text_next : {X : Type 0} {whole : List ℕ} {old now : Sight} (f : X → List ℕ) (xs ys : List X) (i : ℕ) (d : X) → ys ≡ xs → i < length ys → WroteBut whole (flat_map f (drop i xs)) old now →
+    WroteBut whole (f (get_or ys i d) ++ flat_map f (drop (i + 1) xs)) old now
+text_next f xs ys i d same below so_far =
+    let next : flat_map f (drop i ys) ≡ f (get_or ys i d) ++ flat_map f (drop (i + 1) ys) = at_drop_more (λ zs. flat_map f zs) ys i d below in
+    rw (ap (λ zs. flat_map f (drop i zs)) (sym same) ∙ (next ∙ ap (λ zs. f (get_or ys i d) ++ flat_map f (drop (i + 1) zs)) same)) at so_far
 
--- the next of some parts, where the list that is walked is known by another name
-pub flat_map-next : {X : Type 0} (f : X → List ℕ) (xs ys : List X) (i : ℕ) (d : X) → ys ≡ xs → i < length ys → flat_map f (drop i xs) ≡ f (get_or ys i d) ++ flat_map f (drop (i + 1) xs)
-flat_map-next f xs ys i d same below =
-    ap (λ zs. flat_map f (drop i zs)) (sym same) ∙ (at_drop_more (λ zs. flat_map f zs) ys i d below ∙ ap (λ zs. f (get_or ys i d) ++ flat_map f (drop (i + 1) zs)) same)
-
-pub value-parts : (size digits flags rest : List ℕ) → digits ≡ size → codes "VA " ++ (size ++ (flags ++ rest)) ≡ (codes "VA " ++ (digits ++ [])) ++ (flags ++ rest)
-value-parts size digits flags rest same =
-    ap (λ xs. codes "VA " ++ (xs ++ (flags ++ rest))) (sym same) ∙ ap (λ xs. codes "VA " ++ xs) (ap (λ xs. xs ++ (flags ++ rest)) (sym (append-nil digits)))
+-- the line before a value is the first part of a reply with one
+pub value-parts : (value digits line flags end : List ℕ) → digits ≡ decimal (length value) → line ≡ codes "VA " ++ (digits ++ []) →
+    codes "VA " ++ (decimal (length value) ++ (flags ++ (end ++ (value ++ codes "\r\n")))) ≡ line ++ (flags ++ (end ++ (value ++ codes "\r\n")))
+value-parts value digits line flags end size line_is = rw (line_is, size, append-nil (decimal (length value)))
 
 -- a hit of `mg` with its value, whose line the marks end
 pub found_text : (flags : MetaFlags) (key : Option (List ℕ)) (answer : Answer) (hit : MetaHit) (shown : Bool) (value end : List ℕ) → answer ≡ answers.MetaHit hit → shown ≡ true → value ≡ hit.value → end ≡ marks_text hit.marks ++ codes "\r\n" →
     coded_text flags key answer shown ≡ codes "VA " ++ (decimal (length value) ++ (flags_text flags key answer ++ (end ++ (value ++ codes "\r\n"))))
-found_text flags key answer hit shown value end is on same ends = rw (is, on, same, ends) (found flags key hit) where
-  found : (flags : MetaFlags) (key : Option (List ℕ)) (hit : MetaHit) → coded_text flags key (answers.MetaHit hit) true ≡ codes "VA " ++ (decimal (length hit.value) ++ (flags_text flags key (answers.MetaHit hit) ++ ((marks_text hit.marks ++ codes "\r\n") ++ (hit.value ++ codes "\r\n"))))
-  found flags key hit =
-      ap (λ xs. codes "VA " ++ (decimal (length hit.value) ++ (flags_text flags key (answers.MetaHit hit) ++ xs))) (sym (append_assoc (marks_text hit.marks) (codes "\r\n") (hit.value ++ codes "\r\n")))
+found_text flags key answer hit shown value end is on same ends =
+    rw (is, on, same, ends) (ap (λ xs. codes "VA " ++ (decimal (length hit.value) ++ (flags_text flags key (answers.MetaHit hit) ++ xs))) (sym (append_assoc (marks_text hit.marks) (codes "\r\n") (hit.value ++ codes "\r\n"))))
 
 -- what `ma` did, with its number
 pub done_text : (flags : MetaFlags) (key : Option (List ℕ)) (answer : Answer) (done : MetaDone) (shown : Bool) (number : List ℕ) → answer ≡ answers.MetaDone done → shown ≡ true → number ≡ decimal done.number →
@@ -136,17 +131,18 @@ done_text flags key answer done shown number is on same = rw (is, on, same) refl
 abbrev pub texts : List Form → List ℕ
 texts forms = concat (map form_text (complete forms))
 
--- the first form has all its answers
-pub texts-next : (form : Form) (forms : List Form) → is_answered form ≡ true → texts (form ∷ forms) ≡ form_text form ++ texts forms
-texts-next form forms whole =
-    ap (λ fs. concat (map form_text fs)) (take_while-cons is_answered form forms ∙ ap (λ b. cond b (form ∷ complete forms) []) whole)
+-- the first form has all its answers, and its reply is next
+pub reply_next : {whole : List ℕ} {old now : Sight} (form : Form) (rest forms : List Form) → forms ≡ form ∷ rest → IsDue form → WroteBut whole (texts forms) old now → WroteBut whole (form_text form ++ texts rest) old now
+reply_next form rest forms forms_are due so_far = rw (forms_are, take_while-cons is_answered form rest, due) at so_far
 
 -- What a counter tells of a text that was written to it.
 pub counted : {X E : Type 0} (result : Result X E) (text : List ℕ) (count : ℕ) (full : Bool) → (IsTrue full → count ≡ 2 ^ 64 - 1) → count < 2 ^ 64 → Writes text result (sight_out (Counted 0) false) (sight_out (Counted count) full) → count ≡ capped (length text)
 counted (Ok done) text count full most fits wrote =
-    let all = counted_is (ap (λ (s : Sight). s.taken) wrote) in omega (arith, all, fits)
+    let taken : Counted count ≡ Counted (0 + length text) = ap (λ (s : Sight). s.taken) wrote in
+    let all : count ≡ 0 + length text = cc in
+    omega (arith, all, fits)
 counted (Err fault) text count full most fits off =
     let failed : full ≡ true = ap (λ (s : Sight). s.failed) off.sight in
-    let part = counted_is (ap (λ (s : Sight). s.taken) off.sight) in
-    let within = off.within in
-    omega (arith, most failed, part, within, length-take off.count text)
+    let taken : Counted count ≡ Counted (0 + length (take off.count text)) = ap (λ (s : Sight). s.taken) off.sight in
+    let part : count ≡ 0 + length (take off.count text) = cc in
+    omega (arith, most failed, part, off.within, length-take off.count text)

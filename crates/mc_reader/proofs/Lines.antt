@@ -2,11 +2,10 @@
 use Rattle.std.proofs.Common.{◌≡◌, ℕ, zero, suc, ◌+◌, ◌<◌, false, List, [], ◌∷◌, ◌++◌, length, take, drop, slice_index, ◌==◌, sym, ap, ◌∙◌, arith, append_assoc, length-append, length-take, Option, Some, None}
 use Rattle.std.proofs.lemmas.Bool.{false_from_ne_true}
 use Rattle.std.proofs.lemmas.Bool.Decides.{nat_tests}
-use Rattle.std.proofs.Math.Seq.{take-append_seam}
+use Rattle.std.proofs.Math.Seq.{drop-append-add, take-append_seam}
 use Rattle.memchr.specs.Find.{IsFirstByte, is_byte}
 use Rattle.mc_reader.specs.Spelling.{HasNoEnd}
 use Rattle.mc_reader.specs.internal.State.{EndsAt, IsFirstLine}
-use Rattle.mc_reader.proofs.Texts.{drop_front}
 
 -- no byte before the first end of a line is one
 no_end_before : (bytes : List ℕ) (end : ℕ) → ((k : ℕ) → k < end → (slice_index bytes k == 10) ≡ false) → HasNoEnd (take end bytes)
@@ -71,12 +70,8 @@ pub record AtLine (bytes : List ℕ) (long : ℕ) : Type 0 where
 at_line_of : (bytes : List ℕ) (long : ℕ) (line rest : List ℕ) → bytes ≡ line ++ 10 ∷ rest → HasNoEnd line → length line ≡ long → AtLine bytes long
 at_line_of bytes long line rest is none long_is =
     let front : take long bytes ≡ line = rw (is, ← long_is) (take-append_seam line (10 ∷ rest)) in
-    let back : drop (long + 1) bytes ≡ rest = rw (is, ← long_is) (drop_line line rest) in
-    record { bytes_are = rw (front, back) is; no_end = rw front none; long_is = rw front long_is } where
-      drop_line : (line rest : List ℕ) → drop (length line + 1) (line ++ 10 ∷ rest) ≡ rest
-      drop_line line rest =
-          let e : length (line ++ 10 ∷ []) ≡ length line + 1 = length-append line (10 ∷ []) in
-          rw (← e, ← append_assoc line (10 ∷ []) rest) (drop_front (line ++ 10 ∷ []) rest)
+    let back : drop (long + 1) bytes ≡ rest = rw (is, ← long_is) (drop-append-add line (10 ∷ rest) 1) in
+    record { bytes_are = rw (front, back) is; no_end = rw front none; long_is = rw front long_is }
 
 pub at_line : (bytes : List ℕ) (long : ℕ) → IsFirstLine bytes long → AtLine bytes long
 at_line bytes long first = at_line_of bytes long first.line first.rest first.bytes_are first.no_end first.long_is

@@ -1,5 +1,6 @@
 -- What the unread bytes are after each step of the reader's machine.
-use Rattle.std.proofs.Common.{◌≡◌, ℕ, zero, suc, ◌+◌, ◌-◌, ◌<◌, ◌≤◌, Bool, true, false, List, [], ◌∷◌, ◌++◌, length, take, drop, min, refl, sym, ap, ◌∙◌, arith, append_assoc, append-nil, length-append, length-take, zero-add, add-zero, IsTrue, MatchBool, if◌then◌else◌}
+use Rattle.std.proofs.Common.{inl, inr, ◌≡◌, ℕ, zero, suc, ◌+◌, ◌-◌, ◌<◌, ◌≤◌, Bool, true, false, List, [], ◌∷◌, ◌++◌, length, take, drop, min, refl, sym, ap, ◌∙◌, arith, append_assoc, append-nil, length-append, length-take, zero-add, add-zero, IsTrue}
+use Rattle.std.proofs.lemmas.Bool.{cases_Bool, cond_both}
 use Rattle.std.proofs.lemmas.List.{take-append-drop, drop_all}
 use Rattle.std.proofs.Math.Seq.{take-add}
 use Rattle.mc_wire.specs.declared.TheConstants.{LINE_LIMIT}
@@ -90,51 +91,56 @@ pub lined : (limit : ℕ) (line tail : List ℕ) (entry : Command) → HasNoEnd 
 lined limit line tail entry none short long is = spells limit (line ++ 10 ∷ tail) entry (Reads.lined line tail (record { text_is = refl; no_end = none; short = short; tail_long = long; entry_is = is }))
 
 -- what is spelled by a line and the bytes behind it, and shown as it is
-itself : (limit : ℕ) (line tail others unread : List ℕ) (entry : Command) → unread ≡ line ++ 10 ∷ (tail ++ others) → Spells limit (line ++ 10 ∷ tail) entry → IsWhole limit entry others unread
-itself limit line tail others unread entry is spelled = record {
+itself : (limit : ℕ) (line tail others unread : List ℕ) (entry : Command) → unread ≡ line ++ 10 ∷ (tail ++ others) → HasNoEnd line → length line < LINE_LIMIT →
+    length tail ≡ bytes_behind (line_says limit line) → entry ≡ entry_after (line_says limit line) tail → IsWhole limit entry others unread
+itself limit line tail others unread entry unread_are none short long is = record {
   text = line ++ 10 ∷ tail;
   one = record { entry = entry; given_up = false };
-  unread_are = is ∙ sym (append_assoc line (10 ∷ tail) others);
-  spelled = spelled;
+  unread_are = unread_are ∙ sym (append_assoc line (10 ∷ tail) others);
+  spelled = lined limit line tail entry none short long is;
   given = record { shown_is = refl; may = tt };
-}
-
--- what is given up because memory ran out
-given_up : (limit : ℕ) (line tail others unread : List ℕ) (entry : Command) (refusal : Refusal) → unread ≡ line ++ 10 ∷ (tail ++ others) → Spells limit (line ++ 10 ∷ tail) entry → refusal ≡ Memory → IsTrue (can_give_up entry) → IsWhole limit (command.Refused refusal) others unread
-given_up limit line tail others unread entry refusal is spelled memory may = record {
-  text = line ++ 10 ∷ tail;
-  one = record { entry = entry; given_up = true };
-  unread_are = is ∙ sym (append_assoc line (10 ∷ tail) others);
-  spelled = spelled;
-  given = record { shown_is = ap (λ r. command.Refused r) memory; may = may };
 }
 
 the_memory : (refusal : Refusal) → is_memory refusal ≡ true → refusal ≡ Memory
 the_memory Memory e = refl
 the_memory other e = cc
 
+-- what is given up because memory ran out
+given_up : (limit : ℕ) (line tail others unread : List ℕ) (refusal : Refusal) → unread ≡ line ++ 10 ∷ (tail ++ others) → HasNoEnd line → length line < LINE_LIMIT →
+    length tail ≡ bytes_behind (line_says limit line) → IsTrue (can_give_up (entry_after (line_says limit line) tail)) → is_memory refusal ≡ true → IsWhole limit (command.Refused refusal) others unread
+given_up limit line tail others unread refusal unread_are none short long may memory = record {
+  text = line ++ 10 ∷ tail;
+  one = record { entry = entry_after (line_says limit line) tail; given_up = true };
+  unread_are = unread_are ∙ sym (append_assoc line (10 ∷ tail) others);
+  spelled = lined limit line tail (entry_after (line_says limit line) tail) none short long refl;
+  given = record { shown_is = ap (λ r. command.Refused r) (the_memory refusal memory); may = may };
+}
+
 -- A line without a block is a command.
 pub whole_line : (limit : ℕ) (line others : List ℕ) (entry : Command) → HasNoEnd line → length line < LINE_LIMIT → line_says limit line ≡ Whole entry → IsWhole limit entry others (line ++ 10 ∷ others)
-whole_line limit line others entry none short says = itself limit line [] others (line ++ 10 ∷ others) entry refl (lined limit line [] entry none short (rw says refl) (rw says refl))
+whole_line limit line others entry none short says = itself limit line [] others (line ++ 10 ∷ others) entry refl none short (rw says refl) (rw says refl)
+
+may_line : (said : Line) → CanGiveUpLine said → (0 ≡ bytes_behind said) × IsTrue (can_give_up (entry_after said []))
+may_line (Whole entry) may = (refl, may)
+may_line (Refused refusal) may = (refl, may)
+may_line said may = absurd may
 
 -- A line without a block is refused, or given up.
 pub whole_refused : (limit : ℕ) (line others : List ℕ) (refusal : Refusal) → HasNoEnd line → length line < LINE_LIMIT → Says (line_says limit line) (Refused refusal) → IsWhole limit (command.Refused refusal) others (line ++ 10 ∷ others)
-whole_refused limit line others refusal none short says = go (is_memory refusal) refl says where
-  by_line : (said : Line) → line_says limit line ≡ said → refusal ≡ Memory → CanGiveUpLine said → IsWhole limit (command.Refused refusal) others (line ++ 10 ∷ others)
-  by_line (Whole entry) e memory may = given_up limit line [] others (line ++ 10 ∷ others) entry refusal refl (lined limit line [] entry none short (rw e refl) (rw e refl)) memory may
-  by_line (Refused other) e memory may = given_up limit line [] others (line ++ 10 ∷ others) (command.Refused other) refusal refl (lined limit line [] (command.Refused other) none short (rw e refl) (rw e refl)) memory may
-  by_line (Data asked count) e memory may = absurd may
-  by_line (Skip other count) e memory may = absurd may
-
-  go : (test : Bool) → is_memory refusal ≡ test → MatchBool test (CanGiveUpLine (line_says limit line)) (line_says limit line ≡ Refused refusal) → IsWhole limit (command.Refused refusal) others (line ++ 10 ∷ others)
-  go true t may = by_line (line_says limit line) refl (the_memory refusal t) may
-  go false t e = itself limit line [] others (line ++ 10 ∷ others) (command.Refused refusal) refl (lined limit line [] (command.Refused refusal) none short (rw e refl) (rw e refl))
+whole_refused limit line others refusal none short says = elim (cases_Bool (is_memory refusal)) [
+  | inl memory ↦
+      let may = may_line (line_says limit line) (rw memory at says) in
+      given_up limit line [] others (line ++ 10 ∷ others) refusal refl none short may.0 may.1 memory
+  | inr told ↦
+      let e : line_says limit line ≡ Refused refusal = rw told at says in
+      itself limit line [] others (line ++ 10 ∷ others) (command.Refused refusal) refl none short (rw e refl) (rw e refl)
+]
 
 -- All of a block has come.
 pub whole_block : (limit : ℕ) (asked : Command) (count : ℕ) (bytes others unread : List ℕ) → IsInBlock limit asked count bytes others unread → length bytes ≡ count + 2 → IsWhole limit (block_entry asked count bytes) others unread
 whole_block limit asked count bytes others unread part long =
     let says = part.says in
-    itself limit part.line bytes others unread (block_entry asked count bytes) part.unread_are (lined limit part.line bytes (block_entry asked count bytes) part.no_end part.short (rw says long) (rw says refl))
+    itself limit part.line bytes others unread (block_entry asked count bytes) part.unread_are part.no_end part.short (rw says long) (rw says refl)
 
 still_given_up : (asked : Command) (block : List ℕ) → IsTrue (can_give_up asked) → IsTrue (can_give_up (with_block asked block))
 still_given_up (command.Store storage) block h = refl
@@ -143,55 +149,43 @@ still_given_up other block h = h
 
 block_given_up : (asked : Command) (count : ℕ) (bytes : List ℕ) → IsTrue (can_give_up asked) → IsTrue (can_give_up (block_entry asked count bytes))
 block_given_up asked count bytes h =
-    elim (is_block_end (drop count bytes)) as (λ test. IsTrue (can_give_up (if test then with_block asked (take count bytes) else command.Refused BadChunk))) [ true ↦ still_given_up asked (take count bytes) h | false ↦ refl ]
+    cond_both (is_block_end (drop count bytes)) (with_block asked (take count bytes)) (command.Refused BadChunk) (λ entry. IsTrue (can_give_up entry)) (λ _. still_given_up asked (take count bytes) h) (λ _. refl)
 
 -- A line whose block lies behind it is a command, or given up.
 pub whole_at_once : (limit : ℕ) (line : List ℕ) (asked : Command) (count : ℕ) (behind : List ℕ) → HasNoEnd line → length line < LINE_LIMIT → line_says limit line ≡ Data asked count → count + 2 ≤ length behind →
     IsWhole limit (block_entry asked count (take (count + 2) behind)) (drop (count + 2) behind) (line ++ 10 ∷ behind)
 whole_at_once limit line asked count behind none short says enough =
-    let tail = take (count + 2) behind in
-    let long : length tail ≡ count + 2 = omega (arith, length-take (count + 2) behind) in
-    itself limit line tail (drop (count + 2) behind) (line ++ 10 ∷ behind) (block_entry asked count tail) (ap (λ xs. line ++ 10 ∷ xs) (sym (take-append-drop (count + 2) behind)))
-    (lined limit line tail (block_entry asked count tail) none short (rw says long) (rw says refl))
+    whole_block limit asked count _ _ _ (block_begun limit line asked count behind (count + 2) none short says (omega arith)) (omega (arith, length-take (count + 2) behind))
 
 pub given_up_at_once : (limit : ℕ) (line : List ℕ) (asked : Command) (count : ℕ) (behind : List ℕ) → HasNoEnd line → length line < LINE_LIMIT → line_says limit line ≡ Data asked count → count + 2 ≤ length behind →
     IsWhole limit (command.Refused Memory) (drop (count + 2) behind) (line ++ 10 ∷ behind)
 given_up_at_once limit line asked count behind none short says enough =
     let tail = take (count + 2) behind in
     let long : length tail ≡ count + 2 = omega (arith, length-take (count + 2) behind) in
-    given_up limit line tail (drop (count + 2) behind) (line ++ 10 ∷ behind) (block_entry asked count tail) Memory (ap (λ xs. line ++ 10 ∷ xs) (sym (take-append-drop (count + 2) behind)))
-    (lined limit line tail (block_entry asked count tail) none short (rw says long) (rw says refl)) refl
-    (block_given_up asked count tail (data_stores limit (words_of (without_return line)) asked count says))
+    let may = block_given_up asked count tail (data_stores limit (words_of (without_return line)) asked count says) in
+    given_up limit line tail (drop (count + 2) behind) (line ++ 10 ∷ behind) Memory (ap (λ xs. line ++ 10 ∷ xs) (sym (take-append-drop (count + 2) behind))) none short (rw says long) (rw says may) refl
+
+may_block : (said : Line) (n : ℕ) (tail : List ℕ) → ((asked : Command) (count : ℕ) → said ≡ Data asked count → IsTrue (can_give_up asked)) → CanGiveUpBlock said n → (n ≡ bytes_behind said) × IsTrue (can_give_up (entry_after said tail))
+may_block (Data asked count) n tail stores may = (may, block_given_up asked count tail (stores asked count refl))
+may_block (Skip refusal count) n tail stores may = may
+may_block said n tail stores may = absurd may
+
+-- a line that is given up with bytes behind it
+may_skip : (limit : ℕ) (refusal : Refusal) (left : ℕ) (others unread : List ℕ) (part : IsInSkip limit refusal left others unread) → is_memory refusal ≡ true →
+    (length part.skipped + left ≡ bytes_behind (line_says limit part.line)) × IsTrue (can_give_up (entry_after (line_says limit part.line) part.skipped))
+may_skip limit refusal left others unread part memory =
+    may_block (line_says limit part.line) (length part.skipped + left) part.skipped (data_stores limit (words_of (without_return part.line))) (rw memory at part.says)
 
 -- All bytes that are skipped have come.
 pub whole_skip : (limit : ℕ) (refusal : Refusal) (others unread : List ℕ) → IsInSkip limit refusal 0 others unread → IsWhole limit (command.Refused refusal) others unread
-whole_skip limit refusal others unread part = go (is_memory refusal) refl part.says where
-  line : List ℕ
-  line = part.line
-
-  n : ℕ
-  n = length part.skipped + 0
-
-  n_is : n ≡ length part.skipped
-  n_is = add-zero (length part.skipped)
-
-  spelled : (entry : Command) → length part.skipped ≡ bytes_behind (line_says limit line) → entry ≡ entry_after (line_says limit line) part.skipped → Spells limit (line ++ 10 ∷ part.skipped) entry
-  spelled entry long is = lined limit line part.skipped entry part.no_end part.short long is
-
-  by_line : (said : Line) → line_says limit line ≡ said → refusal ≡ Memory → CanGiveUpBlock said n → IsWhole limit (command.Refused refusal) others unread
-  by_line (Data asked count) e memory may =
-      given_up limit line part.skipped others unread (block_entry asked count part.skipped) refusal part.unread_are
-      (spelled (block_entry asked count part.skipped) (rw e (sym n_is ∙ may)) (rw e refl)) memory
-      (block_given_up asked count part.skipped (data_stores limit (words_of (without_return line)) asked count e))
-  by_line (Skip other count) e memory may =
-      given_up limit line part.skipped others unread (command.Refused other) refusal part.unread_are
-      (spelled (command.Refused other) (rw e (sym n_is ∙ may.0)) (rw e refl)) memory may.1
-  by_line (Whole entry) e memory may = absurd may
-  by_line (Refused other) e memory may = absurd may
-
-  go : (test : Bool) → is_memory refusal ≡ test → MatchBool test (CanGiveUpBlock (line_says limit line) n) (line_says limit line ≡ Skip refusal n) → IsWhole limit (command.Refused refusal) others unread
-  go true t may = by_line (line_says limit line) refl (the_memory refusal t) may
-  go false t e = itself limit line part.skipped others unread (command.Refused refusal) part.unread_are (spelled (command.Refused refusal) (rw e (sym n_is)) (rw e refl))
+whole_skip limit refusal others unread part = elim (cases_Bool (is_memory refusal)) [
+  | inl memory ↦
+      let may = may_skip limit refusal 0 others unread part memory in
+      given_up limit part.line part.skipped others unread refusal part.unread_are part.no_end part.short (sym (add-zero (length part.skipped)) ∙ may.0) may.1 memory
+  | inr told ↦
+      let e : line_says limit part.line ≡ Skip refusal (length part.skipped + 0) = rw told at part.says in
+      itself limit part.line part.skipped others unread (command.Refused refusal) part.unread_are part.no_end part.short (rw e (sym (add-zero (length part.skipped)))) (rw e refl)
+]
 
 -- A line that is too long.
 pub whole_long : (limit : ℕ) (bytes : List ℕ) → HasNoEnd bytes → length bytes ≡ LINE_LIMIT → IsWhole limit (command.Refused LineTooLong) [] bytes
@@ -210,21 +204,12 @@ nothing_in_block limit asked count bytes others unread part few =
     let none = part.behind few in
     rw part.unread_are (nothing_yet limit part.line (bytes ++ others) part.no_end part.short (rw (says, none, append-nil bytes) few))
 
-skip_long : (said : Line) (refusal : Refusal) (n : ℕ) → Says said (Skip refusal n) → bytes_behind said ≡ n
-skip_long said refusal n says = go (is_memory refusal) says where
-  by_line : (line : Line) → CanGiveUpBlock line n → bytes_behind line ≡ n
-  by_line (Data asked count) may = sym may
-  by_line (Skip other count) may = sym may.0
-  by_line (Whole entry) may = absurd may
-  by_line (Refused other) may = absurd may
-
-  go : (test : Bool) → MatchBool test (CanGiveUpBlock said n) (said ≡ Skip refusal n) → bytes_behind said ≡ n
-  go true may = by_line said may
-  go false e = ap bytes_behind e
-
 -- While bytes are skipped, nothing is spelled.
 pub nothing_in_skip : (limit : ℕ) (refusal : Refusal) (left : ℕ) (others unread : List ℕ) → IsInSkip limit refusal left others unread → 0 < left → SpellsNothing limit unread
 nothing_in_skip limit refusal left others unread part more =
-    let long = skip_long (line_says limit part.line) refusal (length part.skipped + left) part.says in
+    let long : bytes_behind (line_says limit part.line) ≡ length part.skipped + left = elim (cases_Bool (is_memory refusal)) [
+      | inl memory ↦ sym (may_skip limit refusal left others unread part memory).0
+      | inr told ↦ let e : line_says limit part.line ≡ Skip refusal (length part.skipped + left) = rw told at part.says in rw e refl
+    ] in
     let none = part.behind more in
     rw part.unread_are (nothing_yet limit part.line (part.skipped ++ others) part.no_end part.short (rw (long, none, append-nil part.skipped) (omega arith)))

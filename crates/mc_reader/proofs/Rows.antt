@@ -1,5 +1,6 @@
 -- Worked texts with what they spell, and worked streams with their commands.
 use Rattle.std.proofs.Common.{◌≡◌, ℕ, ◌<◌, Bool, true, false, ◌||◌, List, [], ◌∷◌, ◌++◌, length, ◌==◌, refl, codes, pos, lit<}
+use Rattle.std.proofs.lemmas.Bool.{or_parts}
 use Rattle.mc_wire.specs.declared.TheConstants.{DEFAULT_VALUE_LIMIT, LINE_LIMIT}
 use Rattle.mc_wire.specs.Number.{number_of}
 use Rattle.mc_wire.specs.Words.{words_of}
@@ -19,13 +20,9 @@ abbrev has_end : List ℕ → Bool
 has_end [] = false
 has_end (x ∷ xs) = (x == 10) || has_end xs
 
-both_false : (a b : Bool) → (a || b) ≡ false → (a ≡ false) × (b ≡ false)
-both_false false b e = (refl, e)
-both_false true b e = absurd cc
-
 no_end : (bytes : List ℕ) → has_end bytes ≡ false → HasNoEnd bytes
 no_end [] e = tt
-no_end (x ∷ xs) e = let parts = both_false (x == 10) (has_end xs) e in (parts.0, no_end xs parts.1)
+no_end (x ∷ xs) e = let parts = or_parts (x == 10) (has_end xs) e in (parts.0, no_end xs parts.1)
 
 -- a line with the bytes behind it
 spelled : (line tail : List ℕ) (entry : Command) → has_end line ≡ false → length line < LINE_LIMIT → length tail ≡ bytes_behind (line_says DEFAULT_VALUE_LIMIT line) → entry ≡ entry_after (line_says DEFAULT_VALUE_LIMIT line) tail → Spells DEFAULT_VALUE_LIMIT (line ++ 10 ∷ tail) entry
@@ -48,37 +45,26 @@ blank : Spells DEFAULT_VALUE_LIMIT (codes "\r\n") (command.Refused Unknown)
 unfolding line_of words_of name_of
 blank = spelled (codes "\r") [] (command.Refused Unknown) refl (lit< tt) refl refl
 
--- a line and its block
-set : Spells DEFAULT_VALUE_LIMIT (codes "set a 5 0 3\r\nabc\r\n") (stored (codes "a") 5 (codes "abc"))
+-- Storage lines: a block is as long as its line says, whatever stands in it or behind it; a refused line whose
+-- count can be read takes its block along, without a look at its end, and another doesn't.
+blocks :
+    Spells DEFAULT_VALUE_LIMIT (codes "set a 5 0 3\r\nabc\r\n") (stored (codes "a") 5 (codes "abc"))
+    × Spells DEFAULT_VALUE_LIMIT (codes "set b 0 0 0\r\n\r\n") (stored (codes "b") 0 [])
+    × Spells DEFAULT_VALUE_LIMIT (codes "set a 0 0 6\r\nget a\n\r\n") (stored (codes "a") 0 (codes "get a\n"))
+    × Spells DEFAULT_VALUE_LIMIT (codes "set a 0 0 3\r\nabcde") (command.Refused BadChunk)
+    × Spells DEFAULT_VALUE_LIMIT (codes "set a 0 0 1\r\nx\nm") (command.Refused BadChunk)
+    × Spells DEFAULT_VALUE_LIMIT (codes "set a x 0 3\r\nabcde") (command.Refused BadFormat)
+    × Spells DEFAULT_VALUE_LIMIT (codes "set a 0 0 y\r\n") (command.Refused BadFormat)
 unfolding line_of words_of name_of number_of is_key
-set = spelled (codes "set a 5 0 3\r") (codes "abc\r\n") (stored (codes "a") 5 (codes "abc")) refl (lit< tt) refl refl
-
-empty_value : Spells DEFAULT_VALUE_LIMIT (codes "set b 0 0 0\r\n\r\n") (stored (codes "b") 0 [])
-unfolding line_of words_of name_of number_of is_key
-empty_value = spelled (codes "set b 0 0 0\r") (codes "\r\n") (stored (codes "b") 0 []) refl (lit< tt) refl refl
-
--- line ends and lines in a block are bytes of it
-line_in_block : Spells DEFAULT_VALUE_LIMIT (codes "set a 0 0 6\r\nget a\n\r\n") (stored (codes "a") 0 (codes "get a\n"))
-unfolding line_of words_of name_of number_of is_key
-line_in_block = spelled (codes "set a 0 0 6\r") (codes "get a\n\r\n") (stored (codes "a") 0 (codes "get a\n")) refl (lit< tt) refl refl
-
--- a block is as long as its line says, whatever stands behind it
-bad_chunk : Spells DEFAULT_VALUE_LIMIT (codes "set a 0 0 3\r\nabcde") (command.Refused BadChunk)
-unfolding line_of words_of name_of number_of is_key
-bad_chunk = spelled (codes "set a 0 0 3\r") (codes "abcde") (command.Refused BadChunk) refl (lit< tt) refl refl
-
-bare_end : Spells DEFAULT_VALUE_LIMIT (codes "set a 0 0 1\r\nx\nm") (command.Refused BadChunk)
-unfolding line_of words_of name_of number_of is_key
-bare_end = spelled (codes "set a 0 0 1\r") (codes "x\nm") (command.Refused BadChunk) refl (lit< tt) refl refl
-
--- a refused line whose count can be read takes its block along, without a look at its end; another doesn't
-skipped : Spells DEFAULT_VALUE_LIMIT (codes "set a x 0 3\r\nabcde") (command.Refused BadFormat)
-unfolding line_of words_of name_of number_of is_key
-skipped = spelled (codes "set a x 0 3\r") (codes "abcde") (command.Refused BadFormat) refl (lit< tt) refl refl
-
-none_skipped : Spells DEFAULT_VALUE_LIMIT (codes "set a 0 0 y\r\n") (command.Refused BadFormat)
-unfolding line_of words_of name_of number_of is_key
-none_skipped = spelled (codes "set a 0 0 y\r") [] (command.Refused BadFormat) refl (lit< tt) refl refl
+blocks = (
+  spelled (codes "set a 5 0 3\r") (codes "abc\r\n") (stored (codes "a") 5 (codes "abc")) refl (lit< tt) refl refl,
+  spelled (codes "set b 0 0 0\r") (codes "\r\n") (stored (codes "b") 0 []) refl (lit< tt) refl refl,
+  spelled (codes "set a 0 0 6\r") (codes "get a\n\r\n") (stored (codes "a") 0 (codes "get a\n")) refl (lit< tt) refl refl,
+  spelled (codes "set a 0 0 3\r") (codes "abcde") (command.Refused BadChunk) refl (lit< tt) refl refl,
+  spelled (codes "set a 0 0 1\r") (codes "x\nm") (command.Refused BadChunk) refl (lit< tt) refl refl,
+  spelled (codes "set a x 0 3\r") (codes "abcde") (command.Refused BadFormat) refl (lit< tt) refl refl,
+  spelled (codes "set a 0 0 y\r") [] (command.Refused BadFormat) refl (lit< tt) refl refl,
+)
 
 too_large : (bytes : List ℕ) → length bytes ≡ 1048579 → Spells DEFAULT_VALUE_LIMIT (codes "set a 0 0 1048577\r\n" ++ bytes) (command.Refused TooLarge)
 unfolding line_of words_of name_of number_of is_key

@@ -1,6 +1,6 @@
 -- What a state and the buffer show of the unread bytes after each call.
 use Rattle.std.proofs.Common.{◌≡◌, ℕ, suc, ◌+◌, ◌-◌, ◌<◌, ◌≤◌, Bool, true, false, List, [], ◌∷◌, ◌++◌, length, take, drop, min, refl, sym, ap, subst, ◌∙◌, arith, Option, Some, None, IsTrue, ◌↔◌, nat_lt, append_assoc, length-append, length-drop, length-take}
-use Rattle.std.proofs.lemmas.List.{take-append-drop}
+use Rattle.std.proofs.lemmas.Bool.{true_from_ne_false}
 use Rattle.std.proofs.lemmas.Bool.Decides.{nat_tests}
 use Rattle.std.specs.Option.{IfNone, is_some}
 use Rattle.std.specs.Vec.{vec_len}
@@ -19,8 +19,8 @@ use Rattle.mc_reader.specs.declared.state.State.TheVariants as state
 use Rattle.mc_reader.specs.Spelling.{HasNoEnd, SpellsNothing, block_entry, line_says}
 use Rattle.mc_reader.specs.internal.State.{Completes, EndsAt, Holds, IsFirstLine, IsInBlock, IsInSkip, IsWhole, SpellsSomething, Waits, is_opened}
 use Rattle.mc_reader.proofs.Lines.{at_line, line_in, ends_behind, ends_found, ends_more, no_end_append}
-use Rattle.mc_reader.proofs.Machine.{block_begun, block_fed, lined, nothing_in_block, nothing_in_skip, skip_begun, skip_fed, whole_block, whole_line, whole_long, whole_refused, whole_skip}
-use Rattle.mc_reader.proofs.Texts.{entry_after, nothing_without_end, nothing_yet, something}
+use Rattle.mc_reader.proofs.Machine.{block_begun, block_fed, nothing_in_block, nothing_in_skip, skip_begun, skip_fed, whole_block, whole_long, whole_skip}
+use Rattle.mc_reader.proofs.Texts.{nothing_without_end, nothing_yet, something, spelled_behind}
 
 -- Where not all has come, nothing is spelled.
 pub nothing_awaited : (limit : ℕ) (s : State) (buffer unread : List ℕ) → (Completes s buffer → ⊥) → IsTrue (is_opened s) → Holds limit s buffer unread → SpellsNothing limit unread × Waits s buffer
@@ -38,10 +38,7 @@ nothing_awaited limit state.Closed buffer unread more opened h = absurd h
 
 pub finished_line : (limit : ℕ) (s : State) (buffer after unread : List ℕ) (long : Option ℕ) → s ≡ state.Line long → Completes s buffer → IsTrue (is_opened s) → Holds limit s buffer unread → after ≡ [] → IsWhole limit (command.Refused LineTooLong) after unread
 finished_line limit (state.Line None) buffer after unread long e full opened h none = rw (none, h.0) (whole_long limit buffer h.2 full)
-finished_line limit (state.Line (Some n)) buffer after unread long e full opened h none = absurd cc
-finished_line limit (state.Block block) buffer after unread long e full opened h none = absurd cc
-finished_line limit (state.Skip skipped) buffer after unread long e full opened h none = absurd cc
-finished_line limit state.Closed buffer after unread long e full opened h none = absurd cc
+finished_line limit s buffer after unread long e full opened h none = absurd cc
 
 pub finished_block : (limit : ℕ) (s : State) (buffer unread : List ℕ) (block : OpenBlock) (entry : Command) → s ≡ state.Block block → Completes s buffer → vec_len block.bytes ≤ block.count + 2 → entry ≡ block_entry block.command block.count block.bytes.items → Holds limit s buffer unread → IsWhole limit entry buffer unread
 finished_block limit s buffer unread block entry e full within entry_is h =
@@ -88,6 +85,7 @@ record FirstLine (buffer after unread : List ℕ) (long : ℕ) : Type 0 where
   pub unread_are : unread ≡ take long buffer ++ 10 ∷ after
   pub no_end : HasNoEnd (take long buffer)
   pub short : length (take long buffer) < LINE_LIMIT
+  pub within : long < length buffer
 
 first_line : (limit : ℕ) (s : State) (buffer after unread : List ℕ) (long : ℕ) → s ≡ state.Line (Some long) → after ≡ drop (long + 1) buffer → Holds limit s buffer unread → FirstLine buffer after unread long
 first_line limit s buffer after unread long e after_is h =
@@ -98,17 +96,8 @@ first_line limit s buffer after unread long e after_is h =
       unread_are = rw after_is (part.0 ∙ cut.bytes_are);
       no_end = cut.no_end;
       short = (let l = cut.long_is in let room = part.1 in omega arith);
+      within = below;
     }
-
-pub read_whole : (limit : ℕ) (s : State) (buffer after unread : List ℕ) (long : ℕ) (shown : Command) → s ≡ state.Line (Some long) → after ≡ drop (long + 1) buffer → line_says limit (take long buffer) ≡ Whole shown → Holds limit s buffer unread → IsWhole limit shown after unread
-read_whole limit s buffer after unread long shown e after_is says h =
-    let first = first_line limit s buffer after unread long e after_is h in
-    rw first.unread_are (whole_line limit (take long buffer) after shown first.no_end first.short says)
-
-pub read_refused : (limit : ℕ) (s : State) (buffer after unread : List ℕ) (long : ℕ) (refusal : Refusal) → s ≡ state.Line (Some long) → after ≡ drop (long + 1) buffer → Says (line_says limit (take long buffer)) (Refused refusal) → Holds limit s buffer unread → IsWhole limit (command.Refused refusal) after unread
-read_refused limit s buffer after unread long refusal e after_is says h =
-    let first = first_line limit s buffer after unread long e after_is h in
-    rw first.unread_are (whole_refused limit (take long buffer) after refusal first.no_end first.short says)
 
 -- what holds of the first line and the bytes behind it holds of the unread bytes
 pub read_head : (limit : ℕ) (P : List ℕ → Type 0) (s : State) (buffer after unread : List ℕ) (long : ℕ) → s ≡ state.Line (Some long) → after ≡ drop (long + 1) buffer →
@@ -144,10 +133,11 @@ something_awaited limit state.Closed buffer unread full opened h = absurd h
 
 -- A test whether all has come tells whether something is spelled.
 pub whole_awaited : (limit : ℕ) (s : State) (buffer unread : List ℕ) (test : Bool) → (IsTrue test ↔ Completes s buffer) → IsTrue (is_opened s) → Holds limit s buffer unread → IsTrue test ↔ SpellsSomething limit unread
-whole_awaited limit s buffer unread test is opened h = (λ come. something_awaited limit s buffer unread (is.0 come) opened h, back test is.1) where
-  back : (t : Bool) → (Completes s buffer → IsTrue t) → SpellsSomething limit unread → IsTrue t
-  back true f some = refl
-  back false f some = absurd (something limit some.0 some.1 some.2 some.4 (rw some.3 at (nothing_awaited limit s buffer unread (λ all. let yes = f all in absurd cc) opened h).0))
+whole_awaited limit s buffer unread test is opened h = (
+  λ come. something_awaited limit s buffer unread (is.0 come) opened h,
+  λ some. true_from_ne_false test (λ none.
+      something limit some.0 some.1 some.2 some.4 (rw some.3 at (nothing_awaited limit s buffer unread (not_complete test none is.1) opened h).0)),
+)
 
 -- The line that was found spells something where the bytes that belong to it have come.
 pub whole_found : (limit : ℕ) (s : State) (buffer unread behind : List ℕ) (long n : ℕ) → s ≡ state.Line (Some long) → behind ≡ drop long buffer → n ≡ bytes_behind (line_says limit (take long buffer)) → Holds limit s buffer unread → IsTrue (nat_lt n (length behind)) ↔ SpellsSomething limit unread
@@ -159,20 +149,12 @@ whole_found limit s buffer unread behind long n e behind_is n_is h = (forth, bac
   first = first_line limit s buffer tail unread long e refl h
 
   one_more : length behind ≡ suc (length tail)
-  one_more = omega (arith, ap length first_bytes, length-append (take long buffer) (10 ∷ tail), ap length behind_is, length-drop long buffer, length-take long buffer) where
-    first_bytes : buffer ≡ take long buffer ++ 10 ∷ tail
-    first_bytes = let part : (unread ≡ buffer) × (length buffer ≤ LINE_LIMIT) × EndsAt buffer (Some long) = rw e at h in (at_line buffer long part.2).bytes_are
+  one_more = let within = first.within in omega (arith, ap length behind_is, length-drop long buffer, length-drop (long + 1) buffer)
 
   forth : IsTrue (nat_lt n (length behind)) → SpellsSomething limit unread
-  forth enough_come =
-      let line = take long buffer in
-      let enough : n ≤ length tail = (let more = one_more in grind (arith, nat_tests)) in (
-        line ++ 10 ∷ take n tail,
-        drop n tail,
-        entry_after (line_says limit line) (take n tail),
-        first.unread_are ∙ (ap (λ xs. line ++ 10 ∷ xs) (sym (take-append-drop n tail)) ∙ sym (append_assoc line (10 ∷ take n tail) (drop n tail))),
-        lined limit line (take n tail) (entry_after (line_says limit line) (take n tail)) first.no_end first.short (omega (arith, length-take n tail)) refl,
-      )
+  forth come =
+      let enough : bytes_behind (line_says limit (take long buffer)) ≤ length tail = (let more = one_more in grind (arith, nat_tests)) in
+      spelled_behind limit (take long buffer) tail unread first.unread_are first.no_end first.short enough
 
   back : (test : Bool) → nat_lt n (length behind) ≡ test → SpellsSomething limit unread → IsTrue (nat_lt n (length behind))
   back true t some = t

@@ -1,6 +1,7 @@
 -- A text that spells an entry, seen by its first line: what follows from which texts spell what.
-use Rattle.std.proofs.Common.{◌≡◌, ℕ, ◌<◌, Bool, true, false, List, [], ◌∷◌, ◌++◌, length, take, drop, refl, sym, ap, ◌∙◌, arith, append_assoc, length-append, length-take, append-nil, cond}
-use Rattle.std.proofs.lemmas.List.{take-append-drop}
+use Rattle.std.proofs.Common.{◌≡◌, ℕ, ◌<◌, ◌≤◌, Bool, true, false, List, [], ◌∷◌, ◌++◌, length, take, drop, refl, sym, ap, ap₂, ◌∙◌, arith, append_assoc, length-append, length-take, append-nil, cond}
+use Rattle.std.proofs.lemmas.List.{nil_from_length, take-append-drop}
+use Rattle.std.proofs.Math.Seq.{drop-append_seam, take-append_seam}
 use Rattle.std.specs.Cmp.Lexicographic.{same_text}
 use Rattle.mc_wire.specs.declared.TheConstants.{LINE_LIMIT}
 use Rattle.mc_command.specs.declared.command.Command.{Command}
@@ -11,6 +12,7 @@ use Rattle.mc_command.specs.declared.line.Line.TheVariants.{Whole, Data, Refused
 use Rattle.mc_command.specs.Command.{with_block}
 use Rattle.mc_command.specs.Line.{bytes_behind}
 use Rattle.mc_reader.specs.Spelling.{HasNoEnd, IsLine, Spells, SpellsNothing, block_entry, is_block_end, line_says}
+use Rattle.mc_reader.specs.internal.State.{SpellsSomething}
 
 -- the first line of an input is one
 pub one_line : (a b x y : List ℕ) → HasNoEnd a → HasNoEnd b → a ++ 10 ∷ x ≡ b ++ 10 ∷ y → (a ≡ b) × (x ≡ y)
@@ -31,14 +33,10 @@ end_inside (b ∷ bs) x (c ∷ cs) rest p e below = let tail : bs ++ x ≡ cs ++
 
 -- beginnings of one length of one list are one
 pub same_front : (a b x y : List ℕ) → length a ≡ length b → a ++ x ≡ b ++ y → (a ≡ b) × (x ≡ y)
-same_front [] [] x y long e = (refl, e)
-same_front [] (b ∷ bs) x y long e = absurd (omega arith)
-same_front (a ∷ as_) [] x y long e = absurd (omega arith)
-same_front (a ∷ ls) (b ∷ bs) x y long e =
-    let head : a ≡ b = cc in
-    let tail : ls ++ x ≡ bs ++ y = cc in
-    let rest = same_front ls bs x y (omega arith) tail in
-    (λ i. head i ∷ rest.0 i, rest.1)
+same_front a b x y long e = (
+  sym (take-append_seam a x) ∙ (ap₂ take long e ∙ take-append_seam b y),
+  sym (drop-append_seam a x) ∙ (ap₂ drop long e ∙ drop-append_seam b y),
+)
 
 -- what a line spells with the bytes that belong to it
 abbrev pub entry_after : Line → List ℕ → Command
@@ -66,14 +64,6 @@ line_short text line is = let s = is.short in omega (arith, ap length is.text_is
 with_tail : (head line tail text : List ℕ) → IsLine head line → text ≡ head ++ tail → text ≡ line ++ 10 ∷ tail
 with_tail head line tail text is e = e ∙ (ap (λ xs. xs ++ tail) is.text_is ∙ append_assoc line (10 ∷ []) tail)
 
-take_front : (a b : List ℕ) → take (length a) (a ++ b) ≡ a
-take_front [] b = refl
-take_front (x ∷ xs) b = ap (λ ys. x ∷ ys) (take_front xs b)
-
-pub drop_front : (a b : List ℕ) → drop (length a) (a ++ b) ≡ b
-drop_front [] b = refl
-drop_front (x ∷ xs) b = drop_front xs b
-
 pub reads : (limit : ℕ) (text : List ℕ) (entry : Command) → Spells limit text entry → Reads limit text entry
 reads limit text entry (Spells.line line is says) =
     lined line [] (record { text_is = is.text_is; no_end = is.no_end; short = line_short text line is; tail_long = rw says refl; entry_is = rw says refl })
@@ -85,7 +75,7 @@ reads limit text entry (Spells.block head line block asked is text_is says e) =
       no_end = is.no_end;
       short = line_short head line is;
       tail_long = rw says (length-append block (13 ∷ 10 ∷ []));
-      entry_is = rw (says, drop_front block (13 ∷ 10 ∷ []), take_front block (13 ∷ 10 ∷ [])) e;
+      entry_is = rw (says, drop-append_seam block (13 ∷ 10 ∷ []), take-append_seam block (13 ∷ 10 ∷ [])) e;
     })
 reads limit text entry (Spells.bad_block head line chunk ends asked is text_is two not_end says e) =
     lined line (chunk ++ ends) (record {
@@ -93,7 +83,7 @@ reads limit text entry (Spells.bad_block head line chunk ends asked is text_is t
       no_end = is.no_end;
       short = line_short head line is;
       tail_long = rw says (omega (arith, two, length-append chunk ends));
-      entry_is = rw (says, drop_front chunk ends, not_end) e;
+      entry_is = rw (says, drop-append_seam chunk ends, not_end) e;
     })
 reads limit text entry (Spells.skipped head line skipped refusal is text_is says e) =
     lined line skipped (record {
@@ -105,20 +95,16 @@ reads limit text entry (Spells.skipped head line skipped refusal is text_is says
     })
 reads limit text entry (Spells.long full none e) = endless full none e
 
-no_tail : (xs : List ℕ) → length xs ≡ 0 → xs ≡ []
-no_tail [] e = refl
-no_tail (x ∷ xs) e = absurd (omega arith)
-
 is_line : (line : List ℕ) → HasNoEnd line → length line < LINE_LIMIT → IsLine (line ++ 10 ∷ []) line
 is_line line none short = record { text_is = refl; no_end = none; short = omega (arith, length-append line (10 ∷ [])) }
 
 -- a line with its bytes spells what it says
 spells_lined : (limit : ℕ) (said : Line) (text line tail : List ℕ) (entry : Command) → line_says limit line ≡ said → text ≡ line ++ 10 ∷ tail → HasNoEnd line → length line < LINE_LIMIT → length tail ≡ bytes_behind said → entry ≡ entry_after said tail → Spells limit text entry
 spells_lined limit (Whole given) text line tail entry says text_is none short long e =
-    let bare : text ≡ line ++ 10 ∷ [] = rw (no_tail tail long) at text_is in
+    let bare : text ≡ line ++ 10 ∷ [] = rw (nil_from_length tail long) at text_is in
     Spells.line line (rw bare (is_line line none short)) (rw e says)
 spells_lined limit (Refused refusal) text line tail entry says text_is none short long e =
-    let bare : text ≡ line ++ 10 ∷ [] = rw (no_tail tail long) at text_is in
+    let bare : text ≡ line ++ 10 ∷ [] = rw (nil_from_length tail long) at text_is in
     Spells.refused line refusal (rw bare (is_line line none short)) says e
 spells_lined limit (Skip refusal count) text line tail entry says text_is none short long e =
     Spells.skipped (line ++ 10 ∷ []) line tail refusal (is_line line none short) (text_is ∙ sym (append_assoc line (10 ∷ []) tail)) (rw long says) e
@@ -142,6 +128,18 @@ spells_lined limit (Data asked count) text line tail entry says text_is none sho
 pub spells : (limit : ℕ) (text : List ℕ) (entry : Command) → Reads limit text entry → Spells limit text entry
 spells limit text entry (lined line tail is) = spells_lined limit (line_says limit line) text line tail entry refl is.text_is is.no_end is.short is.tail_long is.entry_is
 spells limit text entry (endless full none e) = Spells.long full none e
+
+-- where a line's bytes have all come, it spells with them
+pub spelled_behind : (limit : ℕ) (line tail input : List ℕ) → input ≡ line ++ 10 ∷ tail → HasNoEnd line → length line < LINE_LIMIT → bytes_behind (line_says limit line) ≤ length tail → SpellsSomething limit input
+spelled_behind limit line tail input is none short enough =
+    let n = bytes_behind (line_says limit line) in
+    let long : length (take n tail) ≡ n = omega (arith, length-take n tail) in (
+      line ++ 10 ∷ take n tail,
+      drop n tail,
+      entry_after (line_says limit line) (take n tail),
+      is ∙ (ap (λ xs. line ++ 10 ∷ xs) (sym (take-append-drop n tail)) ∙ sym (append_assoc line (10 ∷ take n tail) (drop n tail))),
+      spells_lined limit (line_says limit line) (line ++ 10 ∷ take n tail) line (take n tail) (entry_after (line_says limit line) (take n tail)) refl refl none short long refl,
+    )
 
 -- two texts that spell at the front of one input
 pub record AreSame (a b : List ℕ) (x y : List ℕ) (e f : Command) : Type 0 where
@@ -215,4 +213,4 @@ nothing_without_end limit input none short count entry below spelled = go (reads
 -- a beginning that spells is no nothing
 pub something : (limit : ℕ) (text after : List ℕ) (entry : Command) → Spells limit text entry → SpellsNothing limit (text ++ after) → ⊥
 something limit text after entry spelled nothing =
-    nothing (length text) entry (omega (arith, length-append text after)) (rw (take_front text after) spelled)
+    nothing (length text) entry (omega (arith, length-append text after)) (rw (take-append_seam text after) spelled)

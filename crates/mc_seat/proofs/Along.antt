@@ -1,5 +1,5 @@
 -- What a connection was told stays true where only what its shards were sent and answered has changed.
-use Rattle.std.proofs.Common.{◌≡◌, ℕ, ◌≤◌, Bool, List, take, sym, subst, ◌∙◌, arith}
+use Rattle.std.proofs.Common.{◌≡◌, ℕ, Bool, List, take, sym, subst, ◌∙◌, arith}
 use Rattle.mc_wire.specs.Outlet.{Sight}
 use Rattle.mc_ring.specs.Reply.{Shown}
 use Rattle.mc_conn.specs.declared.conn.Taken.{Taken as Took}
@@ -25,6 +25,4 @@ serving_along limit received begin now unread fed ended shards taken texts other
 -- why no further command was taken is the same
 pub stops_along : (stop : Took) (told : Told) (out : ℕ) (lent : Bool) (accepted : List Shown) → StopsAt stop told → StopsAt stop (record told { out = out; lent = lent; accepted = accepted })
 stops_along (took.Opened ticket) told out lent accepted stops = stops
-stops_along took.NeedMore told out lent accepted stops = stops
-stops_along took.Full told out lent accepted stops = stops
-stops_along took.Closed told out lent accepted stops = stops
+stops_along stop told out lent accepted stops = stops

@@ -1,6 +1,6 @@
 -- What the front of a stream spells, when more bytes come.
-use Rattle.std.proofs.Common.{◌≡◌, ℕ, suc, ◌+◌, ◌<◌, ◌≤◌, ◌^◌, Bool, true, false, ◌||◌, ◌==◌, List, [], ◌∷◌, ◌++◌, length, MatchBool, refl, ap, ◌∙◌, arith, append_assoc, lit<}
-use Rattle.std.proofs.lemmas.Bool.{eqb-false}
+use Rattle.std.proofs.Common.{◌≡◌, ℕ, ◌+◌, ◌<◌, ◌≤◌, ◌^◌, inl, inr, Bool, true, false, ◌||◌, ◌==◌, List, [], ◌∷◌, ◌++◌, length, MatchBool, ap, ◌∙◌, arith, append_assoc, lit<}
+use Rattle.std.proofs.lemmas.Bool.{cases_Bool, eqb-false}
 use Rattle.mc_command.specs.declared.command.Command.{Command}
 use Rattle.mc_reader.specs.Spelling.{SpellsFront, BeginCommands, AreCommands, closes, is_closed, is_last}
 
@@ -29,19 +29,16 @@ or_false : (a b : Bool) → (a || b) ≡ false → b ≡ false
 or_false true b h = absurd cc
 or_false false b h = h
 
-length_step : (limit : ℕ) (before : ℕ) (entry : Command) (entries : List Command) (after rest : List ℕ) → before < 2 ^ 63 → MatchBool (is_last before entry) ((entries ≡ []) × (after ≡ rest)) (SpellsFront limit (before + 1) after entries rest) → (before + 1 < 2 ^ 63 → SpellsFront limit (before + 1) after entries rest → before + 1 + length entries ≤ 2 ^ 63) → before + suc (length entries) ≤ 2 ^ 63
-length_step limit before entry entries after rest below l more = go (is_last before entry) refl l where
-  go : (last : Bool) → is_last before entry ≡ last → MatchBool last ((entries ≡ []) × (after ≡ rest)) (SpellsFront limit (before + 1) after entries rest) → before + suc (length entries) ≤ 2 ^ 63
-  go true e h = rw h.0 (omega arith)
-  go false e h =
-      let apart = eqb-false (before + 1) (2 ^ 63) (or_false (closes entry) (before + 1 == 2 ^ 63) e) in
-      let small : before + 1 < 2 ^ 63 = omega arith in
-      let bound = more small h in
-      omega arith
-
+-- no more commands are spelled than a connection may have
 pub SpellsFront-length : (limit : ℕ) (before : ℕ) (input : List ℕ) (entries : List Command) (rest : List ℕ) → before < 2 ^ 63 → SpellsFront limit before input entries rest → before + length entries ≤ 2 ^ 63
 SpellsFront-length limit before input [] rest below h = omega arith
-SpellsFront-length limit before input (entry ∷ entries) rest below h = length_step limit before entry entries h.1 rest below h.4 (λ small l. SpellsFront-length limit (before + 1) h.1 entries rest small l)
+SpellsFront-length limit before input (entry ∷ entries) rest below h = elim (cases_Bool (is_last before entry)) [
+  | inl last ↦ let none = rw last at h.4 in rw none.0 (omega arith)
+  | inr goes ↦
+      let apart = eqb-false (before + 1) (2 ^ 63) (or_false (closes entry) (before + 1 == 2 ^ 63) goes) in
+      let bound = SpellsFront-length limit (before + 1) h.1 entries rest (omega arith) (rw goes at h.4) in
+      omega arith
+]
 
 pub begins_length : (limit : ℕ) (fed : List ℕ) (entries : List Command) → BeginCommands limit fed entries → length entries ≤ 2 ^ 63
 begins_length limit fed entries h = let n = SpellsFront-length limit 0 fed entries h.0 (lit< tt) h.1 in omega arith

@@ -1,15 +1,15 @@
 -- What stands between a line and its connection stays, step by step.
-use Rattle.std.proofs.Common.{◌≡◌, ℕ, ◌≤◌, Bool, true, false, List, [], ◌∷◌, ◌++◌, length, take, drop, Option, Some, None, refl, sym, ap, ◌∙◌, arith, append_assoc, append-nil, length-append}
-use Rattle.std.specs.List.{AllByRecursion, concat}
-use Rattle.std.proofs.lemmas.List.{take-append-le, take-append-drop, take_all, map-append, length-map}
+use Rattle.std.proofs.Common.{◌≡◌, ℕ, ◌≤◌, Bool, true, false, List, [], ◌∷◌, ◌++◌, length, take, Option, Some, None, refl, sym, ap, ◌∙◌, arith, append_assoc, append-nil, length-append}
+use Rattle.std.specs.List.{AllByRecursion}
+use Rattle.std.proofs.lemmas.List.{take-append-le, take_all, map-append, length-map}
 use Rattle.mc_wire.specs.Outlet.{with_bytes}
-use Rattle.mc_wire.proofs.Outlets.{with_bytes-append, with_bytes-nil}
+use Rattle.mc_wire.proofs.Outlets.{with_bytes-nil}
 use Rattle.mc_command.specs.declared.command.Command.{Command}
 use Rattle.mc_reader.specs.Spelling.{AreCommands}
 use Rattle.mc_conn.specs.History.{Taken}
 use Rattle.mc_conn.specs.Told.{commands_of}
 use Rattle.mc_conn.proofs.Gets.{all_more, all_push}
-use Rattle.mc_wire.specs.Outlet.{Read, Sight, asked, gave, took, with_reads}
+use Rattle.mc_wire.specs.Outlet.{Read, Sight, asked, with_reads}
 use Rattle.mc_seat.specs.Reads.{OwesNothing}
 use Rattle.mc_seat.specs.internal.Stands.{Stands}
 
@@ -20,10 +20,6 @@ with_reads-nil (Some reads) = ap (λ rs. Some rs) (append-nil reads)
 pub with_reads-append : (before : Option (List Read)) (reads more : List Read) → with_reads (with_reads before reads) more ≡ with_reads before (reads ++ more)
 with_reads-append None reads more = refl
 with_reads-append (Some before) reads more = ap (λ rs. Some rs) (append_assoc before reads more)
-
-pub concat-append : (texts more : List (List ℕ)) → concat (texts ++ more) ≡ concat texts ++ concat more
-concat-append [] more = refl
-concat-append (text ∷ texts) more = ap (λ t. text ++ t) (concat-append texts more) ∙ sym (append_assoc text (concat texts) (concat more))
 
 -- nothing was read, written or taken yet
 pub stands_first : (limit : ℕ) (fits : Type 0) (now : Sight) → Stands limit fits now now [] [] false [] []
@@ -37,8 +33,10 @@ stands_first limit fits now = record {
   owes_nothing = λ f. tt;
 }
 
-owed_later : (limit : ℕ) (begin : Sight) (commands more : List Command) (texts later : List (List ℕ)) (read : Read) → length texts ≤ length commands → OwesNothing limit begin commands texts read → OwesNothing limit begin (commands ++ more) (texts ++ later) read
-owed_later limit begin commands more texts later read counted owes =
+-- more commands were taken, and more texts handed out
+pub all_owed_later : (limit : ℕ) (begin : Sight) (commands more : List Command) (texts later : List (List ℕ)) (reads : List Read) → length texts ≤ length commands → AllByRecursion (OwesNothing limit begin commands texts) reads → AllByRecursion (OwesNothing limit begin (commands ++ more) (texts ++ later)) reads
+all_owed_later limit begin commands more texts later reads counted =
+    all_more (OwesNothing limit begin commands texts) (OwesNothing limit begin (commands ++ more) (texts ++ later)) (λ read owes.
     let within = owes.within in
     record {
       count = owes.count;
@@ -47,12 +45,7 @@ owed_later limit begin commands more texts later read counted owes =
       given_is = owes.given_is;
       all_taken = rw (take-append-le owes.count commands more (omega (arith, within, counted))) owes.all_taken;
       all_written = rw (take-append-le owes.count texts later within) owes.all_written;
-    }
-
--- more commands were taken, and more texts handed out
-pub all_owed_later : (limit : ℕ) (begin : Sight) (commands more : List Command) (texts later : List (List ℕ)) (reads : List Read) → length texts ≤ length commands → AllByRecursion (OwesNothing limit begin commands texts) reads → AllByRecursion (OwesNothing limit begin (commands ++ more) (texts ++ later)) reads
-all_owed_later limit begin commands more texts later reads counted =
-    all_more (OwesNothing limit begin commands texts) (OwesNothing limit begin (commands ++ more) (texts ++ later)) (λ read. owed_later limit begin commands more texts later read counted) reads
+    }) reads
 
 pub commands-length : (taken : List Taken) → length (commands_of taken) ≡ length taken
 commands-length taken = length-map taken (λ (one : Taken). one.entry)
@@ -76,51 +69,29 @@ stands_take limit fits after begin now unread fed ended taken texts one weaker s
           rw (more, ← append-nil texts) owed;
     }
 
--- replies were handed out
-pub stands_hand : (limit : ℕ) (fits : Type 0) (begin before now : Sight) (unread fed : List ℕ) (ended : Bool) (taken : List Taken) (texts later : List (List ℕ)) → now ≡ took (concat later) before → length (texts ++ later) ≤ length taken →
-    Stands limit fits begin before unread fed ended taken texts → Stands limit fits begin now unread fed ended taken (texts ++ later)
-stands_hand limit fits begin before now unread fed ended taken texts later wrote within stands =
-    let counted = stands.counted in
-    let commands = commands_of taken in
-    record {
-      read_is = ap (λ (s : Sight). s.given) wrote ∙ stands.read_is;
-      ended_is = λ e. let was = stands.ended_is e in (ap (λ (s : Sight). s.ended) wrote ∙ was.0, was.1);
-      taken_is = ap (λ (s : Sight). s.taken) wrote ∙ (ap (λ t. with_bytes t (concat later)) stands.taken_is ∙ (with_bytes-append begin.taken (concat texts) (concat later) ∙ ap (λ t. with_bytes begin.taken t) (sym (concat-append texts later))));
-      counted = within;
-      reads = stands.reads;
-      reads_are = ap (λ (s : Sight). s.reads) wrote ∙ stands.reads_are;
-      owes_nothing = λ f.
-          let owed = all_owed_later limit begin commands [] texts later stands.reads (omega (arith, counted, commands-length taken)) (stands.owes_nothing f) in
-          rw (← append-nil commands) owed;
-    }
+-- neither was more taken of the line nor was it asked for more: what it gave may be read and fed now, and be its end
+pub stands_over : {limit : ℕ} {fits after : Type 0} {begin before now : Sight} {unread left fed more : List ℕ} {ended over : Bool} {taken : List Taken} {texts : List (List ℕ)} → (after → fits) →
+    now.given ≡ with_bytes begin.given (more ++ left) → (over ≡ true → (now.ended ≡ true) × (left ≡ [])) → now.taken ≡ before.taken → now.reads ≡ before.reads →
+    Stands limit fits begin before unread fed ended taken texts → Stands limit after begin now left more over taken texts
+stands_over weaker read_is ended_is same_taken same_reads stands = record {
+  read_is = read_is;
+  ended_is = ended_is;
+  taken_is = same_taken ∙ stands.taken_is;
+  counted = stands.counted;
+  reads = stands.reads;
+  reads_are = same_reads ∙ stands.reads_are;
+  owes_nothing = λ f. stands.owes_nothing (weaker f);
+}
 
--- bytes that were read were fed
-pub stands_feed : (limit : ℕ) (fits : Type 0) (begin now : Sight) (unread fed : List ℕ) (taken : List Taken) (texts : List (List ℕ)) (count : ℕ) →
-    Stands limit fits begin now unread fed false taken texts → Stands limit fits begin now (drop count unread) (fed ++ take count unread) false taken texts
-stands_feed limit fits begin now unread fed taken texts count stands =
-    let all : (fed ++ take count unread) ++ drop count unread ≡ fed ++ unread =
-    append_assoc fed (take count unread) (drop count unread) ∙ ap (λ u. fed ++ u) (take-append-drop count unread) in
-    record {
-      read_is = stands.read_is ∙ ap (λ u. with_bytes begin.given u) (sym all);
-      ended_is = λ e. absurd cc;
-      taken_is = stands.taken_is;
-      counted = stands.counted;
-      reads = stands.reads;
-      reads_are = stands.reads_are;
-      owes_nothing = stands.owes_nothing;
-    }
+-- where the answers are known to fit
+pub stands_fits : (limit : ℕ) (fits after : Type 0) (begin now : Sight) (unread fed : List ℕ) (ended : Bool) (taken : List Taken) (texts : List (List ℕ)) → fits → Stands limit fits begin now unread fed ended taken texts → Stands limit after begin now unread fed ended taken texts
+stands_fits limit fits after begin now unread fed ended taken texts known stands = stands_over (λ f. known) stands.read_is stands.ended_is refl refl stands
 
--- every command of the bytes read was taken, and its reply is written out
-pub record OwedNothing (limit : ℕ) (fed : List ℕ) (taken : List Taken) (texts : List (List ℕ)) : Type 0 where
-  pub all : AreCommands limit fed (commands_of taken)
-  pub same : length texts ≡ length taken
-
--- the line was asked for more
-pub stands_asked : (limit : ℕ) (fits : Type 0) (begin before : Sight) (fed : List ℕ) (ended : Bool) (taken : List Taken) (texts : List (List ℕ)) → (fits → OwedNothing limit fed taken texts) →
+-- every command of the bytes read was taken, and its reply is written out: the line was asked for more
+pub stands_asked : (limit : ℕ) (fits : Type 0) (begin before : Sight) (fed : List ℕ) (ended : Bool) (taken : List Taken) (texts : List (List ℕ)) → AreCommands limit fed (commands_of taken) → (fits → length texts ≡ length taken) →
     Stands limit fits begin before [] fed ended taken texts → Stands limit fits begin (asked before) [] fed ended taken texts
-stands_asked limit fits begin before fed ended taken texts owed stands =
+stands_asked limit fits begin before fed ended taken texts all complete stands =
     let read : Read = record { given = before.given; taken = before.taken } in
-    let given : before.given ≡ with_bytes begin.given fed = stands.read_is ∙ ap (λ u. with_bytes begin.given u) (append-nil fed) in
     record {
       read_is = stands.read_is;
       ended_is = stands.ended_is;
@@ -129,56 +100,15 @@ stands_asked limit fits begin before fed ended taken texts owed stands =
       reads = stands.reads ++ read ∷ [];
       reads_are = ap (λ rs. with_reads rs (read ∷ [])) stands.reads_are ∙ with_reads-append begin.reads stands.reads (read ∷ []);
       owes_nothing = λ f.
-          let nothing = owed f in
-          let same = nothing.same in
+          let same = complete f in
           let commands : take (length texts) (commands_of taken) ≡ commands_of taken = take_all (length texts) (commands_of taken) (omega (arith, same, commands-length taken)) in
           all_push (OwesNothing limit begin (commands_of taken) texts) stands.reads read (stands.owes_nothing f)
           (record {
             count = length texts;
             within = omega arith;
             given = fed;
-            given_is = given;
-            all_taken = rw commands nothing.all;
+            given_is = stands.read_is ∙ ap (λ u. with_bytes begin.given u) (append-nil fed);
+            all_taken = rw commands all;
             all_written = rw (take_all (length texts) texts (omega arith)) stands.taken_is;
           });
     }
-
--- and gave some bytes
-pub stands_gave : (limit : ℕ) (fits : Type 0) (begin before now : Sight) (more fed : List ℕ) (taken : List Taken) (texts : List (List ℕ)) → now ≡ gave more before →
-    Stands limit fits begin before [] fed false taken texts → Stands limit fits begin now more fed false taken texts
-stands_gave limit fits begin before now more fed taken texts gives stands =
-    let given : before.given ≡ with_bytes begin.given fed = stands.read_is ∙ ap (λ u. with_bytes begin.given u) (append-nil fed) in
-    record {
-      read_is = ap (λ (s : Sight). s.given) gives ∙ (ap (λ g. with_bytes g more) given ∙ with_bytes-append begin.given fed more);
-      ended_is = λ e. absurd cc;
-      taken_is = ap (λ (s : Sight). s.taken) gives ∙ stands.taken_is;
-      counted = stands.counted;
-      reads = stands.reads;
-      reads_are = ap (λ (s : Sight). s.reads) gives ∙ stands.reads_are;
-      owes_nothing = stands.owes_nothing;
-    }
-
--- and gave none, which is the end
-pub stands_end : (limit : ℕ) (fits : Type 0) (begin now : Sight) (fed : List ℕ) (taken : List Taken) (texts : List (List ℕ)) → now.ended ≡ true →
-    Stands limit fits begin now [] fed false taken texts → Stands limit fits begin now [] fed true taken texts
-stands_end limit fits begin now fed taken texts ended stands = record {
-  read_is = stands.read_is;
-  ended_is = λ e. (ended, refl);
-  taken_is = stands.taken_is;
-  counted = stands.counted;
-  reads = stands.reads;
-  reads_are = stands.reads_are;
-  owes_nothing = stands.owes_nothing;
-}
-
--- where the answers are known to fit
-pub stands_fits : (limit : ℕ) (fits after : Type 0) (begin now : Sight) (unread fed : List ℕ) (ended : Bool) (taken : List Taken) (texts : List (List ℕ)) → fits → Stands limit fits begin now unread fed ended taken texts → Stands limit after begin now unread fed ended taken texts
-stands_fits limit fits after begin now unread fed ended taken texts known stands = record {
-  read_is = stands.read_is;
-  ended_is = stands.ended_is;
-  taken_is = stands.taken_is;
-  counted = stands.counted;
-  reads = stands.reads;
-  reads_are = stands.reads_are;
-  owes_nothing = λ f. stands.owes_nothing known;
-}

@@ -2,4 +2,3 @@ pub mod Backing
 pub mod Answering
 pub mod Explaining
 pub mod Turning
-pub mod Shards

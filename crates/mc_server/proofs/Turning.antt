@@ -1,35 +1,32 @@
 -- A line that is served by itself, turn by turn.
-use Rattle.std.proofs.Common.{◌≡◌, ℕ, ◌+◌, ◌-◌, ◌^◌, ◌<◌, ◌≤◌, min, Bool, true, false, List, [], ◌∷◌, ◌++◌, length, map, take, drop, Some, refl, sym, ap, subst, ◌∙◌, arith, length-append}
-use Rattle.std.specs.List.{AllByRecursion}
+use Rattle.std.proofs.Common.{◌≡◌, ℕ, ◌+◌, ◌-◌, ◌^◌, ◌<◌, min, Bool, List, [], ◌∷◌, ◌++◌, length, take, refl, sym, ap, ◌∙◌, arith, length-append}
 use Rattle.std.proofs.lemmas.List.{length-map, take-append-le}
 use Rattle.mc_wire.specs.Outlet.{Sight}
-use Rattle.mc_ring.specs.Reply.{Shown}
-use Rattle.mc_split.specs.declared.plan.Piece.{Piece}
 use Rattle.mc_split.specs.declared.plan.Ticket.{Ticket}
-use Rattle.mc_reader.specs.Spelling.{BeginCommands}
 use Rattle.mc_store.specs.declared.shard.Shard.{Shard}
 use Rattle.mc_conn.specs.declared.conn.Conn.{Conn}
 use Rattle.mc_conn.specs.declared.conn.Taken.{Taken as Took}
 use Rattle.mc_conn.specs.declared.conn.Taken.TheVariants as took
 use Rattle.mc_conn.specs.Conn.{IsConn, Opens, TakeSays}
-use Rattle.mc_conn.specs.Due.{pieces, pieces_from}
-use Rattle.mc_conn.specs.Fits.{Fits, KeysFit}
+use Rattle.mc_conn.specs.Due.{pieces_from}
+use Rattle.mc_conn.specs.Fits.{KeysFit}
 use Rattle.mc_conn.specs.History.{Taken}
-use Rattle.mc_conn.specs.Told.{KeepsHanded, Told, all_pieces, all_texts, commands_of, told_nothing}
+use Rattle.mc_conn.specs.Told.{Told, all_pieces, all_texts, commands_of, told_nothing}
 use Rattle.mc_conn.proofs.Fitting.{fits_none, fits_take, pieces_from-append}
 use Rattle.mc_conn.proofs.Gets.{all_push}
 use Rattle.mc_conn.proofs.Staying.{is_sound, keeps_take}
 use Rattle.mc_core.specs.Sizes.{Sizes}
-use Rattle.mc_core.specs.Log.{Entry, replies_in}
+use Rattle.mc_core.specs.Log.{Entry}
 use Rattle.mc_seat.specs.declared.seat.Turn.{Turn}
-use Rattle.mc_seat.specs.internal.Stands.{Serving, Stands, handed_texts}
+use Rattle.mc_seat.specs.internal.Stands.{handed_texts}
 use Rattle.mc_seat.specs.internal.Steps.{GoOnSays, GoesOn, IsServed, StopsAt, TurnSays}
 use Rattle.mc_seat.proofs.Along.{serving_along, stops_along}
 use Rattle.mc_seat.proofs.Fronts.{begins_length}
 use Rattle.mc_seat.proofs.Standing.{stands_first, stands_fits, stands_take}
 use Rattle.mc_server.specs.Explains.{IsExplained}
-use Rattle.mc_server.specs.internal.Answering.{Answers, AnswersAll, AnswersMore, Backs, CanAnswer, replies_on}
+use Rattle.mc_server.specs.internal.Answering.{Answers, AnswersAll, Backs, replies_on}
 use Rattle.mc_server.specs.internal.Turns.{Turns}
+use Rattle.mc_server.proofs.Answering.{told_more}
 use Rattle.mc_server.proofs.Explaining.{RanAll, all_complete, explains, keys_fit}
 
 -- nothing has happened yet
@@ -39,7 +36,7 @@ turns_first sizes may_answer now unread conn shards window some count backs none
   log = [];
   conn_is = is;
   answers = record { some = some; same = refl; limit = refl; count = count; backs = backs; mine = tt; ran = refl; fits = fits_none sizes.shards };
-  serving = let P : List ℕ → Type 0 = λ bytes. Serving (replies_on []) now now bytes (told_nothing sizes.shards sizes.value window) in subst P (sym none) (stands_first sizes.value (KeysFit sizes.shards [] (replies_on [])) now);
+  serving = rw none (stands_first sizes.value (KeysFit sizes.shards [] (replies_on [])) now);
   moments = tt;
   unbroken = refl;
   counted = refl;
@@ -89,37 +86,29 @@ pub record Stops (sizes : Sizes) (may_answer : ℕ → Type 0) (begin now : Sigh
   pub turns : Turns sizes may_answer begin now unread conn shards commands
   pub stops : StopsAt stop turns.told
 
+-- the connection has changed, and what it was told has not
+stops_with : (sizes : Sizes) (may_answer : ℕ → Type 0) (begin now : Sight) (unread : List ℕ) (conn new : Conn) (shards : List Shard) (commands : ℕ) (stop : Took) (turns : Turns sizes may_answer begin now unread conn shards commands) → IsConn new turns.told → StopsAt stop turns.told → Stops sizes may_answer begin now unread new shards commands stop
+stops_with sizes may_answer begin now unread conn new shards commands stop turns is stops = record {
+  turns = record { told = turns.told; log = turns.log; conn_is = is; answers = turns.answers; serving = turns.serving; moments = turns.moments; unbroken = turns.unbroken; counted = turns.counted };
+  stops = stops;
+}
+
+-- why, as the call says that took none
 pub stops_take : (sizes : Sizes) (may_answer : ℕ → Type 0) (begin now : Sight) (unread : List ℕ) (conn new : Conn) (shards : List Shard) (commands moment : ℕ) (stop : Took) → TakeSays conn moment stop new → ((ticket : Ticket) → stop ≡ took.Opened ticket → ⊥) →
     Turns sizes may_answer begin now unread conn shards commands → Stops sizes may_answer begin now unread new shards commands stop
 stops_take sizes may_answer begin now unread conn new shards commands moment (took.Opened ticket) says other turns = absurd (other ticket refl)
 stops_take sizes may_answer begin now unread conn new shards commands moment took.NeedMore says other turns =
-    let needs = says turns.told turns.conn_is in
-    record {
-      turns = record { told = turns.told; log = turns.log; conn_is = needs.now; answers = turns.answers; serving = turns.serving; moments = turns.moments; unbroken = turns.unbroken; counted = turns.counted };
-      stops = (needs.all, needs.comes);
-    }
+    let needs = says turns.told turns.conn_is in stops_with _ _ _ _ _ _ _ _ _ took.NeedMore turns needs.now (needs.all, needs.comes)
 stops_take sizes may_answer begin now unread conn new shards commands moment took.Full says other turns =
-    let full = says turns.told turns.conn_is in
-    record {
-      turns = record { told = turns.told; log = turns.log; conn_is = full.now; answers = turns.answers; serving = turns.serving; moments = turns.moments; unbroken = turns.unbroken; counted = turns.counted };
-      stops = tt;
-    }
+    stops_with _ _ _ _ _ _ _ _ _ took.Full turns (says turns.told turns.conn_is).now tt
 stops_take sizes may_answer begin now unread conn new shards commands moment took.Closed says other turns =
-    let over = says turns.told turns.conn_is in
-    record {
-      turns = record { told = turns.told; log = turns.log; conn_is = over.1; answers = turns.answers; serving = turns.serving; moments = turns.moments; unbroken = turns.unbroken; counted = turns.counted };
-      stops = over.0;
-    }
-
-pub can_answer : (sizes : Sizes) (may_answer : ℕ → Type 0) (begin now : Sight) (unread : List ℕ) (conn : Conn) (shards : List Shard) (commands : ℕ) (stop : Took) → Stops sizes may_answer begin now unread conn shards commands stop → CanAnswer conn shards
-can_answer sizes may_answer begin now unread conn shards commands stop stops =
-    let turns = stops.turns in
-    record { sizes = sizes; told = turns.told; log = turns.log; conn_is = turns.conn_is; answers = turns.answers }
+    let over = says turns.told turns.conn_is in stops_with _ _ _ _ _ _ _ _ _ took.Closed turns over.1 over.0
 
 -- all commands taken were answered
 pub record Answered (sizes : Sizes) (may_answer : ℕ → Type 0) (begin now : Sight) (unread : List ℕ) (conn : Conn) (shards : List Shard) (commands : ℕ) (stop : Took) : Type 0 where
-  pub stopped : Stops sizes may_answer begin now unread conn shards commands stop
-  pub ran : RanAll sizes stopped.turns.told shards stopped.turns.log
+  pub turns : Turns sizes may_answer begin now unread conn shards commands
+  pub stops : StopsAt stop turns.told
+  pub ran : RanAll sizes turns.told shards turns.log
 
 pub answers_stop : (sizes : Sizes) (may_answer : ℕ → Type 0) (begin now : Sight) (unread : List ℕ) (conn new : Conn) (shards after : List Shard) (commands : ℕ) (stop : Took) → AnswersAll conn shards new after → Stops sizes may_answer begin now unread conn shards commands stop → Answered sizes may_answer begin now unread new after commands stop
 answers_stop sizes may_answer begin now unread conn new shards after commands stop all stops =
@@ -127,23 +116,20 @@ answers_stop sizes may_answer begin now unread conn new shards after commands st
     let told = turns.told in
     let rest = all sizes told turns.log turns.conn_is turns.answers in
     let more = rest.0 in
-    let later : Told = record told { out = more.out; lent = more.lent; accepted = more.accepted } in
     let fits = keys_fit sizes told shards turns.log turns.answers in
     let stands = stands_fits told.limit (KeysFit told.shards told.taken (replies_on turns.log)) (KeysFit told.shards told.taken (replies_on more.log)) begin now unread told.fed told.ended told.taken (handed_texts told) fits turns.serving in
     record {
-      stopped = record {
-        turns = record {
-          told = later;
-          log = more.log;
-          conn_is = more.conn_is;
-          answers = more.answers;
-          serving = serving_along told.limit (replies_on more.log) begin now unread told.fed told.ended told.shards told.taken (handed_texts told) (handed_texts later) (sym more.handed.same) stands;
-          moments = turns.moments;
-          unbroken = turns.unbroken;
-          counted = turns.counted;
-        };
-        stops = stops_along stop told more.out more.lent more.accepted stops.stops;
+      turns = record {
+        told = told_more told more;
+        log = more.log;
+        conn_is = more.conn_is;
+        answers = more.answers;
+        serving = serving_along told.limit (replies_on more.log) begin now unread told.fed told.ended told.shards told.taken (handed_texts told) (handed_texts (told_more told more)) (sym more.handed.same) stands;
+        moments = turns.moments;
+        unbroken = turns.unbroken;
+        counted = turns.counted;
       };
+      stops = stops_along stop told more.out more.lent more.accepted stops.stops;
       ran = record { answers = more.answers; all = rest.1 };
     }
 
@@ -170,13 +156,13 @@ turns_go sizes may_answer begin now left conn new shards commands turns later un
 }
 
 -- what handing out and reading on said of a turn whose commands were all answered
-pub turn_said : (sizes : Sizes) (may_answer : ℕ → Type 0) (begin before now : Sight) (unread left : List ℕ) (conn new : Conn) (shards : List Shard) (commands : ℕ) (stop : Took) (turn : Turn) → (answered : Answered sizes may_answer begin before unread conn shards commands stop) → GoOnSays turn stop conn unread before new left now → TurnSays turn (replies_on answered.stopped.turns.log) begin now answered.stopped.turns.told new left
+pub turn_said : (sizes : Sizes) (may_answer : ℕ → Type 0) (begin before now : Sight) (unread left : List ℕ) (conn new : Conn) (shards : List Shard) (commands : ℕ) (stop : Took) (turn : Turn) → (answered : Answered sizes may_answer begin before unread conn shards commands stop) → GoOnSays turn stop conn unread before new left now → TurnSays turn (replies_on answered.turns.log) begin now answered.turns.told new left
 turn_said sizes may_answer begin before now unread left conn new shards commands stop turn answered says =
-    let turns = answered.stopped.turns in
-    says (replies_on turns.log) begin turns.told turns.conn_is turns.serving turns.unbroken answered.stopped.stops (λ _. all_complete sizes turns.told shards turns.log conn turns.conn_is answered.ran)
+    let turns = answered.turns in
+    says (replies_on turns.log) begin turns.told turns.conn_is turns.serving turns.unbroken answered.stops (λ _. all_complete sizes turns.told shards turns.log conn turns.conn_is answered.ran)
 
 -- the line was served
-pub turn_ends : (sizes : Sizes) (may_answer : ℕ → Type 0) (begin before now : Sight) (unread : List ℕ) (conn last : Conn) (shards : List Shard) (commands : ℕ) (stop : Took) (broke : Bool) → (answered : Answered sizes may_answer begin before unread conn shards commands stop) → IsServed (replies_on answered.stopped.turns.log) begin now answered.stopped.turns.told broke last → IsExplained sizes may_answer (record { begin = begin; now = now; commands = commands; broke = broke })
+pub turn_ends : (sizes : Sizes) (may_answer : ℕ → Type 0) (begin before now : Sight) (unread : List ℕ) (conn last : Conn) (shards : List Shard) (commands : ℕ) (stop : Took) (broke : Bool) → (answered : Answered sizes may_answer begin before unread conn shards commands stop) → IsServed (replies_on answered.turns.log) begin now answered.turns.told broke last → IsExplained sizes may_answer (record { begin = begin; now = now; commands = commands; broke = broke })
 turn_ends sizes may_answer begin before now unread conn last shards commands stop broke answered served =
-    let turns = answered.stopped.turns in
+    let turns = answered.turns in
     explains sizes may_answer begin now turns.told broke commands conn last shards turns.log turns.conn_is answered.ran turns.moments turns.counted served

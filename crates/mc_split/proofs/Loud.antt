@@ -36,36 +36,19 @@ meta_or_not kind flags value key (answer ∷ answers) =
 pub empty_or_loud : (command : Command) (answers : List Answer) → (text_of command answers ≡ []) ⊎ (text_of command answers ≡ text_of (loud command) answers)
 unfolding shape_of shape_text
 empty_or_loud (command.Store storage) answers = noreply_or_not storage.noreply (shape_text (shape.Line false) answers)
-empty_or_loud (command.Get retrieval) answers = inr refl
 empty_or_loud (command.Delete key noreply) answers = noreply_or_not noreply (shape_text (shape.Line false) answers)
 empty_or_loud (command.Count key direction amount noreply) answers = noreply_or_not noreply (shape_text (shape.Line false) answers)
 empty_or_loud (command.Touch key exptime noreply) answers = noreply_or_not noreply (shape_text (shape.Line false) answers)
 empty_or_loud (command.FlushAll delay noreply) answers = noreply_or_not noreply (shape_text (shape.Line false) answers)
-empty_or_loud command.Version answers = inr refl
 empty_or_loud (command.Verbosity true) answers = inl refl
-empty_or_loud (command.Verbosity false) answers = inr refl
 empty_or_loud command.Quit answers = inl refl
-empty_or_loud command.MetaNoop answers = inr refl
 empty_or_loud (command.MetaGet get) answers = meta_or_not kind.Get get.flags get.value (shown_key get.flags get.key) answers
 empty_or_loud (command.MetaSet set) answers = meta_or_not kind.Set set.flags false (shown_key set.flags set.key) answers
 empty_or_loud (command.MetaDelete delete) answers = meta_or_not kind.Delete delete.flags false (shown_key delete.flags delete.key) answers
 empty_or_loud (command.MetaArithmetic arithmetic) answers = meta_or_not kind.Arithmetic arithmetic.flags arithmetic.value (shown_key arithmetic.flags arithmetic.key) answers
-empty_or_loud (command.Refused refusal) answers = inr refl
+empty_or_loud other answers = inr refl
 
 pub asks_as_loud : (shards : ℕ) (command : Command) → pieces_of shards command ≡ pieces_of shards (loud command)
 unfolding pieces_of
 asks_as_loud shards (command.Store storage) = refl
-asks_as_loud shards (command.Get retrieval) = refl
-asks_as_loud shards (command.Delete key noreply) = refl
-asks_as_loud shards (command.Count key direction amount noreply) = refl
-asks_as_loud shards (command.Touch key exptime noreply) = refl
-asks_as_loud shards (command.FlushAll delay noreply) = refl
-asks_as_loud shards command.Version = refl
-asks_as_loud shards (command.Verbosity noreply) = refl
-asks_as_loud shards command.Quit = refl
-asks_as_loud shards command.MetaNoop = refl
-asks_as_loud shards (command.MetaGet get) = refl
-asks_as_loud shards (command.MetaSet set) = refl
-asks_as_loud shards (command.MetaDelete delete) = refl
-asks_as_loud shards (command.MetaArithmetic arithmetic) = refl
-asks_as_loud shards (command.Refused refusal) = refl
+asks_as_loud shards other = refl

@@ -1,5 +1,5 @@
 -- Returned flags in another order.
-use Rattle.std.proofs.Common.{◌≡◌, ℕ, Bool, true, false, ◌&&◌, cond, List, [], ◌∷◌, ◌++◌, length, Option, Some, None, refl, sym, ap, subst, append-nil}
+use Rattle.std.proofs.Common.{◌≡◌, ℕ, Bool, true, false, ◌&&◌, cond, List, [], ◌∷◌, ◌++◌, length, Option, Some, None, refl, sym, ap, append-nil}
 use Rattle.std.specs.Prelude.{codes, decimal}
 use Rattle.std.specs.List.{flat_map, list_any}
 use Rattle.std.specs.List.Sorted.{IsPermutation}
@@ -82,8 +82,7 @@ ordered : (kind : MetaKind) (flags : MetaFlags) (others : List ReturnFlag) (valu
     DiffersInOrder flags.returned others (shape_text (shape.Meta kind flags value (shown_key flags key)) answers) (shape_text (shape.Meta kind (with_flags flags others) value (shown_key (with_flags flags others) key)) answers)
 ordered kind flags others value key answers moved =
     let same : shown_key flags key ≡ shown_key (with_flags flags others) key = ap (λ test. cond test (Some key) None) (list_any-IsPermutation is_key_flag flags.returned others moved) in
-    let Shown : Option (List ℕ) → Type 0 = λ shown. DiffersInOrder flags.returned others (shape_text (shape.Meta kind flags value (shown_key flags key)) answers) (shape_text (shape.Meta kind (with_flags flags others) value shown) answers) in
-    subst Shown same (with_key kind flags others value (shown_key flags key) answers)
+    rw (← same) (with_key kind flags others value (shown_key flags key) answers)
 
 pub orders_flags : (command : Command) (returned : List ReturnFlag) → IsPermutation (returned_in command) returned → (answers : List Answer) →
     DiffersInOrder (returned_in command) returned (text_of command answers) (text_of (with_returned command returned) answers)

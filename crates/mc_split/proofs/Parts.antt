@@ -1,10 +1,10 @@
 -- Pieces that are numbered one after another are the parts of a command.
-use Rattle.std.proofs.Common.{◌≡◌, ℕ, zero, suc, ◌+◌, ◌-◌, ◌<◌, ◌≤◌, List, [], ◌∷◌, ◌++◌, length, map, replicate, Option, None, refl, ap, sym, ◌∙◌, append_assoc, append-nil, arith, length-append, take, subst}
-use Rattle.std.proofs.lemmas.List.{length-map}
+use Rattle.std.proofs.Common.{◌≡◌, ℕ, suc, ◌+◌, ◌-◌, ◌<◌, ◌≤◌, List, [], ◌∷◌, ◌++◌, length, map, replicate, Option, None, refl, ap, sym, ◌∙◌, append_assoc, append-nil, arith, length-append, take}
+use Rattle.std.proofs.lemmas.List.{length-map, take_at}
+use Rattle.std.proofs.lemmas.List.FromFn.{length-map-range_with_len}
 use Rattle.mc_item.specs.declared.answer.Kind.TheVariants.{Fetch, Flush}
-use Rattle.mc_split.proofs.Shards.{flushes_kind, gets_kind}
-use Rattle.std.proofs.lemmas.List.{take_at}
-use Rattle.std.specs.Prelude.{ℤ}
+use Rattle.mc_split.proofs.Shards.{flush_of, flushes_kind, gets_kind}
+use Rattle.std.specs.Prelude.{ℤ, IfOk, Result, Ok, Err}
 use Rattle.std.specs.List.{range_with_len}
 use Rattle.mc_item.specs.declared.op.Op.TheVariants as op
 use Rattle.mc_item.specs.declared.answer.Answer.{Answer}
@@ -13,7 +13,6 @@ use Rattle.mc_split.specs.declared.plan.Piece.{Piece}
 use Rattle.mc_split.specs.Pieces.{Asked, asked_of}
 use Rattle.mc_split.specs.Plan.{form_kind, no_answers, parts_from}
 use Rattle.mc_split.specs.internal.Splits.{Splits}
-use Rattle.std.specs.Prelude.{IfOk, Result, Ok, Err}
 use Rattle.std.specs.Result.{IsErr}
 use Rattle.mc_item.specs.declared.answer.Kind.{Kind}
 use Rattle.mc_item.specs.declared.memory.NoMemory.{NoMemory}
@@ -35,9 +34,8 @@ queued_none old ticket moment whole = record { done = []; so_far = sym (append-n
 parts_from-push : (part : ℕ) (ticket : Ticket) (moment : ℕ) (done : List Asked) (asked : Asked) → parts_from part ticket moment done ++ numbered (part + length done) ticket moment asked ∷ [] ≡ parts_from part ticket moment (done ++ asked ∷ [])
 parts_from-push part ticket moment [] asked = let e : part + 0 ≡ part = omega arith in ap (λ n. numbered n ticket moment asked ∷ []) e
 parts_from-push part ticket moment (first ∷ done) asked =
-    let e : part + length (first ∷ done) ≡ (part + 1) + length done = omega arith in
-    ap (λ n. numbered part ticket moment first ∷ (parts_from (part + 1) ticket moment done ++ numbered n ticket moment asked ∷ [])) e
-    ∙ ap (λ ps. numbered part ticket moment first ∷ ps) (parts_from-push (part + 1) ticket moment done asked)
+    let next : part + length (first ∷ done) ≡ (part + 1) + length done = omega arith in
+    rw next (ap (λ ps. numbered part ticket moment first ∷ ps) (parts_from-push (part + 1) ticket moment done asked))
 
 pub length-parts_from : (part : ℕ) (ticket : Ticket) (moment : ℕ) (asked : List Asked) → length (parts_from part ticket moment asked) ≡ length asked
 length-parts_from part ticket moment [] = refl
@@ -46,7 +44,7 @@ length-parts_from part ticket moment (one ∷ asked) = ap (λ n. suc n) (length-
 -- how many pieces were added
 pub added : {old now : List (ℕ × Piece)} {ticket : Ticket} {moment : ℕ} {rest whole : List Asked} (so_far : Queued old now ticket moment rest whole) → length now ≡ length old + length so_far.done
 added {old} {now} {ticket} {moment} so_far =
-    ap length so_far.so_far ∙ (length-append old (parts_from 0 ticket moment so_far.done) ∙ ap (λ n. length old + n) (length-parts_from 0 ticket moment so_far.done))
+    ap length so_far.so_far ∙ rw (length-append old (parts_from 0 ticket moment so_far.done), length-parts_from 0 ticket moment so_far.done) refl
 
 -- one more
 pub queued_more : (old now new : List (ℕ × Piece)) (ticket : Ticket) (moment part : ℕ) (asked : Asked) (rest whole : List Asked) → Queued old now ticket moment (asked ∷ rest) whole → length now ≡ length old + part → new ≡ now ++ numbered part ticket moment asked ∷ [] → Queued old new ticket moment rest whole
@@ -55,16 +53,15 @@ queued_more old now new ticket moment part asked rest whole before count after =
     record {
       done = before.done ++ asked ∷ [];
       so_far =
-          after
-          ∙ (ap (λ n. now ++ numbered n ticket moment asked ∷ []) same
-          ∙ (ap (λ ps. ps ++ numbered (0 + length before.done) ticket moment asked ∷ []) before.so_far
+          rw (after, same)
+          (ap (λ ps. ps ++ numbered (0 + length before.done) ticket moment asked ∷ []) before.so_far
           ∙ (append_assoc old (parts_from 0 ticket moment before.done) (numbered (0 + length before.done) ticket moment asked ∷ [])
-          ∙ ap (λ ps. old ++ ps) (parts_from-push 0 ticket moment before.done asked))));
+          ∙ ap (λ ps. old ++ ps) (parts_from-push 0 ticket moment before.done asked)));
       together = append_assoc before.done (asked ∷ []) rest ∙ before.together;
     }
 
 pub queued_all : {old now : List (ℕ × Piece)} {ticket : Ticket} {moment : ℕ} {whole : List Asked} → Queued old now ticket moment [] whole → now ≡ old ++ parts_from 0 ticket moment whole
-queued_all {old} {now} {ticket} {moment} all = all.so_far ∙ ap (λ asked. old ++ parts_from 0 ticket moment asked) (sym (append-nil all.done) ∙ all.together)
+queued_all all = rw (← all.together, append-nil all.done) all.so_far
 
 -- those that were there are still in front
 pub queued_behind : {old now : List (ℕ × Piece)} {ticket : Ticket} {moment : ℕ} {rest whole : List Asked} → Queued old now ticket moment rest whole → take (length old) now ≡ old
@@ -86,9 +83,9 @@ gets_of shards touch keys = map (λ key. asked_of shards key (op.Fetch key touch
 
 -- a flush on so many shards, from this one on
 abbrev pub flush_from : ℤ → ℕ → ℕ → List Asked
-flush_from delay first count = map (λ shard. record { shard = shard; op = op.Flush delay }) (range_with_len first count)
+flush_from delay first count = map (flush_of delay) (range_with_len first count)
 
-pub flush_from-next : (delay : ℤ) (first shards : ℕ) → first < shards → flush_from delay first (shards - first) ≡ record { shard = first; op = op.Flush delay } ∷ flush_from delay (first + 1) (shards - (first + 1))
+pub flush_from-next : (delay : ℤ) (first shards : ℕ) → first < shards → flush_from delay first (shards - first) ≡ flush_of delay first ∷ flush_from delay (first + 1) (shards - (first + 1))
 flush_from-next delay first shards below =
     let left : shards - first ≡ suc (shards - (first + 1)) = omega arith in
     rw left refl
@@ -98,7 +95,7 @@ pub splits : (result : Result Form NoMemory) (ticket : Ticket) (moment : ℕ) (s
     IfOk result (λ form. form ≡ record { ticket = ticket; kind = kind; shape = shape; slots = replicate (length asked) None }) → kind ≡ form_kind asked → 0 < length asked → Queued old now ticket moment [] asked →
     Splits result ticket moment shape asked old now
 splits (Ok form) ticket moment shape kind asked old now form_is kind_is some all = record {
-  form = form_is ∙ (ap (λ (slots : List (Option Answer)). record { ticket = ticket; kind = kind; shape = shape; slots = slots }) (empty_slots asked) ∙ ap (λ k. record { ticket = ticket; kind = k; shape = shape; slots = no_answers asked }) kind_is);
+  form = rw (form_is, empty_slots asked, kind_is);
   pieces = queued_all all;
   front = tt;
   asks = tt;
@@ -110,10 +107,6 @@ pub gives_up : (result : Result Form NoMemory) (ticket : Ticket) (moment : ℕ) 
 gives_up (Ok form) ticket moment shape rest asked old now failed some so_far = absurd cc
 gives_up (Err fault) ticket moment shape rest asked old now failed some so_far = record { form = tt; pieces = tt; front = queued_behind so_far; asks = some }
 
-length-flush_from : (delay : ℤ) (first count : ℕ) → length (flush_from delay first count) ≡ count
-length-flush_from delay first zero = refl
-length-flush_from delay first (suc count) = ap (λ n. suc n) (length-flush_from delay (first + 1) count)
-
 pub flush_none : (old : List (ℕ × Piece)) (ticket : Ticket) (moment : ℕ) (delay : ℤ) (shards : ℕ) → Queued old old ticket moment (flush_from delay 0 (shards - 0)) (flush_from delay 0 shards)
 flush_none old ticket moment delay shards =
     let all : shards - 0 ≡ shards = omega arith in
@@ -121,13 +114,12 @@ flush_none old ticket moment delay shards =
 
 -- the next shard
 pub flush_more : (old now new : List (ℕ × Piece)) (ticket : Ticket) (moment : ℕ) (delay : ℤ) (shard shards : ℕ) → shard < shards → Queued old now ticket moment (flush_from delay shard (shards - shard)) (flush_from delay 0 shards) →
-    new ≡ now ++ numbered shard ticket moment (record { shard = shard; op = op.Flush delay }) ∷ [] → Queued old new ticket moment (flush_from delay (shard + 1) (shards - (shard + 1))) (flush_from delay 0 shards)
+    new ≡ now ++ numbered shard ticket moment (flush_of delay shard) ∷ [] → Queued old new ticket moment (flush_from delay (shard + 1) (shards - (shard + 1))) (flush_from delay 0 shards)
 flush_more old now new ticket moment delay shard shards below so_far after =
-    let all = ap length so_far.together in
     let parts = length-append so_far.done (flush_from delay shard (shards - shard)) in
-    let count : length now ≡ length old + shard = omega (arith, added so_far, all, parts, length-flush_from delay shard (shards - shard), length-flush_from delay 0 shards, below) in
-    queued_more old now new ticket moment shard (record { shard = shard; op = op.Flush delay }) (flush_from delay (shard + 1) (shards - (shard + 1))) (flush_from delay 0 shards)
-    (rw (flush_from-next delay shard shards below) at so_far) count after
+    let left = length-map-range_with_len (flush_of delay) in
+    let count : length now ≡ length old + shard = omega (arith, added so_far, ap length so_far.together, parts, left shard (shards - shard), left 0 shards) in
+    queued_more old now new ticket moment shard (flush_of delay shard) (flush_from delay (shard + 1) (shards - (shard + 1))) (flush_from delay 0 shards) (rw (flush_from-next delay shard shards below) at so_far) count after
 
 pub flush_all : (old now : List (ℕ × Piece)) (ticket : Ticket) (moment : ℕ) (delay : ℤ) (shard shards : ℕ) → shards ≤ shard → Queued old now ticket moment (flush_from delay shard (shards - shard)) (flush_from delay 0 shards) → Queued old now ticket moment [] (flush_from delay 0 shards)
 flush_all old now ticket moment delay shard shards all so_far =
@@ -135,14 +127,13 @@ flush_all old now ticket moment delay shard shards all so_far =
     rw none at so_far
 
 pub flush_some : (delay : ℤ) (shards : ℕ) → 0 < shards → 0 < length (flush_from delay 0 shards)
-flush_some delay shards some = omega (arith, length-flush_from delay 0 shards, some)
+flush_some delay shards some = omega (arith, length-map-range_with_len (flush_of delay) 0 shards, some)
 
 pub splits_flush : (result : Result Form NoMemory) (ticket : Ticket) (moment : ℕ) (shape : Shape) (delay : ℤ) (shards : ℕ) (old now : List (ℕ × Piece)) → IfOk result (λ form. form ≡ record { ticket = ticket; kind = Flush; shape = shape; slots = replicate shards None }) → 0 < shards → Queued old now ticket moment [] (flush_from delay 0 shards) →
     Splits result ticket moment shape (flush_from delay 0 shards) old now
 splits_flush result ticket moment shape delay shards old now form_is some all =
-    let count = length-flush_from delay 0 shards in
-    let P : ℕ → Type 0 = λ n. IfOk result (λ form. form ≡ record { ticket = ticket; kind = Flush; shape = shape; slots = replicate n None }) in
-    splits result ticket moment shape Flush (flush_from delay 0 shards) old now (subst P (sym count) form_is) (flushes_kind 0 shards delay) (flush_some delay shards some) all
+    let count : shards ≡ length (flush_from delay 0 shards) = sym (length-map-range_with_len (flush_of delay) 0 shards) in
+    splits result ticket moment shape Flush (flush_from delay 0 shards) old now (rw count at form_is) (flushes_kind 0 shards delay) (flush_some delay shards some) all
 
 pub get_first : (old now : List (ℕ × Piece)) (ticket : Ticket) (moment : ℕ) (shards : ℕ) (touch : Option ℤ) (first : List ℕ) (others : List (List ℕ)) → now ≡ old ++ numbered 0 ticket moment (asked_of shards first (op.Fetch first touch)) ∷ [] →
     Queued old now ticket moment (gets_of shards touch others) (gets_of shards touch (first ∷ others))
@@ -159,6 +150,5 @@ pub splits_get : (result : Result Form NoMemory) (ticket : Ticket) (moment : ℕ
     IfOk result (λ form. form ≡ record { ticket = ticket; kind = Fetch; shape = shape; slots = replicate count None }) → Queued old now ticket moment (gets_of shards touch left) (gets_of shards touch keys) → Splits result ticket moment shape (gets_of shards touch keys) old now
 splits_get result ticket moment shape shards touch count first others keys left old now keys_are count_is none form_is so_far =
     let number : count ≡ length (gets_of shards touch (first ∷ others)) = omega (arith, count_is, length-map others (λ key. asked_of shards key (op.Fetch key touch))) in
-    let P : ℕ → Type 0 = λ n. IfOk result (λ form. form ≡ record { ticket = ticket; kind = Fetch; shape = shape; slots = replicate n None }) in
     let all : Queued old now ticket moment [] (gets_of shards touch keys) = rw none at so_far in
-    rw keys_are (splits result ticket moment shape Fetch (gets_of shards touch (first ∷ others)) old now (subst P number form_is) (gets_kind shards touch first others) (omega arith) (rw keys_are at all))
+    rw keys_are (splits result ticket moment shape Fetch (gets_of shards touch (first ∷ others)) old now (rw number at form_is) (gets_kind shards touch first others) (omega arith) (rw keys_are at all))

@@ -2,6 +2,7 @@
 use Rattle.std.proofs.Common.{◌≡◌, true, false, [], ◌∷◌, Some, None, refl}
 use Rattle.std.specs.Prelude.{codes, pos}
 use Rattle.mc_wire.specs.Key.{fnv_of}
+use Rattle.mc_command.specs.declared.command.Command.{Command}
 use Rattle.mc_command.specs.declared.command.Command.TheVariants as command
 use Rattle.mc_command.specs.declared.command.Direction.TheVariants as direction
 use Rattle.mc_command.specs.declared.meta.MetaFlags.{MetaFlags}
@@ -21,47 +22,30 @@ get_pieces : pieces_of 2 (command.Get (record { keys = codes "a" ∷ codes "b" �
 unfolding pieces_of fnv_of
 get_pieces = refl
 
--- a flush on every shard, rising
-flush_pieces : pieces_of 3 (command.FlushAll (pos 5) true)
-    ≡ record { shard = 0; op = op.Flush (pos 5) } ∷ record { shard = 1; op = op.Flush (pos 5) } ∷ record { shard = 2; op = op.Flush (pos 5) } ∷ []
-unfolding pieces_of
-flush_pieces = refl
-
--- noreply changes no piece
-count_pieces : pieces_of 2 (command.Count (codes "d") direction.Decrement 9 true) ≡ record { shard = 1; op = op.Count (codes "d") direction.Decrement 9 } ∷ []
+-- a flush on every shard, rising; noreply changes no piece; and what asks no shard
+other_pieces : (pieces_of 3 (command.FlushAll (pos 5) true)
+    ≡ record { shard = 0; op = op.Flush (pos 5) } ∷ record { shard = 1; op = op.Flush (pos 5) } ∷ record { shard = 2; op = op.Flush (pos 5) } ∷ [])
+    × (pieces_of 2 (command.Count (codes "d") direction.Decrement 9 true) ≡ record { shard = 1; op = op.Count (codes "d") direction.Decrement 9 } ∷ [])
+    × (pieces_of 2 command.Quit ≡ [])
 unfolding pieces_of fnv_of
-count_pieces = refl
-
--- what asks no shard
-quit_pieces : pieces_of 2 command.Quit ≡ []
-unfolding pieces_of
-quit_pieces = refl
+other_pieces = (refl, refl, refl)
 
 -- ma with N30 and J13
 abbrev flags_k : MetaFlags
 flags_k = record { base64 = false; quiet = true; returned = flag.TimeLeft ∷ flag.Key ∷ []; opaque = [] }
-
-abbrev flags_t : MetaFlags
-flags_t = record { base64 = false; quiet = true; returned = flag.TimeLeft ∷ []; opaque = [] }
 
 vivify_pieces : pieces_of 2 (command.MetaArithmetic (record { key = codes "c"; flags = flags_k; value = true; compare = None; unique = None; direction = direction.Increment; amount = 1; initial = 13; vivify = Some (pos 30); exptime = None }))
     ≡ record { shard = 0; op = op.MetaCount (record { key = codes "c"; compare = None; unique = None; direction = direction.Increment; amount = 1; exptime = None; vivify = Some (record { exptime = pos 30; initial = 13 }) }) } ∷ []
 unfolding pieces_of fnv_of
 vivify_pieces = refl
 
+abbrev deletion : MetaFlags → Command
+deletion flags = command.MetaDelete (record { key = codes "a"; flags = flags; compare = None; unique = None; invalidate = false; exptime = None })
+
 -- the key is kept for the reply where the flag k stands
-shown : shape_of (command.MetaDelete (record { key = codes "a"; flags = flags_k; compare = None; unique = None; invalidate = false; exptime = None })) ≡ shape.Meta kind.Delete flags_k false (Some (codes "a"))
+shapes : (shape_of (deletion flags_k) ≡ shape.Meta kind.Delete flags_k false (Some (codes "a")))
+    × (shape_of (deletion (record flags_k { returned = flag.TimeLeft ∷ [] })) ≡ shape.Meta kind.Delete (record flags_k { returned = flag.TimeLeft ∷ [] }) false None)
+    × (shape_of (command.Verbosity true) ≡ shape.Fixed fixed.Nothing)
+    × (shape_of (command.Verbosity false) ≡ shape.Fixed fixed.Ok)
 unfolding shape_of
-shown = refl
-
-not_shown : shape_of (command.MetaDelete (record { key = codes "a"; flags = flags_t; compare = None; unique = None; invalidate = false; exptime = None })) ≡ shape.Meta kind.Delete flags_t false None
-unfolding shape_of
-not_shown = refl
-
-silent : shape_of (command.Verbosity true) ≡ shape.Fixed fixed.Nothing
-unfolding shape_of
-silent = refl
-
-spoken : shape_of (command.Verbosity false) ≡ shape.Fixed fixed.Ok
-unfolding shape_of
-spoken = refl
+shapes = (refl, refl, refl, refl)

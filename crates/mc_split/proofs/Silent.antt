@@ -40,10 +40,6 @@ has_line : (kind : Kind) → is_plain kind ≡ true → (given : Answer) → is_
 unfolding is_lawful
 has_line kind plain (Number number) lawful e = some_behind (decimal number) (10 ∷ []) 13 e
 has_line Store plain given lawful e = cc
-has_line Count plain given lawful e = cc
-has_line Delete plain given lawful e = cc
-has_line Touch plain given lawful e = cc
-has_line Flush plain given lawful e = cc
 has_line kind plain given lawful e = cc
 
 line_silent : (noreply lacks : Bool) (line : List ℕ) → (line ≡ [] → ⊥) → (cond noreply [] (cond lacks memory_line line) ≡ []) ↔ IsTrue noreply
@@ -67,32 +63,21 @@ is_meta kind = false
 has_code : (kind : Kind) → is_meta kind ≡ true → (flags : MetaFlags) (key : Option (List ℕ)) (given : Answer) (value : Bool) → is_lawful kind given ≡ true → coded_text flags key given value ≡ [] → ⊥
 unfolding is_lawful
 has_code kind meta flags key (answer.MetaHit hit) true lawful e = cc
-has_code kind meta flags key (answer.MetaHit hit) false lawful e = cc
 has_code kind meta flags key (answer.MetaDone done) true lawful e = cc
-has_code kind meta flags key (answer.MetaDone done) false lawful e = cc
 has_code MetaGet meta flags key given value lawful e = cc
-has_code MetaStore meta flags key given value lawful e = cc
-has_code MetaDelete meta flags key given value lawful e = cc
-has_code MetaCount meta flags key given value lawful e = cc
 has_code kind meta flags key given value lawful e = cc
 
 -- Want of memory isn't hidden.
-hidden_is_told : (kind : MetaKind) (value : Bool) (given : Answer) → is_hidden kind value given ≡ true → is_no_memory given ≡ false
-hidden_is_told kind.Get value NoMemory e = absurd cc
-hidden_is_told kind.Set value NoMemory e = absurd cc
-hidden_is_told kind.Delete value NoMemory e = absurd cc
-hidden_is_told kind.Arithmetic true NoMemory e = absurd cc
-hidden_is_told kind.Arithmetic false NoMemory e = absurd cc
-hidden_is_told kind value given e = refl
+hidden_is_told : (given : Answer) (kind : MetaKind) (value : Bool) → is_hidden kind value given ≡ true → is_no_memory given ≡ false
+hidden_is_told NoMemory kind.Arithmetic true e = cc
+hidden_is_told given kind value e = cc
 
 hidden_silent : (quiet hidden lacks : Bool) (text : List ℕ) → (text ≡ [] → ⊥) → (hidden ≡ true → lacks ≡ false) →
     (cond lacks memory_line (cond (quiet && hidden) [] text) ≡ []) ↔ IsTrue (quiet && hidden)
 hidden_silent true true true text some told = absurd (let e = told refl in cc)
+hidden_silent quiet hidden true text some told = (λ e. absurd cc, λ e. absurd cc)
 hidden_silent true true false text some told = (λ e. refl, λ e. refl)
-hidden_silent true false true text some told = (λ e. absurd cc, λ e. absurd cc)
-hidden_silent true false false text some told = (λ e. absurd (some e), λ e. absurd cc)
-hidden_silent false hidden true text some told = (λ e. absurd cc, λ e. absurd cc)
-hidden_silent false hidden false text some told = (λ e. absurd (some e), λ e. absurd cc)
+hidden_silent quiet hidden false text some told = (λ e. absurd (some e), λ e. absurd cc)
 
 meta_silent : (piece : Kind) → is_meta piece ≡ true → (kind : MetaKind) (flags : MetaFlags) (value : Bool) (key : Option (List ℕ)) (given : Answer) → is_lawful piece given ≡ true →
     (shape_text (shape.Meta kind flags value key) (given ∷ []) ≡ []) ↔ IsTrue (flags.quiet && is_hidden kind value given)
@@ -100,19 +85,11 @@ unfolding shape_text
 meta_silent piece meta kind flags value key given lawful =
     hidden_silent flags.quiet (is_hidden kind value given) (list_any is_no_memory (given ∷ [])) (coded_text flags key given value) (has_code piece meta flags key given value lawful) told where
       told : is_hidden kind value given ≡ true → list_any is_no_memory (given ∷ []) ≡ false
-      told e = rw (hidden_is_told kind value given e) refl
+      told e = rw (hidden_is_told given kind value e) refl
 
 refused_shown : (refused : Refusal) → (refusal_line refused ≡ []) ↔ IsTrue false
 refused_shown refusal.Unknown = (λ e. absurd cc, λ e. absurd cc)
-refused_shown refusal.BadFormat = (λ e. absurd cc, λ e. absurd cc)
-refused_shown refusal.BadKey = (λ e. absurd cc, λ e. absurd cc)
-refused_shown refusal.InvalidFlag = (λ e. absurd cc, λ e. absurd cc)
-refused_shown refusal.DuplicateFlag = (λ e. absurd cc, λ e. absurd cc)
-refused_shown refusal.OpaqueTooLong = (λ e. absurd cc, λ e. absurd cc)
-refused_shown refusal.TooLarge = (λ e. absurd cc, λ e. absurd cc)
-refused_shown refusal.BadChunk = (λ e. absurd cc, λ e. absurd cc)
-refused_shown refusal.LineTooLong = (λ e. absurd cc, λ e. absurd cc)
-refused_shown refusal.Memory = (λ e. absurd cc, λ e. absurd cc)
+refused_shown refused = (λ e. absurd cc, λ e. absurd cc)
 
 plain_silent : (piece : Kind) → is_plain piece ≡ true → (noreply : Bool) (given : Answer) (answers : List Answer) → is_lawful piece given ≡ true →
     (shape_text (shape.Line noreply) (given ∷ answers) ≡ []) ↔ IsTrue noreply
@@ -124,36 +101,23 @@ flush_silent : (shards : ℕ) → 0 < shards → (delay : ℤ) (noreply : Bool) 
     (shape_text (shape.Line noreply) answers ≡ []) ↔ IsTrue noreply
 unfolding pieces_of kind_of
 flush_silent zero some delay noreply answers h = absurd (omega arith)
-flush_silent (suc shards) some delay noreply [] h = absurd h
 flush_silent (suc shards) some delay noreply (given ∷ answers) h = plain_silent Flush refl noreply given answers h.0
+flush_silent (suc shards) some delay noreply [] h = absurd h
 
 pub empty_where_silent : (shards : ℕ) → 0 < shards → (asked : Command) (answers : List Answer) → AnswersTo (pieces_of shards asked) answers → (text_of asked answers ≡ []) ↔ IsTrue (is_silent asked answers)
 unfolding pieces_of kind_of shape_of shape_text
-empty_where_silent shards some (command.Store storage) [] h = absurd h
 empty_where_silent shards some (command.Store storage) (given ∷ answers) h = plain_silent Store refl storage.noreply given answers h.0
-empty_where_silent shards some (command.Get retrieval) answers h = values_shown (list_any is_no_memory answers) (flat_map (λ (pair : List ℕ × Answer). item_text retrieval.with_unique pair.0 pair.1) (zip retrieval.keys answers))
-empty_where_silent shards some (command.Delete key noreply) [] h = absurd h
 empty_where_silent shards some (command.Delete key noreply) (given ∷ answers) h = plain_silent Delete refl noreply given answers h.0
-empty_where_silent shards some (command.Count key direction amount noreply) [] h = absurd h
 empty_where_silent shards some (command.Count key direction amount noreply) (given ∷ answers) h = plain_silent Count refl noreply given answers h.0
-empty_where_silent shards some (command.Touch key exptime noreply) [] h = absurd h
 empty_where_silent shards some (command.Touch key exptime noreply) (given ∷ answers) h = plain_silent Touch refl noreply given answers h.0
 empty_where_silent shards some (command.FlushAll delay noreply) answers h = flush_silent shards some delay noreply answers h
-empty_where_silent shards some command.Version answers h = (λ e. absurd cc, λ e. absurd cc)
-empty_where_silent shards some (command.Verbosity true) answers h = (λ e. refl, λ e. refl)
-empty_where_silent shards some (command.Verbosity false) answers h = (λ e. absurd cc, λ e. absurd cc)
-empty_where_silent shards some command.Quit answers h = (λ e. refl, λ e. refl)
-empty_where_silent shards some command.MetaNoop answers h = (λ e. absurd cc, λ e. absurd cc)
-empty_where_silent shards some (command.MetaGet get) [] h = absurd h
+empty_where_silent shards some (command.Get retrieval) answers h =
+    values_shown (list_any is_no_memory answers) (flat_map (λ (pair : List ℕ × Answer). item_text retrieval.with_unique pair.0 pair.1) (zip retrieval.keys answers))
 empty_where_silent shards some (command.MetaGet get) (given ∷ []) h = meta_silent MetaGet refl kind.Get get.flags get.value (shown_key get.flags get.key) given h.0
-empty_where_silent shards some (command.MetaGet get) (given ∷ other ∷ answers) h = absurd h.1
-empty_where_silent shards some (command.MetaSet set) [] h = absurd h
 empty_where_silent shards some (command.MetaSet set) (given ∷ []) h = meta_silent MetaStore refl kind.Set set.flags false (shown_key set.flags set.key) given h.0
-empty_where_silent shards some (command.MetaSet set) (given ∷ other ∷ answers) h = absurd h.1
-empty_where_silent shards some (command.MetaDelete delete) [] h = absurd h
 empty_where_silent shards some (command.MetaDelete delete) (given ∷ []) h = meta_silent MetaDelete refl kind.Delete delete.flags false (shown_key delete.flags delete.key) given h.0
-empty_where_silent shards some (command.MetaDelete delete) (given ∷ other ∷ answers) h = absurd h.1
-empty_where_silent shards some (command.MetaArithmetic arithmetic) [] h = absurd h
 empty_where_silent shards some (command.MetaArithmetic arithmetic) (given ∷ []) h = meta_silent MetaCount refl kind.Arithmetic arithmetic.flags arithmetic.value (shown_key arithmetic.flags arithmetic.key) given h.0
-empty_where_silent shards some (command.MetaArithmetic arithmetic) (given ∷ other ∷ answers) h = absurd h.1
-empty_where_silent shards some (command.Refused refusal) answers h = refused_shown refusal
+empty_where_silent shards some (command.Refused refused) answers h = refused_shown refused
+empty_where_silent shards some (command.Verbosity true) answers h = (λ e. refl, λ e. refl)
+-- other answers are of no such command, and the other texts are plain to see
+empty_where_silent shards some other answers h = (λ e. search, λ e. search)

@@ -23,32 +23,22 @@ got keys with_unique = command.Get (record { keys = keys; touch = None; with_uni
 abbrev hit_x : Answer
 hit_x = answer.Hit 0 1 (codes "x")
 
--- the items stand in the order of the keys, a repeated one each time, and a miss shows nothing
-many_keys : text_of (got (codes "a" ∷ codes "b" ∷ codes "a" ∷ codes "c" ∷ []) false) (hit_x ∷ answer.Hit 0 2 (codes "yy") ∷ hit_x ∷ answer.Miss ∷ [])
-    ≡ codes "VALUE a 0 1\r\nx\r\nVALUE b 0 2\r\nyy\r\nVALUE a 0 1\r\nx\r\nEND\r\n"
+-- the items stand in the order of the keys, a repeated one each time, and a miss shows nothing; one part without memory is the
+-- whole reply
+gets : (text_of (got (codes "a" ∷ codes "b" ∷ codes "a" ∷ codes "c" ∷ []) false) (hit_x ∷ answer.Hit 0 2 (codes "yy") ∷ hit_x ∷ answer.Miss ∷ [])
+    ≡ codes "VALUE a 0 1\r\nx\r\nVALUE b 0 2\r\nyy\r\nVALUE a 0 1\r\nx\r\nEND\r\n")
+    × (text_of (got (codes "a" ∷ []) true) (answer.Hit 5 1 (codes "abc") ∷ []) ≡ codes "VALUE a 5 3 1\r\nabc\r\nEND\r\n")
+    × (text_of (got (codes "a" ∷ codes "b" ∷ []) false) (hit_x ∷ answer.NoMemory ∷ []) ≡ codes "SERVER_ERROR out of memory\r\n")
 unfolding shape_of shape_text digits
-many_keys = refl
+gets = (refl, refl, refl)
 
-with_unique : text_of (got (codes "a" ∷ []) true) (answer.Hit 5 1 (codes "abc") ∷ []) ≡ codes "VALUE a 5 3 1\r\nabc\r\nEND\r\n"
+-- a refusal is shown as it is
+lines : (text_of (command.FlushAll (pos 10) false) (answer.Done ∷ answer.Done ∷ []) ≡ codes "OK\r\n")
+    × (text_of (command.Count (codes "a") direction.Increment 1 true) (answer.NonNumeric ∷ []) ≡ [])
+    × (text_of (command.Count (codes "a") direction.Increment 1 false) (answer.Number 8 ∷ []) ≡ codes "8\r\n")
+    × (text_of (command.Refused refusal.BadChunk) [] ≡ codes "CLIENT_ERROR bad data chunk\r\n")
 unfolding shape_of shape_text digits
-with_unique = refl
-
--- one part without memory is the whole reply
-no_memory : text_of (got (codes "a" ∷ codes "b" ∷ []) false) (hit_x ∷ answer.NoMemory ∷ []) ≡ codes "SERVER_ERROR out of memory\r\n"
-unfolding shape_of shape_text digits
-no_memory = refl
-
-flushed : text_of (command.FlushAll (pos 10) false) (answer.Done ∷ answer.Done ∷ []) ≡ codes "OK\r\n"
-unfolding shape_of shape_text digits
-flushed = refl
-
-no_reply : text_of (command.Count (codes "a") direction.Increment 1 true) (answer.NonNumeric ∷ []) ≡ []
-unfolding shape_of shape_text digits
-no_reply = refl
-
-counted : text_of (command.Count (codes "a") direction.Increment 1 false) (answer.Number 8 ∷ []) ≡ codes "8\r\n"
-unfolding shape_of shape_text digits
-counted = refl
+lines = (refl, refl, refl, refl)
 
 -- the flags of a meta command
 abbrev flags_of : Bool → Bool → List ReturnFlag → List ℕ → MetaFlags
@@ -66,57 +56,34 @@ meta_hit value unique left won stale sent = answer.MetaHit (record { value = val
 abbrev meta_done : ℕ → ℕ → ℕ → Answer
 meta_done unique size number = answer.MetaDone (record { unique = unique; size = size; left = None; number = number })
 
--- an item made by this command, and one that another client was told to recompute; the marks stand last
-won : text_of (meta_get (codes "a") (flags_of false false (flag.TimeLeft ∷ []) []) true) (meta_hit [] 1 (Some 30) true false false ∷ []) ≡ codes "VA 0 t30 W\r\n\r\n"
+-- an item made by this command, and one that another client was told to recompute: the marks stand last
+hits : (text_of (meta_get (codes "a") (flags_of false false (flag.TimeLeft ∷ []) []) true) (meta_hit [] 1 (Some 30) true false false ∷ []) ≡ codes "VA 0 t30 W\r\n\r\n")
+    × (text_of (meta_get (codes "a") (flags_of false false (flag.Unique ∷ []) []) true) (meta_hit (codes "x") 5 None false true true ∷ []) ≡ codes "VA 1 c5 X Z\r\nx\r\n")
+    × (text_of (meta_get (codes "a") (flags_of false false (flag.Fetched ∷ flag.LastAccess ∷ flag.TimeLeft ∷ []) []) false) (meta_hit (codes "x") 1 (Some 93) false false false ∷ [])
+    ≡ codes "HD h1 l2 t93\r\n")
 unfolding shape_of shape_text digits
-won = refl
-
-stale_and_sent : text_of (meta_get (codes "a") (flags_of false false (flag.Unique ∷ []) []) true) (meta_hit (codes "x") 5 None false true true ∷ []) ≡ codes "VA 1 c5 X Z\r\nx\r\n"
-unfolding shape_of shape_text digits
-stale_and_sent = refl
-
-fetched : text_of (meta_get (codes "a") (flags_of false false (flag.Fetched ∷ flag.LastAccess ∷ flag.TimeLeft ∷ []) []) false) (meta_hit (codes "x") 1 (Some 93) false false false ∷ []) ≡ codes "HD h1 l2 t93\r\n"
-unfolding shape_of shape_text digits
-fetched = refl
+hits = (refl, refl, refl)
 
 -- of a miss only the key and the token are told, in the order of the request
-missed : text_of (meta_get (codes "zz") (flags_of false false (flag.Key ∷ flag.Size ∷ flag.Opaque ∷ []) (codes "7")) true) (answer.Miss ∷ []) ≡ codes "EN kzz O7\r\n"
+misses : (text_of (meta_get (codes "zz") (flags_of false false (flag.Key ∷ flag.Size ∷ flag.Opaque ∷ []) (codes "7")) true) (answer.Miss ∷ []) ≡ codes "EN kzz O7\r\n")
+    × (text_of (meta_get (codes "zz") (flags_of false true (flag.Key ∷ []) []) true) (answer.Miss ∷ []) ≡ [])
 unfolding shape_of shape_text digits
-missed = refl
-
-missed_quietly : text_of (meta_get (codes "zz") (flags_of false true (flag.Key ∷ []) []) true) (answer.Miss ∷ []) ≡ []
-unfolding shape_of shape_text digits
-missed_quietly = refl
+misses = (refl, refl)
 
 -- a key whose base64 is `YQ==` is told so, and `b` stands behind it
 coded_key : (key : List ℕ) → base64_of key ≡ codes "YQ==" → text_of (meta_get key (flags_of true false (flag.Key ∷ []) []) true) (meta_hit (codes "x") 1 None false false false ∷ []) ≡ codes "VA 1 kYQ== b\r\nx\r\n"
 unfolding shape_of shape_text digits
 coded_key key coded = rw coded refl
 
--- quiet `ms` hides that it stored, and nothing else
-stored_quietly : text_of (meta_set (codes "a") (flags_of false true (flag.Unique ∷ []) [])) (meta_done 5 1 0 ∷ []) ≡ []
+-- quiet `ms` hides that it stored, and nothing else; an error line has no flags
+sets : (text_of (meta_set (codes "a") (flags_of false true (flag.Unique ∷ []) [])) (meta_done 5 1 0 ∷ []) ≡ [])
+    × (text_of (meta_set (codes "a") (flags_of false true (flag.Size ∷ flag.Opaque ∷ []) (codes "2"))) (answer.NotStored ∷ []) ≡ codes "NS O2\r\n")
+    × (text_of (meta_set (codes "a") (flags_of false false (flag.Key ∷ flag.Opaque ∷ flag.Size ∷ []) (codes "1"))) (meta_done 1 1 0 ∷ []) ≡ codes "HD ka O1 s1\r\n")
+    × (text_of (meta_set (codes "a") (flags_of false true (flag.Key ∷ []) [])) (answer.TooLarge ∷ []) ≡ codes "SERVER_ERROR object too large for cache\r\n")
 unfolding shape_of shape_text digits
-stored_quietly = refl
-
-not_stored : text_of (meta_set (codes "a") (flags_of false true (flag.Size ∷ flag.Opaque ∷ []) (codes "2"))) (answer.NotStored ∷ []) ≡ codes "NS O2\r\n"
-unfolding shape_of shape_text digits
-not_stored = refl
-
-set_done : text_of (meta_set (codes "a") (flags_of false false (flag.Key ∷ flag.Opaque ∷ flag.Size ∷ []) (codes "1"))) (meta_done 1 1 0 ∷ []) ≡ codes "HD ka O1 s1\r\n"
-unfolding shape_of shape_text digits
-set_done = refl
-
--- an error line has no flags
-too_large : text_of (meta_set (codes "a") (flags_of false true (flag.Key ∷ []) [])) (answer.TooLarge ∷ []) ≡ codes "SERVER_ERROR object too large for cache\r\n"
-unfolding shape_of shape_text digits
-too_large = refl
+sets = (refl, refl, refl, refl)
 
 -- `ma` with `v` shows its number, also where it is quiet
 arithmetic : text_of (command.MetaArithmetic (record { key = codes "c"; flags = flags_of false true (flag.Unique ∷ []) []; value = true; compare = None; unique = None; direction = direction.Increment; amount = 2; initial = 0; vivify = None; exptime = None })) (meta_done 3 2 15 ∷ []) ≡ codes "VA 2 c3\r\n15\r\n"
 unfolding shape_of shape_text digits
 arithmetic = refl
-
--- a refusal is shown as it is
-refused : text_of (command.Refused refusal.BadChunk) [] ≡ codes "CLIENT_ERROR bad data chunk\r\n"
-unfolding shape_of shape_text digits
-refused = refl

@@ -1,11 +1,11 @@
 -- Making a shard, moving its time, flushing it, and settling a key.
-use Rattle.std.proofs.Common.{◌≡◌, ℕ, ◌+◌, ◌<◌, true, false, List, [], Some, None, refl, arith, nat_eq, max, min}
+use Rattle.std.proofs.Common.{◌≡◌, ℕ, ◌+◌, ◌<◌, ◌≤◌, true, false, List, [], Some, None, arith, nat_eq, max, min}
 use Rattle.std.specs.Cmp.Lexicographic.{pointwise}
 use Rattle.std.specs.Map.{lookup, remove_entry}
 use Rattle.mc_wire.specs.declared.TheConstants.{LATEST_MOMENT}
 use Rattle.mc_item.specs.declared.item.Item.{Item}
 use Rattle.mc_store.specs.internal.Found.{live}
-use Rattle.mc_store.specs.State.{State, empty_state, is_due, flushed, arrived, without_dead}
+use Rattle.mc_store.specs.State.{State, costs, empty_state, is_due, flushed, arrived, without_dead}
 use Rattle.mc_store.specs.Shard.{AllBelow, Held, Keeps}
 use Rattle.mc_store.proofs.Lists.{nothing, get_nothing}
 use Rattle.mc_store.proofs.Costs.{costs_nothing}
@@ -14,54 +14,21 @@ use Rattle.mc_store.proofs.Shards.{with_entries, meets, misses, take_out}
 none_below : (n : ℕ) → AllBelow nothing n
 none_below n q u h = absurd (let h' = rw (get_nothing q) at h in cc)
 
+none_fits : (budget : ℕ) → costs nothing ≤ budget
+none_fits budget = omega (arith, costs_nothing)
+
 pub new_keeps : (index shards budget given limit : ℕ) → index < shards → Keeps (record { entries = []; budget = budget; limit = limit; time = 0; flush = None; given = given; index = index; shards = shards }) (empty_state index shards budget given limit)
-new_keeps index shards budget given limit place = let none = costs_nothing in record {
-  order = refl;
-  below = none_below 1;
-  fits = omega arith;
-  budget = refl;
-  limit = refl;
-  time = refl;
-  flush = refl;
-  given = refl;
-  index = refl;
-  shards = refl;
-  place = place;
-}
+new_keeps index shards budget given limit place = assumption (none_below 1, none_fits budget)
 
 pub flush_all : (held : Held) (state : State) → Keeps held state → Keeps (record held { entries = []; flush = None }) (flushed state)
-flush_all held state h = let none = costs_nothing in record {
-  order = refl;
-  below = none_below (state.uses + 1);
-  fits = omega arith;
-  budget = h.budget;
-  limit = h.limit;
-  time = h.time;
-  flush = refl;
-  given = h.given;
-  index = h.index;
-  shards = h.shards;
-  place = h.place;
-}
+flush_all held state h = assumption (none_below (state.uses + 1), none_fits state.budget)
 
 -- the state once its time was moved
 abbrev pub moved : State → ℕ → State
 moved state moment = record state { time = max state.time (min moment LATEST_MOMENT) }
 
 pub timed : (held : Held) (state : State) (moment time : ℕ) → Keeps held state → time ≡ max held.time (min moment LATEST_MOMENT) → Keeps (record held { time = time }) (moved state moment)
-timed held state moment time h is = record {
-  order = h.order;
-  below = h.below;
-  fits = h.fits;
-  budget = h.budget;
-  limit = h.limit;
-  time = rw (h.time, is);
-  flush = h.flush;
-  given = h.given;
-  index = h.index;
-  shards = h.shards;
-  place = h.place;
-}
+timed held state moment time h is = let time_is : max state.time (min moment LATEST_MOMENT) ≡ time = rw (h.time, is) in assumption
 
 due_is : (held : Held) (state : State) (moment time : ℕ) → Keeps held state → time ≡ max held.time (min moment LATEST_MOMENT) → is_due state.flush (max state.time (min moment LATEST_MOMENT)) ≡ is_due held.flush time
 due_is held state moment time h is = rw (h.flush, h.time, is)

@@ -13,14 +13,18 @@ use Rattle.mc_item.specs.declared.answer.Answer.TheVariants.{Exists, NonNumeric,
 use Rattle.mc_item.specs.Expiry.{expiry_of}
 use Rattle.mc_item.specs.Value.{number_in, number_text}
 use Rattle.mc_item.specs.Kind.{kind_of, is_lawful}
+use Rattle.mc_store.specs.declared.shard.counting.Counting as given
 use Rattle.mc_store.specs.internal.Found.{live}
-use Rattle.mc_store.specs.State.{Used, State, without_dead, entered}
+use Rattle.mc_store.specs.State.{State, without_dead, entered}
 use Rattle.mc_store.specs.Rows.{counted_item, done_of}
 use Rattle.mc_store.specs.Step.{Outcome, Reply, Counting, is_other, numbered, counted, changes, absent_count, count_step, counting, step_of}
 use Rattle.mc_store.specs.Shard.{Held, Keeps}
 use Rattle.mc_store.proofs.Writes.{Closes, along, met_time}
 use Rattle.mc_store.proofs.Outcomes.{Ends, ends, absent_as, present_as, unchanged_as}
 use Rattle.mc_store.proofs.Stores.{fresh, fresh_of}
+
+abbrev pub asked_in : given.Counting → Counting
+asked_in it = counting it.compare it.unique it.direction it.amount it.exptime
 
 -- what is written, with a new unique and what is answered of it
 abbrev pub done_with : State → List ℕ → Option ℕ → (ℕ → Item) → ℕ → Reply → Outcome
@@ -49,25 +53,19 @@ count_misses held state key asked vivify reply answer new h none closes =
     along (without_dead state (Some key)) (absent_count (without_dead state (Some key)) key asked.unique reply vivify) (count_step (without_dead state (Some key)) key asked reply vivify (get (without_dead state (Some key)).items key)) answer new
     (absent_as held state key (λ s o. count_step s key asked reply vivify o) (λ s. absent_count s key asked.unique reply vivify) h none (λ s. refl)) closes
 
-differs : (s : State) (key : List ℕ) (asked : Counting) (reply : Reply) (vivify : Option Vivify) (u : Used) → is_other asked.compare u.item.unique ≡ true → (Exists, s) ≡ count_step s key asked reply vivify (Some u)
-differs s key asked reply vivify u o = rw o
-
 pub count_exists : (held : Held) (state : State) (key : List ℕ) (item : Item) (asked : Counting) (vivify : Option Vivify) (reply : Reply) → Keeps held state → Some item ≡ live held.time (lookup (pointwise nat_eq key) held.entries) → is_other asked.compare item.unique ≡ true →
     Closes (without_dead state (Some key)) (count_step (without_dead state (Some key)) key asked reply vivify (get (without_dead state (Some key)).items key)) Exists held
 count_exists held state key item asked vivify reply h is other =
-    unchanged_as held state key item (λ s o. count_step s key asked reply vivify o) Exists h is (λ s u i. differs s key asked reply vivify u (rw i other))
-
-no_number : (s : State) (key : List ℕ) (asked : Counting) (reply : Reply) (vivify : Option Vivify) (u : Used) → is_other asked.compare u.item.unique ≡ false → None ≡ number_in u.item.value → (NonNumeric, s) ≡ count_step s key asked reply vivify (Some u)
-no_number s key asked reply vivify u o none = rw (o, ← none)
+    unchanged_as held state key item (λ s o. count_step s key asked reply vivify o) Exists h is
+    (λ s u i. let o : is_other asked.compare u.item.unique ≡ true = rw i other in rw o)
 
 pub count_fails : (held : Held) (state : State) (key : List ℕ) (item : Item) (asked : Counting) (vivify : Option Vivify) (reply : Reply) → Keeps held state → Some item ≡ live held.time (lookup (pointwise nat_eq key) held.entries) → is_other asked.compare item.unique ≡ false → None ≡ number_in item.value →
     Closes (without_dead state (Some key)) (count_step (without_dead state (Some key)) key asked reply vivify (get (without_dead state (Some key)).items key)) NonNumeric held
 count_fails held state key item asked vivify reply h is other none =
-    unchanged_as held state key item (λ s o. count_step s key asked reply vivify o) NonNumeric h is (λ s u i. no_number s key asked reply vivify u (rw i other) (rw i none))
-
-counts_to : (s : State) (key : List ℕ) (asked : Counting) (reply : Reply) (vivify : Option Vivify) (u : Used) (number : ℕ) → is_other asked.compare u.item.unique ≡ false → Some number ≡ number_in u.item.value →
-    changes s key u.item asked (counted asked.direction number asked.amount) reply ≡ count_step s key asked reply vivify (Some u)
-counts_to s key asked reply vivify u number o is = rw (o, ← is)
+    unchanged_as held state key item (λ s o. count_step s key asked reply vivify o) NonNumeric h is (λ s u i.
+    let o : is_other asked.compare u.item.unique ≡ false = rw i other in
+    let no_number : None ≡ number_in u.item.value = rw i none in
+    rw (o, ← no_number))
 
 -- the item with its new number, before it has a new unique
 pub counted_as : (held : Held) (state : State) (key : List ℕ) (item : Item) (asked : Counting) (vivify : Option Vivify) (reply : Reply) (number : ℕ) (new_item : Item) (answer : Answer) (new : Held) → Keeps held state → Some item ≡ live held.time (lookup (pointwise nat_eq key) held.entries) →
@@ -81,7 +79,10 @@ counted_as held state key item asked vivify reply number new_item answer new h i
     let same : done_with settled key asked.unique (λ unique. counted_item item to asked.exptime held.time unique) to reply ≡ changes settled key item asked to reply
     = subst (λ t. done_with settled key asked.unique (λ unique. counted_item item to asked.exptime t unique) to reply ≡ changes settled key item asked to reply) time refl in
     along settled (changes settled key item asked to reply) (count_step settled key asked reply vivify (get settled.items key)) answer new
-    (present_as held state key item (λ s o. count_step s key asked reply vivify o) (λ i _ s. changes s key i asked to reply) h is (λ s u i. counts_to s key asked reply vivify u number (rw i other) (rw i number_is)))
+    (present_as held state key item (λ s o. count_step s key asked reply vivify o) (λ i _ s. changes s key i asked to reply) h is (λ s u i.
+    let o : is_other asked.compare u.item.unique ≡ false = rw i other in
+    let number_there : Some number ≡ number_in u.item.value = rw i number_is in
+    rw (o, ← number_there)))
     (along settled (done_with settled key asked.unique (λ unique. counted_item item to asked.exptime held.time unique) to reply) (changes settled key item asked to reply) answer new same
     (written_as settled key asked.unique new_item (counted_item item to asked.exptime held.time item.unique) to reply answer new made closes))
 

@@ -12,7 +12,7 @@ use Rattle.mc_item.specs.Kind.{kind_of, is_lawful}
 use Rattle.mc_store.specs.internal.Found.{live, unique_for, given_after}
 use Rattle.mc_store.specs.State.{Used, State, without_dead, with_items, flushed}
 use Rattle.mc_store.specs.Rows.{stale_item}
-use Rattle.mc_store.specs.Step.{Outcome, Answers, is_other, delete_step, deletes, stales, meta_delete_step, coming, flush_step, step_of}
+use Rattle.mc_store.specs.Step.{Outcome, Answers, is_other, delete_step, stales, meta_delete_step, coming, flush_step, step_of}
 use Rattle.mc_store.specs.Shard.{Held, Keeps}
 use Rattle.mc_store.proofs.Shards.{with_entries, set_in_place, giving, gives}
 use Rattle.mc_store.proofs.Writes.{Closes, next_of, numbered_some, numbered_none, unique_now}
@@ -30,21 +30,17 @@ pub meta_delete_miss : (held : Held) (state : State) (asked : op.MetaDelete) →
 unfolding step_of kind_of is_lawful
 meta_delete_miss held state asked h none = ends (without_dead state (Some asked.key)) (MetaDelete asked) NotFound _ (λ e. absurd cc) (misses_as held state asked.key (λ s o. meta_delete_step s asked o) NotFound h none (λ s. refl))
 
-differs : (s : State) (asked : op.MetaDelete) (u : Used) → is_other asked.compare u.item.unique ≡ true → (Exists, s) ≡ meta_delete_step s asked (Some u)
-differs s asked u o = rw o
-
 pub meta_delete_exists : (held : Held) (state : State) (asked : op.MetaDelete) (item : Item) → Keeps held state → Some item ≡ live held.time (lookup (pointwise nat_eq asked.key) held.entries) → is_other asked.compare item.unique ≡ true → Ends (without_dead state (Some asked.key)) (MetaDelete asked) Exists held
 unfolding step_of kind_of is_lawful
 meta_delete_exists held state asked item h is other = ends (without_dead state (Some asked.key)) (MetaDelete asked) Exists held (λ e. absurd cc)
-    (unchanged_as held state asked.key item (λ s o. meta_delete_step s asked o) Exists h is (λ s u i. differs s asked u (rw i other)))
-
-removes : (s : State) (asked : op.MetaDelete) (u : Used) → is_other asked.compare u.item.unique ≡ false → asked.invalidate ≡ false → deletes s asked.key ≡ meta_delete_step s asked (Some u)
-removes s asked u o no_mark = rw (o, no_mark)
+    (unchanged_as held state asked.key item (λ s o. meta_delete_step s asked o) Exists h is
+    (λ s u i. let o : is_other asked.compare u.item.unique ≡ true = rw i other in rw o))
 
 pub meta_delete_hit : (held : Held) (state : State) (asked : op.MetaDelete) (item : Item) → Keeps held state → Some item ≡ live held.time (lookup (pointwise nat_eq asked.key) held.entries) → is_other asked.compare item.unique ≡ false → asked.invalidate ≡ false → Ends (without_dead state (Some asked.key)) (MetaDelete asked) Deleted (with_entries held (remove_entry (pointwise nat_eq asked.key) held.entries))
 unfolding step_of kind_of is_lawful
 meta_delete_hit held state asked item h is other no_mark = ends (without_dead state (Some asked.key)) (MetaDelete asked) Deleted _ (λ e. absurd cc)
-    (goes_as held state asked.key item (λ s o. meta_delete_step s asked o) Deleted h is (λ s u i. removes s asked u (rw i other) no_mark))
+    (goes_as held state asked.key item (λ s o. meta_delete_step s asked o) Deleted h is
+    (λ s u i. let o : is_other asked.compare u.item.unique ≡ false = rw i other in rw (o, no_mark)))
 
 marks : (s : State) (asked : op.MetaDelete) (u : Used) → is_other asked.compare u.item.unique ≡ false → asked.invalidate ≡ true → stales s asked u ≡ meta_delete_step s asked (Some u)
 marks s asked u o mark = rw (o, mark)
@@ -78,19 +74,7 @@ stale_done held state asked item unique h is other mark there = ends (without_de
 
 -- a flush that comes later
 pending : (held : Held) (state : State) (second : ℕ) → Keeps held state → Keeps (record held { flush = Some second }) (record state { flush = Some second })
-pending held state second h = record {
-  order = h.order;
-  below = h.below;
-  fits = h.fits;
-  budget = h.budget;
-  limit = h.limit;
-  time = h.time;
-  flush = refl;
-  given = h.given;
-  index = h.index;
-  shards = h.shards;
-  place = h.place;
-}
+pending held state second h = assumption
 
 pub flush_later : (held : Held) (state : State) (delay : ℤ) (second : ℕ) → Keeps held state → Some second ≡ coming (expiry_of delay held.time) held.time → Ends state (Flush delay) Done (record held { flush = Some second })
 unfolding step_of Answers

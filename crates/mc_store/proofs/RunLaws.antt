@@ -5,7 +5,7 @@ use Rattle.std.specs.List.{AllZip, AllByRecursion}
 use Rattle.std.specs.List.Sorted.{IsStrictlyIncreasing}
 use Rattle.std.specs.Cmp.Lexicographic.{texts_ties}
 use Rattle.std.specs.FinMap.{get}
-use Rattle.std.proofs.lemmas.Bool.Decides.{nat_tests}
+use Rattle.std.proofs.lemmas.Bool.{eq-eqb, ne_eqb, and_parts}
 use Rattle.std.proofs.lemmas.List.Elements.{All-head, All-tail, All-contains, All-from_recursion}
 use Rattle.std.proofs.lemmas.List.Sorted.{IsNonDecreasingBy-from_all_adjacent}
 use Rattle.mc_item.specs.declared.item.Item.{Item}
@@ -25,12 +25,9 @@ use Rattle.mc_store.proofs.StepLaws.{SamePlace, same_place, answers_are_lawful, 
 -- Of every run: what holds of no operation, and of one more where it holds of those after it.
 of_runs : (P : State → List Asked → List Answer → List State → Type 0) → ((old : State) → P old [] [] []) → ((old : State) (ask : Asked) (rest : List Asked) (answer : Answer) (answers : List Answer) (new : State) (states : List State) → IsStep old ask.0 ask.1 answer new → P new rest answers states → P old (ask ∷ rest) (answer ∷ answers) (new ∷ states)) → (old : State) (asked : List Asked) (answers : List Answer) (states : List State) → Runs old asked answers states → P old asked answers states
 of_runs P none more old [] [] [] runs = none old
-of_runs P none more old [] [] (next ∷ states) runs = absurd runs
-of_runs P none more old [] (other ∷ answers) states runs = absurd runs
-of_runs P none more old (ask ∷ rest) [] states runs = absurd runs
-of_runs P none more old (ask ∷ rest) (other ∷ answers) [] runs = absurd runs
 of_runs P none more old (ask ∷ rest) (other ∷ answers) (next ∷ states) runs =
     more old ask rest other answers next states runs.0 (of_runs P none more next rest answers states runs.1)
+of_runs P none more old asked answers states runs = absurd runs
 
 -- Answers
 
@@ -49,16 +46,12 @@ RisesFrom low (x ∷ xs) = (low ≤ x) × RisesFrom (x + 1) xs
 
 from_lower : (low high : ℕ) (xs : List ℕ) → low ≤ high → RisesFrom high xs → RisesFrom low xs
 from_lower low high [] h rises = tt
-from_lower low high (x ∷ xs) h rises = (let first = rises.0 in omega arith, rises.1)
+from_lower low high (x ∷ xs) h rises = (omega (arith, rises.0), rises.1)
 
 rises : (low : ℕ) (xs : List ℕ) → RisesFrom low xs → IsStrictlyIncreasing xs
-rises low [] h k less = absurd (omega arith)
-rises low (x ∷ []) h k less = absurd (omega arith)
-rises low (x ∷ y ∷ xs) h zero less = let second = h.1.0 in omega arith
+rises low (x ∷ y ∷ xs) h zero less = omega (arith, h.1.0)
 rises low (x ∷ y ∷ xs) h (suc k) less = let after : k + 1 < length (y ∷ xs) = omega arith in rw (add-one (suc k)) (rw (add-one k) at (rises (x + 1) (y ∷ xs) h.1 k after))
-
-more_given : (index shards given : ℕ) → index < shards → index + 1 + shards * given + 1 ≤ index + 1 + shards * (given + 1)
-more_given index shards given place = omega arith
+rises low xs h k less = absurd (omega arith)
 
 -- what a step does to the unique that comes next
 record Gives (old new : State) : Type 0 where
@@ -72,23 +65,20 @@ gives_by old new place (inr e) = record { place = place; cases = inr (e, rw (pla
 gives_of : (old new : State) (op : Op) (moment : ℕ) (answer : Answer) → IsStep old op moment answer new → Gives old new
 gives_of old new op moment answer step = gives_by old new (same_place old new op moment answer step) (uniques_rise old new op moment answer step)
 
-same_test : (a b : ℕ) → a ≡ b → (a == b) ≡ true
-same_test a b e = grind (arith, nat_tests)
-
-other_test : (a b : ℕ) → a ≡ b + 1 → (a == b) ≡ false
-other_test a b e = grind (arith, nat_tests)
+other_given : (a b : ℕ) → a ≡ b + 1 → (a == b) ≡ false
+other_given a b e = ne_eqb a b (λ same. omega arith)
 
 rises_more : (old new : State) (states : List State) → Gives old new → 0 < old.shards → RisesFrom (next_unique new) (uniques_of new states) → RisesFrom (next_unique old) (uniques_of old (new ∷ states))
 rises_more old new states gives some after = elim gives.cases [
-  | inl e ↦ rw (same_test new.given old.given e.0) (from_lower (next_unique old) (next_unique new) (uniques_of new states) (let same_next = e.1 in omega arith) after)
-  | inr e ↦ rw (other_test new.given old.given e.0) (omega arith, from_lower (next_unique old + 1) (next_unique new) (uniques_of new states) (let next = e.1 in omega arith) after)
+  | inl e ↦ rw (eq-eqb new.given old.given e.0) (from_lower (next_unique old) (next_unique new) (uniques_of new states) (omega (arith, e.1)) after)
+  | inr e ↦ rw (other_given new.given old.given e.0)
+      (omega arith, from_lower (next_unique old + 1) (next_unique new) (uniques_of new states) (omega (arith, e.1)) after)
 ]
 
 uniques_rise_in : (old : State) (asked : List Asked) (answers : List Answer) (states : List State) → Runs old asked answers states → 0 < old.shards → RisesFrom (next_unique old) (uniques_of old states)
 uniques_rise_in = of_runs (λ old asked answers states. 0 < old.shards → RisesFrom (next_unique old) (uniques_of old states)) (λ old some. tt) (λ old ask rest answer answers new states step after some.
     let gives = gives_of old new ask.0 ask.1 answer step in
-    let still : 0 < new.shards = (let same_shards = gives.place.shards in omega arith) in
-    rises_more old new states gives some (after still))
+    rises_more old new states gives some (after (omega (arith, gives.place.shards))))
 
 -- a unique of the shard in this place
 abbrev IsOf : ℕ → ℕ → ℕ → Type 0
@@ -100,8 +90,8 @@ of_place old states new gives after =
     let shards = gives.place.shards in
     let rest : AllByRecursion (IsOf old.index old.shards) (uniques_of new states) = subst (λ i. AllByRecursion (IsOf i old.shards) (uniques_of new states)) index (subst (λ n. AllByRecursion (IsOf new.index n) (uniques_of new states)) shards after) in
     elim gives.cases [
-      | inl e ↦ rw (same_test new.given old.given e.0) rest
-      | inr e ↦ rw (other_test new.given old.given e.0) ((old.given, refl), rest)
+      | inl e ↦ rw (eq-eqb new.given old.given e.0) rest
+      | inr e ↦ rw (other_given new.given old.given e.0) ((old.given, refl), rest)
     ]
 
 uniques_of_place : (old : State) (asked : List Asked) (answers : List Answer) (states : List State) → Runs old asked answers states → AllByRecursion (IsOf old.index old.shards) (uniques_of old states)
@@ -130,7 +120,8 @@ adjacent low (x ∷ xs) h zero d less = h.0
 adjacent low (x ∷ xs) h (suc k) d less = let after : k + 1 < length (x ∷ xs) = omega arith in rw (add-one (suc k)) (rw (add-one k) at (adjacent x xs h.1 k d after))
 
 times_runs : (old : State) (asked : List Asked) (answers : List Answer) (states : List State) → Runs old asked answers states → NoneBelow old.time (times_of states)
-times_runs = of_runs (λ old asked answers states. NoneBelow old.time (times_of states)) (λ old. tt) (λ old ask rest answer answers new states step after. (let time = time_rises old new ask.0 ask.1 answer step in omega arith, after))
+times_runs = of_runs (λ old asked answers states. NoneBelow old.time (times_of states)) (λ old. tt)
+    (λ old ask rest answer answers new states step after. (omega (arith, time_rises old new ask.0 ask.1 answer step), after))
 
 -- All of a run
 
@@ -143,18 +134,16 @@ runs_are_orderly old asked answers states some run = record {
 
 -- Other items
 
-stays_or_goes : (why : Type 0) (m n : Items) (k : List ℕ) → StaysUnless why m n k → (get n k ≡ get m k) ⊎ (get n k ≡ None)
-stays_or_goes why m n k (inl e) = inl e
-stays_or_goes why m n k (inr gone) = inr gone.0
-
-joined_stays : (a b c : Option Used) → (b ≡ a) ⊎ (b ≡ None) → (c ≡ b) ⊎ (c ≡ None) → (c ≡ a) ⊎ (c ≡ None)
-joined_stays a b c (inl e) (inl f) = inl (f ∙ e)
-joined_stays a b c (inr e) (inl f) = inr (f ∙ e)
-joined_stays a b c before (inr f) = inr f
+stays_or_goes : (why : Type 0) (m n : Items) (k : List ℕ) (o : Option Used) → StaysUnless why m n k → (o ≡ get n k) ⊎ (o ≡ None) → (o ≡ get m k) ⊎ (o ≡ None)
+stays_or_goes why m n k o (inl e) (inl f) = inl (f ∙ e)
+stays_or_goes why m n k o (inr gone) (inl f) = inr (f ∙ gone.0)
+stays_or_goes why m n k o before (inr f) = inr f
 
 pub runs_leave_others : RunsLeaveOthers
 runs_leave_others = of_runs (λ old asked answers states. (key : List ℕ) → All (λ (ask : Asked). ¬ (key_of ask.0 ≡ Some key)) asked → (get (last_of old states).items key ≡ get old.items key) ⊎ (get (last_of old states).items key ≡ None)) (λ old key apart. inl refl) (λ old ask rest answer answers new states step after key apart.
-    joined_stays (get old.items key) (get new.items key) (get (last_of new states).items key) (stays_or_goes _ old.items new.items key (others_stay old new ask.0 ask.1 answer step key (All-head (λ (a : Asked). ¬ (key_of a.0 ≡ Some key)) ask rest apart))) (after key (All-tail (λ (a : Asked). ¬ (key_of a.0 ≡ Some key)) ask rest apart)))
+    let asks_other : Asked → Type 0 = λ a. ¬ (key_of a.0 ≡ Some key) in
+    stays_or_goes _ old.items new.items key (get (last_of new states).items key) (others_stay old new ask.0 ask.1 answer step key (All-head asks_other ask rest apart))
+    (after key (All-tail asks_other ask rest apart)))
 
 -- What cas rests on
 
@@ -170,45 +159,39 @@ record Traces (old new : State) : Type 0 where
   traced : (key : List ℕ) (used : Used) → get new.items key ≡ Some used → IsKept old.items key used.item ⊎ (next_unique old ≤ used.item.unique)
 
 not_less : (old new : State) → Gives old new → next_unique old ≤ next_unique new
-not_less old new gives = elim gives.cases [ inl e ↦ (let next = e.1 in omega arith) | inr e ↦ (let next = e.1 in omega arith) ]
+not_less old new gives = elim gives.cases [ inl e ↦ omega (arith, e.1) | inr e ↦ omega (arith, e.1) ]
 
 -- where the client gives no unique
-plainly : (old new : State) (token : Option ℕ) (item : Item) → token ≡ None → IsNew old new token item → (item.unique ≡ next_unique old) × (new.given ≡ old.given + 1)
-plainly old new token item none (inl fresh) = fresh
-plainly old new token item none (inr is) = absurd (let both : ◌≡◌ {A = Option ℕ} None (Some item.unique) = sym none ∙ is in cc)
+plainly : (old new : State) (token : Option ℕ) (key : List ℕ) (item : Item) → token ≡ None → IsKept old.items key item ⊎ IsNew old new token item →
+    IsKept old.items key item ⊎ ((item.unique ≡ next_unique old) × (new.given ≡ old.given + 1))
+plainly old new token key item none (inl kept) = inl kept
+plainly old new token key item none (inr (inl fresh)) = inr fresh
+plainly old new token key item none (inr (inr is)) = absurd cc
 
 tells_plainly : (old new : State) (ask : Asked) (answer : Answer) → IsStep old ask.0 ask.1 answer new → token_of ask.0 ≡ None → (key : List ℕ) (used : Used) → get new.items key ≡ Some used → IsKept old.items key used.item ⊎ ((used.item.unique ≡ next_unique old) × (new.given ≡ old.given + 1))
-tells_plainly old new ask answer step none key used is = elim (uniques_tell old new ask.0 ask.1 answer step key used is) [
-  | inl kept ↦ inl kept
-  | inr fresh ↦ inr (plainly old new (token_of ask.0) used.item none fresh)
-]
+tells_plainly old new ask answer step none key used is =
+    plainly old new (token_of ask.0) key used.item none (uniques_tell old new ask.0 ask.1 answer step key used is)
 
 given_by : (old new : State) (key : List ℕ) (used : Used) → Gives old new → 0 < old.shards → IsGiven old → IsKept old.items key used.item ⊎ ((used.item.unique ≡ next_unique old) × (new.given ≡ old.given + 1)) → used.item.unique < next_unique new
-given_by old new key used gives some given (inl kept) =
-    let unique = kept.2.unique in
-    let below = given key kept.0 kept.1 in
-    let more = not_less old new gives in
-    omega arith
+given_by old new key used gives some given (inl kept) = omega (arith, kept.2.unique, given key kept.0 kept.1, not_less old new gives)
 given_by old new key used gives some given (inr fresh) = elim gives.cases [
-  | inl e ↦ absurd (let none = e.0 in let one = fresh.1 in omega arith)
-  | inr e ↦ (let next = e.1 in let unique = fresh.0 in omega arith)
+  | inl e ↦ absurd (omega (arith, e.0, fresh.1))
+  | inr e ↦ omega (arith, e.1, fresh.0)
 ]
 
 traced_by : (old mid : State) (key : List ℕ) (item : Item) → Gives old mid → ((used : Used) → get mid.items key ≡ Some used → IsKept old.items key used.item ⊎ ((used.item.unique ≡ next_unique old) × (mid.given ≡ old.given + 1))) → IsKept mid.items key item ⊎ (next_unique mid ≤ item.unique) → IsKept old.items key item ⊎ (next_unique old ≤ item.unique)
-traced_by old mid key item gives tells (inr later) = inr (let more = not_less old mid gives in omega arith)
-traced_by old mid key item gives tells (inl kept) =
-    let unique = kept.2.unique in
-    let value = kept.2.value in
-    let flags = kept.2.flags in
-    elim (tells kept.0 kept.1) [
-      | inl before ↦ inl (before.0, before.1, record { unique = unique ∙ before.2.unique; value = value ∙ before.2.value; flags = flags ∙ before.2.flags })
-      | inr fresh ↦ inr (let is = fresh.0 in omega arith)
-    ]
+traced_by old mid key item gives tells (inr later) = inr (omega (arith, not_less old mid gives))
+traced_by old mid key item gives tells (inl kept) = elim (tells kept.0 kept.1) [
+  | inl before ↦
+      let more = kept.2 in
+      inl (before.0, before.1, record { unique = more.unique ∙ before.2.unique; value = more.value ∙ before.2.value; flags = more.flags ∙ before.2.flags })
+  | inr fresh ↦ inr (omega (arith, fresh.0, kept.2.unique))
+]
 
 traces : (old : State) (asked : List Asked) (answers : List Answer) (states : List State) → Runs old asked answers states → 0 < old.shards → IsGiven old → All HasNoToken asked → Traces old (last_of old states)
 traces = of_runs (λ old asked answers states. 0 < old.shards → IsGiven old → All HasNoToken asked → Traces old (last_of old states)) (λ old some given _. record { given = given; traced = λ key used is. inl (used, is, record { unique = refl; value = refl; flags = refl }) }) (λ old ask rest answer answers new states step after some given plain.
     let gives = gives_of old new ask.0 ask.1 answer step in
-    let still : 0 < new.shards = (let same_shards = gives.place.shards in omega arith) in
+    let still : 0 < new.shards = omega (arith, gives.place.shards) in
     let none = All-head HasNoToken ask rest plain in
     let rest = after still (λ key used is. given_by old new key used gives some given (tells_plainly old new ask answer step none key used is)) (All-tail HasNoToken ask rest plain) in
     record {
@@ -218,10 +201,9 @@ traces = of_runs (λ old asked answers states. 0 < old.shards → IsGiven old �
 
 tell_apart : (old : State) (key : List ℕ) (before after : Used) → IsGiven old → get old.items key ≡ Some before → after.item.unique ≡ before.item.unique → IsKept old.items key after.item ⊎ (next_unique old ≤ after.item.unique) → (after.item.value ≡ before.item.value) × (after.item.flags ≡ before.item.flags)
 tell_apart old key before after given is same_unique (inl kept) =
-    let both : Some kept.0 ≡ Some before = sym kept.1 ∙ is in
-    let there : kept.0 ≡ before = cc in
+    let there : kept.0 ≡ before = (let found = kept.1 in cc) in
     (kept.2.value ∙ ap (λ u. u.item.value) there, kept.2.flags ∙ ap (λ u. u.item.flags) there)
-tell_apart old key before after given is same_unique (inr later) = absurd (let below = given key before is in omega arith)
+tell_apart old key before after given is same_unique (inr later) = absurd (omega (arith, given key before is))
 
 pub same_unique_same_item : SameUniqueSameItem
 same_unique_same_item old asked answers states run some given plain =
@@ -244,11 +226,6 @@ bits false true false false h = omega arith
 bits false false true false h = omega arith
 bits false false false false h = omega arith
 
-both_true : (a b : Bool) → (a && b) ≡ true → (a ≡ true) × (b ≡ true)
-both_true true true h = (refl, refl)
-both_true true false h = cc
-both_true false b h = cc
-
 asks_for : (o : Option (List ℕ)) (key : List ℕ) → is_asked o key ≡ true → o ≡ Some key
 asks_for None key h = cc
 asks_for (Some asked) key h = ap (λ k. Some k) (same_is asked key (rw (texts_ties asked key) at h))
@@ -259,7 +236,7 @@ telling _ h = cc
 
 telling_first : (old new : State) (ask : Asked) (answer : Answer) (key : List ℕ) → IsStep old ask.0 ask.1 answer new → (is_asked (key_of ask.0) key && is_telling answer) ≡ true → (is_sent (settle old (key_of ask.0) ask.1).items key ≡ false) × (is_sent new.items key ≡ true)
 telling_first old new ask answer key step h =
-    let parts = both_true (is_asked (key_of ask.0) key) (is_telling answer) h in
+    let parts = and_parts (is_asked (key_of ask.0) key) (is_telling answer) h in
     let shown = telling answer parts.1 in
     winners_are_first old new ask.0 ask.1 shown.0 (rw (← shown.1) step) shown.2 key (asks_for (key_of ask.0) key parts.0)
 

@@ -12,12 +12,9 @@ use Rattle.mc_store.proofs.RunLaws.{runs_are_orderly, same_budget}
 
 runs_more : (old : State) (asked : List Asked) (answers : List Answer) (states : List State) (more : Asked) (answer : Answer) (new : State) → Runs old asked answers states → IsStep (last_of old states) more.0 more.1 answer new → Runs old (asked ++ more ∷ []) (answers ++ answer ∷ []) (states ++ new ∷ [])
 runs_more old [] [] [] more answer new runs step = (step, tt)
-runs_more old [] [] (next ∷ states) more answer new runs step = absurd runs
-runs_more old [] (other ∷ answers) states more answer new runs step = absurd runs
-runs_more old (asked ∷ rest) [] states more answer new runs step = absurd runs
-runs_more old (asked ∷ rest) (other ∷ answers) [] more answer new runs step = absurd runs
 runs_more old (asked ∷ rest) (other ∷ answers) (next ∷ states) more answer new runs step =
     (runs.0, runs_more next rest answers states more answer new runs.1 step)
+runs_more old asked answers states more answer new runs step = absurd runs
 
 last_more : (old : State) (states : List State) (new : State) → last_of old (states ++ new ∷ []) ≡ new
 last_more old [] new = refl

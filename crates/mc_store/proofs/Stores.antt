@@ -7,7 +7,7 @@ use Rattle.std.specs.Map.{lookup, set_value}
 use Rattle.lru.specs.LruCache.{promoted}
 use Rattle.mc_command.specs.declared.command.StoreMode.{StoreMode}
 use Rattle.mc_command.specs.declared.meta.MetaMode.{MetaMode}
-use Rattle.mc_command.specs.declared.meta.MetaMode.TheVariants.{Set, Add, Replace, Append, Prepend}
+use Rattle.mc_command.specs.declared.meta.MetaMode.TheVariants.{Set, Add, Append, Prepend}
 use Rattle.mc_item.specs.declared.item.Item.{Item}
 use Rattle.mc_item.specs.declared.item.Expiry.{Expiry}
 use Rattle.mc_item.specs.declared.op.Op.TheVariants.{Store, MetaStore}
@@ -17,6 +17,7 @@ use Rattle.mc_item.specs.declared.answer.Answer.TheVariants.{Stored, NotFound, N
 use Rattle.mc_item.specs.Expiry.{expiry_of}
 use Rattle.mc_item.specs.Value.{joined}
 use Rattle.mc_item.specs.Kind.{kind_of, is_lawful}
+use Rattle.mc_store.specs.declared.shard.storing.Storing as given
 use Rattle.mc_store.specs.internal.Found.{live, joining, is_unconditional}
 use Rattle.mc_store.specs.State.{Used, State, without_dead, first}
 use Rattle.mc_store.specs.Step.{Outcome, Reply, Storing, is_other, writes, stores, joins, absent_store, present_store, store_step, storing, mode_of, compare_of, step_of}
@@ -25,6 +26,9 @@ use Rattle.mc_store.proofs.Shards.{with_entries, at_now}
 use Rattle.mc_store.proofs.Changes.{settled_live}
 use Rattle.mc_store.proofs.Writes.{Closes, along, met_time, large_there, too_large}
 use Rattle.mc_store.proofs.Outcomes.{Ends, ends, absent_as, present_as, unchanged_as, uses_as}
+
+abbrev pub asked_in : given.Storing → Storing
+asked_in it = storing it.mode it.compare it.unique it.flags it.exptime it.value
 
 abbrev pub fresh : List ℕ → ℕ → Expiry → ℕ → Item
 fresh value flags expiry unique = record { value = value; flags = flags; expiry = expiry; unique = unique; last_access = 0; fetched = false; stale = false; sent = false }
@@ -64,9 +68,7 @@ absent_stored settled key asked reply mode (Some unique) h is = absurd cc
 pub absent_refused : (settled : State) (key : List ℕ) (asked : Storing) (reply : Reply) (mode : MetaMode) (compare : Option ℕ) → false ≡ is_some compare → ¬ (mode ≡ Set) → ¬ (mode ≡ Add) → (NotStored, settled) ≡ absent_store settled key asked reply mode compare
 absent_refused settled key asked reply Set None h s a = absurd (s refl)
 absent_refused settled key asked reply Add None h s a = absurd (a refl)
-absent_refused settled key asked reply Replace None h s a = refl
-absent_refused settled key asked reply Append None h s a = refl
-absent_refused settled key asked reply Prepend None h s a = refl
+absent_refused settled key asked reply mode None h s a = refl
 absent_refused settled key asked reply mode (Some unique) h s a = absurd cc
 
 pub store_misses : (held : Held) (state : State) (key : List ℕ) (asked : Storing) (reply : Reply) → Keeps held state → None ≡ live held.time (lookup (pointwise nat_eq key) held.entries) →
@@ -78,11 +80,7 @@ store_misses held state key asked reply h none =
 set_both : (settled : State) (key : List ℕ) (asked : Storing) (reply : Reply) (mode : MetaMode) (compare : Option ℕ) → true ≡ is_unconditional mode compare → asked.mode ≡ mode → asked.compare ≡ compare → (o : Option Used) → stores settled key asked reply ≡ store_step settled key asked reply o
 set_both settled key asked reply Set None t m n None = rw (m, n)
 set_both settled key asked reply Set None t m n (Some u) = rw (m, n)
-set_both settled key asked reply Set (Some unique) t m n o = absurd cc
-set_both settled key asked reply Add compare t m n o = absurd cc
-set_both settled key asked reply Replace compare t m n o = absurd cc
-set_both settled key asked reply Append compare t m n o = absurd cc
-set_both settled key asked reply Prepend compare t m n o = absurd cc
+set_both settled key asked reply mode compare t m n o = absurd cc
 
 pub set_is : (settled : State) (key : List ℕ) (asked : Storing) (reply : Reply) → true ≡ is_unconditional asked.mode asked.compare → stores settled key asked reply ≡ store_step settled key asked reply (get settled.items key)
 set_is settled key asked reply t = set_both settled key asked reply asked.mode asked.compare t refl refl (get settled.items key)
@@ -90,11 +88,8 @@ set_is settled key asked reply t = set_both settled key asked reply asked.mode a
 -- Under a key that is there
 
 differs : (s : State) (key : List ℕ) (asked : Storing) (reply : Reply) (item : Item) (mode : MetaMode) → ¬ (mode ≡ Add) → is_other asked.compare item.unique ≡ true → (Exists, s) ≡ present_store s key asked reply mode item
-differs s key asked reply item Set a o = rw o
 differs s key asked reply item Add a o = absurd (a refl)
-differs s key asked reply item Replace a o = rw o
-differs s key asked reply item Append a o = rw o
-differs s key asked reply item Prepend a o = rw o
+differs s key asked reply item mode a o = rw o
 
 pub store_exists : (held : Held) (state : State) (key : List ℕ) (item : Item) (asked : Storing) (reply : Reply) → Keeps held state → Some item ≡ live held.time (lookup (pointwise nat_eq key) held.entries) →
     ¬ (asked.mode ≡ Add) → is_other asked.compare item.unique ≡ true → Closes (without_dead state (Some key)) (store_step (without_dead state (Some key)) key asked reply (get (without_dead state (Some key)).items key)) Exists held
@@ -102,11 +97,10 @@ store_exists held state key item asked reply h is not_add other =
     unchanged_as held state key item (λ s o. store_step s key asked reply o) Exists h is (λ s u i. differs s key asked reply u.item asked.mode not_add (rw i other))
 
 replaces : (s : State) (key : List ℕ) (asked : Storing) (reply : Reply) (item : Item) (mode : MetaMode) → ¬ (mode ≡ Add) → None ≡ joining mode → is_other asked.compare item.unique ≡ false → stores s key asked reply ≡ present_store s key asked reply mode item
-replaces s key asked reply item Set a j o = rw o
 replaces s key asked reply item Add a j o = absurd (a refl)
-replaces s key asked reply item Replace a j o = rw o
 replaces s key asked reply item Append a j o = absurd cc
 replaces s key asked reply item Prepend a j o = absurd cc
+replaces s key asked reply item mode a j o = rw o
 
 -- a mode that stores what is asked
 pub replaced_is : (held : Held) (state : State) (key : List ℕ) (item : Item) (asked : Storing) (reply : Reply) → Keeps held state → Some item ≡ live held.time (lookup (pointwise nat_eq key) held.entries) →
@@ -116,11 +110,9 @@ replaced_is held state key item asked reply h is not_add mode other =
 
 -- a mode that joins
 joint : (s : State) (key : List ℕ) (asked : Storing) (reply : Reply) (item : Item) (after : Bool) (mode : MetaMode) → Some after ≡ joining mode → is_other asked.compare item.unique ≡ false → joins s key item asked (joined item.value asked.value after) reply ≡ present_store s key asked reply mode item
-joint s key asked reply item after Set j o = absurd cc
-joint s key asked reply item after Add j o = absurd cc
-joint s key asked reply item after Replace j o = absurd cc
 joint s key asked reply item after Append j o = let side : after ≡ true = cc in rw (o, side)
 joint s key asked reply item after Prepend j o = let side : after ≡ false = cc in rw (o, side)
+joint s key asked reply item after mode j o = absurd cc
 
 pub joined_is : (held : Held) (state : State) (key : List ℕ) (item : Item) (asked : Storing) (reply : Reply) (after : Bool) → Keeps held state → Some item ≡ live held.time (lookup (pointwise nat_eq key) held.entries) →
     Some after ≡ joining asked.mode → is_other asked.compare item.unique ≡ false → joins (without_dead state (Some key)) key item asked (joined item.value asked.value after) reply ≡ store_step (without_dead state (Some key)) key asked reply (get (without_dead state (Some key)).items key)
@@ -129,7 +121,7 @@ joined_is held state key item asked reply after h is mode other =
 
 length_joined : (value block : List ℕ) (after : Bool) → length (joined value block after) ≡ length value + length block
 length_joined value block true = length-append value block
-length_joined value block false = let both = length-append block value in omega arith
+length_joined value block false = omega (arith, length-append block value)
 
 pub joined_large : (held : Held) (state : State) (key : List ℕ) (item : Item) (asked : Storing) (reply : Reply) (after : Bool) → Keeps held state → Some item ≡ live held.time (lookup (pointwise nat_eq key) held.entries) →
     Some after ≡ joining asked.mode → is_other asked.compare item.unique ≡ false → (size : ℕ) → size ≡ length item.value + length asked.value → (nat_lt held.limit size || nat_lt held.budget (length key + size + 64)) ≡ true → Closes (without_dead state (Some key)) (store_step (without_dead state (Some key)) key asked reply (get (without_dead state (Some key)).items key)) TooLarge held

@@ -1,17 +1,18 @@
 -- What is written under a key, whatever is there: it gets the next unique.
-use Rattle.std.proofs.Common.{◌≡◌, ℕ, ◌+◌, ◌*◌, ◌^◌, ◌≤◌, Bool, true, false, List, ◌∷◌, length, Option, Some, None, refl, sym, ap, ◌∙◌, inl, inr, arith, nat_eq, nat_lt, subst}
+use Rattle.std.proofs.Common.{◌≡◌, ℕ, ◌+◌, ◌*◌, ◌^◌, ◌≤◌, Bool, true, false, List, ◌∷◌, length, Option, Some, None, refl, sym, ap, ◌∙◌, inl, inr, nat_eq, nat_lt, subst}
 use Rattle.std.specs.Option.{IsSome, option_map}
 use Rattle.std.specs.Cmp.Lexicographic.{pointwise}
 use Rattle.std.specs.FinMap.{get, remove}
 use Rattle.std.specs.Map.{lookup, remove_entry}
 use Rattle.std.specs.Prelude.{◌||◌, if◌then◌else◌}
-use Rattle.std.proofs.lemmas.Bool.{cases_Bool}
-use Rattle.std.proofs.lemmas.Bool.Decides.{nat_tests}
+use Rattle.std.proofs.lemmas.Bool.{cases_Bool, ltb-false, or_parts}
+use Rattle.std.proofs.lemmas.Option.{cond_some}
 use Rattle.mc_item.specs.declared.item.Item.{Item}
+use Rattle.mc_item.specs.Expiry.{is_dead}
 use Rattle.mc_item.specs.declared.answer.Answer.{Answer}
 use Rattle.mc_item.specs.declared.answer.Answer.TheVariants.{NoCas, NoMemory, TooLarge}
 use Rattle.mc_store.specs.Rows.{done_of}
-use Rattle.mc_store.specs.State.{Used, State, is_dead_at, with_items, without_dead, cost, fitting, entered, next_unique, with_given}
+use Rattle.mc_store.specs.State.{Used, State, with_items, without_dead, cost, fitting, entered, next_unique, with_given}
 use Rattle.mc_store.specs.internal.Found.{unique_for, given_after}
 use Rattle.mc_store.specs.internal.Listed.{within}
 use Rattle.mc_store.specs.Step.{Outcome, Reply, numbered, is_too_large, writes}
@@ -26,45 +27,22 @@ Closes settled outcome answer new = (after : State) × IsOutcome settled outcome
 
 -- The two states that settling a key may lead to
 pub by_met : (P : State → Type 0) (state : State) (key : List ℕ) → P state → ((u : Used) → get state.items key ≡ Some u → P (with_items state (remove state.items key))) → P (without_dead state (Some key))
-by_met P state key stays goes = go P state key stays goes (get state.items key) refl where
-  go : (P : State → Type 0) (state : State) (key : List ℕ) → P state → ((u : Used) → get state.items key ≡ Some u → P (with_items state (remove state.items key))) → (o : Option Used) → get state.items key ≡ o → P (without_dead state (Some key))
-  go P state key stays goes None h = subst P (sym (none state key h)) stays where
-    none : (state : State) (key : List ℕ) → get state.items key ≡ None → without_dead state (Some key) ≡ state
-    none state key h = rw h
-  go P state key stays goes (Some u) h = elim (cases_Bool (is_dead_at state.time (Some u))) [
-    | inl t ↦ subst P (sym (dead state key u h t)) (goes u h)
-    | inr f ↦ subst P (sym (alive state key u h f)) stays
-  ] where
-    dead : (state : State) (key : List ℕ) (u : Used) → get state.items key ≡ Some u → is_dead_at state.time (Some u) ≡ true → without_dead state (Some key) ≡ with_items state (remove state.items key)
-    dead state key u h t = rw (h, t)
-
-    alive : (state : State) (key : List ℕ) (u : Used) → get state.items key ≡ Some u → is_dead_at state.time (Some u) ≡ false → without_dead state (Some key) ≡ state
-    alive state key u h f = rw (h, f)
+by_met P state key stays goes = go (get state.items key) refl where
+  go : (o : Option Used) → get state.items key ≡ o → P (without_dead state (Some key))
+  go None h = rw h stays
+  go (Some u) h = elim (cases_Bool (is_dead u.item.expiry state.time)) [ inl t ↦ rw (h, t) (goes u h) | inr f ↦ rw (h, f) stays ]
 
 pub met_time : (state : State) (key : List ℕ) → (without_dead state (Some key)).time ≡ state.time
 met_time state key = by_met (λ s. s.time ≡ state.time) state key refl (λ _ _. refl)
-
-met_unique : (state : State) (key : List ℕ) → next_unique (without_dead state (Some key)) ≡ next_unique state
-met_unique state key = by_met (λ s. next_unique s ≡ next_unique state) state key refl (λ _ _. refl)
-
-met_budget : (state : State) (key : List ℕ) → (without_dead state (Some key)).budget ≡ state.budget
-met_budget state key = by_met (λ s. s.budget ≡ state.budget) state key refl (λ _ _. refl)
-
-met_limit : (state : State) (key : List ℕ) → (without_dead state (Some key)).limit ≡ state.limit
-met_limit state key = by_met (λ s. s.limit ≡ state.limit) state key refl (λ _ _. refl)
 
 -- the unique that the shard gives next, by what it holds
 abbrev pub next_of : Held → ℕ
 next_of held = held.index + 1 + held.shards * held.given
 
 held_unique : (held : Held) (state : State) (key : List ℕ) → Keeps held state → next_unique (without_dead state (Some key)) ≡ next_of held
-held_unique held state key h = met_unique state key ∙ rw (h.index, h.shards, h.given)
+held_unique held state key h = by_met (λ s. next_unique s ≡ next_of held) state key (rw (h.index, h.shards, h.given)) (λ _ _. rw (h.index, h.shards, h.given))
 
 -- The outcome with a unique, or without one
-
-unique_is : (b : Bool) (next unique : ℕ) → (if b then Some next else None) ≡ Some unique → (b ≡ true) × (next ≡ unique)
-unique_is true next unique h = (refl, cc)
-unique_is false next unique h = absurd cc
 
 no_unique : (b : Bool) (next : ℕ) → (if b then Some next else None) ≡ None → b ≡ false
 no_unique true next h = absurd cc
@@ -73,7 +51,7 @@ no_unique false next h = refl
 pub numbered_some : (settled : State) (token : Option ℕ) (unique : ℕ) (outcome : ℕ → State → Outcome) → unique_for token (next_unique settled) ≡ Some unique → numbered settled token outcome ≡ outcome unique (giving token settled)
 numbered_some settled (Some token) unique outcome is = let same_unique : token ≡ unique = cc in ap (λ u. outcome u settled) same_unique
 numbered_some settled None unique outcome is =
-    let fits = unique_is (nat_lt (next_unique settled) (2 ^ 64)) (next_unique settled) unique is in
+    let fits = cond_some (nat_lt (next_unique settled) (2 ^ 64)) (next_unique settled) unique is in
     rw fits.0 (ap (λ u. outcome u (with_given settled)) fits.1)
 
 pub numbered_none : (settled : State) (token : Option ℕ) (outcome : ℕ → State → Outcome) → unique_for token (next_unique settled) ≡ None → numbered settled token outcome ≡ (NoCas, settled)
@@ -147,7 +125,8 @@ as_answer settled outcome one other new is closes = subst (λ a. Closes settled 
 
 -- what is held tells whether a value is too large
 pub large_there : (held : Held) (state : State) (key value : List ℕ) (size : ℕ) (test : Bool) → Keeps held state → length value ≡ size → (nat_lt held.limit size || nat_lt held.budget (length key + size + 64)) ≡ test → is_too_large (without_dead state (Some key)) key value ≡ test
-large_there held state key value size test h long is = rw (met_limit state key, met_budget state key, h.limit, h.budget, long) is
+large_there held state key value size test h long is =
+    by_met (λ s. is_too_large s key value ≡ test) state key (rw (h.limit, h.budget, long) is) (λ _ _. rw (h.limit, h.budget, long) is)
 
 pub too_large : (settled : State) (key : List ℕ) (token : Option ℕ) (value : List ℕ) (item_of : ℕ → Item) (reply : Reply) (new : Held) → is_too_large settled key value ≡ true → Keeps new settled → Closes settled (writes settled key token value item_of reply) TooLarge new
 too_large settled key token value item_of reply new large h = (settled, inr (rw large), h)
@@ -158,14 +137,6 @@ writes_is settled key token value item_of reply small = rw small
 
 -- a value that is not too large fits the budget
 pub fits_both : (limit size budget total : ℕ) → (nat_lt limit size || nat_lt budget total) ≡ false → (size ≤ limit) × (total ≤ budget)
-fits_both limit size budget total h = (lt_is limit size (first (nat_lt limit size) (nat_lt budget total) h), lt_is budget total (second (nat_lt limit size) (nat_lt budget total) h)) where
-  first : (a b : Bool) → (a || b) ≡ false → a ≡ false
-  first true b h = absurd cc
-  first false b h = refl
-
-  second : (a b : Bool) → (a || b) ≡ false → b ≡ false
-  second true b h = absurd cc
-  second false b h = h
-
-  lt_is : (a b : ℕ) → nat_lt a b ≡ false → b ≤ a
-  lt_is a b h = grind (arith, nat_tests)
+fits_both limit size budget total h =
+    let both = or_parts (nat_lt limit size) (nat_lt budget total) h in
+    (ltb-false limit size both.0, ltb-false budget total both.1)

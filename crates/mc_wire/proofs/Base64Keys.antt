@@ -1,5 +1,5 @@
 -- What decoding says of a base64 key word.
-use Rattle.std.proofs.Common.{◌≡◌, ℕ, ◌<◌, ◌≤◌, ◌+◌, ◌-◌, ◌*◌, ◌/◌, ◌%◌, Bool, true, false, cond, Result, List, [], ◌∷◌, length, Some, None, Ok, Err, take, drop, subst, nat_lt, nat_eq, refl, sym, ap, ◌∙◌, arith, length-append}
+use Rattle.std.proofs.Common.{◌≡◌, ℕ, ◌<◌, ◌≤◌, ◌+◌, ◌-◌, ◌*◌, ◌/◌, ◌%◌, true, false, cond, Result, List, [], ◌∷◌, length, Some, None, Ok, Err, take, drop, subst, is_some, nat_lt, nat_eq, refl, sym, ap, ◌∙◌, arith, length-append}
 use Rattle.std.proofs.lemmas.List.{length-replicate, take-append-drop}
 use Rattle.std.proofs.lemmas.Bool.Decides.{nat_tests}
 use Rattle.base64.specs.Engines.{standard}
@@ -49,25 +49,28 @@ unfolding base64_of
 filled word [] text some = let none = ap length (text ∙ encode_of-nil standard) in omega (arith, none)
 filled word (byte ∷ bytes) text some = omega arith
 
+-- a word of a length that key words have
+in_limits : (word : List ℕ) → 0 < length word → length word ≤ KEY_LIMIT → (base64_key word ≡ base64_bytes word) × (base64_fault word ≡ cond (is_some (base64_bytes word)) None (Some NotBase64))
+in_limits word some short =
+    let first : nat_eq (length word) 0 ≡ false = grind (arith, nat_tests) in
+    let second : nat_lt KEY_LIMIT (length word) ≡ false = grind (arith, nat_tests) in
+    (rw (first, second), rw (first, second))
+
 pub decoded_key : (word bytes : List ℕ) → IsBytes word → IsBytes bytes → 0 < length word → length word ≤ KEY_LIMIT → decode_of standard word ≡ Ok bytes → IsKeyWord word bytes
 unfolding base64_of
 decoded_key word bytes octets octets' some short decoded =
-    let first : nat_eq (length word) 0 ≡ false = grind (arith, nat_tests) in
-    let second : nat_lt KEY_LIMIT (length word) ≡ false = grind (arith, nat_tests) in
+    let limits = in_limits word some short in
     let value = decoded_ok word bytes decoded in
     let text = decode_of_strict standard word bytes is_strict octets decoded in
     record {
-      key = rw (first, second) value;
+      key = limits.0 ∙ value;
       text = record { text = text; octets = octets'; some = filled word bytes text some; short = short_text (length bytes) (omega (arith, ap length text, length-base64_of bytes)) };
-      fault = rw (first, second, value);
+      fault = rw (limits.1, value);
     }
 
 -- a word that does not decode
 pub undecoded_key : (word : List ℕ) → 0 < length word → length word ≤ KEY_LIMIT → base64_bytes word ≡ None → (base64_fault word ≡ Some NotBase64) × (base64_key word ≡ None)
-undecoded_key word some short none =
-    let first : nat_eq (length word) 0 ≡ false = grind (arith, nat_tests) in
-    let second : nat_lt KEY_LIMIT (length word) ≡ false = grind (arith, nat_tests) in
-    (rw (first, second, none), rw (first, second) none)
+undecoded_key word some short none = let limits = in_limits word some short in (rw (limits.1, none), limits.0 ∙ none)
 
 -- the base64 text of a key gives the key
 pub text_key : (word bytes : List ℕ) → IsBase64Of word bytes → base64_key word ≡ Some bytes
@@ -75,24 +78,22 @@ unfolding base64_of
 text_key word bytes is =
     let long = long_text (length bytes) is.short is.some in
     let size = ap length is.text ∙ length-base64_of bytes in
-    let first : nat_eq (length word) 0 ≡ false = grind (arith, nat_tests) in
-    let second : nat_lt KEY_LIMIT (length word) ≡ false = grind (arith, nat_tests) in
     let back : decode_of standard word ≡ Ok bytes = rw is.text (decode_of-encode_of standard bytes is_consistent is.octets) in
-    rw (first, second) (decoded_ok word bytes back)
+    (in_limits word (omega arith) (omega arith)).0 ∙ decoded_ok word bytes back
 
 pub IsBytes-take : (n : ℕ) (bytes : List ℕ) → IsBytes bytes → IsBytes (take n bytes)
 IsBytes-take n bytes octets = front_bytes (take n bytes) (drop n bytes) (subst IsBytes (sym (take-append-drop n bytes)) octets)
 
 -- a word that gives a key is a text of it
-key_text : (word bytes : List ℕ) → IsBytes word → IsBytes bytes → (empty long : Bool) → nat_eq (length word) 0 ≡ empty → nat_lt KEY_LIMIT (length word) ≡ long →
-    cond empty None (cond long None (base64_bytes word)) ≡ Some bytes → IsBase64Of word bytes
+key_text : (word bytes : List ℕ) → IsBytes word → IsBytes bytes → base64_key word ≡ Some bytes → IsBase64Of word bytes
 unfolding base64_bytes decoded_of
-key_text word bytes octets octets' true long e l is = absurd cc
-key_text word bytes octets octets' false true e l is = absurd cc
-key_text word bytes octets octets' false false e l is = (decoded_key word bytes octets octets' (grind (arith, nat_tests)) (grind (arith, nat_tests)) (the_ok (decode_of standard word) is)).text where
-  the_ok : (read : Result (List ℕ) DecodeError) → result_ok read ≡ Some bytes → read ≡ Ok bytes
-  the_ok (Ok read) is = cc
-  the_ok (Err e) is = absurd cc
+key_text word bytes octets octets' is =
+    let some : 0 < length word = grind (arith, nat_tests) in
+    let short : length word ≤ KEY_LIMIT = grind (arith, nat_tests) in
+    (decoded_key word bytes octets octets' some short (the_ok (decode_of standard word) (sym (in_limits word some short).0 ∙ is))).text where
+      the_ok : (read : Result (List ℕ) DecodeError) → result_ok read ≡ Some bytes → read ≡ Ok bytes
+      the_ok (Ok read) is = cc
+      the_ok (Err e) is = absurd cc
 
 pub base64_is_text : Base64IsText
-base64_is_text word bytes octets octets' = (key_text word bytes octets octets' (nat_eq (length word) 0) (nat_lt KEY_LIMIT (length word)) refl refl, text_key word bytes)
+base64_is_text word bytes octets octets' = (key_text word bytes octets octets', text_key word bytes)

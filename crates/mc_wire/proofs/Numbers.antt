@@ -50,20 +50,13 @@ read_from_is value (digit ∷ digits) small = step (is_ascii_digit digit) (value
 pub number_of_is : (word : List ℕ) → 0 < length word → length word ≤ 20 → number_of (2 ^ 64) word ≡ read_from 0 word
 unfolding number_of
 number_of_is word some short =
-    let first : nat_lt 0 (length word) ≡ true = grind (arith, nat_tests) in
-    let second : nat_le (length word) 20 ≡ true = grind (arith, nat_tests) in
-    rw (first, second) (sym (read_from_is 0 word (omega arith)))
+    let digits : (nat_lt 0 (length word) ≡ true) × (nat_le (length word) 20 ≡ true) = (grind (arith, nat_tests), grind (arith, nat_tests)) in
+    rw (digits.0, digits.1) (sym (read_from_is 0 word (omega arith)))
 
-pub number_of-nil : (word : List ℕ) → length word ≡ 0 → number_of (2 ^ 64) word ≡ None
+-- a word of another length
+pub number_of-unfit : (word : List ℕ) → (0 < length word → 20 < length word) → number_of (2 ^ 64) word ≡ None
 unfolding number_of
-number_of-nil word none = rw none
-
-pub number_of-long : (word : List ℕ) → 20 < length word → number_of (2 ^ 64) word ≡ None
-unfolding number_of
-number_of-long word long =
-    let first : nat_lt 0 (length word) ≡ true = grind (arith, nat_tests) in
-    let second : nat_le (length word) 20 ≡ false = grind (arith, nat_tests) in
-    rw (first, second)
+number_of-unfit word unfit = grind (arith, nat_tests)
 
 stop : (t : Bool) (n : ℕ) (o : Option ℕ) → None ≡ cond t (Some n) None → cond t o None ≡ None
 stop true n o h = absurd cc
@@ -73,65 +66,24 @@ stop false n o h = refl
 pub read_from-stop : (value digit : ℕ) (digits : List ℕ) → None ≡ with_digit value digit → read_from value (digit ∷ digits) ≡ None
 read_from-stop value digit digits h = stop (is_ascii_digit digit && nat_lt (value * 10 + digit_value digit) (2 ^ 64)) (value * 10 + digit_value digit) (read_from (value * 10 + digit_value digit) digits) h
 
--- A number below a smaller bound, from that of 64 bits.
+-- a number below a smaller bound, from that of 64 bits
+narrowed : (f : ℕ → ℤ) (bound n : ℕ) (digits : Bool) → bound ≤ 2 ^ 64 →
+    option_map f (if digits && nat_lt n bound then Some n else None) ≡ option_and_then (λ m. if nat_lt m bound then Some (f m) else None) (if digits && nat_lt n (2 ^ 64) then Some n else None)
+narrowed f bound n digits small = grind (arith, nat_tests)
 
-abbrev below : ℕ → ℕ → Option ℕ
-below bound n = if nat_lt n bound then Some n else None
-
-none-twice : (bound n : ℕ) (t : Bool) → nat_lt n bound ≡ false → None ≡ option_and_then (below bound) (if t then Some n else None)
-none-twice bound n true past = rw past
-none-twice bound n false past = refl
-
-below-twice : (bound n : ℕ) → bound ≤ 2 ^ 64 → below bound n ≡ option_and_then (below bound) (below (2 ^ 64) n)
-below-twice bound n small = elim (cases_lt n bound) [
-  | inl under ↦
-      let first : nat_lt n bound ≡ true = grind (arith, nat_tests) in
-      let second : nat_lt n (2 ^ 64) ≡ true = grind (arith, nat_tests) in
-      rw (first, second) (rw first)
-  | inr past ↦
-      let first : nat_lt n bound ≡ false = grind (arith, nat_tests) in
-      rw first (none-twice bound n (nat_lt n (2 ^ 64)) first)
-]
-
-under_test : (test : Bool) (bound n : ℕ) → bound ≤ 2 ^ 64 → (if test && nat_lt n bound then Some n else None) ≡ option_and_then (below bound) (if test && nat_lt n (2 ^ 64) then Some n else None)
-under_test true bound n small = below-twice bound n small
-under_test false bound n small = refl
-
-number_of-below : (bound : ℕ) (word : List ℕ) → bound ≤ 2 ^ 64 → number_of bound word ≡ option_and_then (below bound) (number_of (2 ^ 64) word)
+pub minus_is : (word digits : List ℕ) → starts_with_minus word ≡ true → digits ≡ drop 1 word → integer_of word ≡ option_and_then negative (number_of (2 ^ 64) digits)
 unfolding number_of
-number_of-below bound word small = under_test (is_digits word) bound (digits_value 10 word) small
+minus_is word digits minus rest = rw (minus, rest) (narrowed (λ n. neg_ℤ (pos n)) (2 ^ 63 + 1) (digits_value 10 (drop 1 word)) (is_digits (drop 1 word)) (lit≤ tt))
 
-mapped : (f : ℕ → ℤ) (n : ℕ) (t : Bool) → option_map f (if t then Some n else None) ≡ (if t then Some (f n) else None)
-mapped f n true = refl
-mapped f n false = refl
-
-within : (f : ℕ → ℤ) (bound : ℕ) (o : Option ℕ) → option_map f (option_and_then (below bound) o) ≡ option_and_then (λ n. if nat_lt n bound then Some (f n) else None) o
-within f bound None = refl
-within f bound (Some n) = mapped f n (nat_lt n bound)
-
-minus_is : (word : List ℕ) → starts_with_minus word ≡ true → integer_of word ≡ option_and_then negative (number_of (2 ^ 64) (drop 1 word))
-minus_is word minus = rw (minus, number_of-below (2 ^ 63 + 1) (drop 1 word) (lit≤ tt)) (within (λ n. neg_ℤ (pos n)) (2 ^ 63 + 1) (number_of (2 ^ 64) (drop 1 word)))
-
-plain_is : (word : List ℕ) → starts_with_minus word ≡ false → integer_of word ≡ option_and_then positive (number_of (2 ^ 64) word)
-plain_is word plain = rw (plain, number_of-below (2 ^ 63) word (lit≤ tt)) (within pos (2 ^ 63) (number_of (2 ^ 64) word))
-
-unread : (o : Option ℕ) (f : ℕ → Option ℤ) (e : WireFault) → Err e ≡ ok_or o NotNumber → Err e ≡ ok_or (option_and_then f o) NotNumber
-unread None f e h = cc
-unread (Some n) f e h = absurd cc
-
-read : (o : Option ℕ) (f : ℕ → Option ℤ) (n : ℕ) → Ok n ≡ ok_or o NotNumber → ok_or (f n) NotNumber ≡ ok_or (option_and_then f o) NotNumber
-read None f n h = absurd cc
-read (Some m) f n h = let same : n ≡ m = cc in rw same
+pub plain_is : (word : List ℕ) → starts_with_minus word ≡ false → integer_of word ≡ option_and_then positive (number_of (2 ^ 64) word)
+unfolding number_of
+plain_is word plain = rw plain (narrowed pos (2 ^ 63) (digits_value 10 word) (is_digits word) (lit≤ tt))
 
 -- what the reading of the digits gives for the whole word
-pub minus-unread : (word digits : List ℕ) (e : WireFault) → starts_with_minus word ≡ true → digits ≡ drop 1 word → Err e ≡ ok_or (number_of (2 ^ 64) digits) NotNumber → Err e ≡ ok_or (integer_of word) NotNumber
-minus-unread word digits e minus rest h = rw (minus_is word minus, ← rest) (unread (number_of (2 ^ 64) digits) negative e h)
+pub unread : (o : Option ℕ) (f : ℕ → Option ℤ) (e : WireFault) (integer : Option ℤ) → integer ≡ option_and_then f o → Err e ≡ ok_or o NotNumber → Err e ≡ ok_or integer NotNumber
+unread None f e integer is h = rw is (cc)
+unread (Some n) f e integer is h = absurd cc
 
-pub minus-read : (word digits : List ℕ) (n : ℕ) → starts_with_minus word ≡ true → digits ≡ drop 1 word → Ok n ≡ ok_or (number_of (2 ^ 64) digits) NotNumber → ok_or (negative n) NotNumber ≡ ok_or (integer_of word) NotNumber
-minus-read word digits n minus rest h = rw (minus_is word minus, ← rest) (read (number_of (2 ^ 64) digits) negative n h)
-
-pub plain-unread : (word : List ℕ) (e : WireFault) → starts_with_minus word ≡ false → Err e ≡ ok_or (number_of (2 ^ 64) word) NotNumber → Err e ≡ ok_or (integer_of word) NotNumber
-plain-unread word e plain h = rw (plain_is word plain) (unread (number_of (2 ^ 64) word) positive e h)
-
-pub plain-read : (word : List ℕ) (n : ℕ) → starts_with_minus word ≡ false → Ok n ≡ ok_or (number_of (2 ^ 64) word) NotNumber → ok_or (positive n) NotNumber ≡ ok_or (integer_of word) NotNumber
-plain-read word n plain h = rw (plain_is word plain) (read (number_of (2 ^ 64) word) positive n h)
+pub read : (o : Option ℕ) (f : ℕ → Option ℤ) (n : ℕ) (integer : Option ℤ) → integer ≡ option_and_then f o → Ok n ≡ ok_or o NotNumber → ok_or (f n) NotNumber ≡ ok_or integer NotNumber
+read None f n integer is h = absurd cc
+read (Some m) f n integer is h = let same : n ≡ m = cc in rw (is, same)

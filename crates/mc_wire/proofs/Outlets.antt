@@ -1,7 +1,6 @@
 -- Bytes taken one piece after another.
-use Rattle.std.proofs.Common.{◌≡◌, ℕ, ◌+◌, ◌<◌, ◌≤◌, length, arith, List, [], ◌++◌, take, drop, refl, sym, ap, ◌∙◌, append_assoc, append-nil, Result, Ok, Err}
+use Rattle.std.proofs.Common.{◌≡◌, ℕ, ◌+◌, ◌<◌, ◌≤◌, length, arith, List, [], ◌++◌, take, drop, refl, sym, ap, ◌∙◌, append_assoc, append-nil, Result, Ok, Err, length-append, get_or}
 use Rattle.std.specs.Result.{IsErr}
-use Rattle.std.proofs.Common.{length-append, get_or}
 use Rattle.std.proofs.lemmas.List.{take-append-le, take-append-drop, at_drop_more}
 use Rattle.std.proofs.lemmas.Grind.{flat_map-append}
 use Rattle.std.specs.List.{flat_map}

@@ -1,8 +1,7 @@
 -- The first space of a text whose front has none.
-use Rattle.std.proofs.Common.{◌≡◌, ℕ, ◌+◌, ◌≤◌, Bool, true, false, cond, not, ◌||◌, List, [], ◌∷◌, ◌++◌, length, take, drop, Some, None, nat_lt, arith, suc, sym, ap, ◌∙◌, length-append, inl, inr}
+use Rattle.std.proofs.Common.{◌≡◌, ℕ, ◌+◌, ◌≤◌, Bool, true, false, cond, not, ◌||◌, List, [], ◌∷◌, ◌++◌, length, take, drop, Some, None, nat_lt, arith, suc, sym, ap, ◌∙◌, length-append}
 use Rattle.std.specs.List.{list_any, position, position_or_len}
 use Rattle.std.specs.Option.{option_map}
-use Rattle.std.proofs.lemmas.Bool.{cases_lt}
 use Rattle.std.proofs.lemmas.Bool.Decides.{nat_tests}
 use Rattle.std.proofs.lemmas.List.{take-append-drop, length-take-le}
 use Rattle.std.proofs.lemmas.List.Folds.{list_any-append}
@@ -18,16 +17,7 @@ first_behind p [] rest none = omega arith
 first_behind p (byte ∷ front) rest none = behind (p byte) (list_any p front) (position_or_len p (front ++ rest)) (length front) (position_or_len p rest) none (first_behind p front rest)
 
 shifted : (m n k : ℕ) → cond (nat_lt (m + n) (m + k)) (Some (m + n)) None ≡ option_map (λ i. m + i) (cond (nat_lt n k) (Some n) None)
-shifted m n k = elim (cases_lt n k) [
-  | inl below ↦
-      let small : nat_lt n k ≡ true = grind (arith, nat_tests) in
-      let large : nat_lt (m + n) (m + k) ≡ true = grind (arith, nat_tests) in
-      rw (small, large)
-  | inr past ↦
-      let small : nat_lt n k ≡ false = grind (arith, nat_tests) in
-      let large : nat_lt (m + n) (m + k) ≡ false = grind (arith, nat_tests) in
-      rw (small, large)
-]
+shifted m n k = grind (arith, nat_tests)
 
 position_behind : (p : ℕ → Bool) (front rest : List ℕ) → list_any p front ≡ false → position p (front ++ rest) ≡ option_map (λ i. length front + i) (position p rest)
 position_behind p front rest none = rw (first_behind p front rest none, length-append front rest) (shifted (length front) (position_or_len p rest) (length rest))

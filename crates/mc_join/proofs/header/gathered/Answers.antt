@@ -1,7 +1,6 @@
 -- The part ends where the text so far and the part do, and that is within the whole text.
-use Rattle.std.proofs.Common.{ℕ, List, ◌≡◌, ◌+◌, ◌++◌, ◌≤◌, length, take, drop, get_or, ap, arith, length-append, length-take-le}
+use Rattle.std.proofs.Common.{ℕ, List, ◌≡◌, ◌+◌, ◌++◌, ◌≤◌, length, take, drop, get_or, ap, arith, length-append, length-take-le, Bor, []}
 use Rattle.std.specs.List.{flat_map}
-use Rattle.std.proofs.Common.{Bor, []}
 use Rattle.mc_wire.proofs.Outlets.{flat_map-around}
 use Rattle.mc_join.proofs.header.gathered.Goals as goal
 

@@ -1,26 +1,21 @@
-use Rattle.std.proofs.Common.{◌++◌, ◌∙◌, ap, sym, codes, length, decimal}
-use Rattle.mc_split.specs.Text.{flags_text}
+use Rattle.std.proofs.Common.{◌++◌, ◌∙◌, codes}
 use Rattle.mc_wire.proofs.Outlets.{breaks}
-use Rattle.mc_join.proofs.Texts.{first_breaks, second_breaks, third_writes, value-parts}
+use Rattle.mc_join.proofs.Texts.{first_breaks, part_breaks, value-parts, writes_rest, wrote_first, wrote_more}
 use Rattle.mc_join.proofs.meta.put_value.Goals as goal
 
 pub returns-in_err-put_all : goal.returns-in_err-put_all
 returns-in_err-put_all g c =
-    let flags = flags_text c.args.flags.now c.args.key.now c.args.answer.now in
-    let rest = c.args.end.now ++ (c.args.value.now ++ codes "\r\n") in
-    let parts = value-parts (decimal (length c.args.value.now)) c.as_bytes-size.result.now flags rest (c.as_bytes-size.ensures.value ∙ c.format.ensures.text) ∙ ap (λ xs. xs ++ (flags ++ rest)) (sym c.gathered.ensures) in
-    breaks _ c.from_residual.result _ _ c.from_residual.ensures.0 (first_breaks _ c.gathered.result.now (flags ++ rest) parts c.in_err-put_all.ensures)
+    let parts = value-parts c.args.value.now _ _ _ c.args.end.now (c.as_bytes-size.ensures.value ∙ c.format.ensures.text) c.gathered.ensures in
+    breaks _ c.from_residual.result _ _ c.from_residual.ensures.0 (first_breaks _ _ parts c.in_err-put_all.ensures)
 
 pub returns-in_err-put_flags : goal.returns-in_err-put_flags
 returns-in_err-put_flags g c =
-    let flags = flags_text c.args.flags.now c.args.key.now c.args.answer.now in
-    let rest = c.args.end.now ++ (c.args.value.now ++ codes "\r\n") in
-    let parts = value-parts (decimal (length c.args.value.now)) c.as_bytes-size.result.now flags rest (c.as_bytes-size.ensures.value ∙ c.format.ensures.text) ∙ ap (λ xs. xs ++ (flags ++ rest)) (sym c.gathered.ensures) in
-    breaks _ c.from_residual-in_err-put_flags.result _ _ c.from_residual-in_err-put_flags.ensures.0 (second_breaks _ c.gathered.result.now flags rest parts c.in_ok-put_all.ensures c.in_err-put_flags.ensures)
+    let parts = value-parts c.args.value.now _ _ _ c.args.end.now (c.as_bytes-size.ensures.value ∙ c.format.ensures.text) c.gathered.ensures in
+    breaks _ c.from_residual-in_err-put_flags.result _ _ c.from_residual-in_err-put_flags.ensures.0
+    (part_breaks _ (c.args.end.now ++ (c.args.value.now ++ codes "\r\n")) (wrote_first _ parts c.in_ok-put_all.ensures) c.in_err-put_flags.ensures)
 
 pub returns : goal.returns
 returns g c =
-    let flags = flags_text c.args.flags.now c.args.key.now c.args.answer.now in
+    let parts = value-parts c.args.value.now _ _ _ c.args.end.now (c.as_bytes-size.ensures.value ∙ c.format.ensures.text) c.gathered.ensures in
     let rest = c.args.end.now ++ (c.args.value.now ++ codes "\r\n") in
-    let parts = value-parts (decimal (length c.args.value.now)) c.as_bytes-size.result.now flags rest (c.as_bytes-size.ensures.value ∙ c.format.ensures.text) ∙ ap (λ xs. xs ++ (flags ++ rest)) (sym c.gathered.ensures) in
-    third_writes _ c.gathered.result.now flags rest c.put_parts.result _ _ _ _ parts c.in_ok-put_all.ensures c.in_ok-put_flags.ensures c.put_parts.ensures
+    writes_rest _ c.put_parts.result (wrote_more _ rest (wrote_first _ parts c.in_ok-put_all.ensures) c.in_ok-put_flags.ensures) c.put_parts.ensures

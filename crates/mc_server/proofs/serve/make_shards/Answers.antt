@@ -1,6 +1,6 @@
 use Rattle.std.proofs.Common.{◌≡◌, ◌+◌, ◌∷◌, [], ap, length, length-append, arith}
 use Rattle.mc_server.specs.Sizes.{line_sizes}
-use Rattle.mc_server.proofs.Shards.{Backs-none, Backs-new}
+use Rattle.mc_server.proofs.Backing.{Backs-none, Backs-new}
 use Rattle.mc_server.proofs.serve.make_shards.Goals as goal
 
 pub loop-index-init : goal.loop-index-init

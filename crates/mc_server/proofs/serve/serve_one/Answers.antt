@@ -1,9 +1,8 @@
 -- Each turn takes a command, or answers all that were taken and goes on.
 use Rattle.std.proofs.Common.{false, true}
-use Rattle.mc_conn.specs.declared.conn.Taken.TheVariants as took
 use Rattle.mc_server.specs.Sizes.{line_sizes}
 use Rattle.mc_seat.specs.declared.seat.Turn.TheVariants.{Goes, Ends, Broke}
-use Rattle.mc_server.proofs.Turning.{answers_stop, can_answer, stops_take, turn_ends, turn_said, turns_first, turns_go, turns_take}
+use Rattle.mc_server.proofs.Turning.{answers_stop, stops_take, turn_ends, turn_said, turns_first, turns_go, turns_take}
 use Rattle.mc_server.proofs.serve.serve_one.Goals as goal
 
 pub loop-init : goal.loop-init
@@ -23,16 +22,16 @@ loop-preserved-in-Opened g c = (
 
 pub answer-requires : goal.answer-requires
 answer-requires g c =
-    can_answer _ _ _ _ _ _ _ _ _ (stops_take _ _ _ _ _ _ _ _ _ c.now.result c.take-stop.result c.take-stop.ensures.says c.in_default-stop.not-Opened c.loop.invariant.2)
+    let stops = stops_take _ _ _ _ _ _ _ _ _ c.now.result c.take-stop.result c.take-stop.ensures.says c.in_default-stop.not-Opened c.loop.invariant.2 in
+    record { sizes = line_sizes c.args.sizes; told = stops.turns.told; log = stops.turns.log; conn_is = stops.turns.conn_is; answers = stops.turns.answers }
 
 pub loop-preserved : goal.loop-preserved
 loop-preserved g c =
     let stops = stops_take _ _ _ _ _ _ _ _ _ c.now.result c.take-stop.result c.take-stop.ensures.says c.in_default-stop.not-Opened c.loop.invariant.2 in
-    let answered = answers_stop _ _ _ _ _ _ _ _ _ _ _ c.answer.ensures stops in
-    let goes = turn_said _ _ _ _ _ _ c.go_on.new.self.unread _ _ _ _ _ Goes answered c.in-Goes.ensures in (
+    let answered = answers_stop _ _ _ _ _ _ _ _ _ _ _ c.answer.ensures stops in (
       tt,
       tt,
-      turns_go _ _ _ _ _ _ _ _ _ answered.stopped.turns _ _ goes,
+      turns_go _ _ _ _ _ _ _ _ _ answered.turns _ _ (turn_said _ _ _ _ _ _ c.go_on.new.self.unread _ _ _ _ _ Goes answered c.in-Goes.ensures),
     )
 
 pub returns-in-Ends : goal.returns-in-Ends

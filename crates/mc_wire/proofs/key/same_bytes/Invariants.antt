@@ -1,5 +1,5 @@
 -- What is left is alike just where all is.
-use Rattle.std.proofs.Common.{◌≡◌, ℕ, length}
+use Rattle.std.proofs.Common.{◌≡◌, length}
 use Rattle.mc_wire.specs.SameKey.{same_key}
 use Rattle.mc_wire.proofs.key.same_bytes.Given as goal
 

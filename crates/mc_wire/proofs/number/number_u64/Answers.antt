@@ -2,7 +2,7 @@
 use Rattle.std.proofs.Common.{◌≡◌, ◌<◌, length, get_or, drop, ◌+◌, sym, ◌∙◌, arith}
 use Rattle.std.proofs.lemmas.Bool.Decides.{nat_tests}
 use Rattle.std.proofs.lemmas.List.{at_drop_more, at_drop_all}
-use Rattle.mc_wire.proofs.Numbers.{number_of_is, number_of-nil, number_of-long, read_from, read_from-stop}
+use Rattle.mc_wire.proofs.Numbers.{number_of_is, number_of-unfit, read_from, read_from-stop}
 use Rattle.mc_wire.proofs.number.number_u64.Goals as goal
 use Rattle.mc_wire.proofs.number.number_u64.Goals.{then-is_empty-via-then-is_empty, then-is_empty-via-else-is_empty+then-word-gt-DIGIT_LIMIT}
 
@@ -10,8 +10,8 @@ pub returns-then-is_empty : goal.returns-then-is_empty
 returns-then-is_empty c = elim c.then-is_empty.branch [
   | then-is_empty-via-then-is_empty w ↦
       let empty : length c.args.word.now ≡ 0 = grind (arith, nat_tests) in
-      rw (number_of-nil c.args.word.now empty)
-  | then-is_empty-via-else-is_empty+then-word-gt-DIGIT_LIMIT w ↦ rw (number_of-long c.args.word.now (omega arith))
+      rw (number_of-unfit c.args.word.now (λ some. absurd (omega arith)))
+  | then-is_empty-via-else-is_empty+then-word-gt-DIGIT_LIMIT w ↦ rw (number_of-unfit c.args.word.now (λ some. omega arith))
 ]
 
 pub returns-in_default : goal.returns-in_default

@@ -8,8 +8,7 @@ use Rattle.mc_join.proofs.joiner.Joiner.accept.Goals as goal
 pub invariant_of-self : goal.invariant_of-self
 invariant_of-self c =
     let same = fills_length _ _ _ _ _ c.fill.ensures.items in
-    let fits = c.self.invariant.1 in
-    (fills_numbered _ _ _ _ _ _ c.self.invariant.0 c.fill.ensures.items, omega (arith, same, fits))
+    (fills_numbered _ _ _ _ _ _ c.self.invariant.0 c.fill.ensures.items, omega (arith, same, c.self.invariant.1))
 
 pub returns-clause-joined : goal.returns-clause-joined
 returns-clause-joined c =

@@ -1,7 +1,8 @@
 use Rattle.std.proofs.Common.{refl, sym}
 use Rattle.std.proofs.lemmas.Bool.{false≢true}
 use Rattle.mc_ring.specs.Reply.{shown}
-use Rattle.mc_join.proofs.Queues.{unopened, unwanted, awaits_at, some_there}
+use Rattle.circular_buffer.proofs.Places.{slice_get-some}
+use Rattle.mc_join.proofs.Queues.{unopened, unwanted, awaits_at}
 use Rattle.mc_join.proofs.joiner.Joiner.awaiting.Goals as goal
 
 pub returns-in_err-place-clause-none : goal.returns-in_err-place-clause-none
@@ -9,8 +10,8 @@ returns-in_err-place-clause-none c = rw c.from_residual.ensures (unopened c.args
 
 pub returns-in_err-form-clause-none : goal.returns-in_err-form-clause-none
 returns-in_err-form-clause-none c =
-    let below = (rw (← c.self.view_is) at c.in_ok-place.ensures.some.0) in
-    rw c.from_residual-in_err-form.ensures (absurd (some_there c.self.inside.forms.items c.in_ok-place.place below (sym c.in_err-form.ensures)))
+    let there = slice_get-some c.self.inside.forms.items c.in_ok-place.place (rw (← c.self.view_is) at c.in_ok-place.ensures.some.0) in
+    absurd (cc (there.1, c.in_err-form.ensures))
 
 pub returns-then-awaits-clause-some : goal.returns-then-awaits-clause-some
 returns-then-awaits-clause-some c =

@@ -1,6 +1,4 @@
-use Rattle.std.proofs.Common.{◌+◌, List, refl, sym, ap, subst, ◌∙◌, length, length-drop, arith}
-use Rattle.mc_split.specs.declared.form.Form.{Form}
-use Rattle.mc_join.specs.Held.{AreNumbered}
+use Rattle.std.proofs.Common.{refl, ap, ◌∙◌, length, length-drop, arith}
 use Rattle.mc_join.specs.Replies.{complete}
 use Rattle.mc_join.proofs.Joins.{due_unhanded, join_hand, none_complete}
 use Rattle.mc_join.proofs.Queues.{numbered_drop}
@@ -18,22 +16,13 @@ invariant_of-self-2 g c =
     let count = c.count_complete-count.result in
     let within = c.count_complete-count.ensures.within in
     let left = c.drop_first.ensures.items in
-    let P : List Form → Type 0 = λ fs. AreNumbered (c.self.inside.handed + count) fs in
-    let fits = c.self.invariant.1 in
-    (subst P (sym left) (numbered_drop c.self.inside.handed count items c.self.invariant.0 within), omega (arith, ap length left, length-drop count items, within, fits))
+    let numbered = numbered_drop c.self.inside.handed count items c.self.invariant.0 within in
+    (rw left numbered, omega (arith, ap length left, length-drop count items, within, c.self.invariant.1))
 
 pub returns-clause-none_left : goal.returns-clause-none_left
 returns-clause-none_left g c =
-    let items = c.self.inside.forms.items in
-    let count = c.count_complete-count.result in
-    let within = c.count_complete-count.ensures.within in
-    let left = c.drop_first.ensures.items in
-    λ _. ap (λ fs. complete fs) left ∙ none_complete items count c.count_complete-count.ensures.count
+    λ _. ap (λ fs. complete fs) c.drop_first.ensures.items ∙ none_complete c.self.inside.forms.items c.count_complete-count.result c.count_complete-count.ensures.count
 
 pub returns-clause-joined : goal.returns-clause-joined
 returns-clause-joined g c =
-    let items = c.self.inside.forms.items in
-    let count = c.count_complete-count.result in
-    let within = c.count_complete-count.ensures.within in
-    let left = c.drop_first.ensures.items in
-    rw (← c.self.view_is) (λ _. join_hand _ _ count c.count_complete-count.ensures.count refl left)
+    rw (← c.self.view_is) (λ _. join_hand _ _ c.count_complete-count.result c.count_complete-count.ensures.count refl c.drop_first.ensures.items)

@@ -1,6 +1,4 @@
-use Rattle.std.proofs.Common.{◌≡◌, ◌+◌, length, ◌∷◌, [], refl, arith, length-append, ap, subst, ◌∙◌, sym, List}
-use Rattle.mc_split.specs.declared.form.Form.{Form}
-use Rattle.mc_join.specs.Held.{AreNumbered}
+use Rattle.std.proofs.Common.{◌≡◌, ◌+◌, length, ◌∷◌, [], refl, arith, length-append, ap, ◌∙◌}
 use Rattle.mc_join.proofs.Queues.{numbered_more}
 use Rattle.mc_join.proofs.Joins.{join_open}
 use Rattle.mc_join.proofs.joiner.Joiner.open.Goals as goal
@@ -11,8 +9,7 @@ invariant_of-self-2 c =
     let number = rw (← c.self.view_is) at c.requires in
     let forms = c.self.inside.forms.items in
     let longer : length c.add.new.forms.items ≡ length forms + 1 = ap length added ∙ length-append forms (c.args.form ∷ []) in
-    let P : List Form → Type 0 = λ fs. AreNumbered c.self.inside.handed fs in
-    (subst P (sym added) (numbered_more c.self.inside.handed forms c.args.form c.self.invariant.0 number), omega (arith, longer, number))
+    (rw added (numbered_more c.self.inside.handed forms c.args.form c.self.invariant.0 number), omega (arith, longer, number))
 
 pub returns-clause-joined : goal.returns-clause-joined
 returns-clause-joined c =

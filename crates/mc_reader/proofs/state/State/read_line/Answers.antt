@@ -3,20 +3,24 @@ use Rattle.mc_wire.specs.Words.{words_of}
 use Rattle.mc_command.proofs.Sizes.{data_small}
 use Rattle.mc_reader.specs.Spelling.{without_return}
 use Rattle.mc_reader.specs.internal.State.{Holds, IsWhole}
+use Rattle.mc_command.specs.declared.command.Command.TheVariants as command
 use Rattle.mc_reader.specs.declared.state.State.TheVariants as state
-use Rattle.mc_reader.proofs.States.{read_head, read_refused, read_whole}
+use Rattle.mc_reader.proofs.Machine.{whole_line, whole_refused}
+use Rattle.mc_reader.proofs.States.{read_head}
 use Rattle.mc_reader.proofs.state.State.read_line.Goals as goal
 use Rattle.mc_reader.proofs.state.State.read_line.Goals.{in-Data+else-has_block, in-Skip}
 
 pub returns-in-Whole-clause-some : goal.returns-in-Whole-clause-some
 returns-in-Whole-clause-some c unread h =
     let is = c.in-Line-Some.is ∙ ap (λ x. state.Line x) c.in-Line-Some.field-0-is in
-    read_whole c.args.limit c.args.self.now c.args.buffer.now c.take_line.new.buffer unread c.in-Line-Some.long c.in-Whole.command is c.take_line.ensures.rest c.in-Whole.ensures.says h
+    read_head c.args.limit (IsWhole c.args.limit c.in-Whole.command c.take_line.new.buffer) c.args.self.now c.args.buffer.now c.take_line.new.buffer unread c.in-Line-Some.long is c.take_line.ensures.rest
+    (λ none short. whole_line c.args.limit (take c.in-Line-Some.long c.args.buffer.now) c.take_line.new.buffer c.in-Whole.command none short c.in-Whole.ensures.says) h
 
 pub returns-in-Refused-clause-some : goal.returns-in-Refused-clause-some
 returns-in-Refused-clause-some c unread h =
     let is = c.in-Line-Some.is ∙ ap (λ x. state.Line x) c.in-Line-Some.field-0-is in
-    read_refused c.args.limit c.args.self.now c.args.buffer.now c.take_line.new.buffer unread c.in-Line-Some.long c.in-Refused.refusal is c.take_line.ensures.rest c.in-Refused.ensures.says h
+    read_head c.args.limit (IsWhole c.args.limit (command.Refused c.in-Refused.refusal) c.take_line.new.buffer) c.args.self.now c.args.buffer.now c.take_line.new.buffer unread c.in-Line-Some.long is c.take_line.ensures.rest
+    (λ none short. whole_refused c.args.limit (take c.in-Line-Some.long c.args.buffer.now) c.take_line.new.buffer c.in-Refused.refusal none short c.in-Refused.ensures.says) h
 
 pub returns-then-has_block-clause-some : goal.returns-then-has_block-clause-some
 returns-then-has_block-clause-some c unread h =

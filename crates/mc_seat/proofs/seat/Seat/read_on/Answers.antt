@@ -1,21 +1,20 @@
 -- More is read where all was fed.
-use Rattle.std.proofs.Common.{sym, ap, ◌∙◌}
+use Rattle.std.proofs.Common.{sym, ap}
 use Rattle.mc_wire.specs.Outlet.{Sight}
 use Rattle.mc_seat.specs.internal.Steps.{all_handed}
-use Rattle.mc_seat.proofs.Turns.{breaks_read, goes_end, none_in, reads_more, serving_none}
+use Rattle.mc_seat.proofs.Turns.{breaks_read, goes_end, reads_more}
 use Rattle.mc_seat.proofs.seat.Seat.read_on.Goals as goal
 
 pub returns-in-Err : goal.returns-in-Err
 returns-in-Err g c received begin told is serving all open_is complete =
-    breaks_read received begin _ _ told _ (c.broken.ensures (all_handed told) is) all complete c.in-Err.ensures.err (serving_none received begin _ _ (all_handed told) (sym c.if-not-is_empty.ensures) serving)
+    breaks_read received begin _ _ _ told _ (c.broken.ensures (all_handed told) is) all complete c.in-Err.ensures.err (sym c.if-not-is_empty.ensures) serving
 
 pub returns-then-is_empty : goal.returns-then-is_empty
 returns-then-is_empty g c received begin told is serving all open_is complete =
-    let more = reads_more received begin _ _ c.refill.new.self told all complete open_is c.in_default.ensures.ok (serving_none received begin _ _ (all_handed told) (sym c.if-not-is_empty.ensures) serving) in
-    let ended = ap (λ (s : Sight). s.ended) c.in_default.ensures.ok ∙ sym c.if-is_empty.ensures in
-    rw (none_in c.refill.new.self (sym c.if-is_empty.ensures)) (goes_end received begin _ told _ open_is ended (c.end.ensures (all_handed told) is) (serving_none received begin _ _ (all_handed told) (sym c.if-is_empty.ensures) more))
+    let more = reads_more received begin _ _ _ c.refill.new.self told all complete open_is c.in_default.ensures.ok (sym c.if-not-is_empty.ensures) serving in
+    goes_end received begin _ _ told _ (ap (λ (s : Sight). s.ended) c.in_default.ensures.ok) (sym c.if-is_empty.ensures) (c.end.ensures (all_handed told) is) more
 
 pub returns : goal.returns
 returns g c received begin told is serving all open_is complete =
-    let more = reads_more received begin _ _ c.refill.new.self told all complete open_is c.in_default.ensures.ok (serving_none received begin _ _ (all_handed told) (sym c.if-not-is_empty.ensures) serving) in
+    let more = reads_more received begin _ _ _ c.refill.new.self told all complete open_is c.in_default.ensures.ok (sym c.if-not-is_empty.ensures) serving in
     c.feed-2.ensures received begin _ told is more open_is

@@ -1,11 +1,9 @@
 -- Each round takes one shard of those that are left.
-use Rattle.std.proofs.Common.{w64, ◌≡◌, ◌+◌, ◌-◌, List, length, ap, ◌∙◌, sym, refl}
+use Rattle.std.proofs.Common.{w64, ◌-◌}
 use Rattle.std.proofs.lemmas.Int.{to_z-of_z}
-use Rattle.std.specs.Prelude.{ℤ, IfOk}
-use Rattle.mc_item.specs.declared.answer.Kind.TheVariants.{Flush}
 use Rattle.mc_split.specs.Pieces.{pieces_of}
 use Rattle.mc_split.specs.Shape.{shape_of}
-use Rattle.mc_split.proofs.Parts.{Queued, flush_all, flush_from, flush_more, flush_none, flush_some, gives_up, splits_flush}
+use Rattle.mc_split.proofs.Parts.{flush_all, flush_from, flush_more, flush_none, flush_some, gives_up, splits_flush}
 use Rattle.mc_split.proofs.splitter.Splitter.flush_all.Goals as goal
 
 pub loop-shard-init : goal.loop-shard-init

@@ -1,5 +1,5 @@
 -- Each round takes one key of those that are left.
-use Rattle.std.proofs.Common.{◌≡◌, ◌+◌, ◌-◌, ◌∷◌, [], refl, drop, arith, length, ◌∙◌, deque_len, rules}
+use Rattle.std.proofs.Common.{◌≡◌, ◌+◌, ◌-◌, ◌∷◌, refl, drop, arith, length, ◌∙◌, deque_len, rules}
 use Rattle.std.proofs.lemmas.List.{at_drop_more, at_drop_all}
 use Rattle.mc_split.specs.Pieces.{pieces_of}
 use Rattle.mc_split.specs.Shape.{shape_of}

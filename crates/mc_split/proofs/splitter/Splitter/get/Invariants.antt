@@ -1,5 +1,5 @@
 -- With the keys that are left, the pieces so far become those of all keys.
-use Rattle.std.proofs.Common.{◌≡◌, ◌+◌, drop, length}
+use Rattle.std.proofs.Common.{drop}
 use Rattle.mc_split.proofs.Parts.{Queued, gets_of}
 use Rattle.mc_split.proofs.splitter.Splitter.get.Given as goal
 

@@ -1,11 +1,11 @@
 use Rattle.std.proofs.Common.{◌≡◌, sym}
 use Rattle.mc_store.specs.internal.Listed.{entry_cost}
-use Rattle.mc_store.proofs.Listed.{none_removed, costs_some, counted_removed}
+use Rattle.mc_store.proofs.Listed.{not_found, costs_some, counted_removed}
 use Rattle.mc_store.proofs.items.Items.remove.Goals as goal
 
 pub invariant_of-self : goal.invariant_of-self
 invariant_of-self c =
-    let none = none_removed c.self.inside.cache.entries c.args.key.now (sym c.in_err-item.ensures.value) in
+    let none = (not_found c.self.inside.cache.entries c.args.key.now (sym c.in_err-item.ensures.value)).1 in
     rw (c.pop.ensures.entries, none) c.self.invariant
 
 pub overflow_sub-self : goal.overflow_sub-self

@@ -1,5 +1,4 @@
-use Rattle.std.proofs.Common.{◌≡◌, ap, sym, inl, inr, refl, ◌∙◌, Some, w64, rules}
-use Rattle.std.specs.Prelude.{FitsSigned}
+use Rattle.std.proofs.Common.{◌≡◌, ap, sym, inl, inr, refl, Some, w64, rules}
 use Rattle.std.proofs.lemmas.Int.{to_z-of_z}
 use Rattle.mc_item.specs.Expiry.{expiry_of}
 use Rattle.mc_item.specs.Value.{number_text}
@@ -26,9 +25,8 @@ unfolding IsShard
 returns-clause-does c = λ reply state h.
     let settled = without_dead state (Some c.args.key) in
     let made = c.in-Some.made in
-    let fits : FitsSigned w64 made.exptime = search rules in
-    let expiry : c.expiry.result ≡ expiry_of made.exptime c.args.self.now.time = rw (to_z-of_z w64 made.exptime fits) at c.expiry.ensures in
-    let fresh_is : c.fresh_item-item.result ≡ fresh_of c.in-Ok.value 0 c.expiry.result = c.fresh_item-item.ensures in
-    let is : c.fresh_item-item.result ≡ fresh_of (number_text made.initial) 0 (expiry_of made.exptime c.args.self.now.time) = fresh_is ∙ ap (λ v. fresh_of v 0 c.expiry.result) c.in-Ok.ensures.text ∙ ap (λ e. fresh_of (number_text made.initial) 0 e) expiry in
+    let expiry : c.expiry.result ≡ expiry_of made.exptime c.args.self.now.time = rw (to_z-of_z w64 made.exptime (search rules)) at c.expiry.ensures in
+    let is : c.fresh_item-item.result ≡ fresh_of (number_text made.initial) 0 (expiry_of made.exptime c.args.self.now.time) =
+    rw (← expiry, ← c.in-Ok.ensures.text) c.fresh_item-item.ensures in
     vivified_as settled c.args.key c.args.token c.args.vivify made reply (answered reply c.write_done.result) (held_of c.write_done.new.self) c.in-Some.is
     (counter_as (held_of c.args.self.now) state c.args.key c.args.token made c.fresh_item-item.result reply (answered reply c.write_done.result) (held_of c.write_done.new.self) h is (c.write_done.ensures.does reply state h))

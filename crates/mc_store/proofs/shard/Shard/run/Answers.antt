@@ -1,5 +1,4 @@
 use Rattle.std.proofs.Common.{w64, rules}
-use Rattle.std.specs.Prelude.{FitsSigned}
 use Rattle.std.proofs.lemmas.Int.{to_z-of_z}
 use Rattle.mc_store.specs.State.{arrived}
 use Rattle.mc_store.specs.Step.{IsStep}
@@ -8,8 +7,8 @@ use Rattle.mc_store.proofs.shard.Shard.run.Goals as goal
 pub returns-in-Store-clause-step : goal.returns-in-Store-clause-step
 unfolding IsStep
 returns-in-Store-clause-step c = λ state h.
-    let fits : FitsSigned w64 c.in-Store.exptime = search rules in
-    rw (c.in-Store.is, ← to_z-of_z w64 c.in-Store.exptime fits) (c.store_classic.ensures.acts (arrived state c.args.moment) (c.arrive.ensures state h))
+    rw (c.in-Store.is, ← to_z-of_z w64 c.in-Store.exptime (search rules))
+    (c.store_classic.ensures.acts (arrived state c.args.moment) (c.arrive.ensures state h))
 
 pub returns-in-Fetch-clause-step : goal.returns-in-Fetch-clause-step
 unfolding IsStep
@@ -26,14 +25,12 @@ returns-in-Delete-clause-step c = λ state h. rw c.in-Delete.is (c.delete.ensure
 pub returns-in-Touch-clause-step : goal.returns-in-Touch-clause-step
 unfolding IsStep
 returns-in-Touch-clause-step c = λ state h.
-    let fits : FitsSigned w64 c.in-Touch.exptime = search rules in
-    rw (c.in-Touch.is, ← to_z-of_z w64 c.in-Touch.exptime fits) (c.touch.ensures.acts (arrived state c.args.moment) (c.arrive.ensures state h))
+    rw (c.in-Touch.is, ← to_z-of_z w64 c.in-Touch.exptime (search rules)) (c.touch.ensures.acts (arrived state c.args.moment) (c.arrive.ensures state h))
 
 pub returns-in-Flush-clause-step : goal.returns-in-Flush-clause-step
 unfolding IsStep
 returns-in-Flush-clause-step c = λ state h.
-    let fits : FitsSigned w64 c.in-Flush.delay = search rules in
-    rw (c.in-Flush.is, ← to_z-of_z w64 c.in-Flush.delay fits) (c.flush_at.ensures.acts (arrived state c.args.moment) (c.arrive.ensures state h))
+    rw (c.in-Flush.is, ← to_z-of_z w64 c.in-Flush.delay (search rules)) (c.flush_at.ensures.acts (arrived state c.args.moment) (c.arrive.ensures state h))
 
 pub returns-in-MetaGet-clause-step : goal.returns-in-MetaGet-clause-step
 unfolding IsStep
