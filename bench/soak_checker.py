@@ -175,9 +175,9 @@ class Checker:
     def expires(self, _key):
         """A brief item is stored, or one that was is read: it must be gone after its second and a little more."""
         key = b"%s-brief-%d" % (self.name, self.count % 5)
-        until = self.brief.get(key)
+        # (a key that is stored again has no time until its reply is read: a get behind it in the same batch may find it)
+        until = self.brief.pop(key, None)
         if until and until < time.time():
-            del self.brief[key]
             return b"get %s\r\n" % key, lambda: self.wants(b"END")
 
         def reads():
