@@ -25,8 +25,33 @@ fn fed(rt: &impl Abort, alloc: Global, window: usize, bytes: &[u8]) -> Result<Co
     requires { 0 < window }
 {
     let mut conn = Conn::new(alloc, 2, DEFAULT_VALUE_LIMIT, window)?;
-    assert_eq!(rt; conn.feed(bytes), bytes.len());
+    feeds(rt, &mut conn, bytes, bytes.len());
     Ok(conn)
+}
+
+/// Asserts that so many of the bytes are taken in.
+fn feeds(rt: &impl Abort, conn: &mut Conn, bytes: &[u8], count: usize) {
+    assert_eq!(rt; conn.feed(bytes), count);
+}
+
+/// Asserts what comes of the next command.
+fn takes(rt: &impl Abort, alloc: Global, conn: &mut Conn, want: Taken) {
+    assert_eq!(rt; conn.take(alloc, 1000), want);
+}
+
+/// Asserts that a reply is taken in.
+fn accepts(rt: &impl Abort, conn: &mut Conn, reply: Reply) {
+    assert!(rt; conn.accept(reply).is_ok());
+}
+
+/// Asserts that the replies of so many commands go out.
+fn hands(rt: &impl Abort, conn: &mut Conn, out: &mut Memory, count: u64) {
+    assert!(rt; conn.hand(out) == Ok(count));
+}
+
+/// Asserts whether the connection is at rest, and may so be used again.
+fn renews(rt: &impl Abort, conn: &mut Conn, is_at_rest: bool) {
+    assert_eq!(rt; conn.renew(), is_at_rest);
 }
 
 fn reply(rt: &impl Abort, ticket: u64, part: usize, kind: Kind, answer: Answer) -> Reply {
@@ -63,7 +88,7 @@ fn answer_all(rt: &impl Abort, conn: &mut Conn) {
         let Some((_, piece)) = conn.next_piece() else {
             return;
         };
-        assert!(rt; conn.accept(answer(rt, &piece)).is_ok());
+        accepts(rt, conn, answer(rt, &piece));
     }
 }
 
@@ -89,13 +114,12 @@ fn converses(rt: &impl Abort, alloc: Global, window: usize, size: usize) -> Resu
     let mut out = outlet(alloc, usize::MAX);
     let mut taken = Taken::NeedMore;
     for piece in CONVERSATION.chunks(size) {
-        assert_eq!(rt; conn.feed(piece), piece.len());
+        feeds(rt, &mut conn, piece, piece.len());
         taken = serve(rt, alloc, &mut conn, &mut out);
     }
     assert_eq!(rt; taken, Taken::Closed);
     assert_eq!(rt; out.taken.as_slice(), REPLIES);
-    assert!(rt; conn.is_at_rest());
-    assert!(rt; conn.renew());
+    renews(rt, &mut conn, true);
     Ok(())
 }
 
@@ -128,8 +152,7 @@ fn answers_in_order(rt: &impl Abort, alloc: Global, order: [u64; 3]) -> Result<(
         } else {
             Kind::Touch
         };
-        let reply = reply(rt, ticket, 0, kind, Answer::NotFound);
-        assert!(rt; conn.accept(reply).is_ok());
+        accepts(rt, &mut conn, reply(rt, ticket, 0, kind, Answer::NotFound));
         answered = [
             answered[0] || ticket == 0,
             true,
@@ -172,23 +195,23 @@ fn the_last_command_closes_a_full_window(rt: HostRuntime) -> Result<(), Fail> {
     let alloc = rt.alloc();
     let mut out = outlet(alloc, usize::MAX);
     let mut conn = fed(&rt, alloc, 1, b"mn\r\nquit\r\nmn\r\n")?;
-    assert_eq!(rt; conn.take(alloc, 1000), Taken::Opened(Ticket(0)));
-    assert_eq!(rt; conn.take(alloc, 1000), Taken::Full);
-    assert!(rt; conn.hand(&mut out) == Ok(1));
-    assert_eq!(rt; conn.take(alloc, 1000), Taken::Opened(Ticket(1)));
-    assert_eq!(rt; conn.take(alloc, 1000), Taken::Closed);
-    assert!(rt; !conn.renew());
-    assert!(rt; conn.hand(&mut out) == Ok(1));
-    assert!(rt; conn.renew());
-    assert_eq!(rt; conn.feed(b"mn\r\n"), 4);
-    assert_eq!(rt; conn.take(alloc, 1000), Taken::Opened(Ticket(0)));
-    assert_eq!(rt; conn.feed(&LONG), 65_536);
+    takes(&rt, alloc, &mut conn, Taken::Opened(Ticket(0)));
+    takes(&rt, alloc, &mut conn, Taken::Full);
+    hands(&rt, &mut conn, &mut out, 1);
+    takes(&rt, alloc, &mut conn, Taken::Opened(Ticket(1)));
+    takes(&rt, alloc, &mut conn, Taken::Closed);
+    renews(&rt, &mut conn, false);
+    hands(&rt, &mut conn, &mut out, 1);
+    renews(&rt, &mut conn, true);
+    feeds(&rt, &mut conn, b"mn\r\n", 4);
+    takes(&rt, alloc, &mut conn, Taken::Opened(Ticket(0)));
+    feeds(&rt, &mut conn, &LONG, 65_536);
     assert_eq!(rt; conn.held(), 65_536);
-    assert_eq!(rt; conn.take(alloc, 1000), Taken::Full);
-    assert!(rt; conn.hand(&mut out) == Ok(1));
-    assert_eq!(rt; conn.take(alloc, 1000), Taken::Opened(Ticket(1)));
-    assert_eq!(rt; conn.take(alloc, 1000), Taken::Closed);
-    assert!(rt; conn.hand(&mut out) == Ok(1));
+    takes(&rt, alloc, &mut conn, Taken::Full);
+    hands(&rt, &mut conn, &mut out, 1);
+    takes(&rt, alloc, &mut conn, Taken::Opened(Ticket(1)));
+    takes(&rt, alloc, &mut conn, Taken::Closed);
+    hands(&rt, &mut conn, &mut out, 1);
     assert_eq!(rt;
         out.taken.as_slice(),
         b"MN\r\nMN\r\nCLIENT_ERROR line too long\r\n".as_slice()
@@ -207,10 +230,10 @@ fn fails_after(rt: &impl Abort, alloc: Global, left: usize) -> Result<(), Fail> 
     let (front, _) = text.split_at(left.min(text.len()));
     assert_eq!(rt; out.taken.as_slice(), front);
     assert_eq!(rt; conn.ready(), 0);
-    assert!(rt; conn.hand(&mut out) == Ok(0));
-    assert_eq!(rt; conn.feed(b"mn\r\n"), 0);
-    assert_eq!(rt; conn.take(alloc, 1000), Taken::Closed);
-    assert!(rt; conn.renew());
+    hands(rt, &mut conn, &mut out, 0);
+    feeds(rt, &mut conn, b"mn\r\n", 0);
+    takes(rt, alloc, &mut conn, Taken::Closed);
+    renews(rt, &mut conn, true);
     Ok(())
 }
 
@@ -235,16 +258,16 @@ fn a_broken_connection_still_answers_its_pieces(rt: HostRuntime) -> Result<(), F
     conn.not_sent(shard, piece);
     conn.broken();
     assert!(rt; !conn.is_at_rest());
-    assert!(rt; !conn.renew());
+    renews(&rt, &mut conn, false);
     answer_all(&rt, &mut conn);
-    assert!(rt; conn.hand(&mut out) == Ok(0));
+    hands(&rt, &mut conn, &mut out, 0);
     assert!(rt; conn.is_at_rest());
-    assert!(rt; conn.renew());
-    assert_eq!(rt; conn.feed(b"get"), 3);
+    renews(&rt, &mut conn, true);
+    feeds(&rt, &mut conn, b"get", 3);
     assert!(rt; !conn.whole());
-    assert_eq!(rt; conn.take(alloc, 1000), Taken::NeedMore);
+    takes(&rt, alloc, &mut conn, Taken::NeedMore);
     assert_eq!(rt; conn.held(), 3);
-    assert_eq!(rt; conn.feed(b" d\r\n"), 4);
+    feeds(&rt, &mut conn, b" d\r\n", 4);
     assert!(rt; conn.whole());
     conn.end();
     assert_eq!(rt; serve(&rt, alloc, &mut conn, &mut out), Taken::Closed);
@@ -275,20 +298,16 @@ fn strangers_are_handed_back(rt: HostRuntime) -> Result<(), Fail> {
     let mut out = outlet(alloc, usize::MAX);
     let mut conn = fed(&rt, alloc, 2, b"get a b\r\n")?;
     is_stranger(&rt, &mut conn, 0, 0, Kind::Fetch, Answer::Miss);
-    assert_eq!(rt; conn.take(alloc, 1000), Taken::Opened(Ticket(0)));
+    takes(&rt, alloc, &mut conn, Taken::Opened(Ticket(0)));
     is_stranger(&rt, &mut conn, 1, 0, Kind::Fetch, Answer::Miss);
     is_stranger(&rt, &mut conn, 0, 2, Kind::Fetch, Answer::Miss);
     is_stranger(&rt, &mut conn, 0, 0, Kind::Touch, Answer::NotFound);
-    assert!(rt;
-        conn.accept(reply(&rt, 0, 1, Kind::Fetch, Answer::Miss))
-            .is_ok()
-    );
+    let second = reply(&rt, 0, 1, Kind::Fetch, Answer::Miss);
+    accepts(&rt, &mut conn, second);
     is_stranger(&rt, &mut conn, 0, 1, Kind::Fetch, Answer::NoMemory);
-    assert!(rt;
-        conn.accept(reply(&rt, 0, 0, Kind::Fetch, Answer::Miss))
-            .is_ok()
-    );
-    assert!(rt; conn.hand(&mut out) == Ok(1));
+    let first = reply(&rt, 0, 0, Kind::Fetch, Answer::Miss);
+    accepts(&rt, &mut conn, first);
+    hands(&rt, &mut conn, &mut out, 1);
     is_stranger(&rt, &mut conn, 0, 0, Kind::Fetch, Answer::Miss);
     assert_eq!(rt; out.taken.as_slice(), b"END\r\n".as_slice());
     Ok(())

@@ -2,82 +2,113 @@
 //! when it runs out. `rt try --test --fail-alloc N` refuses the Nth allocation of each test:
 //! `a_line_without_memory_is_given_up` passes at every N.
 use mc_command::{
-    Block, Command, Direction, Keys, Line, Refusal, StoreMode, announced_bytes,
+    Block, Command, Direction, Keys, Line, Refusal, Retrieval, Storage, StoreMode, announced_bytes,
     data_can_be_given_up, flags_in_any_order, read_line, table_is_never_out_of_memory,
 };
 use mc_wire::{DEFAULT_VALUE_LIMIT, Key, WireFault};
+use std::alloc::{AllocError, Global};
 use std::test::Fail;
+
+/// The line as it is read.
+fn read(alloc: Global, line: &[u8]) -> Line {
+    read_line(alloc, line, DEFAULT_VALUE_LIMIT)
+}
+
+/// The storage command of a line, with the block `xyz`.
+fn storage(alloc: Global, line: &[u8]) -> Result<Option<Storage>, AllocError> {
+    let Line::Data(command, 3) = read(alloc, line) else {
+        return Ok(None);
+    };
+    let block = Block::new(Vec::from_slice(alloc, b"xyz")?);
+    match command.with_block(block) {
+        Command::Store(storage) => Ok(Some(storage)),
+        _ => Ok(None),
+    }
+}
+
+/// Whether the line and the block `xyz` are a storage command of this mode under the key `a`, with the flags 5, dead at once,
+/// without reply.
+fn stores(alloc: Global, line: &[u8], mode: StoreMode) -> Result<bool, AllocError> {
+    let Some(stored) = storage(alloc, line)? else {
+        return Ok(false);
+    };
+    Ok(
+        stored.key.bytes() == b"a".as_slice()
+            && (stored.mode, stored.flags) == (mode, 5)
+            && (stored.exptime, stored.noreply) == (-1, true)
+            && stored.block.bytes() == b"xyz".as_slice()
+            && stored.block.into_bytes().as_slice() == b"xyz".as_slice(),
+    )
+}
 
 #[test]
 fn a_storage_line_takes_its_block(rt: HostRuntime) -> Result<(), Fail> {
-    let modes = [
+    let lines = [
         (b"set a 5 -1 3 noreply".as_slice(), StoreMode::Set),
-        (b"add a 5 -1 3 noreply".as_slice(), StoreMode::Add),
-        (b"replace a 5 -1 3 noreply".as_slice(), StoreMode::Replace),
-        (b"append a 5 -1 3 noreply".as_slice(), StoreMode::Append),
-        (b"prepend a 5 -1 3 noreply".as_slice(), StoreMode::Prepend),
-        (b"cas a 5 -1 3 9 noreply".as_slice(), StoreMode::Cas(9)),
+        (b"add a 5 -1 3 noreply", StoreMode::Add),
+        (b"replace a 5 -1 3 noreply", StoreMode::Replace),
+        (b"append a 5 -1 3 noreply", StoreMode::Append),
+        (b"prepend a 5 -1 3 noreply", StoreMode::Prepend),
+        (b"cas a 5 -1 3 9 noreply", StoreMode::Cas(9)),
     ];
-    for (line, mode) in modes {
-        assert_eq!(rt; announced_bytes(line), 5, "{mode:?}");
-        let Line::Data(command, count) = read_line(rt.alloc(), line, DEFAULT_VALUE_LIMIT) else {
-            assert!(rt; false, "no block: {mode:?}");
-            return Ok(());
-        };
-        assert_eq!(rt; count, 3);
-        let block = Block::new(Vec::from_slice(rt.alloc(), b"xyz")?);
-        assert_eq!(rt; block.bytes(), b"xyz".as_slice());
-        let Command::Store(storage) = command.with_block(block) else {
-            assert!(rt; false, "no store: {mode:?}");
-            return Ok(());
-        };
-        assert_eq!(rt; storage.key.bytes(), b"a".as_slice());
-        assert_eq!(rt; storage.mode, mode);
-        assert_eq!(rt;
-            (storage.flags, storage.exptime, storage.noreply),
-            (5, -1, true)
-        );
-        assert_eq!(rt; storage.block.into_bytes().as_slice(), b"xyz".as_slice());
+    for (line, mode) in lines {
+        assert_eq!(rt; announced_bytes(line), 5);
+        assert!(rt; stores(rt.alloc(), line, mode)?, "{mode:?}");
     }
     assert_eq!(rt; Block::empty(rt.alloc()).bytes().len(), 0);
     Ok(())
 }
 
-#[test]
-fn keys_stand_in_the_order_of_the_request(rt: HostRuntime) -> Result<(), Fail> {
-    let line = b"gats 10 a b c".as_slice();
-    let Line::Whole(Command::Get(asked)) = read_line(rt.alloc(), line, DEFAULT_VALUE_LIMIT) else {
-        assert!(rt; false, "no get");
-        return Ok(());
-    };
-    assert_eq!(rt; (asked.touch, asked.with_unique), (Some(10), true));
-    let (first, others) = asked.keys.parts();
-    assert_eq!(rt; first.bytes(), b"a".as_slice());
-    assert_eq!(rt; others.len(), 2);
-    assert_eq!(rt; others[0].bytes(), b"b".as_slice());
-    assert_eq!(rt; others[1].bytes(), b"c".as_slice());
-    let mut keys = Keys::one(rt.alloc(), Key::from_word(rt.alloc(), b"d")?);
-    keys.push(Key::from_word(rt.alloc(), b"e")?)?;
-    let (first, others) = keys.into_parts();
-    assert_eq!(rt; first.bytes(), b"d".as_slice());
-    assert_eq!(rt; others.len(), 1);
-    assert_eq!(rt; others[0].bytes(), b"e".as_slice());
-    Ok(())
+/// The command of a line that asks for items.
+fn asked(alloc: Global, line: &[u8]) -> Option<Retrieval> {
+    match read(alloc, line) {
+        Line::Whole(Command::Get(get)) => Some(get),
+        _ => None,
+    }
+}
+
+/// Whether these are the keys of such names, in order.
+fn are_named(first: &Key, others: &[Key], names: &[&[u8]]) -> bool {
+    let mut left = names.iter();
+    let is_first = left.next().is_some_and(|name| first.bytes() == *name);
+    is_first
+        && others.len() == left.len()
+        && others
+            .iter()
+            .zip(left)
+            .all(|(key, name)| key.bytes() == *name)
+}
+
+/// The keys of these two names.
+fn keys_of(alloc: Global, first: &[u8], second: &[u8]) -> Result<Keys, WireFault> {
+    let mut keys = Keys::one(alloc, Key::from_word(alloc, first)?);
+    keys.push(Key::from_word(alloc, second)?)?;
+    Ok(keys)
 }
 
 #[test]
-fn the_other_classic_lines(rt: HostRuntime) {
-    match &read_line(rt.alloc(), b"delete a 0 noreply", DEFAULT_VALUE_LIMIT) {
+fn keys_stand_in_the_order_of_the_request(rt: HostRuntime) -> Result<(), Fail> {
+    let Some(get) = asked(rt.alloc(), b"gats 10 a b c") else {
+        assert!(rt; false, "no get");
+        return Ok(());
+    };
+    assert_eq!(rt; (get.touch, get.with_unique), (Some(10), true));
+    let (first, others) = get.keys.parts();
+    assert!(rt; are_named(first, others, &[b"a", b"b", b"c"]));
+    let (first, others) = keys_of(rt.alloc(), b"d", b"e")?.into_parts();
+    assert!(rt; are_named(&first, others.as_slice(), &[b"d", b"e"]));
+    Ok(())
+}
+
+/// What a line asks of one key: its name, and a number.
+fn asks(alloc: Global, line: &[u8]) -> (&'static str, i64) {
+    match read(alloc, line) {
         Line::Whole(Command::Delete { key, noreply }) => {
-            assert_eq!(rt; (key.bytes(), *noreply), (b"a".as_slice(), true));
+            (
+                "delete",
+                i64::from(noreply && key.bytes() == b"a".as_slice()),
+            )
         }
-        _ => assert!(rt; false, "no delete"),
-    }
-    match &read_line(
-        rt.alloc(),
-        b"decr a 18446744073709551615",
-        DEFAULT_VALUE_LIMIT,
-    ) {
         Line::Whole(
             Command::Count {
                 direction,
@@ -85,23 +116,40 @@ fn the_other_classic_lines(rt: HostRuntime) {
                 ..
             },
         ) => {
-            assert_eq!(rt; (*direction, *amount), (Direction::Decrement, u64::MAX));
+            (
+                "count",
+                i64::from(direction == Direction::Decrement && amount == u64::MAX),
+            )
         }
-        _ => assert!(rt; false, "no decr"),
+        Line::Whole(Command::Touch { exptime, .. }) => ("touch", exptime),
+        Line::Whole(
+            Command::FlushAll {
+                delay,
+                noreply: true,
+            },
+        ) => ("flush_all", delay),
+        Line::Whole(Command::MetaGet(get)) => ("mg", get.touch.unwrap_or(0)),
+        Line::Whole(Command::MetaDelete(delete)) => ("md", delete.exptime.unwrap_or(0)),
+        Line::Whole(Command::MetaArithmetic(count)) => ("ma", count.vivify.unwrap_or(0)),
+        Line::Data(Command::MetaSet(set), _) => ("ms", set.exptime),
+        _ => ("another", 0),
     }
-    match &read_line(
-        rt.alloc(),
-        b"touch a -9223372036854775808",
-        DEFAULT_VALUE_LIMIT,
-    ) {
-        Line::Whole(Command::Touch { exptime, .. }) => assert_eq!(rt; *exptime, i64::MIN),
-        _ => assert!(rt; false, "no touch"),
-    }
-    match &read_line(rt.alloc(), b"flush_all 10 noreply", DEFAULT_VALUE_LIMIT) {
-        Line::Whole(Command::FlushAll { delay, noreply }) => {
-            assert_eq!(rt; (*delay, *noreply), (10, true));
-        }
-        _ => assert!(rt; false, "no flush_all"),
+}
+
+#[test]
+fn the_other_lines(rt: HostRuntime) {
+    let lines = [
+        (b"delete a 0 noreply".as_slice(), ("delete", 1)),
+        (b"decr a 18446744073709551615", ("count", 1)),
+        (b"touch a -9223372036854775808", ("touch", i64::MIN)),
+        (b"flush_all 10 noreply", ("flush_all", 10)),
+        (b"mg key s c O123 t k f h l q v T30 N-1 R60", ("mg", 30)),
+        (b"md a I T30 C18446744073709551615 q", ("md", 30)),
+        (b"ma a D0 M+ N-5", ("ma", -5)),
+        (b"ms YQ== 1 b T-1 Mr", ("ms", -1)),
+    ];
+    for (line, want) in lines {
+        assert_eq!(rt; asks(rt.alloc(), line), want, "{line:?}");
     }
     assert_eq!(rt; Refusal::from(WireFault::NotBase64), Refusal::BadKey);
     table_is_never_out_of_memory();
@@ -109,45 +157,47 @@ fn the_other_classic_lines(rt: HostRuntime) {
     data_can_be_given_up();
 }
 
-/// Each line with the bytes that stand behind it and its fault, if it has one. Where an allocation is
-/// refused, the line is refused as out of memory, and as many bytes are skipped.
+/// How a line is refused, if it is, and how many bytes behind it are skipped or are its block.
+fn refused(alloc: Global, line: &[u8]) -> (Option<Refusal>, u64) {
+    match read(alloc, line) {
+        Line::Whole(_) => (None, 0),
+        Line::Data(_, count) => (None, u64::from(count) + 2),
+        Line::Refused(refusal) => (Some(refusal), 0),
+        Line::Skip(refusal, count) => (Some(refusal), count),
+    }
+}
+
+/// Lines with the bytes that stand behind them and their faults, if they have one.
+static LINES: [(&str, u64, Option<Refusal>); 18] = [
+    ("set a 0 0 3", 5, None),
+    ("cas a 0 0 3 9", 5, None),
+    ("set a 0 0 1048577", 1_048_579, Some(Refusal::TooLarge)),
+    ("set a x 0 3", 5, Some(Refusal::BadFormat)),
+    ("set a x 0 y", 0, Some(Refusal::BadFormat)),
+    ("ms a 3 k O1", 5, None),
+    ("ms YQ== 3 b k", 5, None),
+    ("ms a 3 C1 MA", 5, Some(Refusal::BadFormat)),
+    ("get a b c d e f", 0, None),
+    ("get a b\x7f", 0, Some(Refusal::BadKey)),
+    ("gats 10 a b c", 0, None),
+    ("delete a", 0, None),
+    ("incr a 1", 0, None),
+    ("touch a 0", 0, None),
+    ("mg a v k", 0, None),
+    ("mg YQ== b v", 0, None),
+    ("md a q", 0, None),
+    ("ma a N0", 0, None),
+];
+
+/// Where an allocation is refused, the line is refused as out of memory, and as many bytes are skipped.
 #[test]
 fn a_line_without_memory_is_given_up(rt: HostRuntime) {
-    let lines = [
-        (b"set a 0 0 3".as_slice(), 5, None),
-        (b"cas a 0 0 3 9".as_slice(), 5, None),
-        (
-            b"set a 0 0 1048577".as_slice(),
-            1_048_579,
-            Some(Refusal::TooLarge),
-        ),
-        (b"set a x 0 3".as_slice(), 5, Some(Refusal::BadFormat)),
-        (b"set a x 0 y".as_slice(), 0, Some(Refusal::BadFormat)),
-        (b"ms a 3 k O1".as_slice(), 5, None),
-        (b"ms YQ== 3 b k".as_slice(), 5, None),
-        (b"ms a 3 C1 MA".as_slice(), 5, Some(Refusal::BadFormat)),
-        (b"get a b c d e f".as_slice(), 0, None),
-        (b"get a b\x7f".as_slice(), 0, Some(Refusal::BadKey)),
-        (b"gats 10 a b c".as_slice(), 0, None),
-        (b"delete a".as_slice(), 0, None),
-        (b"incr a 1".as_slice(), 0, None),
-        (b"touch a 0".as_slice(), 0, None),
-        (b"mg a v k".as_slice(), 0, None),
-        (b"mg YQ== b v".as_slice(), 0, None),
-        (b"md a q".as_slice(), 0, None),
-        (b"ma a N0".as_slice(), 0, None),
-    ];
-    for (line, behind, fault) in lines {
-        assert_eq!(rt; announced_bytes(line), behind, "{line:?}");
-        let (refusal, skipped) = match read_line(rt.alloc(), line, DEFAULT_VALUE_LIMIT) {
-            Line::Whole(_) => (None, 0),
-            Line::Data(_, count) => (None, u64::from(count) + 2),
-            Line::Refused(refusal) => (Some(refusal), 0),
-            Line::Skip(refusal, count) => (Some(refusal), count),
-        };
-        assert_eq!(rt; skipped, behind, "{line:?}");
+    for (line, behind, fault) in &LINES {
+        assert_eq!(rt; announced_bytes(line.as_bytes()), *behind, "{line}");
+        let (refusal, skipped) = refused(rt.alloc(), line.as_bytes());
+        assert_eq!(rt; skipped, *behind, "{line}");
         if refusal != Some(Refusal::Memory) {
-            assert_eq!(rt; refusal, fault, "{line:?}");
+            assert_eq!(rt; refusal, *fault, "{line}");
         }
     }
 }

@@ -63,11 +63,10 @@ fn values_hold_numbers(rt: HostRuntime) -> Result<(), Fail> {
     Ok(())
 }
 
-#[test]
-fn values_are_joined(rt: HostRuntime) -> Result<(), Fail> {
-    let alloc = rt.alloc();
-    let item = Item {
-        value: value_of(alloc, b"bc")?,
+/// An item that dies at the second 1,000.
+fn item_of(value: Value) -> Item {
+    Item {
+        value,
         flags: 3,
         expiry: Expiry::At(1000),
         unique: 1,
@@ -75,19 +74,47 @@ fn values_are_joined(rt: HostRuntime) -> Result<(), Fail> {
         fetched: false,
         stale: false,
         sent: false,
-    };
-    let block = value_of(alloc, b"d")?;
-    assert!(rt; item.value.len() == 2 && !item.value.is_empty() && block.len() == 1);
-    let after = item.joined(alloc, &block, true)?;
+    }
+}
+
+/// The value of an item and a block of such texts, joined.
+fn joined(alloc: Global, text: &[u8], block: &[u8], is_behind: bool) -> Result<Value, NoMemory>
+    requires text { length text.now ≤ 100 }
+    requires block { length block.now ≤ 100 }
+{
+    let (item, block) = (item_of(value_of(alloc, text)?), value_of(alloc, block)?);
+    if item.value.len() > 100 || block.len() > 100 {
+        return Ok(Value::empty());
+    }
+    item.joined(alloc, &block, is_behind)
+}
+
+#[test]
+fn values_are_joined(rt: HostRuntime) -> Result<(), Fail> {
+    let alloc = rt.alloc();
+    let after = joined(alloc, b"bc", b"d", true)?;
     assert_eq!(rt; after.bytes(), b"bcd".as_slice());
-    let before = item.joined(alloc, &block, false)?;
-    assert_eq!(rt; before.clone()?.bytes(), b"dbc".as_slice());
-    assert_eq!(rt; item.number(), None);
-    assert!(rt; item.is_dead(1000) && !item.is_dead(999));
-    let greatest = Value::of_number(alloc, u64::MAX)?;
+    let before = joined(alloc, b"bc", b"d", false)?.clone()?;
+    assert_eq!(rt;
+        (before.bytes(), before.is_empty()),
+        (b"dbc".as_slice(), false)
+    );
+    Ok(())
+}
+
+#[test]
+fn items_have_numbers(rt: HostRuntime) -> Result<(), Fail> {
+    let item = item_of(value_of(rt.alloc(), b"17")?);
+    assert_eq!(rt;
+        (item.number(), item.is_dead(1000), item.is_dead(999)),
+        (Some(17), true, false)
+    );
+    let greatest = Value::of_number(rt.alloc(), u64::MAX)?;
     assert_eq!(rt; greatest.bytes(), b"18446744073709551615".as_slice());
-    let zero = Value::of_number(alloc, 0)?;
+    let zero = Value::of_number(rt.alloc(), 0)?;
     assert_eq!(rt; zero.bytes(), b"0".as_slice());
+    let letters = item_of(value_of(rt.alloc(), b"bc")?);
+    assert_eq!(rt; letters.number(), None);
     Ok(())
 }
 

@@ -54,18 +54,30 @@ fn entry(shard: usize, connection: usize, ticket: u64) -> LogEntry {
     }
 }
 
-/// How many bytes the connection of this number was handed.
-fn handed_to(sim: &Sim, number: usize) -> usize {
-    let Some(bytes) = sim.handed(number) else {
-        return 0;
-    };
-    bytes.len()
+/// The bytes that the connection of this number was handed.
+fn handed_to(sim: &Sim, number: usize) -> &[u8] {
+    sim.handed(number).unwrap_or(b"")
 }
 
 /// How an event is answered, how many pieces the shards ran by then, and how many bytes the first two connections were handed.
 fn moved(alloc: Global, sim: &mut Sim, event: &Event) -> (StepReply, usize, usize, usize) {
     let reply = sim.step(alloc, event);
-    (reply, sim.log().len(), handed_to(sim, 0), handed_to(sim, 1))
+    (
+        reply,
+        sim.log().len(),
+        handed_to(sim, 0).len(),
+        handed_to(sim, 1).len(),
+    )
+}
+
+/// Whether the two connections were handed these bytes.
+fn handed_both(sim: &Sim, first: &[u8], second: &[u8]) -> bool {
+    handed_to(sim, 0) == first && handed_to(sim, 1) == second
+}
+
+/// Whether the shards ran just these pieces, in this order.
+fn ran(sim: &Sim, entries: &[LogEntry]) -> bool {
+    sim.log() == entries
 }
 
 /// The second of two connections stores `d`, and then the first gets it.
@@ -119,15 +131,10 @@ fn two_connections(rt: HostRuntime) -> Result<(), Fail> {
         let seen = moved(alloc, &mut sim, event);
         assert_eq!(rt; seen, (StepReply::Done, ran, first, second));
     }
-    assert!(rt; sim.handed(0) == Some(b"VALUE d 0 1 2\r\nz\r\nEND\r\n"));
-    assert!(rt; sim.handed(1) == Some(b"STORED\r\n"));
-    assert!(rt; sim.log() == [entry(1, 1, 0), entry(1, 0, 0)].as_slice());
+    let (value, stored) = (b"VALUE d 0 1 2\r\nz\r\nEND\r\n", b"STORED\r\n");
+    assert!(rt; handed_both(&sim, value, stored));
+    assert!(rt; ran(&sim, &[entry(1, 1, 0), entry(1, 0, 0)]));
     Ok(())
-}
-
-/// Whether the two connections were handed these bytes.
-fn handed_both(sim: &Sim, first: &[u8], second: &[u8]) -> bool {
-    sim.handed(0) == Some(first) && sim.handed(1) == Some(second)
 }
 
 /// Holds with all allocations, and with any one of them refused. An event that finds no memory is given again, and one that
@@ -189,8 +196,8 @@ fn an_early_answer(rt: HostRuntime) -> Result<(), Fail> {
     for (event, reply, ran, first) in &rows {
         assert_eq!(rt; moved(alloc, &mut sim, event), (*reply, *ran, *first, 0));
     }
-    assert!(rt; sim.handed(0) == Some(b"END\r\nNOT_FOUND\r\n"));
-    assert!(rt; sim.log() == [entry(1, 0, 1), entry(0, 0, 0)].as_slice());
+    assert!(rt; handed_to(&sim, 0) == b"END\r\nNOT_FOUND\r\n".as_slice());
+    assert!(rt; ran(&sim, &[entry(1, 0, 1), entry(0, 0, 0)]));
     Ok(())
 }
 
