@@ -51,6 +51,7 @@ fn hands(rt: &impl Abort, conn: &mut Conn, out: &mut Memory, count: u64) {
 
 /// Asserts whether the connection is at rest, and may so be used again.
 fn renews(rt: &impl Abort, conn: &mut Conn, is_at_rest: bool) {
+    assert_eq!(rt; conn.is_at_rest(), is_at_rest);
     assert_eq!(rt; conn.renew(), is_at_rest);
 }
 
@@ -257,11 +258,9 @@ fn a_broken_connection_still_answers_its_pieces(rt: HostRuntime) -> Result<(), F
     };
     conn.not_sent(shard, piece);
     conn.broken();
-    assert!(rt; !conn.is_at_rest());
     renews(&rt, &mut conn, false);
     answer_all(&rt, &mut conn);
     hands(&rt, &mut conn, &mut out, 0);
-    assert!(rt; conn.is_at_rest());
     renews(&rt, &mut conn, true);
     feeds(&rt, &mut conn, b"get", 3);
     assert!(rt; !conn.whole());

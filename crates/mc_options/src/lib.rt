@@ -4,8 +4,6 @@
 mod fault;
 mod options;
 mod program;
-#[cfg(test)]
-mod tests;
 
 pub use fault::OptionFault;
 pub use options::{Limits, Options, read_options};

@@ -8,8 +8,6 @@ mod parts;
 mod report;
 mod run;
 mod schedule;
-#[cfg(test)]
-mod tests;
 mod text;
 
 pub use run::{ReplayFault, replay};

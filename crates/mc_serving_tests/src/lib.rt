@@ -1,11 +1,16 @@
-//! Tests of what serves connections: the simulator, the worker of a shard, one line, and sockets. They stand apart from the
-//! crates that they call, which are so proved once, and not a second time with their tests.
+//! Tests of what serves connections and of the program around it: the simulator, the worker of a shard, one line, sockets,
+//! the command line, replay files. They stand apart from the crates that they call, which are so proved once, and not a
+//! second time with their tests.
 #![tactic(auto)]
 
 #[cfg(test)]
 mod line;
 #[cfg(test)]
 mod memory_line;
+#[cfg(test)]
+mod options;
+#[cfg(test)]
+mod replay;
 #[cfg(test)]
 mod sim;
 #[cfg(test)]

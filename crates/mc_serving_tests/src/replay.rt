@@ -1,6 +1,6 @@
 //! What no clause says: a whole file is read, and each kind of bad line is told, where memory is ample.
-use super::*;
 use mc_core::Event;
+use mc_replay::{ScheduleFault, read_schedule};
 use std::test::Fail;
 
 #[test]

@@ -1,5 +1,5 @@
 //! The calls of the program, read from their words.
-use crate::{Limits, OptionFault, Options, read_options};
+use mc_options::{Limits, OptionFault, Options, read_options};
 use std::alloc::{AllocError, Global};
 
 /// Why a test fails without an assertion.
