@@ -74,8 +74,9 @@ impl<T: Task + Send + 'static> Crew<T> {
         self.start_by(rt, alloc, Builder::new(), task)
     }
 
-    /// Starts a thread as the builder says.
-    pub(crate) fn start_by<R: Threads + Wait + Copy + Send + 'static>(
+    /// Starts a thread for the task as the builder says, which may give it another stack. It does nothing until it is told to
+    /// begin. It fails with `Memory`, or with `Thread` where the system has no such thread.
+    pub fn start_by<R: Threads + Wait + Copy + Send + 'static>(
         &mut self,
         rt: &R,
         alloc: Global,

@@ -3,8 +3,6 @@
 
 mod crew;
 mod task;
-#[cfg(test)]
-mod tests;
 
 pub use crew::{Crew, CrewRefusal};
 pub use task::Task;

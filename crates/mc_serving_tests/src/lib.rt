@@ -1,8 +1,10 @@
-//! Tests of what serves connections and of the program around it: the simulator, the worker of a shard, one line, sockets,
-//! the command line, replay files. They stand apart from the crates that they call, which are so proved once, and not a
-//! second time with their tests.
+//! Tests of what serves connections and of the program around it: how threads wait and begin, the simulator, the worker of a
+//! shard, one line, sockets, the command line, replay files. They stand apart from the crates that they call, which are so
+//! proved once, and not a second time with their tests.
 #![tactic(auto)]
 
+#[cfg(test)]
+mod crew;
 #[cfg(test)]
 mod line;
 #[cfg(test)]
@@ -17,6 +19,8 @@ mod sim;
 mod start;
 #[cfg(test)]
 mod tcp;
+#[cfg(test)]
+mod wake;
 #[cfg(test)]
 mod without_memory;
 #[cfg(test)]

@@ -7,8 +7,6 @@
 
 mod patience;
 mod sleeper;
-#[cfg(test)]
-mod tests;
 mod wakers;
 
 pub use patience::Patience;

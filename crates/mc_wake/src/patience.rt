@@ -14,8 +14,10 @@ const YIELDS: usize = 2;
 /// How often a thread looks in vain before it sleeps: at first at once, then after it let other threads run.
 #[derive(Clone, Copy, Debug, PartialEq, Eq)]
 pub struct Patience {
-    pub(crate) looks: usize,
-    pub(crate) yields: usize,
+    /// So often it looks again at once.
+    pub looks: usize,
+    /// So often it then lets other threads run and looks again.
+    pub yields: usize,
 }
 
 impl Patience {

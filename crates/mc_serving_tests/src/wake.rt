@@ -1,5 +1,5 @@
 //! Two threads wake each other, and none is left asleep.
-use crate::{Patience, Sleeper, Waker};
+use mc_wake::{Patience, Sleeper, Waker};
 use std::alloc::{AllocError, Global};
 use std::sync::atomic::{AtomicU64, Ordering};
 use std::sync::{Arc, Wait};

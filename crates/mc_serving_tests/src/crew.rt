@@ -1,7 +1,7 @@
 //! All threads do their task, or none does.
 ghost use Rattle.std.specs.Prelude.{◌≡◌, true};
 
-use crate::{Crew, CrewRefusal, Task};
+use mc_crew::{Crew, CrewRefusal, Task};
 use std::alloc::{AllocError, Global};
 use std::sync::atomic::{AtomicU64, Ordering};
 use std::sync::{Arc, Wait};
