@@ -5,7 +5,7 @@
     scripts/wrong_bodies.py mc_wire ..    these crates
     scripts/wrong_bodies.py --applies     only whether each still fits the text that it changes (the gate does this)
 
-The gate tries each edit of must-fail/: the classic faults of such a server, and one or more for each public function.
+The gate tries each edit of must-fail/: the classic faults of such a server, and one or more for nearly each public function.
 Each costs some 20 seconds, most of which the prover takes to read the libraries, so a function's further wrong bodies
 stand in wrong-bodies/ and are tried by hand where its contract changes. The prover must refuse them just the same. The
 work is done on a copy of the repository, by `rt must-fail`.

@@ -1,8 +1,9 @@
 //! What no clause says: that each public call succeeds where memory is ample, and what a line becomes
 //! when it runs out. `rt try --test --fail-alloc N` refuses the Nth allocation of each test:
 //! `a_line_without_memory_is_given_up` passes at every N.
+use crate::asserting::{equal, holds};
 use mc_command::{
-    Block, Command, Direction, Keys, Line, Refusal, Retrieval, Storage, StoreMode, announced_bytes,
+    Block, Command, Direction, Keys, Line, Refusal, Retrieval, StoreMode, announced_bytes,
     data_can_be_given_up, flags_in_any_order, read_line, table_is_never_out_of_memory,
 };
 use mc_wire::{DEFAULT_VALUE_LIMIT, Key, WireFault};
@@ -14,31 +15,26 @@ fn read(alloc: Global, line: &[u8]) -> Line {
     read_line(alloc, line, DEFAULT_VALUE_LIMIT)
 }
 
-/// The storage command of a line, with the block `xyz`.
-fn storage(alloc: Global, line: &[u8]) -> Result<Option<Storage>, AllocError> {
-    let Line::Data(command, 3) = read(alloc, line) else {
-        return Ok(None);
-    };
-    let block = Block::new(Vec::from_slice(alloc, b"xyz")?);
-    match command.with_block(block) {
-        Command::Store(storage) => Ok(Some(storage)),
-        _ => Ok(None),
+/// Whether it is a storage command of this mode under the key `a`, with the flags 5, dead at once, without reply.
+fn is_storage(command: &Command, mode: StoreMode) -> bool {
+    match command {
+        Command::Store(stored) => {
+            stored.key.bytes() == b"a".as_slice()
+                && (stored.mode, stored.flags) == (mode, 5)
+                && (stored.exptime, stored.noreply) == (-1, true)
+                && stored.block.bytes() == b"xyz".as_slice()
+        }
+        _ => false,
     }
 }
 
-/// Whether the line and the block `xyz` are a storage command of this mode under the key `a`, with the flags 5, dead at once,
-/// without reply.
+/// Whether the line and the block `xyz` are such a command.
 fn stores(alloc: Global, line: &[u8], mode: StoreMode) -> Result<bool, AllocError> {
-    let Some(stored) = storage(alloc, line)? else {
-        return Ok(false);
-    };
-    Ok(
-        stored.key.bytes() == b"a".as_slice()
-            && (stored.mode, stored.flags) == (mode, 5)
-            && (stored.exptime, stored.noreply) == (-1, true)
-            && stored.block.bytes() == b"xyz".as_slice()
-            && stored.block.into_bytes().as_slice() == b"xyz".as_slice(),
-    )
+    let block = Block::new(Vec::from_slice(alloc, b"xyz")?);
+    match read(alloc, line) {
+        Line::Data(command, 3) => Ok(is_storage(&command.with_block(block), mode)),
+        _ => Ok(false),
+    }
 }
 
 #[test]
@@ -52,10 +48,12 @@ fn a_storage_line_takes_its_block(rt: HostRuntime) -> Result<(), Fail> {
         (b"cas a 5 -1 3 9 noreply", StoreMode::Cas(9)),
     ];
     for (line, mode) in lines {
-        assert_eq!(rt; announced_bytes(line), 5);
+        equal(&rt, announced_bytes(line), 5);
         assert!(rt; stores(rt.alloc(), line, mode)?, "{mode:?}");
     }
-    assert_eq!(rt; Block::empty(rt.alloc()).bytes().len(), 0);
+    equal(&rt, Block::empty(rt.alloc()).bytes().len(), 0);
+    let block = Block::new(Vec::from_slice(rt.alloc(), b"xyz")?);
+    equal(&rt, block.into_bytes().as_slice(), b"xyz".as_slice());
     Ok(())
 }
 
@@ -92,21 +90,21 @@ fn keys_stand_in_the_order_of_the_request(rt: HostRuntime) -> Result<(), Fail> {
         assert!(rt; false, "no get");
         return Ok(());
     };
-    assert_eq!(rt; (get.touch, get.with_unique), (Some(10), true));
+    equal(&rt, (get.touch, get.with_unique), (Some(10), true));
     let (first, others) = get.keys.parts();
-    assert!(rt; are_named(first, others, &[b"a", b"b", b"c"]));
+    holds(&rt, are_named(first, others, &[b"a", b"b", b"c"]));
     let (first, others) = keys_of(rt.alloc(), b"d", b"e")?.into_parts();
-    assert!(rt; are_named(&first, others.as_slice(), &[b"d", b"e"]));
+    holds(&rt, are_named(&first, others.as_slice(), &[b"d", b"e"]));
     Ok(())
 }
 
 /// What a line asks of one key: its name, and a number.
-fn asks(alloc: Global, line: &[u8]) -> (&'static str, i64) {
-    match read(alloc, line) {
+fn asked_of(line: &Line) -> (&'static str, i64) {
+    match line {
         Line::Whole(Command::Delete { key, noreply }) => {
             (
                 "delete",
-                i64::from(noreply && key.bytes() == b"a".as_slice()),
+                i64::from(*noreply && key.bytes() == b"a".as_slice()),
             )
         }
         Line::Whole(
@@ -118,22 +116,26 @@ fn asks(alloc: Global, line: &[u8]) -> (&'static str, i64) {
         ) => {
             (
                 "count",
-                i64::from(direction == Direction::Decrement && amount == u64::MAX),
+                i64::from(*direction == Direction::Decrement && *amount == u64::MAX),
             )
         }
-        Line::Whole(Command::Touch { exptime, .. }) => ("touch", exptime),
+        Line::Whole(Command::Touch { exptime, .. }) => ("touch", *exptime),
         Line::Whole(
             Command::FlushAll {
                 delay,
                 noreply: true,
             },
-        ) => ("flush_all", delay),
+        ) => ("flush_all", *delay),
         Line::Whole(Command::MetaGet(get)) => ("mg", get.touch.unwrap_or(0)),
         Line::Whole(Command::MetaDelete(delete)) => ("md", delete.exptime.unwrap_or(0)),
         Line::Whole(Command::MetaArithmetic(count)) => ("ma", count.vivify.unwrap_or(0)),
         Line::Data(Command::MetaSet(set), _) => ("ms", set.exptime),
         _ => ("another", 0),
     }
+}
+
+fn asks(alloc: Global, line: &[u8]) -> (&'static str, i64) {
+    asked_of(&read(alloc, line))
 }
 
 #[test]
@@ -149,22 +151,26 @@ fn the_other_lines(rt: HostRuntime) {
         (b"ms YQ== 1 b T-1 Mr", ("ms", -1)),
     ];
     for (line, want) in lines {
-        assert_eq!(rt; asks(rt.alloc(), line), want, "{line:?}");
+        equal(&rt, (line, asks(rt.alloc(), line)), (line, want));
     }
-    assert_eq!(rt; Refusal::from(WireFault::NotBase64), Refusal::BadKey);
+    equal(&rt, Refusal::from(WireFault::NotBase64), Refusal::BadKey);
     table_is_never_out_of_memory();
     flags_in_any_order();
     data_can_be_given_up();
 }
 
-/// How a line is refused, if it is, and how many bytes behind it are skipped or are its block.
-fn refused(alloc: Global, line: &[u8]) -> (Option<Refusal>, u64) {
-    match read(alloc, line) {
+fn refusal_of(line: &Line) -> (Option<Refusal>, u64) {
+    match line {
         Line::Whole(_) => (None, 0),
-        Line::Data(_, count) => (None, u64::from(count) + 2),
-        Line::Refused(refusal) => (Some(refusal), 0),
-        Line::Skip(refusal, count) => (Some(refusal), count),
+        Line::Data(_, count) => (None, u64::from(*count) + 2),
+        Line::Refused(refusal) => (Some(*refusal), 0),
+        Line::Skip(refusal, count) => (Some(*refusal), *count),
     }
+}
+
+/// How a line is refused, if it is, and how many bytes behind it are skipped or are its block.
+pub fn refused(alloc: Global, line: &[u8]) -> (Option<Refusal>, u64) {
+    refusal_of(&read(alloc, line))
 }
 
 /// Lines with the bytes that stand behind them and their faults, if they have one.
@@ -193,11 +199,15 @@ static LINES: [(&str, u64, Option<Refusal>); 18] = [
 #[test]
 fn a_line_without_memory_is_given_up(rt: HostRuntime) {
     for (line, behind, fault) in &LINES {
-        assert_eq!(rt; announced_bytes(line.as_bytes()), *behind, "{line}");
+        equal(
+            &rt,
+            (line, announced_bytes(line.as_bytes())),
+            (line, *behind),
+        );
         let (refusal, skipped) = refused(rt.alloc(), line.as_bytes());
-        assert_eq!(rt; skipped, *behind, "{line}");
+        equal(&rt, (line, skipped), (line, *behind));
         if refusal != Some(Refusal::Memory) {
-            assert_eq!(rt; refusal, *fault, "{line}");
+            equal(&rt, (line, refusal), (line, *fault));
         }
     }
 }

@@ -1,6 +1,7 @@
 //! Each public call once, with the values of worked rows.
 ghost use Rattle.std.specs.Prelude.{◌≤◌, length};
 
+use crate::asserting::{equal, holds};
 use mc_item::{Answer, Expiry, Item, Kind, NoMemory, Op, Value, expiry};
 use mc_wire::Key;
 use std::alloc::Global;
@@ -19,19 +20,19 @@ fn exptimes_mean_seconds(rt: HostRuntime) {
         (10, 1_099_511_627_776, Expiry::At(1_099_511_627_786)),
     ];
     for (exptime, now, want) in rows {
-        assert!(rt; now <= 1_099_511_627_776);
-        assert_eq!(rt; expiry(exptime, now), want, "at {exptime}");
+        holds(&rt, now <= 1_099_511_627_776);
+        equal(&rt, (exptime, expiry(exptime, now)), (exptime, want));
     }
 }
 
 #[test]
 fn items_die_at_their_second(rt: HostRuntime) {
-    assert!(rt; !Expiry::At(1001).is_dead(1000));
-    assert!(rt; Expiry::At(1001).is_dead(1001));
-    assert!(rt; !Expiry::Never.is_dead(u64::MAX));
-    assert_eq!(rt; Expiry::At(1005).seconds_left(1000), Some(5));
-    assert_eq!(rt; Expiry::At(1005).seconds_left(1010), Some(0));
-    assert_eq!(rt; Expiry::Never.seconds_left(0), None);
+    holds(&rt, !Expiry::At(1001).is_dead(1000));
+    holds(&rt, Expiry::At(1001).is_dead(1001));
+    holds(&rt, !Expiry::Never.is_dead(u64::MAX));
+    equal(&rt, Expiry::At(1005).seconds_left(1000), Some(5));
+    equal(&rt, Expiry::At(1005).seconds_left(1010), Some(0));
+    equal(&rt, Expiry::Never.seconds_left(0), None);
 }
 
 fn value_of(alloc: Global, text: &[u8]) -> Result<Value, NoMemory>
@@ -56,9 +57,9 @@ fn values_hold_numbers(rt: HostRuntime) -> Result<(), Fail> {
         (b"5\t", None),
     ];
     for (text, want) in rows {
-        assert!(rt; text.len() <= 100);
+        holds(&rt, text.len() <= 100);
         let value = value_of(rt.alloc(), text)?;
-        assert_eq!(rt; value.number(), want, "at {text:?}");
+        equal(&rt, (text, value.number()), (text, want));
     }
     Ok(())
 }
@@ -93,11 +94,12 @@ fn joined(alloc: Global, text: &[u8], block: &[u8], is_behind: bool) -> Result<V
 fn values_are_joined(rt: HostRuntime) -> Result<(), Fail> {
     let alloc = rt.alloc();
     let after = joined(alloc, b"bc", b"d", true)?;
-    assert_eq!(rt; after.bytes(), b"bcd".as_slice());
+    equal(&rt, after.bytes(), b"bcd".as_slice());
     let before = joined(alloc, b"bc", b"d", false)?.clone()?;
-    assert_eq!(rt;
+    equal(
+        &rt,
         (before.bytes(), before.is_empty()),
-        (b"dbc".as_slice(), false)
+        (b"dbc".as_slice(), false),
     );
     Ok(())
 }
@@ -105,16 +107,17 @@ fn values_are_joined(rt: HostRuntime) -> Result<(), Fail> {
 #[test]
 fn items_have_numbers(rt: HostRuntime) -> Result<(), Fail> {
     let item = item_of(value_of(rt.alloc(), b"17")?);
-    assert_eq!(rt;
+    equal(
+        &rt,
         (item.number(), item.is_dead(1000), item.is_dead(999)),
-        (Some(17), true, false)
+        (Some(17), true, false),
     );
     let greatest = Value::of_number(rt.alloc(), u64::MAX)?;
-    assert_eq!(rt; greatest.bytes(), b"18446744073709551615".as_slice());
+    equal(&rt, greatest.bytes(), b"18446744073709551615".as_slice());
     let zero = Value::of_number(rt.alloc(), 0)?;
-    assert_eq!(rt; zero.bytes(), b"0".as_slice());
+    equal(&rt, zero.bytes(), b"0".as_slice());
     let letters = item_of(value_of(rt.alloc(), b"bc")?);
-    assert_eq!(rt; letters.number(), None);
+    equal(&rt, letters.number(), None);
     Ok(())
 }
 
@@ -124,13 +127,13 @@ fn pieces_have_kinds_and_keys(rt: HostRuntime) -> Result<(), Fail> {
         key: Key::from_word(rt.alloc(), b"a")?,
         exptime: 0,
     };
-    assert_eq!(rt; touch.kind(), Kind::Touch);
-    assert_eq!(rt; touch.key().map_or(0, |key| key.bytes().len()), 1);
+    equal(&rt, touch.kind(), Kind::Touch);
+    equal(&rt, touch.key().map_or(0, |key| key.bytes().len()), 1);
     let flush = Op::Flush { delay: 0 };
-    assert_eq!(rt; flush.kind(), Kind::Flush);
-    assert!(rt; flush.key().is_none());
-    assert!(rt; Answer::Touched.is_lawful(Kind::Touch));
-    assert!(rt; !Answer::NoMemory.is_lawful(Kind::Touch));
-    assert!(rt; !Answer::Number(1).is_lawful(Kind::MetaCount));
+    equal(&rt, flush.kind(), Kind::Flush);
+    holds(&rt, flush.key().is_none());
+    holds(&rt, Answer::Touched.is_lawful(Kind::Touch));
+    holds(&rt, !Answer::NoMemory.is_lawful(Kind::Touch));
+    holds(&rt, !Answer::Number(1).is_lawful(Kind::MetaCount));
     Ok(())
 }

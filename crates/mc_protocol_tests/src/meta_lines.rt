@@ -1,4 +1,6 @@
 //! Meta lines with values from outside: what each flag asks, which fault is told, and what is skipped.
+use crate::asserting::{equal, holds};
+use crate::command::refused;
 use mc_command::{
     Command, Direction, Line, MetaMode, Opaque, Refusal, ReturnFlag, Returned, read_line,
 };
@@ -30,16 +32,18 @@ fn a_get_asks_what_its_flags_say(rt: HostRuntime) {
         ReturnFlag::Fetched,
         ReturnFlag::LastAccess,
     ];
-    assert_eq!(rt; get.key.bytes(), b"key".as_slice());
-    assert_eq!(rt; get.flags.returned.flags(), returned.as_slice());
-    assert_eq!(rt; get.flags.opaque.bytes(), b"123".as_slice());
-    assert_eq!(rt;
+    equal(&rt, get.key.bytes(), b"key".as_slice());
+    equal(&rt, get.flags.returned.flags(), returned.as_slice());
+    equal(&rt, get.flags.opaque.bytes(), b"123".as_slice());
+    equal(
+        &rt,
         (get.flags.base64, get.flags.quiet, get.value),
-        (false, true, true)
+        (false, true, true),
     );
-    assert_eq!(rt;
+    equal(
+        &rt,
         (get.touch, get.vivify, get.recache),
-        (Some(30), Some(-1), Some(60))
+        (Some(30), Some(-1), Some(60)),
     );
 }
 
@@ -67,9 +71,13 @@ fn the_modes_of_ms_in_either_case(rt: HostRuntime) {
             assert!(rt; false, "no ms: {mode:?}");
             return;
         };
-        assert_eq!(rt; set.mode, mode);
-        assert_eq!(rt; set.key.bytes(), b"a".as_slice());
-        assert_eq!(rt; (set.client_flags, set.exptime, set.compare), (0, 0, None));
+        equal(&rt, set.mode, mode);
+        equal(&rt, set.key.bytes(), b"a".as_slice());
+        equal(
+            &rt,
+            (set.client_flags, set.exptime, set.compare),
+            (0, 0, None),
+        );
     }
 }
 
@@ -108,9 +116,9 @@ fn the_defaults_of_ma_and_its_flags(rt: HostRuntime) {
             assert!(rt; false, "no ma");
             return;
         };
-        assert_eq!(rt; asked.direction, direction);
-        assert_eq!(rt; (asked.amount, asked.initial), (amount, initial));
-        assert_eq!(rt; (asked.vivify, asked.exptime), (vivify, None));
+        equal(&rt, asked.direction, direction);
+        equal(&rt, (asked.amount, asked.initial), (amount, initial));
+        equal(&rt, (asked.vivify, asked.exptime), (vivify, None));
     }
 }
 
@@ -125,16 +133,17 @@ fn a_delete_compares_and_marks(rt: HostRuntime) {
         assert!(rt; false, "no md");
         return;
     };
-    assert_eq!(rt; (delete.invalidate, delete.flags.quiet), (true, true));
-    assert_eq!(rt;
+    equal(&rt, (delete.invalidate, delete.flags.quiet), (true, true));
+    equal(
+        &rt,
         (delete.compare, delete.exptime),
-        (Some(u64::MAX), Some(30))
+        (Some(u64::MAX), Some(30)),
     );
 }
 
 #[test]
 fn the_first_fault_is_told(rt: HostRuntime) {
-    let refused = [
+    let lines = [
         (b"mg".as_slice(), Refusal::BadFormat),
         (b"ms a".as_slice(), Refusal::BadFormat),
         (b"mg a\x7f ?".as_slice(), Refusal::InvalidFlag),
@@ -157,11 +166,8 @@ fn the_first_fault_is_told(rt: HostRuntime) {
         (b"ms a\x7f x".as_slice(), Refusal::BadKey),
         (b"ms a x".as_slice(), Refusal::BadFormat),
     ];
-    for (line, want) in refused {
-        match read_line(rt.alloc(), line, DEFAULT_VALUE_LIMIT) {
-            Line::Refused(refusal) => assert_eq!(rt; refusal, want),
-            _ => assert!(rt; false, "not refused: {want:?}"),
-        }
+    for (line, want) in lines {
+        equal(&rt, refused(rt.alloc(), line), (Some(want), 0));
     }
 }
 
@@ -184,10 +190,7 @@ fn a_refused_ms_skips_its_block(rt: HostRuntime) {
         ),
     ];
     for (line, want, count) in skipped {
-        match read_line(rt.alloc(), line, DEFAULT_VALUE_LIMIT) {
-            Line::Skip(refusal, skip) => assert_eq!(rt; (refusal, skip), (want, count)),
-            _ => assert!(rt; false, "not skipped: {want:?}"),
-        }
+        equal(&rt, refused(rt.alloc(), line), (Some(want), count));
     }
 }
 
@@ -197,14 +200,15 @@ fn tokens_and_returned_flags_are_kept(rt: HostRuntime) {
         assert!(rt; false, "32 bytes");
         return;
     };
-    assert_eq!(rt; longest.bytes(), [120; 32].as_slice());
-    assert!(rt; Opaque::from_token(&[120; 33]).is_none());
-    assert_eq!(rt; Opaque::empty().bytes().len(), 0);
+    equal(&rt, longest.bytes(), [120; 32].as_slice());
+    holds(&rt, Opaque::from_token(&[120; 33]).is_none());
+    equal(&rt, Opaque::empty().bytes().len(), 0);
     let mut returned = Returned::new();
     returned.push(ReturnFlag::Opaque);
     returned.push(ReturnFlag::Key);
-    assert_eq!(rt;
+    equal(
+        &rt,
         returned.flags(),
-        [ReturnFlag::Opaque, ReturnFlag::Key].as_slice()
+        [ReturnFlag::Opaque, ReturnFlag::Key].as_slice(),
     );
 }

@@ -2,6 +2,7 @@
 //! reading goes on where an allocation was refused.
 ghost use Rattle.std.specs.Prelude.{◌<◌};
 
+use crate::asserting::{equal, holds};
 use mc_command::{Command, Refusal};
 use mc_reader::{Next, Reader, readers_give_commands};
 use mc_wire::{DEFAULT_VALUE_LIMIT, GREATEST_VALUE_LIMIT, LEAST_VALUE_LIMIT};
@@ -45,13 +46,13 @@ fn what_came(next: &Next) -> Came {
 
 /// Asserts that the whole piece is taken.
 fn feed_all(rt: &impl Abort, reader: &mut Reader, piece: &[u8]) {
-    assert_eq!(rt; reader.feed(piece), piece.len());
+    equal(rt, reader.feed(piece), piece.len());
 }
 
 /// Asserts that these come next, one after another.
 fn gives(rt: &impl Abort, alloc: Global, reader: &mut Reader, wanted: &[Came]) {
     for one in wanted {
-        assert_eq!(rt; what_came(&reader.next(alloc)), *one);
+        equal(rt, what_came(&reader.next(alloc)), *one);
     }
 }
 
@@ -62,7 +63,7 @@ fn gives_some(rt: &impl Abort, alloc: Global, reader: &mut Reader, wanted: &[Cam
         if given == Came::NeedMore {
             return count;
         }
-        assert_eq!(rt; given, *one);
+        equal(rt, given, *one);
     }
     wanted.len()
 }
@@ -84,7 +85,7 @@ fn gives_cut(
         let (_, behind) = wanted.split_at(wanted.len().min(count));
         count = gives_some(rt, alloc, &mut reader, behind).saturating_add(count);
     }
-    assert_eq!(rt; count, wanted.len());
+    equal(rt, count, wanted.len());
     gives(rt, alloc, &mut reader, &[Came::NeedMore]);
     Ok(())
 }
@@ -121,20 +122,20 @@ fn every_cutting_gives_the_same(rt: HostRuntime) -> Result<(), Fail> {
 fn each_call_with_ample_memory(rt: HostRuntime) -> Result<(), Fail> {
     let alloc = rt.alloc();
     let mut reader = Reader::new(alloc, DEFAULT_VALUE_LIMIT)?;
-    assert!(rt; !reader.whole());
+    holds(&rt, !reader.whole());
     gives(&rt, alloc, &mut reader, &[Came::NeedMore]);
     feed_all(&rt, &mut reader, b"set a 0 0 2\r\nhi\r\nget a\r\nms c 1");
-    assert!(rt; reader.whole());
-    assert_eq!(rt; reader.held(), 30);
+    holds(&rt, reader.whole());
+    equal(&rt, reader.held(), 30);
     gives(
         &rt,
         alloc,
         &mut reader,
         &[Came::Store, Came::Get, Came::NeedMore],
     );
-    assert_eq!(rt; reader.held(), 6);
+    equal(&rt, reader.held(), 6);
     reader.end();
-    assert_eq!(rt; reader.feed(b"\r\n"), 0);
+    equal(&rt, reader.feed(b"\r\n"), 0);
     gives(&rt, alloc, &mut reader, &[Came::Closed]);
     reader.reset();
     feed_all(&rt, &mut reader, b"mn\r\nquit\r\nmn\r\n");
@@ -159,7 +160,7 @@ fn a_skipped_block_is_not_kept(rt: HostRuntime) -> Result<(), Fail> {
     for _ in 0..65_536u32 {
         gives(&rt, alloc, &mut reader, &[Came::NeedMore]);
         feed_all(&rt, &mut reader, &PIECE);
-        assert_eq!(rt; reader.held(), 0);
+        equal(&rt, reader.held(), 0);
     }
     gives(&rt, alloc, &mut reader, &[Came::NeedMore]);
     feed_all(&rt, &mut reader, b"xmn\r\n");
@@ -195,10 +196,10 @@ fn a_refused_allocation_gives_up_one_command(rt: HostRuntime) {
         if given == Came::Refused(Refusal::Memory) && wanted != Came::MetaNoop {
             refused = refused.saturating_add(1);
         } else {
-            assert_eq!(rt; given, wanted);
+            equal(&rt, given, wanted);
         }
     }
-    assert!(rt; refused <= 1);
+    holds(&rt, refused <= 1);
     gives(&rt, alloc, &mut reader, &[Came::NeedMore]);
 }
 
@@ -216,7 +217,7 @@ fn values_at_the_limit(rt: HostRuntime) -> Result<(), Fail> {
             let line = format!(in alloc; "set a 0 0 {count}\r\n")?;
             feed_all(&rt, &mut reader, line.as_bytes());
             gives(&rt, alloc, &mut reader, &[Came::NeedMore]);
-            assert_eq!(rt; reader.is_skipping(), count > limit);
+            equal(&rt, reader.is_skipping(), count > limit);
             let mut left = count;
             for _ in 0..GREATEST_VALUE_LIMIT {
                 let (piece, _) = PIECE.split_at(left.min(PIECE.len()));
@@ -227,7 +228,7 @@ fn values_at_the_limit(rt: HostRuntime) -> Result<(), Fail> {
                 }
                 gives(&rt, alloc, &mut reader, &[Came::NeedMore]);
             }
-            assert_eq!(rt; left, 0);
+            equal(&rt, left, 0);
             feed_all(&rt, &mut reader, b"\r\n");
             gives(&rt, alloc, &mut reader, &[wanted, Came::NeedMore]);
         }

@@ -4,6 +4,7 @@ ghost use Rattle.std.specs.Prelude.{◌≤◌};
 mod asked;
 mod shown;
 
+use crate::asserting::equal;
 use asked::{Ask, Row, op_of};
 use mc_command::{Direction, MetaMode, StoreMode};
 use mc_item::{Answer, Op, Vivify};
@@ -13,10 +14,11 @@ use shown::shown;
 use std::alloc::{AllocError, Global};
 use std::hash::RandomState;
 use std::process::Abort;
+use std::random::RandomSource;
 use std::test::Fail;
 
 /// The first of two shards, whose items may cost so many bytes.
-fn new_shard(rt: &HostRuntime, alloc: Global, budget: usize) -> Result<Shard, Fail>
+fn new_shard(rt: &impl RandomSource, alloc: Global, budget: usize) -> Result<Shard, Fail>
     requires least { 1024 ≤ budget }
     requires most { budget ≤ 1073741824 }
 {
@@ -41,6 +43,20 @@ fn ask_all(rt: &impl Abort, alloc: Global, shard: &mut Shard, rows: &[Row]) -> R
     Ok(())
 }
 
+/// Asks each row of a new shard, whose items may cost so many bytes.
+fn ask_new<R: Abort + RandomSource>(
+    rt: &R,
+    alloc: Global,
+    budget: usize,
+    rows: &[Row],
+) -> Result<(), Fail>
+    requires least { 1024 ≤ budget }
+    requires most { budget ≤ 1073741824 }
+{
+    let mut shard = new_shard(rt, alloc, budget)?;
+    ask_all(rt, alloc, &mut shard, rows)
+}
+
 static EXPIRY: [(i64, u64, u64, &str); 8] = [
     (1, 1000, 1000, "0 1 x"),
     (1, 1000, 1001, "miss"),
@@ -54,14 +70,12 @@ static EXPIRY: [(i64, u64, u64, &str); 8] = [
 
 #[test]
 fn an_item_dies_at_its_second(rt: HostRuntime) -> Result<(), Fail> {
-    let a = rt.alloc();
     for (exptime, set_at, get_at, want) in &EXPIRY {
-        let mut shard = new_shard(&rt, a, 16_777_216)?;
         let rows = [
             (*set_at, "a", Ask::SetFor(*exptime, "x"), "stored"),
             (*get_at, "a", Ask::Get, *want),
         ];
-        ask_all(&rt, a, &mut shard, &rows)?;
+        ask_new(&rt, rt.alloc(), 16_777_216, &rows)?;
     }
     Ok(())
 }
@@ -117,7 +131,7 @@ fn a_delayed_flush(rt: HostRuntime) -> Result<(), Fail> {
     let a = rt.alloc();
     let mut shard = new_shard(&rt, a, 16_777_216)?;
     ask_all(&rt, a, &mut shard, &FLUSH_LATER)?;
-    assert_eq!(rt; shard.len(), 0);
+    equal(&rt, shard.len(), 0);
     ask_all(&rt, a, &mut shard, &FLUSH_AT_ONCE)
 }
 
@@ -191,7 +205,7 @@ fn the_least_recently_used_item_goes(rt: HostRuntime) -> Result<(), Fail> {
     let a = rt.alloc();
     let mut shard = new_shard(&rt, a, 1_024)?;
     ask_all(&rt, a, &mut shard, &LEAST_USED)?;
-    assert_eq!(rt; shard.len(), 2);
+    equal(&rt, shard.len(), 2);
     Ok(())
 }
 
@@ -217,7 +231,7 @@ fn a_dead_item_takes_room(rt: HostRuntime) -> Result<(), Fail> {
     let a = rt.alloc();
     let mut shard = new_shard(&rt, a, 1_024)?;
     ask_all(&rt, a, &mut shard, &DEAD_ITEM)?;
-    assert_eq!(rt; shard.len(), 2);
+    equal(&rt, shard.len(), 2);
     ask_all(&rt, a, &mut shard, &DEAD_ITEM_MET)
 }
 
@@ -238,7 +252,7 @@ fn an_item_of_the_whole_budget(rt: HostRuntime) -> Result<(), Fail> {
     let a = rt.alloc();
     let mut shard = new_shard(&rt, a, 1_024)?;
     ask_all(&rt, a, &mut shard, &WHOLE_BUDGET)?;
-    assert_eq!(rt; shard.cost(), 1_024);
+    equal(&rt, shard.cost(), 1_024);
     Ok(())
 }
 
@@ -272,7 +286,7 @@ fn growth_makes_others_go(rt: HostRuntime) -> Result<(), Fail> {
     let a = rt.alloc();
     let mut shard = new_shard(&rt, a, 1_024)?;
     ask_all(&rt, a, &mut shard, &FULL)?;
-    assert_eq!(rt; shard.cost(), 1_024);
+    equal(&rt, shard.cost(), 1_024);
     ask_all(&rt, a, &mut shard, &GROWS_BY_ONE)?;
     ask_all(&rt, a, &mut shard, &COUNTS_TO_TEN)
 }
@@ -290,7 +304,7 @@ fn growth_makes_all_others_go(rt: HostRuntime) -> Result<(), Fail> {
     let mut shard = new_shard(&rt, a, 1_024)?;
     ask_all(&rt, a, &mut shard, &FULL)?;
     ask_all(&rt, a, &mut shard, &GROWS_TO_ALL)?;
-    assert_eq!(rt; shard.len(), 1);
+    equal(&rt, shard.len(), 1);
     Ok(())
 }
 
@@ -307,8 +321,8 @@ fn an_append_makes_all_others_go(rt: HostRuntime) -> Result<(), Fail> {
     let mut shard = new_shard(&rt, a, 1_024)?;
     ask_all(&rt, a, &mut shard, &FULL)?;
     ask_all(&rt, a, &mut shard, &APPENDS_TO_ALL)?;
-    assert_eq!(rt; shard.len(), 1);
-    assert_eq!(rt; shard.cost(), 966);
+    equal(&rt, shard.len(), 1);
+    equal(&rt, shard.cost(), 966);
     Ok(())
 }
 
@@ -344,9 +358,7 @@ static CLIENTS_UNIQUES: [Row; 11] = [
 
 #[test]
 fn clients_give_uniques(rt: HostRuntime) -> Result<(), Fail> {
-    let a = rt.alloc();
-    let mut shard = new_shard(&rt, a, 1_024)?;
-    ask_all(&rt, a, &mut shard, &CLIENTS_UNIQUES)
+    ask_new(&rt, rt.alloc(), 1_024, &CLIENTS_UNIQUES)
 }
 
 #[test]
@@ -361,7 +373,7 @@ fn an_answer_keeps_its_value(rt: HostRuntime) -> Result<(), Fail> {
         (1000, "a", Ask::Get, "0 3 xy"),
     ];
     ask_all(&rt, a, &mut shard, &rows)?;
-    assert_eq!(rt; shown(a, &earlier)?.as_str(), "0 1 x");
+    equal(&rt, shown(a, &earlier)?.as_str(), "0 1 x");
     Ok(())
 }
 
@@ -387,10 +399,10 @@ fn time_never_goes_back(rt: HostRuntime) -> Result<(), Fail> {
     let a = rt.alloc();
     let mut shard = new_shard(&rt, a, 16_777_216)?;
     ask_all(&rt, a, &mut shard, &TIME_BACK)?;
-    assert_eq!(rt; shard.now(), 1020);
+    equal(&rt, shard.now(), 1020);
     ask_all(&rt, a, &mut shard, &TIME_AFTER)?;
     ask_all(&rt, a, &mut shard, &LATEST_TIME)?;
-    assert_eq!(rt; shard.now(), 1_099_511_627_776);
+    equal(&rt, shard.now(), 1_099_511_627_776);
     Ok(())
 }
 
@@ -413,16 +425,14 @@ static NUMBERS: [(&str, Direction, u64, &str, &str); 8] = [
 
 #[test]
 fn numbers_are_counted(rt: HostRuntime) -> Result<(), Fail> {
-    let a = rt.alloc();
     for (held, direction, amount, want, then) in &NUMBERS {
-        let mut shard = new_shard(&rt, a, 16_777_216)?;
         let rows = [
             (1000, "c", Ask::Set(*held), "stored"),
             (1000, "c", Ask::Count(*direction, *amount), *want),
             (1000, "c", Ask::Get, *then),
             (1000, "a", Ask::Count(Direction::Increment, 1), "not found"),
         ];
-        ask_all(&rt, a, &mut shard, &rows)?;
+        ask_new(&rt, rt.alloc(), 16_777_216, &rows)?;
     }
     Ok(())
 }
@@ -449,9 +459,7 @@ static CLASSIC: [Row; 17] = [
 
 #[test]
 fn classic_commands(rt: HostRuntime) -> Result<(), Fail> {
-    let a = rt.alloc();
-    let mut shard = new_shard(&rt, a, 16_777_216)?;
-    ask_all(&rt, a, &mut shard, &CLASSIC)
+    ask_new(&rt, rt.alloc(), 16_777_216, &CLASSIC)
 }
 
 static LIMIT: [Row; 8] = [
@@ -467,9 +475,7 @@ static LIMIT: [Row; 8] = [
 
 #[test]
 fn the_largest_value(rt: HostRuntime) -> Result<(), Fail> {
-    let a = rt.alloc();
-    let mut shard = new_shard(&rt, a, 16_777_216)?;
-    ask_all(&rt, a, &mut shard, &LIMIT)
+    ask_new(&rt, rt.alloc(), 16_777_216, &LIMIT)
 }
 
 // A limit, two parts of a value of that length, and what a get shows of it.
@@ -545,9 +551,7 @@ static TIME_LEFT: [Row; 9] = [
 
 #[test]
 fn fetched_access_and_time_left(rt: HostRuntime) -> Result<(), Fail> {
-    let a = rt.alloc();
-    let mut shard = new_shard(&rt, a, 16_777_216)?;
-    ask_all(&rt, a, &mut shard, &TIME_LEFT)
+    ask_new(&rt, rt.alloc(), 16_777_216, &TIME_LEFT)
 }
 
 static MARKS: [Row; 16] = [
@@ -606,9 +610,7 @@ static MARKS: [Row; 16] = [
 
 #[test]
 fn recache_and_stale_marks(rt: HostRuntime) -> Result<(), Fail> {
-    let a = rt.alloc();
-    let mut shard = new_shard(&rt, a, 16_777_216)?;
-    ask_all(&rt, a, &mut shard, &MARKS)
+    ask_new(&rt, rt.alloc(), 16_777_216, &MARKS)
 }
 
 /// The operations of the rows, each with its moment.
@@ -629,10 +631,10 @@ fn a_list_of_operations(rt: HostRuntime) -> Result<(), Fail> {
     let mut shard = new_shard(&rt, a, 16_777_216)?;
     let asked = list_of(a, &MARKS)?;
     let answers = shard.run_all(a, asked)?;
-    assert_eq!(rt; answers.len(), MARKS.len());
+    equal(&rt, answers.len(), MARKS.len());
     for (answer, row) in answers.iter().zip(MARKS.iter()) {
         let shown = shown(a, answer)?;
-        assert_eq!(rt; shown.as_str(), row.3);
+        equal(&rt, shown.as_str(), row.3);
     }
     Ok(())
 }
@@ -678,9 +680,7 @@ static META_NUMBERS: [Row; 7] = [
 
 #[test]
 fn meta_arithmetic(rt: HostRuntime) -> Result<(), Fail> {
-    let a = rt.alloc();
-    let mut shard = new_shard(&rt, a, 16_777_216)?;
-    ask_all(&rt, a, &mut shard, &META_NUMBERS)
+    ask_new(&rt, rt.alloc(), 16_777_216, &META_NUMBERS)
 }
 
 // Rows for refused allocations, and whether the operation takes no memory once it was made: it deletes, touches,
@@ -783,8 +783,8 @@ fn memory_may_be_refused_once(rt: HostRuntime) -> Result<(), Fail> {
     for (place, (row, is_free)) in SHORT.iter().enumerate() {
         let answer = answer_in_the_end(a, &mut shard, *row, *is_free)?;
         let shown = shown_in_the_end(a, &answer)?;
-        assert_eq!(rt; shown.as_str(), row.3, "row {place}");
+        equal(&rt, (place, shown.as_str()), (place, row.3));
     }
-    assert_eq!(rt; shard.len(), 0);
+    equal(&rt, shard.len(), 0);
     Ok(())
 }

@@ -2,6 +2,7 @@
 //! byte at a time and fail in the middle of a text.
 ghost use Rattle.mc_wire.specs.Outlet.{Listed, sight_out};
 
+use crate::asserting::{equal, holds};
 use mc_wire::{
     BASE64_LIMIT, DECODED_KEY_LIMIT, KEY_LIMIT, Key, OutFault, Outlet, WireFault, base64_is_text,
     number_i64, number_u64, put_all, put_parts, words,
@@ -39,12 +40,12 @@ impl Outlet for Dripping {
 #[test]
 fn words_are_the_runs_between_spaces(rt: HostRuntime) {
     let mut walk = words(b"  set a\t1  0 \r ");
-    assert_eq!(rt; walk.next(), Some(b"set".as_slice()));
-    assert_eq!(rt; walk.next(), Some(b"a\t1".as_slice()));
-    assert_eq!(rt; walk.next(), Some(b"0".as_slice()));
-    assert_eq!(rt; walk.next(), Some(b"\r".as_slice()));
-    assert_eq!(rt; walk.next(), None);
-    assert_eq!(rt; walk.next(), None);
+    equal(&rt, walk.next(), Some(b"set".as_slice()));
+    equal(&rt, walk.next(), Some(b"a\t1".as_slice()));
+    equal(&rt, walk.next(), Some(b"0".as_slice()));
+    equal(&rt, walk.next(), Some(b"\r".as_slice()));
+    equal(&rt, walk.next(), None);
+    equal(&rt, walk.next(), None);
 }
 
 #[test]
@@ -64,7 +65,7 @@ fn numbers_end_where_64_bits_end(rt: HostRuntime) {
         (b"".as_slice(), Err(WireFault::NotNumber)),
     ];
     for (word, want) in unsigned {
-        assert_eq!(rt; number_u64(word), want, "at {word:?}");
+        equal(&rt, (word, number_u64(word)), (word, want));
     }
     let signed = [
         (b"9223372036854775807".as_slice(), Ok(i64::MAX)),
@@ -79,7 +80,7 @@ fn numbers_end_where_64_bits_end(rt: HostRuntime) {
         (b"-".as_slice(), Err(WireFault::NotNumber)),
     ];
     for (word, want) in signed {
-        assert_eq!(rt; number_i64(word), want, "at {word:?}");
+        equal(&rt, (word, number_i64(word)), (word, want));
     }
 }
 
@@ -88,13 +89,13 @@ fn numbers_end_where_64_bits_end(rt: HostRuntime) {
 fn keys_have_their_places(rt: HostRuntime) -> Result<(), Fail> {
     for (word, shard) in [(b"a", 0), (b"b", 1), (b"c", 0), (b"d", 1), (b"e", 0)] {
         let key = Key::from_word(rt.alloc(), word)?;
-        assert_eq!(rt; key.place(2), shard, "at {word:?}");
+        equal(&rt, (word, key.place(2)), (word, shard));
     }
     let key = Key::from_word(rt.alloc(), b"foobar")?;
-    assert_eq!(rt; key.place(1 << 32), 0xBF9C_F968);
-    assert_eq!(rt; key.bytes(), b"foobar".as_slice());
-    assert!(rt; key.clone()? == key);
-    assert!(rt; key != Key::from_word(rt.alloc(), b"fooba")?);
+    equal(&rt, key.place(1 << 32), 0xBF9C_F968);
+    equal(&rt, key.bytes(), b"foobar".as_slice());
+    holds(&rt, key.clone()? == key);
+    holds(&rt, key != Key::from_word(rt.alloc(), b"fooba")?);
     Ok(())
 }
 
@@ -112,14 +113,22 @@ fn base64_keys_are_shown_as_they_were_read(rt: HostRuntime) -> Result<(), Fail> 
     ];
     for (word, bytes) in vectors {
         let key = Key::from_base64(rt.alloc(), word)?;
-        assert_eq!(rt; key.bytes(), bytes, "at {word:?}");
-        assert_eq!(rt; key.to_base64(&mut [0; BASE64_LIMIT]), word, "of {bytes:?}");
+        equal(&rt, (word, key.bytes()), (word, bytes));
+        equal(
+            &rt,
+            (bytes, key.to_base64(&mut [0; BASE64_LIMIT])),
+            (bytes, word),
+        );
     }
     let longest = Key::from_base64(rt.alloc(), &[b'A'; 248])?;
     base64_is_text();
-    assert_eq!(rt; longest.bytes(), [0; DECODED_KEY_LIMIT].as_slice());
+    equal(&rt, longest.bytes(), [0; DECODED_KEY_LIMIT].as_slice());
     let long = Key::from_word(rt.alloc(), &[b'k'; KEY_LIMIT])?;
-    assert_eq!(rt; long.to_base64(&mut [0; BASE64_LIMIT]).len(), BASE64_LIMIT);
+    equal(
+        &rt,
+        long.to_base64(&mut [0; BASE64_LIMIT]).len(),
+        BASE64_LIMIT,
+    );
     Ok(())
 }
 
@@ -153,16 +162,16 @@ fn faults_of_words_take_no_memory(rt: HostRuntime) {
     ];
     for (word, plain, base64) in words {
         if plain.is_some() {
-            assert_eq!(rt;
-                Key::from_word(rt.alloc(), word).err(),
-                plain,
-                "at {word:?}"
+            equal(
+                &rt,
+                (word, Key::from_word(rt.alloc(), word).err()),
+                (word, plain),
             );
         }
-        assert_eq!(rt;
-            Key::from_base64(rt.alloc(), word).err(),
-            base64,
-            "at {word:?}"
+        equal(
+            &rt,
+            (word, Key::from_base64(rt.alloc(), word).err()),
+            (word, base64),
         );
     }
 }
@@ -175,8 +184,8 @@ fn memory_is_the_only_other_fault(rt: HostRuntime) {
         Key::from_base64(rt.alloc(), b"YQ=="),
     ] {
         match key {
-            Ok(key) => assert_eq!(rt; key.bytes(), b"a".as_slice()),
-            Err(fault) => assert_eq!(rt; fault, WireFault::Memory),
+            Ok(key) => equal(&rt, key.bytes(), b"a".as_slice()),
+            Err(fault) => equal(&rt, fault, WireFault::Memory),
         }
     }
 }
@@ -197,14 +206,14 @@ fn a_failing_outlet_has_taken_a_front(rt: HostRuntime) -> Result<(), Fail> {
         };
         let parts = [b"VALUE ".as_slice(), b"a", b"", b" 0\r\n"];
         let want = if writes == 11 { Ok(()) } else { Err(OutFault) };
-        assert_eq!(rt; put_all(&mut at_once, whole), want, "after {writes} writes");
-        assert_eq!(rt;
-            put_parts(&mut in_parts, &parts),
-            want,
-            "after {writes} writes"
+        equal(&rt, (writes, put_all(&mut at_once, whole)), (writes, want));
+        equal(
+            &rt,
+            (writes, put_parts(&mut in_parts, &parts)),
+            (writes, want),
         );
-        assert_eq!(rt; at_once.store.as_slice(), &whole[..writes as usize]);
-        assert_eq!(rt; in_parts.store.as_slice(), &whole[..writes as usize]);
+        equal(&rt, at_once.store.as_slice(), &whole[..writes as usize]);
+        equal(&rt, in_parts.store.as_slice(), &whole[..writes as usize]);
     }
     Ok(())
 }
