@@ -1,6 +1,7 @@
 //! All threads do their task, or none does.
 ghost use Rattle.std.specs.Prelude.{◌≡◌, true};
 
+use crate::asserting::{equal, holds};
 use mc_crew::{Crew, CrewRefusal, Task};
 use std::alloc::{AllocError, Global};
 use std::sync::atomic::{AtomicU64, Ordering};
@@ -85,8 +86,8 @@ fn sum_of_all<R: Threads + Wait + Copy + Send + 'static>(
 #[test]
 fn all_do_their_task(rt: HostRuntime) -> Result<(), Fail> {
     let (came, sum) = sum_of_all(&rt, rt.alloc(), THREADS)?;
-    assert_eq!(rt; came, Ok(4));
-    assert_eq!(rt; sum, 6);
+    equal(&rt, came, Ok(4));
+    equal(&rt, sum, 6);
     Ok(())
 }
 
@@ -94,8 +95,8 @@ fn all_do_their_task(rt: HostRuntime) -> Result<(), Fail> {
 fn none_does_where_one_is_refused(rt: HostRuntime) -> Result<(), Fail> {
     for refused in 0..THREADS {
         let (came, sum) = sum_of_all(&rt, rt.alloc(), refused)?;
-        assert_eq!(rt; came, Err(CrewRefusal::Thread));
-        assert_eq!(rt; sum, 0);
+        equal(&rt, came, Err(CrewRefusal::Thread));
+        equal(&rt, sum, 0);
     }
     Ok(())
 }
@@ -109,8 +110,8 @@ fn one_that_is_not_told_to_begin_leaves(rt: HostRuntime) -> Result<(), Fail> {
         sum: Arc::try_clone(&sum)?,
         done: false,
     };
-    assert!(rt; crew.start(&rt, rt.alloc(), task).is_ok());
+    holds(&rt, crew.start(&rt, rt.alloc(), task).is_ok());
     crew.dismiss(&rt);
-    assert_eq!(rt; sum.load(Ordering::SeqCst), 0);
+    equal(&rt, sum.load(Ordering::SeqCst), 0);
     Ok(())
 }

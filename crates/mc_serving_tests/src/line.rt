@@ -1,5 +1,6 @@
 //! One line is served: how often it is read and written, when the clock is asked, and what a refused allocation changes.
 //! The worked rows stand in the crate mc_rows.
+use crate::asserting::{equal, holds};
 use crate::memory_line::MemoryLine;
 use mc_seat::Clock;
 use mc_server::{DEFAULT_RING, ServeRefusal, Sizes, StillClock, serve_one};
@@ -35,11 +36,11 @@ fn replies_in_one_write(rt: HostRuntime) -> Result<(), Fail> {
         b"set a 7 0 2\r\nhi\r\nget a\r\nstats\r\nset b 0 0 1 noreply\r\nx\r\nmn\r\nquit\r\nmn\r\n";
     let mut line = MemoryLine::new(rt.alloc(), input.as_slice())?;
     let served = serve(&rt, rt.alloc(), &mut line, &StillClock(1000))?;
-    assert_eq!(rt; served, (6, false));
+    equal(&rt, served, (6, false));
     let output = b"STORED\r\nVALUE a 7 2\r\nhi\r\nEND\r\nERROR\r\nMN\r\n";
-    assert_eq!(rt; line.output.as_slice(), output.as_slice());
+    equal(&rt, line.output.as_slice(), output.as_slice());
     // One read and one write: nothing is read behind `quit`.
-    assert_eq!(rt; line.calls, 2);
+    equal(&rt, line.calls, 2);
     Ok(())
 }
 
@@ -66,7 +67,7 @@ fn a_moment_for_each_command(rt: HostRuntime) -> Result<(), Fail> {
     let clock = RisingClock(Cell::new(1000));
     serve(&rt, rt.alloc(), &mut line, &clock)?;
     let output = b"STORED\r\nVALUE a 0 1\r\nx\r\nEND\r\nVALUE a 0 1\r\nx\r\nEND\r\nEND\r\n";
-    assert_eq!(rt; line.output.as_slice(), output.as_slice());
+    equal(&rt, line.output.as_slice(), output.as_slice());
     Ok(())
 }
 
@@ -96,13 +97,14 @@ fn a_refused_allocation(rt: HostRuntime) -> Result<(), Fail> {
         return Ok(());
     };
     match serve(&rt, rt.alloc(), &mut line, &StillClock(1000)) {
-        Err(ServeRefusal::Memory) => assert_eq!(rt; line.calls, 0),
+        Err(ServeRefusal::Memory) => equal(&rt, line.calls, 0),
         Ok(served) => {
-            assert_eq!(rt; served, (10, false));
-            assert!(rt;
+            equal(&rt, served, (10, false));
+            holds(
+                &rt,
                 OUTPUTS
                     .iter()
-                    .any(|output| line.output.as_slice() == *output)
+                    .any(|output| line.output.as_slice() == *output),
             );
         }
     }

@@ -1,4 +1,5 @@
 //! The calls of the program, read from their words.
+use crate::asserting::{equal, holds};
 use mc_options::{Limits, OptionFault, Options, read_options};
 use std::alloc::{AllocError, Global};
 
@@ -41,14 +42,15 @@ fn each_call(rt: HostRuntime) -> Result<(), Fail> {
         value: 1_048_576,
         window: 256,
     };
-    assert!(rt;
+    holds(
+        &rt,
         options
             == Options::Listen {
                 address: "127.0.0.1:11211",
                 seats: 16,
                 connections: None,
-                limits
-            }
+                limits,
+            },
     );
     let words = words_of(
         alloc,
@@ -61,16 +63,17 @@ fn each_call(rt: HostRuntime) -> Result<(), Fail> {
         value: 8_388_608,
         window: 1,
     };
-    assert!(rt;
+    holds(
+        &rt,
         options
             == Options::Stdio {
                 at: Some(1000),
-                limits
-            }
+                limits,
+            },
     );
     let words = words_of(alloc, "mcd --replay a.schedule")?;
     let options = read_options(alloc, words.as_slice())?;
-    assert!(rt; options == Options::Replay { file: "a.schedule" });
+    holds(&rt, options == Options::Replay { file: "a.schedule" });
     Ok(())
 }
 
@@ -98,7 +101,7 @@ fn faults(rt: HostRuntime) -> Result<(), Fail> {
         let words = words_of(alloc, call)?;
         match read_options(alloc, words.as_slice()) {
             Ok(_) => assert!(rt; false, "{call}"),
-            Err(fault) => assert_eq!(rt; fault.status(), status, "{call}"),
+            Err(fault) => equal(&rt, (call, fault.status()), (call, status)),
         }
     }
     Ok(())

@@ -1,4 +1,5 @@
 //! What no clause says: a whole file is read, and each kind of bad line is told, where memory is ample.
+use crate::asserting::{equal, holds};
 use mc_core::Event;
 use mc_replay::{ScheduleFault, read_schedule};
 use std::test::Fail;
@@ -9,28 +10,32 @@ fn a_file_is_read(rt: HostRuntime) -> Result<(), Fail> {
     let Ok(plan) = read_schedule(rt.alloc(), file) else {
         return Ok(());
     };
-    assert_eq!(rt; plan.seats, 2);
-    assert_eq!(rt; plan.shards, 3);
-    assert_eq!(rt; plan.bytes, 1024);
-    assert_eq!(rt; plan.ring, 4);
-    assert_eq!(rt; plan.value, 1_048_576);
-    assert_eq!(rt; plan.window, 256);
-    assert_eq!(rt; plan.events.len(), 5);
+    equal(&rt, plan.seats, 2);
+    equal(&rt, plan.shards, 3);
+    equal(&rt, plan.bytes, 1024);
+    equal(&rt, plan.ring, 4);
+    equal(&rt, plan.value, 1_048_576);
+    equal(&rt, plan.window, 256);
+    equal(&rt, plan.events.len(), 5);
     let fed = match plan.events.get(1) {
         Some(Event::Feed { seat: 1, bytes }) => bytes.as_slice() == b"mn\r\n".as_slice(),
         _ => false,
     };
-    assert!(rt; fed);
-    assert!(rt;
+    holds(&rt, fed);
+    holds(
+        &rt,
         matches!(
             plan.events.get(2),
             Some(Event::Take {
                 seat: 1,
                 moment: 1000
             })
-        )
+        ),
     );
-    assert!(rt; matches!(plan.events.get(3), Some(Event::Pop { shard: 2, seat: 1 })));
+    holds(
+        &rt,
+        matches!(plan.events.get(3), Some(Event::Pop { shard: 2, seat: 1 })),
+    );
     Ok(())
 }
 
@@ -64,7 +69,7 @@ fn bad_lines_are_told(rt: HostRuntime) {
     ];
     for (file, line) in files {
         if let Err(ScheduleFault::Bad(number)) = read_schedule(rt.alloc(), file) {
-            assert_eq!(rt; number, line, "of {file:?}");
+            equal(&rt, (file, number), (file, line));
         } else {
             assert!(rt;
                 matches!(read_schedule(rt.alloc(), file), Err(ScheduleFault::Memory)),

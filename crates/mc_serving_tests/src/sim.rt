@@ -1,5 +1,6 @@
 //! Schedules, event by event. What no clause says: that a core is made, and an event done, where memory is ample; and that
 //! only one command finds no memory where one allocation is refused.
+use crate::asserting::{equal, holds};
 use mc_core::{Event, LogEntry, Sim, SimRefusal, StepReply, Worker};
 use mc_ring::lanes;
 use mc_split::Ticket;
@@ -129,11 +130,11 @@ fn two_connections(rt: HostRuntime) -> Result<(), Fail> {
     for (event, row) in events.iter().zip(&rows) {
         let (ran, first, second) = *row;
         let seen = moved(alloc, &mut sim, event);
-        assert_eq!(rt; seen, (StepReply::Done, ran, first, second));
+        equal(&rt, seen, (StepReply::Done, ran, first, second));
     }
     let (value, stored) = (b"VALUE d 0 1 2\r\nz\r\nEND\r\n", b"STORED\r\n");
-    assert!(rt; handed_both(&sim, value, stored));
-    assert!(rt; ran(&sim, &[entry(1, 1, 0), entry(1, 0, 0)]));
+    holds(&rt, handed_both(&sim, value, stored));
+    holds(&rt, ran(&sim, &[entry(1, 1, 0), entry(1, 0, 0)]));
     Ok(())
 }
 
@@ -150,21 +151,23 @@ fn a_refused_allocation_gives_up_one_command(rt: HostRuntime) {
     };
     for event in &events {
         if sim.step(alloc, event) == StepReply::NoMemory {
-            assert!(rt; sim.step(alloc, event) != StepReply::NoMemory);
-            assert!(rt;
+            holds(&rt, sim.step(alloc, event) != StepReply::NoMemory);
+            holds(
+                &rt,
                 !matches!(
                     event,
                     Event::Send { .. } | Event::Give { .. } | Event::Receive { .. }
-                )
+                ),
             );
         }
     }
     let (value, end) = (b"VALUE d 0 1 2\r\nz\r\nEND\r\n", b"END\r\n");
     let (stored, memory) = (b"STORED\r\n", b"SERVER_ERROR out of memory\r\n");
-    assert!(rt;
+    holds(
+        &rt,
         handed_both(&sim, value, stored)
             || handed_both(&sim, end, memory)
-            || handed_both(&sim, memory, stored)
+            || handed_both(&sim, memory, stored),
     );
 }
 
@@ -194,10 +197,17 @@ fn an_early_answer(rt: HostRuntime) -> Result<(), Fail> {
         (Event::Hand { seat: 0 }, StepReply::Done, 2, 16),
     ];
     for (event, reply, ran, first) in &rows {
-        assert_eq!(rt; moved(alloc, &mut sim, event), (*reply, *ran, *first, 0));
+        equal(
+            &rt,
+            moved(alloc, &mut sim, event),
+            (*reply, *ran, *first, 0),
+        );
     }
-    assert!(rt; handed_to(&sim, 0) == b"END\r\nNOT_FOUND\r\n".as_slice());
-    assert!(rt; ran(&sim, &[entry(1, 0, 1), entry(0, 0, 0)]));
+    holds(
+        &rt,
+        handed_to(&sim, 0) == b"END\r\nNOT_FOUND\r\n".as_slice(),
+    );
+    holds(&rt, ran(&sim, &[entry(1, 0, 1), entry(0, 0, 0)]));
     Ok(())
 }
 
@@ -213,13 +223,13 @@ fn what_is_kept_of_a_connection(rt: HostRuntime) -> Result<(), Fail> {
         Event::Hand { seat: 1 },
         Event::End { seat: 1 },
     ];
-    assert_eq!(rt; sim.run(alloc, &events)?, 5);
-    assert!(rt; sim.fed(0) == Some(b"mn\r\n"));
-    assert!(rt; sim.fed(1) == None);
+    equal(&rt, sim.run(alloc, &events)?, 5);
+    holds(&rt, sim.fed(0) == Some(b"mn\r\n"));
+    holds(&rt, sim.fed(1) == None);
     let shown = sim.connections();
-    assert!(rt; shown.len() == 1);
+    holds(&rt, shown.len() == 1);
     let kept = &shown[0];
-    assert_eq!(rt; (kept.seat, kept.ended, kept.broken), (1, true, false));
+    equal(&rt, (kept.seat, kept.ended, kept.broken), (1, true, false));
     Ok(())
 }
 
@@ -238,6 +248,6 @@ fn a_worker_takes_no_memory(rt: HostRuntime) {
         return;
     };
     let seat = &mut seats[0];
-    assert_eq!(rt; worker.beside(seat), (0, 0));
-    assert!(rt; !worker.ended());
+    equal(&rt, worker.beside(seat), (0, 0));
+    holds(&rt, !worker.ended());
 }

@@ -1,4 +1,5 @@
 //! Lines of which nothing is read where the threads that were to serve them can't all be started.
+use crate::asserting::{equal, holds};
 use crate::memory_line::MemoryLine;
 use mc_core::OpenGate;
 use mc_seat::{Line, LineFault};
@@ -69,15 +70,18 @@ fn a_refused_start(rt: HostRuntime) -> Result<(), Fail> {
     match serve_over(&rt, rt.alloc(), lines, SIZES, OpenGate, StillClock(1000)) {
         Ok(report) => {
             for one in report.lines {
-                assert_eq!(rt; one.line.line.output.as_slice(), b"MN\r\n".as_slice());
-                assert_eq!(rt; (one.commands, one.broke), (2, false));
+                equal(&rt, one.line.line.output.as_slice(), b"MN\r\n".as_slice());
+                equal(&rt, (one.commands, one.broke), (2, false));
             }
         }
         Err(refusal) => {
-            assert!(rt; refusal == ServeRefusal::Memory || refusal == ServeRefusal::Thread);
-            assert_eq!(rt; calls.load(Ordering::SeqCst), 0);
+            holds(
+                &rt,
+                refusal == ServeRefusal::Memory || refusal == ServeRefusal::Thread,
+            );
+            equal(&rt, calls.load(Ordering::SeqCst), 0);
             // Each thread that held a line is gone.
-            assert_eq!(rt; Arc::strong_count(&calls), 1);
+            equal(&rt, Arc::strong_count(&calls), 1);
         }
     }
     Ok(())

@@ -1,6 +1,7 @@
 //! Clients over TCP, in the same process.
 ghost use Rattle.std.specs.Prelude.{◌≤◌};
 
+use crate::asserting::equal;
 use mc_server::StillClock;
 use mc_threads::{Sizes, serve_tcp};
 use std::alloc::Global;
@@ -66,7 +67,7 @@ fn a_client_is_served(rt: HostRuntime) -> Result<(), Fail> {
     let commands = b"set a 0 0 1\r\nx\r\nget a\r\nquit\r\n";
     let (replies, ended) = serve_client(&rt, rt.alloc(), 64, 256, commands)?;
     let expected = b"STORED\r\nVALUE a 0 1\r\nx\r\nEND\r\n";
-    assert_eq!(rt; replies.as_slice(), expected.as_slice());
-    assert_eq!(rt; ended, Some(1));
+    equal(&rt, replies.as_slice(), expected.as_slice());
+    equal(&rt, ended, Some(1));
     Ok(())
 }

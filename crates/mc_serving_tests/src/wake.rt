@@ -1,4 +1,5 @@
 //! Two threads wake each other, and none is left asleep.
+use crate::asserting::{equal, holds};
 use mc_wake::{Patience, Sleeper, Waker};
 use std::alloc::{AllocError, Global};
 use std::sync::atomic::{AtomicU64, Ordering};
@@ -55,14 +56,14 @@ fn both_end_where_they_sleep_at_once(rt: HostRuntime) -> Result<(), Fail> {
         yields: 0,
     };
     let turns = turns_of_two(&rt, rt.alloc(), patience)?;
-    assert_eq!(rt; turns, 2 * ROUNDS);
+    equal(&rt, turns, 2 * ROUNDS);
     Ok(())
 }
 
 #[test]
 fn both_end_where_they_look_again_first(rt: HostRuntime) -> Result<(), Fail> {
     let turns = turns_of_two(&rt, rt.alloc(), Patience::among(&rt, 2))?;
-    assert_eq!(rt; turns, 2 * ROUNDS);
+    equal(&rt, turns, 2 * ROUNDS);
     Ok(())
 }
 
@@ -71,12 +72,12 @@ fn a_call_is_told_once(rt: HostRuntime) -> Result<(), Fail> {
     let alloc = rt.alloc();
     let sleeper = Sleeper::new(alloc, Patience::among(&rt, 2), 2)?;
     let waker = sleeper.waker()?;
-    assert!(rt; !sleeper.was_called_by(1));
+    holds(&rt, !sleeper.was_called_by(1));
     waker.call(1);
-    assert!(rt; !sleeper.was_called_by(0));
-    assert!(rt; sleeper.was_called_by(1));
-    assert!(rt; !sleeper.was_called_by(1));
+    holds(&rt, !sleeper.was_called_by(0));
+    holds(&rt, sleeper.was_called_by(1));
+    holds(&rt, !sleeper.was_called_by(1));
     waker.call(2);
-    assert!(rt; !sleeper.was_called_by(2));
+    holds(&rt, !sleeper.was_called_by(2));
     Ok(())
 }

@@ -2,6 +2,7 @@
 //! alone or with all that follow it: where something that a call needs can't be made, its test ends.
 ghost use Rattle.std.specs.Prelude.{◌<◌, ◌≤◌};
 
+use crate::asserting::{equal, holds};
 use crate::memory_line::MemoryLine;
 use mc_command::{Command, Refusal, StoreMode};
 use mc_conn::{Conn, Taken};
@@ -54,25 +55,25 @@ fn words_numbers_and_items(rt: HostRuntime) {
         return;
     };
     let mut walk = words(b" a  bc ");
-    assert_eq!(rt; walk.next(), Some(b"a".as_slice()));
-    assert_eq!(rt; walk.next(), Some(b"bc".as_slice()));
-    assert_eq!(rt; walk.next(), None);
-    assert_eq!(rt; number_u64(b"18446744073709551615"), Ok(u64::MAX));
-    assert_eq!(rt; number_i64(b"-17"), Ok(-17));
-    assert_eq!(rt; key.bytes(), b"a".as_slice());
-    assert!(rt; key.place(16) < 16);
-    assert_eq!(rt; expiry(10, 1_000), Expiry::At(1_010));
-    assert!(rt; !item.is_dead(1_009));
-    assert!(rt; item.is_dead(1_010));
-    assert_eq!(rt; item.number(), Some(17));
-    assert!(rt; Answer::Stored.is_lawful(Kind::Store));
-    assert!(rt; put_all(&mut line, b"abc").is_ok());
-    assert_eq!(rt; line.output.as_slice(), b"abc".as_slice());
+    equal(&rt, walk.next(), Some(b"a".as_slice()));
+    equal(&rt, walk.next(), Some(b"bc".as_slice()));
+    equal(&rt, walk.next(), None);
+    equal(&rt, number_u64(b"18446744073709551615"), Ok(u64::MAX));
+    equal(&rt, number_i64(b"-17"), Ok(-17));
+    equal(&rt, key.bytes(), b"a".as_slice());
+    holds(&rt, key.place(16) < 16);
+    equal(&rt, expiry(10, 1_000), Expiry::At(1_010));
+    holds(&rt, !item.is_dead(1_009));
+    holds(&rt, item.is_dead(1_010));
+    equal(&rt, item.number(), Some(17));
+    holds(&rt, Answer::Stored.is_lawful(Kind::Store));
+    holds(&rt, put_all(&mut line, b"abc").is_ok());
+    equal(&rt, line.output.as_slice(), b"abc".as_slice());
 }
 
-/// What comes next of a stream, by name.
-fn next(alloc: Global, reader: &mut Reader) -> &'static str {
-    match reader.next(alloc) {
+/// The name of what came of a stream.
+fn name_of(next: &Next) -> &'static str {
+    match next {
         Next::Command(Command::MetaNoop) => "mn",
         Next::Command(Command::Version) => "version",
         Next::Command(Command::Verbosity { .. }) => "verbosity",
@@ -85,11 +86,16 @@ fn next(alloc: Global, reader: &mut Reader) -> &'static str {
     }
 }
 
+/// What comes next of a stream, by name.
+fn next(alloc: Global, reader: &mut Reader) -> &'static str {
+    name_of(&reader.next(alloc))
+}
+
 /// Feeds the bytes, all of which are taken, and asserts what comes then.
 fn reads(rt: &impl Abort, alloc: Global, reader: &mut Reader, bytes: &[u8], names: &[&str]) {
-    assert_eq!(rt; reader.feed(bytes), bytes.len());
+    equal(rt, reader.feed(bytes), bytes.len());
     for name in names {
-        assert_eq!(rt; next(alloc, reader), *name);
+        equal(rt, next(alloc, reader), *name);
     }
 }
 
@@ -104,11 +110,11 @@ fn lines_without_a_key_and_skipped_blocks(rt: HostRuntime) {
     reads(&rt, alloc, &mut reader, lines, &names);
     // A line that is refused, whose block is longer than what is held at most.
     reads(&rt, alloc, &mut reader, b"set a 0 0 65536 x\r\n", &["more"]);
-    assert!(rt; reader.is_skipping());
+    holds(&rt, reader.is_skipping());
     reads(&rt, alloc, &mut reader, &LONG, &["more"]);
-    assert!(rt; reader.held() <= LINE_LIMIT);
+    holds(&rt, reader.held() <= LINE_LIMIT);
     reads(&rt, alloc, &mut reader, b"\r\nmn\r\n", &["another"]);
-    assert!(rt; reader.whole());
+    holds(&rt, reader.whole());
     reads(
         &rt,
         alloc,
@@ -120,20 +126,20 @@ fn lines_without_a_key_and_skipped_blocks(rt: HostRuntime) {
     reads(&rt, alloc, &mut reader, &LONG, &["too long", "closed"]);
     reader.reset();
     reader.end();
-    assert_eq!(rt; reader.feed(b"mn\r\n"), 0);
-    assert_eq!(rt; next(alloc, &mut reader), "closed");
+    equal(&rt, reader.feed(b"mn\r\n"), 0);
+    equal(&rt, next(alloc, &mut reader), "closed");
 }
 
 /// Asks the shard, and asserts the name of its answer.
 fn asks(rt: &impl Abort, alloc: Global, shard: &mut Shard, op: Op, name: &str) {
-    let found = match shard.run(alloc, op, 1_000) {
+    let found = match &shard.run(alloc, op, 1_000) {
         Answer::Stored => "stored",
         Answer::Touched => "touched",
         Answer::Deleted => "deleted",
         Answer::Done => "done",
         _ => "another",
     };
-    assert_eq!(rt; found, name);
+    equal(rt, found, name);
 }
 
 /// A set of `17` under the key `a`.
@@ -198,9 +204,9 @@ fn operations_on_a_present_key(rt: HostRuntime) {
         Op::Delete { key: deleted },
         "deleted",
     );
-    assert_eq!(rt; shard.len(), 0);
+    equal(&rt, shard.len(), 0);
     asks(&rt, alloc, &mut shard, Op::Flush { delay: 0 }, "done");
-    assert_eq!(rt; shard.now(), 1_000);
+    equal(&rt, shard.now(), 1_000);
 }
 
 fn piece(ticket: u64) -> Piece {
@@ -250,15 +256,15 @@ fn rings_that_have_room(rt: HostRuntime) {
     let (Some(mut seat), Some(mut shard)) = (seats.pop(), shards.pop()) else {
         return;
     };
-    assert!(rt; is_sent(&mut seat, Parcel::Piece(piece(0))));
-    assert!(rt; is_sent(&mut seat, Parcel::Piece(piece(1))));
-    assert!(rt; is_sent(&mut seat, Parcel::End));
+    holds(&rt, is_sent(&mut seat, Parcel::Piece(piece(0))));
+    holds(&rt, is_sent(&mut seat, Parcel::Piece(piece(1))));
+    holds(&rt, is_sent(&mut seat, Parcel::End));
     for ticket in 0..2 {
-        assert!(rt; matches!(taken(&mut shard), Some(Parcel::Piece(_))));
-        assert!(rt; is_given(&mut shard, ticket));
-        assert_eq!(rt; received(&mut seat), Some(ticket));
+        holds(&rt, matches!(taken(&mut shard), Some(Parcel::Piece(_))));
+        holds(&rt, is_given(&mut shard, ticket));
+        equal(&rt, received(&mut seat), Some(ticket));
     }
-    assert!(rt; matches!(taken(&mut shard), Some(Parcel::End)));
+    holds(&rt, matches!(taken(&mut shard), Some(Parcel::End)));
 }
 
 /// Misses the next piece of the connection, which is put back once.
@@ -272,9 +278,9 @@ fn misses(rt: &impl Abort, conn: &mut Conn) {
         assert!(rt; false, "it was put back");
         return;
     };
-    assert!(rt; Answer::Miss.is_lawful(Kind::Fetch));
+    holds(rt, Answer::Miss.is_lawful(Kind::Fetch));
     let reply = Reply::new(piece.ticket, piece.part, Kind::Fetch, Answer::Miss);
-    assert!(rt; conn.accept(reply).is_ok());
+    holds(rt, conn.accept(reply).is_ok());
 }
 
 #[test]
@@ -287,26 +293,26 @@ fn a_connection_whose_commands_are_taken(rt: HostRuntime) {
         return;
     };
     let bytes = b"get a b\r\nmn\r\n";
-    assert_eq!(rt; conn.feed(bytes), bytes.len());
-    assert!(rt; matches!(conn.take(alloc, 1_000), Taken::Opened(_)));
+    equal(&rt, conn.feed(bytes), bytes.len());
+    holds(&rt, matches!(conn.take(alloc, 1_000), Taken::Opened(_)));
     if conn.passes() > 0 {
         // The get found no memory.
         return;
     }
     misses(&rt, &mut conn);
     misses(&rt, &mut conn);
-    assert!(rt; conn.next_piece().is_none());
-    assert!(rt; conn.whole());
-    assert!(rt; matches!(conn.take(alloc, 1_000), Taken::Opened(_)));
-    assert_eq!(rt; conn.ready(), 9);
-    assert_eq!(rt; conn.hand(&mut line), Ok(2));
-    assert_eq!(rt; line.output.as_slice(), b"END\r\nMN\r\n".as_slice());
-    assert!(rt; conn.is_at_rest());
+    holds(&rt, conn.next_piece().is_none());
+    holds(&rt, conn.whole());
+    holds(&rt, matches!(conn.take(alloc, 1_000), Taken::Opened(_)));
+    equal(&rt, conn.ready(), 9);
+    equal(&rt, conn.hand(&mut line), Ok(2));
+    equal(&rt, line.output.as_slice(), b"END\r\nMN\r\n".as_slice());
+    holds(&rt, conn.is_at_rest());
     conn.end();
-    assert!(rt; conn.renew());
-    assert_eq!(rt; conn.feed(b"mn\r\n"), 4);
+    holds(&rt, conn.renew());
+    equal(&rt, conn.feed(b"mn\r\n"), 4);
     conn.broken();
-    assert_eq!(rt; conn.hand(&mut line), Ok(0));
-    assert!(rt; conn.is_at_rest());
-    assert!(rt; conn.renew());
+    equal(&rt, conn.hand(&mut line), Ok(0));
+    holds(&rt, conn.is_at_rest());
+    holds(&rt, conn.renew());
 }

@@ -1,6 +1,7 @@
 //! A worker between two seats, on rings of one place.
 ghost use Rattle.mc_ring.specs.Ends.{AreSameEnds};
 
+use crate::asserting::{equal, holds};
 use mc_core::{Gate, OpenGate, Turn, Worker};
 use mc_item::Op;
 use mc_ring::{Parcel, SeatEnds, lanes};
@@ -88,19 +89,19 @@ fn two_seats(alloc: Global, hasher: RandomState) -> Result<(SeatEnds, SeatEnds, 
 fn a_full_ring_holds_the_worker_up(rt: HostRuntime) -> Result<(), Fail> {
     let alloc = rt.alloc();
     let (mut first, mut second, mut worker) = two_seats(alloc, RandomState::new(&rt)?)?;
-    assert_eq!(rt; turn(alloc, &mut worker, 0), Some(Turn::Nothing));
-    assert!(rt; sends(&mut first, piece(0)));
-    assert_eq!(rt; turn(alloc, &mut worker, 0), ran(0));
-    assert!(rt; sends(&mut first, piece(1)));
-    assert!(rt; sends(&mut second, piece(0)));
-    assert_eq!(rt; turn(alloc, &mut worker, 1), Some(Turn::Gave));
-    assert_eq!(rt; turn(alloc, &mut worker, 0), ran(1));
-    assert_eq!(rt; turn(alloc, &mut worker, 0), Some(Turn::Blocked));
-    assert_eq!(rt; turn(alloc, &mut worker, 1), Some(Turn::Blocked));
-    assert_eq!(rt; receives(&mut first), Some(0));
-    assert_eq!(rt; turn(alloc, &mut worker, 1), Some(Turn::Gave));
-    assert_eq!(rt; receives(&mut first), Some(1));
-    assert_eq!(rt; turn(alloc, &mut worker, 1), ran(0));
+    equal(&rt, turn(alloc, &mut worker, 0), Some(Turn::Nothing));
+    holds(&rt, sends(&mut first, piece(0)));
+    equal(&rt, turn(alloc, &mut worker, 0), ran(0));
+    holds(&rt, sends(&mut first, piece(1)));
+    holds(&rt, sends(&mut second, piece(0)));
+    equal(&rt, turn(alloc, &mut worker, 1), Some(Turn::Gave));
+    equal(&rt, turn(alloc, &mut worker, 0), ran(1));
+    equal(&rt, turn(alloc, &mut worker, 0), Some(Turn::Blocked));
+    equal(&rt, turn(alloc, &mut worker, 1), Some(Turn::Blocked));
+    equal(&rt, receives(&mut first), Some(0));
+    equal(&rt, turn(alloc, &mut worker, 1), Some(Turn::Gave));
+    equal(&rt, receives(&mut first), Some(1));
+    equal(&rt, turn(alloc, &mut worker, 1), ran(0));
     Ok(())
 }
 
@@ -108,13 +109,13 @@ fn a_full_ring_holds_the_worker_up(rt: HostRuntime) -> Result<(), Fail> {
 fn it_has_ended_when_every_lane_has(rt: HostRuntime) -> Result<(), Fail> {
     let alloc = rt.alloc();
     let (mut first, mut second, mut worker) = two_seats(alloc, RandomState::new(&rt)?)?;
-    assert!(rt; sends(&mut second, Parcel::End));
-    assert_eq!(rt; turn(alloc, &mut worker, 1), Some(Turn::Ended));
-    assert_eq!(rt; turn(alloc, &mut worker, 1), Some(Turn::Nothing));
-    assert!(rt; !worker.ended());
-    assert!(rt; sends(&mut first, Parcel::End));
-    assert_eq!(rt; turn(alloc, &mut worker, 0), Some(Turn::Ended));
-    assert!(rt; worker.ended());
+    holds(&rt, sends(&mut second, Parcel::End));
+    equal(&rt, turn(alloc, &mut worker, 1), Some(Turn::Ended));
+    equal(&rt, turn(alloc, &mut worker, 1), Some(Turn::Nothing));
+    holds(&rt, !worker.ended());
+    holds(&rt, sends(&mut first, Parcel::End));
+    equal(&rt, turn(alloc, &mut worker, 0), Some(Turn::Ended));
+    holds(&rt, worker.ended());
     Ok(())
 }
 
@@ -123,18 +124,19 @@ fn a_seat_is_served_until_nothing_waits(rt: HostRuntime) -> Result<(), Fail> {
     let alloc = rt.alloc();
     let (mut first, mut second, mut worker) = two_seats(alloc, RandomState::new(&rt)?)?;
     let mut given = [false, false];
-    assert_eq!(rt; serve(alloc, &mut worker, 1, &mut given), Some(false));
-    assert!(rt; sends(&mut second, piece(4)));
-    assert_eq!(rt; serve(alloc, &mut worker, 1, &mut given), Some(true));
-    assert_eq!(rt; given, [false, true]);
-    assert!(rt; sends(&mut first, piece(7)));
-    assert_eq!(rt; serve(alloc, &mut worker, 0, &mut given), Some(true));
-    assert_eq!(rt; given, [true, true]);
-    assert_eq!(rt;
+    equal(&rt, serve(alloc, &mut worker, 1, &mut given), Some(false));
+    holds(&rt, sends(&mut second, piece(4)));
+    equal(&rt, serve(alloc, &mut worker, 1, &mut given), Some(true));
+    equal(&rt, given, [false, true]);
+    holds(&rt, sends(&mut first, piece(7)));
+    equal(&rt, serve(alloc, &mut worker, 0, &mut given), Some(true));
+    equal(&rt, given, [true, true]);
+    equal(
+        &rt,
         (receives(&mut first), receives(&mut second)),
-        (Some(7), Some(4))
+        (Some(7), Some(4)),
     );
-    assert_eq!(rt; serve(alloc, &mut worker, 0, &mut given), Some(false));
+    equal(&rt, serve(alloc, &mut worker, 0, &mut given), Some(false));
     Ok(())
 }
 
@@ -145,12 +147,12 @@ fn what_waits_for_a_worker_is_counted(rt: HostRuntime) -> Result<(), Fail> {
     let shard = Shard::new(alloc, RandomState::new(&rt)?, 0, 1, BUDGET, 0, VALUE_LIMIT)?;
     let mut worker = Worker::new(alloc, shard, shards.remove(0))?;
     let seat = &mut seats[0];
-    assert_eq!(rt; worker.beside(seat), (0, 0));
-    assert!(rt; sends(seat, piece(7)));
-    assert_eq!(rt; worker.beside(seat), (1, 0));
-    assert_eq!(rt; turn(alloc, &mut worker, 0), ran(7));
-    assert_eq!(rt; turn(alloc, &mut worker, 0), Some(Turn::Gave));
-    assert_eq!(rt; worker.beside(seat), (0, 1));
+    equal(&rt, worker.beside(seat), (0, 0));
+    holds(&rt, sends(seat, piece(7)));
+    equal(&rt, worker.beside(seat), (1, 0));
+    equal(&rt, turn(alloc, &mut worker, 0), ran(7));
+    equal(&rt, turn(alloc, &mut worker, 0), Some(Turn::Gave));
+    equal(&rt, worker.beside(seat), (0, 1));
     Ok(())
 }
 
@@ -169,12 +171,12 @@ fn the_gate_is_asked_before_a_piece(rt: HostRuntime) -> Result<(), Fail> {
     let alloc = rt.alloc();
     let (_first, mut second, mut worker) = two_seats(alloc, RandomState::new(&rt)?)?;
     let gate = Watched(Cell::new(0));
-    assert!(rt; worker.seats() == 2);
+    holds(&rt, worker.seats() == 2);
     worker.turn(alloc, 1, &gate);
-    assert_eq!(rt; gate.0.get(), 0);
-    assert!(rt; sends(&mut second, piece(5)));
-    assert!(rt; worker.seats() == 2);
+    equal(&rt, gate.0.get(), 0);
+    holds(&rt, sends(&mut second, piece(5)));
+    holds(&rt, worker.seats() == 2);
     worker.turn(alloc, 1, &gate);
-    assert_eq!(rt; gate.0.get(), 5);
+    equal(&rt, gate.0.get(), 5);
     Ok(())
 }
