@@ -2,6 +2,7 @@
 //! memory is ample, and the texts of whole conversations.
 ghost use Rattle.std.specs.Prelude.{◌<◌};
 
+use crate::asserting::{equal, holds};
 use crate::outlet::{Memory, outlet, outlet_over};
 use mc_conn::{Conn, Taken};
 use mc_item::{Answer, Kind};
@@ -31,32 +32,32 @@ fn fed(rt: &impl Abort, alloc: Global, window: usize, bytes: &[u8]) -> Result<Co
 
 /// Asserts that so many of the bytes are taken in.
 fn feeds(rt: &impl Abort, conn: &mut Conn, bytes: &[u8], count: usize) {
-    assert_eq!(rt; conn.feed(bytes), count);
+    equal(rt, conn.feed(bytes), count);
 }
 
 /// Asserts what comes of the next command.
 fn takes(rt: &impl Abort, alloc: Global, conn: &mut Conn, want: Taken) {
-    assert_eq!(rt; conn.take(alloc, 1000), want);
+    equal(rt, conn.take(alloc, 1000), want);
 }
 
 /// Asserts that a reply is taken in.
 fn accepts(rt: &impl Abort, conn: &mut Conn, reply: Reply) {
-    assert!(rt; conn.accept(reply).is_ok());
+    holds(rt, conn.accept(reply).is_ok());
 }
 
 /// Asserts that the replies of so many commands go out.
 fn hands(rt: &impl Abort, conn: &mut Conn, out: &mut Memory, count: u64) {
-    assert!(rt; conn.hand(out) == Ok(count));
+    holds(rt, conn.hand(out) == Ok(count));
 }
 
 /// Asserts whether the connection is at rest, and may so be used again.
 fn renews(rt: &impl Abort, conn: &mut Conn, is_at_rest: bool) {
-    assert_eq!(rt; conn.is_at_rest(), is_at_rest);
-    assert_eq!(rt; conn.renew(), is_at_rest);
+    equal(rt, conn.is_at_rest(), is_at_rest);
+    equal(rt, conn.renew(), is_at_rest);
 }
 
 fn reply(rt: &impl Abort, ticket: u64, part: usize, kind: Kind, answer: Answer) -> Reply {
-    assert!(rt; answer.is_lawful(kind));
+    holds(rt, answer.is_lawful(kind));
     Reply::new(Ticket(ticket), part, kind, answer)
 }
 
@@ -98,7 +99,7 @@ fn serve(rt: &impl Abort, alloc: Global, conn: &mut Conn, out: &mut Memory) -> T
     for _ in 0..CONVERSATION.len() {
         let taken = take_all(alloc, conn);
         answer_all(rt, conn);
-        assert!(rt; conn.hand(out).is_ok());
+        holds(rt, conn.hand(out).is_ok());
         if taken != Taken::Full {
             return taken;
         }
@@ -118,8 +119,8 @@ fn converses(rt: &impl Abort, alloc: Global, window: usize, size: usize) -> Resu
         feeds(rt, &mut conn, piece, piece.len());
         taken = serve(rt, alloc, &mut conn, &mut out);
     }
-    assert_eq!(rt; taken, Taken::Closed);
-    assert_eq!(rt; out.taken.as_slice(), REPLIES);
+    equal(rt, taken, Taken::Closed);
+    equal(rt, out.taken.as_slice(), REPLIES);
     renews(rt, &mut conn, true);
     Ok(())
 }
@@ -145,7 +146,7 @@ fn answers_in_order(rt: &impl Abort, alloc: Global, order: [u64; 3]) -> Result<(
         b"touch a 0\r\nstats\r\ndelete b noreply\r\ntouch c 0\r\n",
     )?;
     let mut out = outlet(alloc, usize::MAX);
-    assert_eq!(rt; take_all(alloc, &mut conn), Taken::Full);
+    equal(rt, take_all(alloc, &mut conn), Taken::Full);
     let mut answered = [false; 4];
     for ticket in order {
         let kind = if ticket == 2 {
@@ -162,16 +163,16 @@ fn answers_in_order(rt: &impl Abort, alloc: Global, order: [u64; 3]) -> Result<(
         ];
         let ready = conn.ready();
         let before = out.taken.len() as u64;
-        assert!(rt; conn.hand(&mut out).is_ok());
-        assert_eq!(rt; out.taken.len() as u64, before.saturating_add(ready));
+        holds(rt, conn.hand(&mut out).is_ok());
+        equal(rt, out.taken.len() as u64, before.saturating_add(ready));
         let text: &[u8] = match answered {
             [false, ..] => b"",
             [true, _, false, _] | [true, _, _, false] => b"NOT_FOUND\r\nERROR\r\n",
             [true, _, true, true] => b"NOT_FOUND\r\nERROR\r\nNOT_FOUND\r\n",
         };
-        assert_eq!(rt; out.taken.as_slice(), text);
+        equal(rt, out.taken.as_slice(), text);
     }
-    assert!(rt; !conn.is_at_rest());
+    holds(rt, !conn.is_at_rest());
     Ok(())
 }
 
@@ -207,15 +208,16 @@ fn the_last_command_closes_a_full_window(rt: HostRuntime) -> Result<(), Fail> {
     feeds(&rt, &mut conn, b"mn\r\n", 4);
     takes(&rt, alloc, &mut conn, Taken::Opened(Ticket(0)));
     feeds(&rt, &mut conn, &LONG, 65_536);
-    assert_eq!(rt; conn.held(), 65_536);
+    equal(&rt, conn.held(), 65_536);
     takes(&rt, alloc, &mut conn, Taken::Full);
     hands(&rt, &mut conn, &mut out, 1);
     takes(&rt, alloc, &mut conn, Taken::Opened(Ticket(1)));
     takes(&rt, alloc, &mut conn, Taken::Closed);
     hands(&rt, &mut conn, &mut out, 1);
-    assert_eq!(rt;
+    equal(
+        &rt,
         out.taken.as_slice(),
-        b"MN\r\nMN\r\nCLIENT_ERROR line too long\r\n".as_slice()
+        b"MN\r\nMN\r\nCLIENT_ERROR line too long\r\n".as_slice(),
     );
     Ok(())
 }
@@ -225,12 +227,12 @@ fn fails_after(rt: &impl Abort, alloc: Global, left: usize) -> Result<(), Fail> 
     let text = b"END\r\nMN\r\n".as_slice();
     let mut conn = fed(rt, alloc, 4, b"get a\r\nmn\r\n")?;
     let mut out = outlet(alloc, left);
-    assert_eq!(rt; take_all(alloc, &mut conn), Taken::NeedMore);
+    equal(rt, take_all(alloc, &mut conn), Taken::NeedMore);
     answer_all(rt, &mut conn);
-    assert!(rt; conn.hand(&mut out).is_err());
+    holds(rt, conn.hand(&mut out).is_err());
     let (front, _) = text.split_at(left.min(text.len()));
-    assert_eq!(rt; out.taken.as_slice(), front);
-    assert_eq!(rt; conn.ready(), 0);
+    equal(rt, out.taken.as_slice(), front);
+    equal(rt, conn.ready(), 0);
     hands(rt, &mut conn, &mut out, 0);
     feeds(rt, &mut conn, b"mn\r\n", 0);
     takes(rt, alloc, &mut conn, Taken::Closed);
@@ -252,7 +254,7 @@ fn a_broken_connection_still_answers_its_pieces(rt: HostRuntime) -> Result<(), F
     let alloc = rt.alloc();
     let mut out = outlet(alloc, usize::MAX);
     let mut conn = fed(&rt, alloc, 4, b"get a b\r\nget c\r\n")?;
-    assert_eq!(rt; take_all(alloc, &mut conn), Taken::NeedMore);
+    equal(&rt, take_all(alloc, &mut conn), Taken::NeedMore);
     let Some((shard, piece)) = conn.next_piece() else {
         return Err(Fail::from("no piece"));
     };
@@ -263,14 +265,14 @@ fn a_broken_connection_still_answers_its_pieces(rt: HostRuntime) -> Result<(), F
     hands(&rt, &mut conn, &mut out, 0);
     renews(&rt, &mut conn, true);
     feeds(&rt, &mut conn, b"get", 3);
-    assert!(rt; !conn.whole());
+    holds(&rt, !conn.whole());
     takes(&rt, alloc, &mut conn, Taken::NeedMore);
-    assert_eq!(rt; conn.held(), 3);
+    equal(&rt, conn.held(), 3);
     feeds(&rt, &mut conn, b" d\r\n", 4);
-    assert!(rt; conn.whole());
+    holds(&rt, conn.whole());
     conn.end();
-    assert_eq!(rt; serve(&rt, alloc, &mut conn, &mut out), Taken::Closed);
-    assert_eq!(rt; out.taken.as_slice(), b"END\r\n".as_slice());
+    equal(&rt, serve(&rt, alloc, &mut conn, &mut out), Taken::Closed);
+    equal(&rt, out.taken.as_slice(), b"END\r\n".as_slice());
     Ok(())
 }
 
@@ -286,9 +288,9 @@ fn is_stranger(
     let Err(Stranger { reply }) = conn.accept(reply(rt, ticket, part, kind, answer)) else {
         return rt.abort();
     };
-    assert_eq!(rt; reply.ticket, Ticket(ticket));
-    assert_eq!(rt; reply.part, part);
-    assert_eq!(rt; reply.kind, kind);
+    equal(rt, reply.ticket, Ticket(ticket));
+    equal(rt, reply.part, part);
+    equal(rt, reply.kind, kind);
 }
 
 #[test]
@@ -308,7 +310,7 @@ fn strangers_are_handed_back(rt: HostRuntime) -> Result<(), Fail> {
     accepts(&rt, &mut conn, first);
     hands(&rt, &mut conn, &mut out, 1);
     is_stranger(&rt, &mut conn, 0, 0, Kind::Fetch, Answer::Miss);
-    assert_eq!(rt; out.taken.as_slice(), b"END\r\n".as_slice());
+    equal(&rt, out.taken.as_slice(), b"END\r\n".as_slice());
     Ok(())
 }
 
@@ -324,15 +326,16 @@ fn a_refused_allocation_gives_up_one_command(rt: HostRuntime) {
         return;
     };
     let bytes = b"get a b\r\nset c 0 0 4\r\nmn\r\n\r\nmn\r\n";
-    assert_eq!(&rt; conn.feed(bytes), bytes.len());
-    assert_eq!(&rt; take_all(alloc, &mut conn), Taken::NeedMore);
+    equal(&rt, conn.feed(bytes), bytes.len());
+    equal(&rt, take_all(alloc, &mut conn), Taken::NeedMore);
     answer_all(&rt, &mut conn);
-    assert!(&rt; conn.hand(&mut out).is_ok());
+    holds(&rt, conn.hand(&mut out).is_ok());
     let text = out.taken.as_slice();
-    assert!(&rt;
+    holds(
+        &rt,
         text == b"END\r\nSTORED\r\nMN\r\n".as_slice()
             || text == b"SERVER_ERROR out of memory\r\nSTORED\r\nMN\r\n".as_slice()
-            || text == b"END\r\nSERVER_ERROR out of memory\r\nMN\r\n".as_slice()
+            || text == b"END\r\nSERVER_ERROR out of memory\r\nMN\r\n".as_slice(),
     );
-    assert!(&rt; conn.is_at_rest());
+    holds(&rt, conn.is_at_rest());
 }

@@ -3,6 +3,7 @@ ghost use Rattle.std.specs.Prelude.{◌≡◌, ◌+◌, ◌≤◌, Some, IfOk, I
 ghost use Rattle.mc_wire.specs.Outlet.{Listed, Untold, sight_out};
 ghost use Rattle.mc_join.specs.Held.{opened_count};
 
+use crate::asserting::{equal, holds};
 use crate::outlet::{Memory, outlet};
 use mc_command::{Command, Keys, Retrieval};
 use mc_item::{Answer, Kind, Value};
@@ -69,7 +70,7 @@ fn hit(alloc: Global, value: &[u8]) -> Result<Answer, Fail> {
 }
 
 fn reply(rt: &impl Abort, ticket: u64, part: usize, kind: Kind, answer: Answer) -> Reply {
-    assert!(rt; answer.is_lawful(kind));
+    holds(rt, answer.is_lawful(kind));
     Reply::new(Ticket(ticket), part, kind, answer)
 }
 
@@ -78,7 +79,7 @@ fn open(rt: &impl Abort, joiner: &mut Joiner, form: Form)
     requires { form.ticket.0 ≡ opened_count joiner.old }
     ensures { opened_count joiner.new ≡ opened_count joiner.old + 1 }
 {
-    assert!(rt; joiner.open(form).is_ok());
+    holds(rt, joiner.open(form).is_ok());
 }
 
 /// Whether the reply was taken in.
@@ -93,10 +94,10 @@ fn hands(rt: &impl Abort, alloc: Global, joiner: &mut Joiner, commands: u64, tex
     ensures { opened_count joiner.new ≡ opened_count joiner.old }
 {
     let mut out = outlet(alloc, usize::MAX);
-    assert_eq!(rt; joiner.ready(), text.len() as u64);
-    assert_eq!(rt; joiner.hand(&mut out), Ok(commands));
-    assert_eq!(rt; out.taken.as_slice(), text);
-    assert_eq!(rt; joiner.ready(), 0);
+    equal(rt, joiner.ready(), text.len() as u64);
+    equal(rt, joiner.hand(&mut out), Ok(commands));
+    equal(rt, out.taken.as_slice(), text);
+    equal(rt, joiner.ready(), 0);
 }
 
 #[test]
@@ -104,17 +105,17 @@ fn a_get_waits_for_its_first_key(rt: HostRuntime) -> Result<(), Fail> {
     let alloc = rt.alloc();
     let mut joiner = Joiner::new(alloc, 1)?;
     open(&rt, &mut joiner, get(alloc, Ticket(0), &[b"a", b"b"])?);
-    assert_eq!(rt; joiner.waiting(), 1);
+    equal(&rt, joiner.waiting(), 1);
     let miss = reply(&rt, 0, 1, Kind::Fetch, Answer::Miss);
-    assert!(rt; takes(&mut joiner, miss));
+    holds(&rt, takes(&mut joiner, miss));
     hands(&rt, alloc, &mut joiner, 0, b"");
     let again = reply(&rt, 0, 1, Kind::Fetch, Answer::Miss);
-    assert!(rt; !takes(&mut joiner, again));
+    holds(&rt, !takes(&mut joiner, again));
     let found = reply(&rt, 0, 0, Kind::Fetch, hit(alloc, b"x")?);
-    assert!(rt; takes(&mut joiner, found));
-    assert_eq!(rt; joiner.ready(), 21);
+    holds(&rt, takes(&mut joiner, found));
+    equal(&rt, joiner.ready(), 21);
     hands(&rt, alloc, &mut joiner, 1, b"VALUE a 0 1\r\nx\r\nEND\r\n");
-    assert_eq!(rt; joiner.waiting(), 0);
+    equal(&rt, joiner.waiting(), 0);
     Ok(())
 }
 
@@ -150,9 +151,10 @@ fn accept_in_order(
             hit(alloc, values[part])?
         };
         let fresh = part < count && !seen[part];
-        assert_eq!(rt;
+        equal(
+            rt,
             takes(joiner, reply(rt, 0, part, Kind::Fetch, answer)),
-            fresh
+            fresh,
         );
         seen[part] = true;
     }
@@ -198,11 +200,11 @@ fn a_repeated_key_is_shown_each_time(rt: HostRuntime) -> Result<(), Fail> {
         get(alloc, Ticket(0), &[b"a", b"b", b"a"])?,
     );
     let last = reply(&rt, 0, 2, Kind::Fetch, hit(alloc, b"2")?);
-    assert!(rt; takes(&mut joiner, last));
+    holds(&rt, takes(&mut joiner, last));
     let first = reply(&rt, 0, 0, Kind::Fetch, hit(alloc, b"1")?);
-    assert!(rt; takes(&mut joiner, first));
+    holds(&rt, takes(&mut joiner, first));
     let middle = reply(&rt, 0, 1, Kind::Fetch, Answer::Miss);
-    assert!(rt; takes(&mut joiner, middle));
+    holds(&rt, takes(&mut joiner, middle));
     hands(
         &rt,
         alloc,
@@ -227,9 +229,9 @@ fn is_stranger(
     match joiner.accept(reply(rt, ticket, part, kind, answer)) {
         Ok(()) => panic!(rt; "taken in"),
         Err(Stranger { reply }) => {
-            assert_eq!(rt; reply.ticket, Ticket(ticket));
-            assert_eq!(rt; reply.part, part);
-            assert_eq!(rt; reply.kind, kind);
+            equal(rt, reply.ticket, Ticket(ticket));
+            equal(rt, reply.part, part);
+            equal(rt, reply.kind, kind);
         }
     }
 }
@@ -247,15 +249,15 @@ fn strangers_are_handed_back(rt: HostRuntime) -> Result<(), Fail> {
     is_stranger(&rt, &mut joiner, u64::MAX, 0, Kind::Fetch, Answer::Miss);
     is_stranger(&rt, &mut joiner, 0, 0, Kind::MetaGet, Answer::Miss);
     let first = reply(&rt, 0, 0, Kind::Fetch, Answer::Miss);
-    assert!(rt; takes(&mut joiner, first));
+    holds(&rt, takes(&mut joiner, first));
     // A part that is answered, whatever the second answer says.
     is_stranger(&rt, &mut joiner, 0, 0, Kind::Fetch, hit(alloc, b"x")?);
     let second = reply(&rt, 0, 1, Kind::Fetch, Answer::Miss);
-    assert!(rt; takes(&mut joiner, second));
+    holds(&rt, takes(&mut joiner, second));
     hands(&rt, alloc, &mut joiner, 1, b"END\r\n");
     // A ticket that was closed.
     is_stranger(&rt, &mut joiner, 0, 0, Kind::Fetch, Answer::Miss);
-    assert_eq!(rt; joiner.waiting(), 0);
+    equal(&rt, joiner.waiting(), 0);
     Ok(())
 }
 
@@ -269,24 +271,24 @@ fn a_failed_outlet_is_written_to_no_more(rt: HostRuntime) -> Result<(), Fail> {
         open(&rt, &mut joiner, get(alloc, Ticket(1), &[b"a"])?);
         open(&rt, &mut joiner, get(alloc, Ticket(2), &[b"b"])?);
         let miss = reply(&rt, 1, 0, Kind::Fetch, Answer::Miss);
-        assert!(rt; takes(&mut joiner, miss));
+        holds(&rt, takes(&mut joiner, miss));
         let mut out = outlet(alloc, left);
-        assert_eq!(rt; joiner.ready(), 9);
-        assert!(rt; joiner.hand(&mut out).is_err());
-        assert_eq!(rt; out.taken.as_slice(), text.split_at(left).0);
+        equal(&rt, joiner.ready(), 9);
+        holds(&rt, joiner.hand(&mut out).is_err());
+        equal(&rt, out.taken.as_slice(), text.split_at(left).0);
         let writes = out.writes;
-        assert_eq!(rt; joiner.ready(), 0);
+        equal(&rt, joiner.ready(), 0);
         out.allow(99);
-        assert_eq!(rt; joiner.hand(&mut out), Ok(0));
-        assert_eq!(rt; out.taken.len(), left);
-        assert_eq!(rt; out.writes, writes);
+        equal(&rt, joiner.hand(&mut out), Ok(0));
+        equal(&rt, out.taken.len(), left);
+        equal(&rt, out.writes, writes);
         // Answers are still taken in.
         let late = reply(&rt, 2, 0, Kind::Fetch, Answer::Miss);
-        assert!(rt; takes(&mut joiner, late));
-        assert_eq!(rt; joiner.hand(&mut out), Ok(0));
-        assert_eq!(rt; joiner.waiting(), 3);
+        holds(&rt, takes(&mut joiner, late));
+        equal(&rt, joiner.hand(&mut out), Ok(0));
+        equal(&rt, joiner.waiting(), 3);
         joiner.reset();
-        assert_eq!(rt; joiner.waiting(), 0);
+        equal(&rt, joiner.waiting(), 0);
         open(&rt, &mut joiner, noop(alloc, Ticket(0))?);
         hands(&rt, alloc, &mut joiner, 1, b"MN\r\n");
     }
@@ -317,10 +319,10 @@ fn small_replies_go_out_in_one_write(rt: HostRuntime) -> Result<(), Fail> {
     let mut joiner = Joiner::new(alloc, 256)?;
     open_noops(&rt, alloc, &mut joiner, 0, 256)?;
     let mut out = outlet(alloc, usize::MAX);
-    assert_eq!(rt; joiner.ready(), 1024);
-    assert_eq!(rt; joiner.hand(&mut out), Ok(256));
-    assert_eq!(rt; out.taken.len(), 1024);
-    assert_eq!(rt; out.writes, 1);
+    equal(&rt, joiner.ready(), 1024);
+    equal(&rt, joiner.hand(&mut out), Ok(256));
+    equal(&rt, out.taken.len(), 1024);
+    equal(&rt, out.writes, 1);
     Ok(())
 }
 
@@ -333,17 +335,20 @@ fn a_large_value_goes_out_by_itself(rt: HostRuntime) -> Result<(), Fail> {
     open(&rt, &mut joiner, get(alloc, Ticket(1), &[b"a"])?);
     open(&rt, &mut joiner, noop(alloc, Ticket(2))?);
     let found = reply(&rt, 1, 0, Kind::Fetch, hit(alloc, value.as_slice())?);
-    assert!(rt; takes(&mut joiner, found));
+    holds(&rt, takes(&mut joiner, found));
     let mut out = outlet(alloc, usize::MAX);
     let text = b"MN\r\nVALUE a 0 16384\r\n";
     let len = text.len() + 16_384 + b"\r\nEND\r\nMN\r\n".len();
-    assert_eq!(rt; joiner.ready(), len as u64);
-    assert_eq!(rt; joiner.hand(&mut out), Ok(3));
-    assert_eq!(rt; out.taken.len(), len);
-    assert!(rt; out.taken.as_slice().starts_with(text));
-    assert!(rt; out.taken.as_slice().ends_with(b"\x07\r\nEND\r\nMN\r\n"));
+    equal(&rt, joiner.ready(), len as u64);
+    equal(&rt, joiner.hand(&mut out), Ok(3));
+    equal(&rt, out.taken.len(), len);
+    holds(&rt, out.taken.as_slice().starts_with(text));
+    holds(
+        &rt,
+        out.taken.as_slice().ends_with(b"\x07\r\nEND\r\nMN\r\n"),
+    );
     // What stands before the value, the value, and what stands behind it.
-    assert_eq!(rt; out.writes, 3);
+    equal(&rt, out.writes, 3);
     Ok(())
 }
 
@@ -355,16 +360,16 @@ fn a_reply_above_the_room_goes_out_in_few_writes(rt: HostRuntime) -> Result<(), 
     open(&rt, &mut joiner, get_often(alloc, Ticket(0), 100)?);
     for part in 0..100 {
         let found = reply(&rt, 0, part, Kind::Fetch, hit(alloc, value.as_slice())?);
-        assert!(rt; takes(&mut joiner, found));
+        holds(&rt, takes(&mut joiner, found));
     }
     let item = b"VALUE k 0 1024\r\n".len() + 1_024 + b"\r\n".len();
     let len = 100 * item + b"END\r\n".len();
     let mut out = outlet(alloc, usize::MAX);
-    assert_eq!(rt; joiner.ready(), len as u64);
-    assert_eq!(rt; joiner.hand(&mut out), Ok(1));
-    assert_eq!(rt; out.taken.len(), len);
+    equal(&rt, joiner.ready(), len as u64);
+    equal(&rt, joiner.hand(&mut out), Ok(1));
+    equal(&rt, out.taken.len(), len);
     // Fifteen items fill the room.
-    assert_eq!(rt; out.writes, 7);
+    equal(&rt, out.writes, 7);
     Ok(())
 }
 
@@ -397,7 +402,7 @@ fn above_the_room(rt: &impl Abort, alloc: Global) -> Result<Joiner, Fail> {
     open(rt, &mut joiner, get(alloc, Ticket(1), &[b"a"])?);
     open(rt, &mut joiner, noop(alloc, Ticket(2))?);
     let found = reply(rt, 1, 0, Kind::Fetch, hit(alloc, value.as_slice())?);
-    assert!(rt; takes(&mut joiner, found));
+    holds(rt, takes(&mut joiner, found));
     Ok(joiner)
 }
 
@@ -405,19 +410,19 @@ fn above_the_room(rt: &impl Abort, alloc: Global) -> Result<Joiner, Fail> {
 fn replies_across_the_end_of_the_room(rt: HostRuntime) -> Result<(), Fail> {
     let alloc = rt.alloc();
     let mut whole = outlet(alloc, usize::MAX);
-    assert_eq!(rt; above_the_room(&rt, alloc)?.hand(&mut whole), Ok(3));
+    equal(&rt, above_the_room(&rt, alloc)?.hand(&mut whole), Ok(3));
     let text = whole.taken.as_slice();
-    assert_eq!(rt; text.len(), 4 + 17 + 16_360 + 7 + 4);
+    equal(&rt, text.len(), 4 + 17 + 16_360 + 7 + 4);
     let mut drip = Drip {
         taken: Vec::new(alloc),
         failed: false,
     };
-    assert_eq!(rt; above_the_room(&rt, alloc)?.hand(&mut drip), Ok(3));
-    assert_eq!(rt; drip.taken.as_slice(), text);
+    equal(&rt, above_the_room(&rt, alloc)?.hand(&mut drip), Ok(3));
+    equal(&rt, drip.taken.as_slice(), text);
     for left in 0..text.len() {
         let mut out = outlet(alloc, left);
-        assert!(rt; above_the_room(&rt, alloc)?.hand(&mut out).is_err());
-        assert_eq!(rt; out.taken.as_slice(), text.split_at(left).0);
+        holds(&rt, above_the_room(&rt, alloc)?.hand(&mut out).is_err());
+        equal(&rt, out.taken.as_slice(), text.split_at(left).0);
     }
     Ok(())
 }
@@ -483,19 +488,19 @@ fn a_hit_copies_no_value(rt: HostRuntime) {
         value,
     };
     let found = reply(&rt, 0, 0, Kind::Fetch, found);
-    assert!(&rt; takes(&mut joiner, found));
+    holds(&rt, takes(&mut joiner, found));
     let mut out = Tally {
         small: 0,
         large: 0,
         bytes: 0,
     };
     let len = b"VALUE a 0 100000\r\n".len() + LARGE + b"\r\nEND\r\n".len();
-    assert_eq!(&rt; joiner.ready(), len as u64);
-    assert_eq!(&rt; joiner.hand(&mut out), Ok(1));
-    assert_eq!(&rt; out.bytes, len as u64);
-    assert_eq!(&rt; out.large, 1);
+    equal(&rt, joiner.ready(), len as u64);
+    equal(&rt, joiner.hand(&mut out), Ok(1));
+    equal(&rt, out.bytes, len as u64);
+    equal(&rt, out.large, 1);
     // The line before the value, and what stands behind it.
-    assert_eq!(&rt; out.small, 2);
+    equal(&rt, out.small, 2);
 }
 
 #[test]
@@ -508,7 +513,7 @@ fn a_window_of_one_is_full_with_one(rt: HostRuntime) -> Result<(), Fail> {
     open(&rt, &mut joiner, get(alloc, Ticket(1), &[b"a"])?);
     hands(&rt, alloc, &mut joiner, 0, b"");
     let miss = reply(&rt, 1, 0, Kind::Fetch, Answer::Miss);
-    assert!(rt; takes(&mut joiner, miss));
+    holds(&rt, takes(&mut joiner, miss));
     hands(&rt, alloc, &mut joiner, 1, b"END\r\n");
     Ok(())
 }
@@ -524,10 +529,10 @@ fn a_window_of_four_goes_round(rt: HostRuntime) -> Result<(), Fail> {
     assert_eq!(rt; joiner.open(noop(alloc, Ticket(4))?), Err(Full));
     // A later reply that is whole waits for the first.
     let later = reply(&rt, 1, 0, Kind::Fetch, hit(alloc, b"1")?);
-    assert!(rt; takes(&mut joiner, later));
+    holds(&rt, takes(&mut joiner, later));
     hands(&rt, alloc, &mut joiner, 0, b"");
     let first = reply(&rt, 0, 0, Kind::Fetch, Answer::Miss);
-    assert!(rt; takes(&mut joiner, first));
+    holds(&rt, takes(&mut joiner, first));
     hands(
         &rt,
         alloc,
@@ -535,15 +540,15 @@ fn a_window_of_four_goes_round(rt: HostRuntime) -> Result<(), Fail> {
         3,
         b"END\r\nVALUE b 0 1\r\n1\r\nEND\r\nMN\r\n",
     );
-    assert_eq!(rt; joiner.waiting(), 1);
+    equal(&rt, joiner.waiting(), 1);
     open(&rt, &mut joiner, noop(alloc, Ticket(4))?);
     open(&rt, &mut joiner, get(alloc, Ticket(5), &[b"d"])?);
     open(&rt, &mut joiner, noop(alloc, Ticket(6))?);
     assert_eq!(rt; joiner.open(noop(alloc, Ticket(7))?), Err(Full));
     let last = reply(&rt, 5, 0, Kind::Fetch, hit(alloc, b"5")?);
-    assert!(rt; takes(&mut joiner, last));
+    holds(&rt, takes(&mut joiner, last));
     let third = reply(&rt, 3, 0, Kind::Fetch, hit(alloc, b"3")?);
-    assert!(rt; takes(&mut joiner, third));
+    holds(&rt, takes(&mut joiner, third));
     hands(
         &rt,
         alloc,
@@ -551,6 +556,6 @@ fn a_window_of_four_goes_round(rt: HostRuntime) -> Result<(), Fail> {
         4,
         b"VALUE c 0 1\r\n3\r\nEND\r\nMN\r\nVALUE d 0 1\r\n5\r\nEND\r\nMN\r\n",
     );
-    assert_eq!(rt; joiner.waiting(), 0);
+    equal(&rt, joiner.waiting(), 0);
     Ok(())
 }

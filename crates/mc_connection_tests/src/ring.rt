@@ -2,6 +2,7 @@
 ghost use Rattle.std.specs.Prelude.{◌<◌, length};
 ghost use Rattle.mc_ring.specs.Ends.{AreSameEnds};
 
+use crate::asserting::{equal, holds};
 use mc_item::{Answer, Kind, Op};
 use mc_ring::{Parcel, Reply, RingRefusal, SeatEnds, ShardEnds, beside, lanes};
 use mc_split::{Piece, Ticket};
@@ -35,12 +36,12 @@ fn number_of(parcel: Option<Parcel>) -> Option<u64> {
 fn a_ring_of_one_holds_one_parcel(rt: HostRuntime) -> Result<(), Fail> {
     let (mut seats, mut shards) = lanes(rt.alloc(), 2, 3, 1)?;
     let (seat, shard) = (&mut seats[1], &mut shards[2]);
-    assert!(rt; shard.take(1).is_none());
-    assert!(rt; seat.send(2, piece(7)).is_ok());
-    assert_eq!(rt; number_of(seat.send(2, piece(8)).err()), Some(8));
-    assert_eq!(rt; number_of(shard.take(1)), Some(7));
-    assert!(rt; seat.send(2, Parcel::End).is_ok());
-    assert!(rt; matches!(&shard.take(1), Some(Parcel::End)));
+    holds(&rt, shard.take(1).is_none());
+    holds(&rt, seat.send(2, piece(7)).is_ok());
+    equal(&rt, number_of(seat.send(2, piece(8)).err()), Some(8));
+    equal(&rt, number_of(shard.take(1)), Some(7));
+    holds(&rt, seat.send(2, Parcel::End).is_ok());
+    holds(&rt, matches!(&shard.take(1), Some(Parcel::End)));
     Ok(())
 }
 
@@ -48,14 +49,19 @@ fn a_ring_of_one_holds_one_parcel(rt: HostRuntime) -> Result<(), Fail> {
 fn a_ring_of_one_holds_one_reply(rt: HostRuntime) -> Result<(), Fail> {
     let (mut seats, mut shards) = lanes(rt.alloc(), 2, 3, 1)?;
     let (seat, shard) = (&mut seats[1], &mut shards[2]);
-    assert!(rt; seat.receive(2).is_none());
-    assert!(rt; shard.give(1, reply(7)).is_ok());
-    assert_eq!(rt;
+    holds(&rt, seat.receive(2).is_none());
+    holds(&rt, shard.give(1, reply(7)).is_ok());
+    equal(
+        &rt,
         shard.give(1, reply(8)).err().map(|reply| reply.ticket),
-        Some(Ticket(8))
+        Some(Ticket(8)),
     );
-    assert_eq!(rt; seat.receive(2).map(|reply| reply.ticket), Some(Ticket(7)));
-    assert!(rt; seat.receive(2).is_none());
+    equal(
+        &rt,
+        seat.receive(2).map(|reply| reply.ticket),
+        Some(Ticket(7)),
+    );
+    holds(&rt, seat.receive(2).is_none());
     Ok(())
 }
 
@@ -63,14 +69,14 @@ fn a_ring_of_one_holds_one_reply(rt: HostRuntime) -> Result<(), Fail> {
 fn what_waits_is_seen_on_its_lane_alone(rt: HostRuntime) -> Result<(), Fail> {
     let (mut seats, mut shards) = lanes(rt.alloc(), 2, 3, 1)?;
     let (seat, shard) = (&mut seats[1], &mut shards[2]);
-    assert_eq!(rt; (seat.number(), seat.shards()), (1, 3));
-    assert_eq!(rt; (shard.number(), shard.seats()), (2, 2));
-    assert!(rt; seat.send(2, piece(7)).is_ok());
-    assert!(rt; shard.has_parcel(1));
-    assert!(rt; !shard.has_parcel(0));
-    assert!(rt; shard.give(1, reply(7)).is_ok());
-    assert!(rt; seat.has_reply(2));
-    assert!(rt; !seat.has_reply(0));
+    equal(&rt, (seat.number(), seat.shards()), (1, 3));
+    equal(&rt, (shard.number(), shard.seats()), (2, 2));
+    holds(&rt, seat.send(2, piece(7)).is_ok());
+    holds(&rt, shard.has_parcel(1));
+    holds(&rt, !shard.has_parcel(0));
+    holds(&rt, shard.give(1, reply(7)).is_ok());
+    holds(&rt, seat.has_reply(2));
+    holds(&rt, !seat.has_reply(0));
     Ok(())
 }
 
@@ -102,12 +108,12 @@ fn takes(shard: &mut ShardEnds) -> Option<u64>
 fn what_waits_is_counted(rt: HostRuntime) -> Result<(), Fail> {
     let (mut seats, mut shards) = lanes(rt.alloc(), 1, 1, 3)?;
     let (seat, shard) = (&mut seats[0], &mut shards[0]);
-    assert_eq!(rt; beside(seat, shard), (0, 0));
-    assert!(rt; sends(seat, 0));
-    assert!(rt; sends(seat, 1));
-    assert_eq!(rt; takes(shard), Some(0));
-    assert!(rt; gives(shard, 0));
-    assert_eq!(rt; beside(seat, shard), (1, 1));
+    equal(&rt, beside(seat, shard), (0, 0));
+    holds(&rt, sends(seat, 0));
+    holds(&rt, sends(seat, 1));
+    equal(&rt, takes(shard), Some(0));
+    holds(&rt, gives(shard, 0));
+    equal(&rt, beside(seat, shard), (1, 1));
     Ok(())
 }
 
@@ -121,23 +127,24 @@ fn numbers_out_of_range_are_refused(rt: HostRuntime) {
         (1, 1, 0),
         (1, 1, 1025),
     ] {
-        assert_eq!(rt;
+        equal(
+            &rt,
             lanes(rt.alloc(), seats, shards, capacity).err(),
-            Some(RingRefusal::Size)
+            Some(RingRefusal::Size),
         );
     }
-    assert!(rt; lanes(rt.alloc(), 64, 16, 1).is_ok());
-    assert!(rt; lanes(rt.alloc(), 1, 1, 1024).is_ok());
+    holds(&rt, lanes(rt.alloc(), 64, 16, 1).is_ok());
+    holds(&rt, lanes(rt.alloc(), 1, 1, 1024).is_ok());
 }
 
 #[test]
 fn a_lawful_answer_makes_a_reply(rt: HostRuntime) {
     let answer = Answer::Done;
-    assert!(rt; answer.is_lawful(Kind::Flush));
+    holds(&rt, answer.is_lawful(Kind::Flush));
     let reply = Reply::new(Ticket(3), 1, Kind::Flush, answer);
-    assert_eq!(rt; reply.ticket, Ticket(3));
-    assert_eq!(rt; reply.part, 1);
-    assert_eq!(rt; reply.kind, Kind::Flush);
-    assert!(rt; matches!(&reply.answer, Answer::Done));
-    assert!(rt; matches!(&Parcel::End, Parcel::End));
+    equal(&rt, reply.ticket, Ticket(3));
+    equal(&rt, reply.part, 1);
+    equal(&rt, reply.kind, Kind::Flush);
+    holds(&rt, matches!(&reply.answer, Answer::Done));
+    holds(&rt, matches!(&Parcel::End, Parcel::End));
 }

@@ -1,6 +1,7 @@
 //! Plans of a few commands, as they are told to shards and to the joiner.
 ghost use Rattle.std.specs.Prelude.{◌<◌};
 
+use crate::asserting::{equal, holds};
 use mc_command::{
     Block, Command, Keys, MetaFlags, MetaGet, Opaque, Retrieval, ReturnFlag, Returned, Storage,
     StoreMode,
@@ -61,15 +62,15 @@ fn meta_get(alloc: Global, shows_key: bool) -> Result<Command, WireFault> {
 
 /// Asserts the shards of a plan's pieces, that they are numbered, and that each has a slot.
 fn has_shards(rt: &impl Abort, plan: &Plan, shards: &[usize]) {
-    assert_eq!(rt; plan.form.ticket, TICKET);
-    assert_eq!(rt; plan.form.slots.answers().len(), shards.len());
-    assert_eq!(rt; plan.pieces.len(), shards.len());
+    equal(rt, plan.form.ticket, TICKET);
+    equal(rt, plan.form.slots.answers().len(), shards.len());
+    equal(rt, plan.pieces.len(), shards.len());
     for (part, (shard, piece)) in plan.pieces.iter().enumerate() {
-        assert_eq!(rt; Some(shard), shards.get(part), "of part {part}");
-        assert_eq!(rt; piece.part, part);
-        assert_eq!(rt; piece.ticket, TICKET);
-        assert_eq!(rt; piece.moment, MOMENT);
-        assert_eq!(rt; piece.op.kind(), plan.form.kind);
+        equal(rt, (part, Some(shard)), (part, shards.get(part)));
+        equal(rt, piece.part, part);
+        equal(rt, piece.ticket, TICKET);
+        equal(rt, piece.moment, MOMENT);
+        equal(rt, piece.op.kind(), plan.form.kind);
     }
 }
 
@@ -81,15 +82,15 @@ fn a_get_asks_its_keys_in_order(rt: HostRuntime) -> Result<(), Fail> {
     let Plan { mut form, .. } = plan;
     for part in [2, 0, 3] {
         fill(&rt, &mut form, part);
-        assert!(rt; !form.slots.is_filled());
+        holds(&rt, !form.slots.is_filled());
     }
     fill(&rt, &mut form, 1);
-    assert!(rt; form.slots.is_filled());
+    holds(&rt, form.slots.is_filled());
     Ok(())
 }
 
 fn fill(rt: &impl Abort, form: &mut Form, part: usize) {
-    assert!(rt; part < form.slots.answers().len());
+    holds(rt, part < form.slots.answers().len());
     form.fill(part, Answer::Miss);
 }
 
@@ -98,7 +99,10 @@ fn one_key_is_one_piece(rt: HostRuntime) -> Result<(), Fail> {
     let alloc = rt.alloc();
     let plan = split(alloc, set(alloc)?, TICKET, MOMENT, 2)?;
     has_shards(&rt, &plan, &[1]);
-    assert!(rt; matches!(&plan.form.shape, Shape::Line { noreply: true }));
+    holds(
+        &rt,
+        matches!(&plan.form.shape, Shape::Line { noreply: true }),
+    );
     let Plan {
         mut form,
         mut pieces,
@@ -110,10 +114,10 @@ fn one_key_is_one_piece(rt: HostRuntime) -> Result<(), Fail> {
         },
         None => false,
     };
-    assert!(rt; stores);
-    assert!(rt; !form.slots.is_filled());
+    holds(&rt, stores);
+    holds(&rt, !form.slots.is_filled());
     fill(&rt, &mut form, 0);
-    assert!(rt; form.slots.is_filled());
+    holds(&rt, form.slots.is_filled());
     Ok(())
 }
 
@@ -126,7 +130,7 @@ fn a_flush_asks_every_shard(rt: HostRuntime) -> Result<(), Fail> {
     };
     let plan = split(alloc, flush, TICKET, MOMENT, 3)?;
     has_shards(&rt, &plan, &[0, 1, 2]);
-    assert_eq!(rt; plan.form.kind, Kind::Flush);
+    equal(&rt, plan.form.kind, Kind::Flush);
     Ok(())
 }
 
@@ -136,7 +140,7 @@ fn some_commands_ask_no_shard(rt: HostRuntime) -> Result<(), Fail> {
     for noreply in [false, true] {
         let plan = split(alloc, Command::Verbosity { noreply }, TICKET, MOMENT, 2)?;
         has_shards(&rt, &plan, &[]);
-        assert!(rt; plan.form.slots.is_filled());
+        holds(&rt, plan.form.slots.is_filled());
     }
     let plan = split(alloc, Command::MetaNoop, TICKET, MOMENT, 2)?;
     has_shards(&rt, &plan, &[]);
@@ -153,7 +157,7 @@ fn a_meta_reply_keeps_the_key_where_it_shows_it(rt: HostRuntime) -> Result<(), F
             Shape::Meta { key, value, .. } => *value && key.is_some() == shows_key,
             _ => false,
         };
-        assert!(rt; keeps);
+        holds(&rt, keeps);
     }
     Ok(())
 }
@@ -173,13 +177,13 @@ fn a_get_of_32766_keys(rt: HostRuntime) -> Result<(), Fail> {
         with_unique: false,
     });
     let mut plan = split(alloc, get, TICKET, MOMENT, 2)?;
-    assert_eq!(rt; plan.pieces.len(), 32_766);
-    assert_eq!(rt; plan.form.slots.answers().len(), 32_766);
+    equal(&rt, plan.pieces.len(), 32_766);
+    equal(&rt, plan.form.slots.answers().len(), 32_766);
     let last = plan
         .pieces
         .pop_back()
         .map(|(shard, piece)| (shard, piece.part));
-    assert_eq!(rt; last, Some((0, 32_765)));
+    equal(&rt, last, Some((0, 32_765)));
     Ok(())
 }
 
@@ -223,5 +227,5 @@ fn a_refused_allocation_refuses_one_plan(rt: HostRuntime) {
             .count()
             .saturating_add(refused);
     }
-    assert!(rt; refused <= 1);
+    holds(&rt, refused <= 1);
 }
