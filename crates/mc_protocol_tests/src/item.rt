@@ -118,6 +118,12 @@ fn items_have_numbers(rt: HostRuntime) -> Result<(), Fail> {
     equal(&rt, zero.bytes(), b"0".as_slice());
     let letters = item_of(value_of(rt.alloc(), b"bc")?);
     equal(&rt, letters.number(), None);
+    equal(
+        &rt,
+        (letters.value.len(), letters.value.is_empty()),
+        (2, false),
+    );
+    equal(&rt, value_of(rt.alloc(), b"d")?.len(), 1);
     Ok(())
 }
 
