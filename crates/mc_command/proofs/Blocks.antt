@@ -1,5 +1,5 @@
 -- Laws of the command table, line by line.
-use Rattle.std.proofs.Common.{◌≡◌, ℕ, ◌+◌, ◌≤◌, ◌^◌, true, false, List, [], ◌∷◌, Option, Some, None, nat_lt, refl, arith, Result, Ok, Err, IsTrue}
+use Rattle.std.proofs.Common.{◌≡◌, ℕ, ◌+◌, ◌≤◌, ◌^◌, false, List, [], ◌∷◌, Option, Some, None, nat_lt, refl, Result, Ok, Err, IsTrue}
 use Rattle.std.proofs.lemmas.Bool.{cond_both, ltb-false}
 use Rattle.mc_wire.specs.Number.{number_of}
 use Rattle.mc_command.specs.declared.command.Command.{Command}
@@ -10,7 +10,7 @@ use Rattle.mc_command.specs.declared.name.CommandName.TheVariants as name
 use Rattle.mc_command.specs.declared.refusal.Refusal.{Refusal}
 use Rattle.mc_command.specs.declared.refusal.Refusal.TheVariants.{BadFormat, TooLarge}
 use Rattle.mc_command.specs.declared.line.Line.{Line}
-use Rattle.mc_command.specs.declared.line.Line.TheVariants.{Data, Refused, Skip}
+use Rattle.mc_command.specs.declared.line.Line.TheVariants.{Data, Skip}
 use Rattle.mc_command.specs.Command.{can_give_up}
 use Rattle.mc_command.specs.Line.{bytes_behind, is_given_up}
 use Rattle.mc_command.specs.Blocks.{whole_line, block_line, bytes_with, MayBeGivenUp}

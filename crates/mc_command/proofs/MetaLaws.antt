@@ -1,23 +1,20 @@
 -- Laws of the table of meta lines: which of them may be given up, and that none says that memory was short.
-use Rattle.std.proofs.Common.{◌≡◌, ℕ, ◌+◌, ◌&&◌, ◌^◌, ◌==◌, not, Bool, true, false, List, [], ◌∷◌, ◌++◌, Option, Some, None, is_some, refl, sym, ap, ◌∙◌, Result, Ok, Err, cond, nat_lt, length}
+use Rattle.std.proofs.Common.{◌≡◌, ℕ, ◌&&◌, ◌==◌, not, Bool, true, false, List, [], ◌∷◌, ◌++◌, Option, Some, None, is_some, refl, sym, ◌∙◌, Result, Ok, Err, cond, nat_lt, length}
 use Rattle.std.specs.Prelude.{IsTrue}
 use Rattle.std.specs.Option.{option_or, ok_or}
 use Rattle.std.specs.Result.{result_ok}
 use Rattle.mc_wire.specs.Base64Key.{base64_key}
-use Rattle.mc_wire.specs.Number.{number_of}
 use Rattle.mc_wire.specs.declared.TheConstants.{OPAQUE_LIMIT}
 use Rattle.mc_command.specs.declared.command.Command.{Command}
-use Rattle.mc_command.specs.declared.line.Line.TheVariants.{Data, Skip}
 use Rattle.mc_command.specs.declared.meta.MetaKind.{MetaKind}
 use Rattle.mc_command.specs.declared.meta.MetaKind.TheVariants.{Get, Set, Delete, Arithmetic}
 use Rattle.mc_command.specs.declared.refusal.Refusal.{Refusal}
-use Rattle.mc_command.specs.declared.refusal.Refusal.TheVariants.{BadKey, TooLarge}
-use Rattle.mc_command.specs.Blocks.{MayBeGivenUp, whole_line, block_line, bytes_with}
-use Rattle.mc_command.specs.Line.{is_given_up, bytes_behind}
+use Rattle.mc_command.specs.declared.refusal.Refusal.TheVariants.{BadKey}
+use Rattle.mc_command.specs.Blocks.{MayBeGivenUp}
 use Rattle.mc_command.proofs.Lines.{Yields, may_then, yields_key, yields_or}
-use Rattle.mc_command.specs.Command.{refusal_takes_memory, can_give_up}
-use Rattle.mc_command.specs.Field.{Reads, is_key, then_of}
-use Rattle.mc_command.specs.Meta.{letters_of, is_among, has_flag, is_set, is_token, flag_refusal, flags_refusal, unless, decoded_key, meta_key_of, compare_refusal, set_by, asked_of, command_by, meta_command_of, line_without_block, line_with_block, meta_line_of, meta_count_in}
+use Rattle.mc_command.specs.Command.{refusal_takes_memory}
+use Rattle.mc_command.specs.Field.{Reads, then_of}
+use Rattle.mc_command.specs.Meta.{letters_of, is_among, has_flag, is_set, is_token, flag_refusal, flags_refusal, unless, decoded_key, meta_key_of, compare_refusal, set_by, asked_of, command_by, meta_command_of}
 use Rattle.mc_command.specs.declared.meta_flags.Asked.{Asked}
 
 -- What refuses, if anything does, comes of a line that may have taken memory.

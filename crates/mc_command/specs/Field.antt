@@ -1,5 +1,6 @@
 -- The words of a line as its fields: each is a value or a fault (protocol.txt, "Keys", "Storage commands").
 use Rattle.std.specs.Prelude.{ℕ, ◌≡◌, ◌≢◌, Bool, true, false, List, Option, Some, None, is_none, codes, ℤ, if◌then◌else◌, MatchResult, Result, Ok, Err}
+use Rattle.std.specs.List.{AllByRecursion}
 use Rattle.std.specs.Option.{ok_or}
 use Rattle.std.specs.Str.{bytes_eq}
 use Rattle.mc_wire.specs.Key.{key_fault}
@@ -21,6 +22,10 @@ refusal_for wire.Memory = Memory
 -- a key word
 unfoldable pub is_key : List ℕ → Bool
 is_key word = is_none (key_fault word)
+
+-- words that are keys, each of them
+abbrev pub AreKeys : List (List ℕ) → Type 0
+AreKeys words = AllByRecursion (λ word. key_fault word ≡ None) words
 
 abbrev pub key_of : List ℕ → Result (List ℕ) Refusal
 key_of word = if is_key word then Ok word else Err BadKey

@@ -1,8 +1,8 @@
-//! What a command carries from the stream: the data block of a storage command, and the keys of a get.
-ghost use Rattle.std.specs.Prelude.{◌≡◌, ◌≤◌, ◌∷◌, [], ◌++◌, length, OnOk, OnErr, vec_len};
+//! The data block of a storage command.
+ghost use Rattle.std.specs.Prelude.{◌≡◌, ◌≤◌, [], length, vec_len};
 
-use mc_wire::{GREATEST_VALUE_LIMIT, Key};
-use std::alloc::{AllocError, Global};
+use mc_wire::GREATEST_VALUE_LIMIT;
+use std::alloc::Global;
 use std::marker::Model;
 
 /// The data block of a storage command (protocol.txt, "Storage commands"): at most
@@ -56,56 +56,5 @@ impl Block {
         ensures short { vec_len result ≤ GREATEST_VALUE_LIMIT }
     {
         self.bytes
-    }
-}
-
-/// The keys of a get: one or more, in the order of the request (protocol.txt, "Retrieval command").
-/// A single key takes no room beside its own.
-#[derive(Drop)]
-pub struct Keys {
-    first: Key,
-    others: Vec<Key>,
-}
-
-impl Model for Keys {
-    ghost use Rattle.std.specs.Prelude.{ℕ, List, ◌∷◌};
-
-    ghost Value = { List (List ℕ) };
-
-    ghost view = { λ keys. keys.first ∷ keys.others.items };
-}
-
-impl Keys {
-    /// One key.
-    pub fn one(alloc: Global, first: Key) -> Keys
-        ensures { result ≡ first ∷ [] }
-    {
-        Keys {
-            first,
-            others: Vec::new(alloc),
-        }
-    }
-
-    /// Adds a key behind the others.
-    pub fn push(&mut self, key: Key) -> Result<(), AllocError>
-        ensures ok { OnOk result (self.new ≡ self.old ++ key ∷ []) }
-        ensures err { OnErr result (self.new ≡ self.old) }
-    {
-        self.others.push(key)?;
-        Ok(())
-    }
-
-    /// The first key, and the others behind it.
-    pub fn parts(&self) -> (&Key, &[Key])
-        ensures { self.now ≡ result.0.now ∷ result.1.now }
-    {
-        (&self.first, self.others.as_slice())
-    }
-
-    /// The first key, and the others behind it, by value.
-    pub fn into_parts(self) -> (Key, Vec<Key>)
-        ensures { self ≡ result.0 ∷ result.1.items }
-    {
-        (self.first, self.others)
     }
 }

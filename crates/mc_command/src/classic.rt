@@ -5,9 +5,9 @@ ghost use Rattle.mc_wire.specs.Words.{words_left};
 ghost use Rattle.mc_command.specs.Field.{Reads};
 ghost use Rattle.mc_command.specs.Classic as spec;
 
-use crate::block::Keys;
 use crate::command::{Command, Direction, Retrieval};
 use crate::field::{read_i64, read_key, read_noreply, read_u64};
+use crate::keys::Keys;
 use crate::refusal::Refusal;
 use mc_wire::WordWalk;
 use std::alloc::Global;
@@ -23,7 +23,7 @@ pub(crate) fn read_get(
     let Some(first) = walk.next() else {
         return Err(Refusal::BadFormat);
     };
-    let keys = read_keys(alloc, first, walk)?;
+    let keys = Keys::read(alloc, first, walk)?;
     Ok(Command::Get(Retrieval {
         keys,
         touch: None,
@@ -43,24 +43,12 @@ pub(crate) fn read_gat(
         return Err(Refusal::BadFormat);
     };
     let exptime = read_i64(exptime)?;
-    let keys = read_keys(alloc, first, walk)?;
+    let keys = Keys::read(alloc, first, walk)?;
     Ok(Command::Get(Retrieval {
         keys,
         touch: Some(exptime),
         with_unique,
     }))
-}
-
-/// The keys of a get: this word and those behind it.
-fn read_keys(alloc: Global, first: &[u8], walk: WordWalk<'_>) -> Result<Keys, Refusal>
-    ensures { Reads (spec.keys_of (first.now ∷ words_left walk.entry)) result }
-{
-    let mut keys = Keys::one(alloc, read_key(alloc, first)?);
-    for word in walk {
-        let key = read_key(alloc, word)?;
-        keys.push(key)?;
-    }
-    Ok(keys)
 }
 
 /// `delete`: KEY [noreply], KEY 0 [noreply]

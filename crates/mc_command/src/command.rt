@@ -1,7 +1,8 @@
 //! Commands as typed values: nothing of a line's words is left to be read again.
 ghost use Rattle.std.specs.Prelude.{◌≡◌};
 
-use crate::block::{Block, Keys};
+use crate::block::Block;
+use crate::keys::Keys;
 use crate::meta::{MetaArithmetic, MetaDelete, MetaGet, MetaSet};
 use crate::refusal::Refusal;
 use mc_wire::Key;

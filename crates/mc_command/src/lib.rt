@@ -6,6 +6,7 @@ mod block;
 mod classic;
 mod command;
 mod field;
+mod keys;
 mod laws;
 mod line;
 mod meta;
@@ -16,8 +17,9 @@ mod refusal;
 mod storage;
 
 pub use announced::announced_bytes;
-pub use block::{Block, Keys};
+pub use block::Block;
 pub use command::{Command, Direction, Retrieval, Storage, StoreMode};
+pub use keys::Keys;
 pub use laws::{data_can_be_given_up, flags_in_any_order, table_is_never_out_of_memory};
 pub use line::{Line, read_line};
 pub use meta::{

@@ -10,44 +10,48 @@ use mc_item::{Answer, Kind, Value};
 use mc_join::{Full, Joiner, Stranger};
 use mc_ring::Reply;
 use mc_split::{Form, Ticket, split};
-use mc_wire::{Key, OutFault, Outlet, WireFault};
+use mc_wire::{OutFault, Outlet, words};
 use std::alloc::Global;
 use std::process::Abort;
 use std::test::Fail;
 
-/// The form of a get of these keys.
-fn get(alloc: Global, ticket: Ticket, words: &[&[u8]]) -> Result<Form, Fail>
+/// The form of a get of the keys that this text spells.
+fn get_words(alloc: Global, ticket: Ticket, text: &[u8]) -> Result<Form, Fail>
     ensures { IfOk result (λ form. form.ticket ≡ ticket) }
 {
-    let Some((first, others)) = words.split_first() else {
+    let mut walk = words(text);
+    let Some(first) = walk.next() else {
         return Err(Fail::from("no key"));
     };
-    let mut keys = Keys::one(alloc, Key::from_word(alloc, first)?);
-    for word in others {
-        keys.push(Key::from_word(alloc, word)?)?;
-    }
     let command = Command::Get(Retrieval {
-        keys,
+        keys: Keys::read(alloc, first, walk)?,
         touch: None,
         with_unique: false,
     });
     Ok(split(alloc, command, ticket, 1000, 2)?.form)
 }
 
+/// The form of a get of these keys.
+fn get(alloc: Global, ticket: Ticket, keys: &[&[u8]]) -> Result<Form, Fail>
+    ensures { IfOk result (λ form. form.ticket ≡ ticket) }
+{
+    let mut text = Vec::new(alloc);
+    for key in keys {
+        text.extend_from_slice(key)?;
+        text.push(b' ')?;
+    }
+    get_words(alloc, ticket, text.as_slice())
+}
+
 /// The form of a get that names one key so many times.
 fn get_often(alloc: Global, ticket: Ticket, count: usize) -> Result<Form, Fail>
     ensures { IfOk result (λ form. form.ticket ≡ ticket) }
 {
-    let mut keys = Keys::one(alloc, Key::from_word(alloc, b"k")?);
-    for _ in 1..count {
-        keys.push(Key::from_word(alloc, b"k")?)?;
+    let mut text = Vec::new(alloc);
+    for _ in 0..count {
+        text.extend_from_slice(b"k ")?;
     }
-    let command = Command::Get(Retrieval {
-        keys,
-        touch: None,
-        with_unique: false,
-    });
-    Ok(split(alloc, command, ticket, 1000, 2)?.form)
+    get_words(alloc, ticket, text.as_slice())
 }
 
 /// The form of `mn`.
@@ -456,7 +460,7 @@ fn large_value(alloc: Global) -> Option<(Value, Form)>
 {
     let bytes = vec![in alloc; 7; LARGE].ok()?;
     let value = Value::new(bytes).ok()?;
-    let keys = Keys::one(alloc, Key::from_word(alloc, b"a").ok()?);
+    let keys = Keys::read(alloc, b"a", words(b"")).ok()?;
     let command = Command::Get(Retrieval {
         keys,
         touch: None,

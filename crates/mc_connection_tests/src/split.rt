@@ -3,12 +3,12 @@ ghost use Rattle.std.specs.Prelude.{◌<◌};
 
 use crate::asserting::{equal, holds};
 use mc_command::{
-    Block, Command, Keys, MetaFlags, MetaGet, Opaque, Retrieval, ReturnFlag, Returned, Storage,
-    StoreMode,
+    Block, Command, Keys, MetaFlags, MetaGet, Opaque, Refusal, Retrieval, ReturnFlag, Returned,
+    Storage, StoreMode,
 };
 use mc_item::{Answer, Kind, Op};
 use mc_split::{Form, Plan, Shape, Ticket, split};
-use mc_wire::{Key, WireFault};
+use mc_wire::{Key, words};
 use std::alloc::Global;
 use std::process::Abort;
 use std::test::Fail;
@@ -17,19 +17,15 @@ const TICKET: Ticket = Ticket(7);
 
 const MOMENT: u64 = 1000;
 
-fn get(alloc: Global) -> Result<Command, WireFault> {
-    let mut keys = Keys::one(alloc, Key::from_word(alloc, b"a")?);
-    keys.push(Key::from_word(alloc, b"b")?)?;
-    keys.push(Key::from_word(alloc, b"a")?)?;
-    keys.push(Key::from_word(alloc, b"c")?)?;
+fn get(alloc: Global) -> Result<Command, Refusal> {
     Ok(Command::Get(Retrieval {
-        keys,
+        keys: Keys::read(alloc, b"a", words(b"b a c"))?,
         touch: Some(10),
         with_unique: true,
     }))
 }
 
-fn set(alloc: Global) -> Result<Command, WireFault> {
+fn set(alloc: Global) -> Result<Command, Refusal> {
     Ok(Command::Store(Storage {
         key: Key::from_word(alloc, b"b")?,
         mode: StoreMode::Set,
@@ -40,7 +36,7 @@ fn set(alloc: Global) -> Result<Command, WireFault> {
     }))
 }
 
-fn meta_get(alloc: Global, shows_key: bool) -> Result<Command, WireFault> {
+fn meta_get(alloc: Global, shows_key: bool) -> Result<Command, Refusal> {
     let mut returned = Returned::new();
     if shows_key {
         returned.push(ReturnFlag::Key);
@@ -166,13 +162,12 @@ fn a_meta_reply_keeps_the_key_where_it_shows_it(rt: HostRuntime) -> Result<(), F
 #[test]
 fn a_get_of_32766_keys(rt: HostRuntime) -> Result<(), Fail> {
     let alloc = rt.alloc();
-    let key = Key::from_word(alloc, b"a")?;
-    let mut keys = Keys::one(alloc, key.clone()?);
+    let mut others = Vec::new(alloc);
     for _ in 1..32_766u32 {
-        keys.push(key.clone()?)?;
+        others.extend_from_slice(b" a")?;
     }
     let get = Command::Get(Retrieval {
-        keys,
+        keys: Keys::read(alloc, b"a", words(others.as_slice()))?,
         touch: None,
         with_unique: false,
     });
@@ -191,7 +186,7 @@ fn a_get_of_32766_keys(rt: HostRuntime) -> Result<(), Fail> {
 fn is_split(
     rt: &impl Abort,
     alloc: Global,
-    command: Result<Command, WireFault>,
+    command: Result<Command, Refusal>,
     shards: &[usize],
 ) -> bool {
     let Ok(command) = command else {

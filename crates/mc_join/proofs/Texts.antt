@@ -4,7 +4,7 @@ use Rattle.std.specs.Prelude.{codes, decimal, ◌||◌, Result, Ok, Err}
 use Rattle.std.specs.List.{concat, list_any, zip, flat_map}
 use Rattle.std.proofs.lemmas.List.{at_drop_more, length-take}
 use Rattle.mc_wire.specs.Outlet.{BreaksOff, Counted, Sight, Writes, sight_out, took}
-use Rattle.mc_wire.proofs.Outlets.{breaks_first, breaks_later, took-nil, writes_on}
+use Rattle.mc_wire.proofs.Outlets.{breaks_first, breaks_later, writes_on}
 use Rattle.mc_item.specs.declared.answer.Answer.{Answer}
 use Rattle.mc_split.specs.declared.form.Shape.{Shape}
 use Rattle.mc_split.specs.declared.form.Shape.TheVariants as shape
@@ -25,9 +25,6 @@ pub record WroteBut (whole rest : List ℕ) (old new : Sight) : Type 0 where
   pub front : List ℕ
   pub sight : new ≡ took front old
   pub parts : whole ≡ front ++ rest
-
-pub wrote_none : (whole : List ℕ) (old : Sight) → WroteBut whole whole old old
-wrote_none whole old = record { front = []; sight = sym (took-nil old); parts = refl }
 
 pub wrote_more : {whole : List ℕ} {old mid new : Sight} (bytes rest : List ℕ) → WroteBut whole (bytes ++ rest) old mid → new ≡ took bytes mid → WroteBut whole rest old new
 wrote_more {old} bytes rest so_far more =
@@ -70,10 +67,6 @@ slots_text-filled (shape.Line false) answers = unless-filled answers _ _ (first-
 slots_text-filled (shape.Line true) answers = refl
 slots_text-filled (shape.Values keys with_unique) answers = unless-filled answers _ _ (ap (λ xs. xs ++ codes "END\r\n") (items-filled with_unique keys answers))
 slots_text-filled (shape.Meta kind flags value key) answers = unless-filled answers _ _ (first-filled _ answers)
-
-pub items-no_keys : (with_unique : Bool) (keys : List (List ℕ)) (slots : List (Option Answer)) → length keys ≡ 0 → items_text with_unique keys slots ≡ []
-items-no_keys with_unique [] slots none = refl
-items-no_keys with_unique (key ∷ keys) slots none = absurd (omega (arith, none))
 
 pub items-no_slots : (with_unique : Bool) (keys : List (List ℕ)) → items_text with_unique keys [] ≡ []
 items-no_slots with_unique [] = refl

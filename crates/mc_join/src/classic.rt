@@ -1,7 +1,9 @@
 //! The replies of the classic commands.
-ghost use Rattle.std.specs.Prelude.{◌≡◌, ◌∷◌, [], ◌++◌, IsTrue, OnOk, OnErr, codes, decimal};
+ghost use Rattle.std.specs.Prelude.{◌≡◌, ◌≤◌, ◌∷◌, [], ◌++◌, IsTrue, length, OnOk, OnErr, codes, decimal};
 ghost use Rattle.std.specs.List.{concat, list_any};
 ghost use Rattle.mc_wire.specs.Outlet.{Writes};
+ghost use Rattle.mc_wire.specs.Words.{words_left};
+ghost use Rattle.mc_command.specs.Field.{AreKeys};
 ghost use Rattle.mc_split.specs.Text.{answer_line, item_text, plain_item, unique_item};
 ghost use Rattle.mc_join.specs.internal.Slots.{fixed_line, slot_text, first_text, items_text, lacks_memory};
 
@@ -10,7 +12,7 @@ use crate::header::{HEADER_LIMIT, gathered};
 use itoa::Buffer;
 use mc_command::Keys;
 use mc_item::Answer;
-use mc_wire::{Key, OutFault, Outlet, put_all, put_parts};
+use mc_wire::{KEY_LIMIT, OutFault, Outlet, WordWalk, put_all, put_parts};
 
 /// Whether an answer says that memory ran out.
 pub fn any_lacks_memory(slots: &[Option<Answer>]) -> bool
@@ -85,11 +87,11 @@ pub fn put_values<O: Outlet>(
 ) -> Result<(), OutFault>
     ensures { Writes (items_text with_unique keys.now slots.now ++ codes "END\r\n") result (O.sight out.old) (O.sight out.new) }
 {
-    let (key, others) = keys.parts();
+    let (first, others) = keys.parts();
     let Some((slot, more)) = slots.split_first() else {
         return put_all(out, b"END\r\n");
     };
-    put_slot(out, key, with_unique, slot)?;
+    put_slot(out, first.bytes(), with_unique, slot)?;
     put_items(out, others, with_unique, more)?;
     put_all(out, b"END\r\n")
 }
@@ -97,19 +99,18 @@ pub fn put_values<O: Outlet>(
 /// Writes the items found.
 fn put_items<O: Outlet>(
     out: &mut O,
-    keys: &[Key],
+    mut keys: WordWalk<'_>,
     with_unique: bool,
     slots: &[Option<Answer>],
 ) -> Result<(), OutFault>
-    ensures { Writes (items_text with_unique keys.now slots.now) result (O.sight out.old) (O.sight out.new) }
+    requires { AreKeys (words_left keys) }
+    ensures { Writes (items_text with_unique (words_left keys.entry) slots.now) result (O.sight out.old) (O.sight out.new) }
 {
-    let mut rest = keys;
     for slot in slots {
-        let Some((key, more)) = rest.split_first() else {
+        let Some(key) = keys.next() else {
             return Ok(());
         };
         put_slot(out, key, with_unique, slot)?;
-        rest = more;
     }
     Ok(())
 }
@@ -117,10 +118,11 @@ fn put_items<O: Outlet>(
 /// Writes an item, where one was found.
 fn put_slot<O: Outlet>(
     out: &mut O,
-    key: &Key,
+    key: &[u8],
     with_unique: bool,
     slot: &Option<Answer>,
 ) -> Result<(), OutFault>
+    requires { length key.now ≤ KEY_LIMIT }
     ensures { Writes (slot_text (item_text with_unique key.now) slot.now) result (O.sight out.old) (O.sight out.new) }
 {
     match slot {
@@ -131,10 +133,11 @@ fn put_slot<O: Outlet>(
 
 fn put_item<O: Outlet>(
     out: &mut O,
-    key: &Key,
+    key: &[u8],
     with_unique: bool,
     answer: &Answer,
 ) -> Result<(), OutFault>
+    requires { length key.now ≤ KEY_LIMIT }
     ensures { Writes (item_text with_unique key.now answer.now) result (O.sight out.old) (O.sight out.new) }
 {
     match answer {
@@ -169,10 +172,11 @@ fn put_item<O: Outlet>(
 
 fn put_plain_item<O: Outlet>(
     out: &mut O,
-    key: &Key,
+    key: &[u8],
     flags: u32,
     value: &[u8],
 ) -> Result<(), OutFault>
+    requires { length key.now ≤ KEY_LIMIT }
     ensures { Writes (plain_item key.now flags value.now) result (O.sight out.old) (O.sight out.new) }
 {
     let mut flag_digits = Buffer::new();
@@ -182,18 +186,19 @@ fn put_plain_item<O: Outlet>(
     let mut room = [0; HEADER_LIMIT];
     let line = gathered(
         &mut room,
-        &[b"VALUE ", key.bytes(), b" ", flags, b" ", size, b"\r\n"],
+        &[b"VALUE ", key, b" ", flags, b" ", size, b"\r\n"],
     );
     put_parts(out, &[line, value, b"\r\n"])
 }
 
 fn put_unique_item<O: Outlet>(
     out: &mut O,
-    key: &Key,
+    key: &[u8],
     flags: u32,
     unique: u64,
     value: &[u8],
 ) -> Result<(), OutFault>
+    requires { length key.now ≤ KEY_LIMIT }
     ensures { Writes (unique_item key.now flags unique value.now) result (O.sight out.old) (O.sight out.new) }
 {
     let mut flag_digits = Buffer::new();
@@ -206,15 +211,7 @@ fn put_unique_item<O: Outlet>(
     let line = gathered(
         &mut room,
         &[
-            b"VALUE ",
-            key.bytes(),
-            b" ",
-            flags,
-            b" ",
-            size,
-            b" ",
-            unique,
-            b"\r\n",
+            b"VALUE ", key, b" ", flags, b" ", size, b" ", unique, b"\r\n",
         ],
     );
     put_parts(out, &[line, value, b"\r\n"])

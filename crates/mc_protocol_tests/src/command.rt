@@ -6,7 +6,7 @@ use mc_command::{
     Block, Command, Direction, Keys, Line, Refusal, Retrieval, StoreMode, announced_bytes,
     data_can_be_given_up, flags_in_any_order, read_line, table_is_never_out_of_memory,
 };
-use mc_wire::{DEFAULT_VALUE_LIMIT, Key, WireFault};
+use mc_wire::{DEFAULT_VALUE_LIMIT, WireFault, words};
 use std::alloc::{AllocError, Global};
 use std::test::Fail;
 
@@ -65,36 +65,36 @@ fn asked(alloc: Global, line: &[u8]) -> Option<Retrieval> {
     }
 }
 
-/// Whether these are the keys of such names, in order.
-fn are_named(first: &Key, others: &[Key], names: &[&[u8]]) -> bool {
+/// Whether the keys have such names, in order.
+fn are_named(keys: &Keys, names: &[&[u8]]) -> bool {
+    let (first, others) = keys.parts();
     let mut left = names.iter();
-    let is_first = left.next().is_some_and(|name| first.bytes() == *name);
-    is_first
-        && others.len() == left.len()
-        && others
-            .iter()
-            .zip(left)
-            .all(|(key, name)| key.bytes() == *name)
-}
-
-/// The keys of these two names.
-fn keys_of(alloc: Global, first: &[u8], second: &[u8]) -> Result<Keys, WireFault> {
-    let mut keys = Keys::one(alloc, Key::from_word(alloc, first)?);
-    keys.push(Key::from_word(alloc, second)?)?;
-    Ok(keys)
+    if !left.next().is_some_and(|name| first.bytes() == *name) {
+        return false;
+    }
+    for key in others {
+        if !left.next().is_some_and(|name| key == *name) {
+            return false;
+        }
+    }
+    left.next().is_none()
 }
 
 #[test]
 fn keys_stand_in_the_order_of_the_request(rt: HostRuntime) -> Result<(), Fail> {
-    let Some(get) = asked(rt.alloc(), b"gats 10 a b c") else {
+    let alloc = rt.alloc();
+    let Some(get) = asked(alloc, b"gats 10 a b c") else {
         assert!(rt; false, "no get");
         return Ok(());
     };
     equal(&rt, (get.touch, get.with_unique), (Some(10), true));
-    let (first, others) = get.keys.parts();
-    holds(&rt, are_named(first, others, &[b"a", b"b", b"c"]));
-    let (first, others) = keys_of(rt.alloc(), b"d", b"e")?.into_parts();
-    holds(&rt, are_named(&first, others.as_slice(), &[b"d", b"e"]));
+    holds(&rt, are_named(&get.keys, &[b"a", b"b", b"c"]));
+    let keys = Keys::read(alloc, b"d", words(b"  e d "))?;
+    holds(&rt, are_named(&keys, &[b"d", b"e", b"d"]));
+    let keys = Keys::read(alloc, b"d", words(b""))?;
+    holds(&rt, are_named(&keys, &[b"d"]));
+    let refused = Keys::read(alloc, b"d", words(b"e \x01")).err();
+    equal(&rt, refused, Some(Refusal::BadKey));
     Ok(())
 }
 

@@ -5,7 +5,7 @@ ghost use Rattle.mc_wire.specs.Outlet.{Listed, sight_out};
 use crate::asserting::{equal, holds};
 use mc_wire::{
     BASE64_LIMIT, DECODED_KEY_LIMIT, KEY_LIMIT, Key, OutFault, Outlet, WireFault, base64_is_text,
-    number_i64, number_u64, put_all, put_parts, words,
+    key_fault, number_i64, number_u64, put_all, put_parts, words,
 };
 use std::test::Fail;
 
@@ -42,6 +42,7 @@ fn words_are_the_runs_between_spaces(rt: HostRuntime) {
     let mut walk = words(b"  set a\t1  0 \r ");
     equal(&rt, walk.next(), Some(b"set".as_slice()));
     equal(&rt, walk.next(), Some(b"a\t1".as_slice()));
+    equal(&rt, walk.text(), b" 0 \r ".as_slice());
     equal(&rt, walk.next(), Some(b"0".as_slice()));
     equal(&rt, walk.next(), Some(b"\r".as_slice()));
     equal(&rt, walk.next(), None);
@@ -161,6 +162,7 @@ fn faults_of_words_take_no_memory(rt: HostRuntime) {
         ),
     ];
     for (word, plain, base64) in words {
+        equal(&rt, (word, key_fault(word)), (word, plain));
         if plain.is_some() {
             equal(
                 &rt,

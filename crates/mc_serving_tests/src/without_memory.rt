@@ -11,7 +11,10 @@ use mc_reader::{Next, Reader};
 use mc_ring::{Parcel, Reply, SeatEnds, ShardEnds, lanes};
 use mc_split::{Piece, Ticket};
 use mc_store::Shard;
-use mc_wire::{DEFAULT_VALUE_LIMIT, Key, LINE_LIMIT, number_i64, number_u64, put_all, words};
+use mc_wire::{
+    DEFAULT_VALUE_LIMIT, Key, LINE_LIMIT, WireFault, key_fault, number_i64, number_u64, put_all,
+    words,
+};
 use std::alloc::{AllocError, Global};
 use std::hash::RandomState;
 use std::process::Abort;
@@ -56,8 +59,10 @@ fn words_numbers_and_items(rt: HostRuntime) {
     };
     let mut walk = words(b" a  bc ");
     equal(&rt, walk.next(), Some(b"a".as_slice()));
+    equal(&rt, walk.text(), b" bc ".as_slice());
     equal(&rt, walk.next(), Some(b"bc".as_slice()));
     equal(&rt, walk.next(), None);
+    equal(&rt, key_fault(b"a b"), Some(WireFault::KeyByte));
     equal(&rt, number_u64(b"18446744073709551615"), Ok(u64::MAX));
     equal(&rt, number_i64(b"-17"), Ok(-17));
     equal(&rt, key.bytes(), b"a".as_slice());

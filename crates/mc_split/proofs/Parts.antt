@@ -1,6 +1,6 @@
 -- Pieces that are numbered one after another are the parts of a command.
 use Rattle.std.proofs.Common.{◌≡◌, ℕ, suc, ◌+◌, ◌-◌, ◌<◌, ◌≤◌, List, [], ◌∷◌, ◌++◌, length, map, replicate, Option, None, refl, ap, sym, ◌∙◌, append_assoc, append-nil, arith, length-append, take}
-use Rattle.std.proofs.lemmas.List.{length-map, take_at}
+use Rattle.std.proofs.lemmas.List.{take_at}
 use Rattle.std.proofs.lemmas.List.FromFn.{length-map-range_with_len}
 use Rattle.mc_item.specs.declared.answer.Kind.TheVariants.{Fetch, Flush}
 use Rattle.mc_split.proofs.Shards.{flush_of, flushes_kind, gets_kind}
@@ -146,9 +146,9 @@ pub get_more : (old now new : List (ℕ × Piece)) (ticket : Ticket) (moment par
 get_more old now new ticket moment part shards touch key keys others whole keys_are so_far part_is after =
     queued_more old now new ticket moment part (asked_of shards key (op.Fetch key touch)) (gets_of shards touch others) (gets_of shards touch whole) (rw keys_are at so_far) (omega (arith, part_is, added so_far)) after
 
-pub splits_get : (result : Result Form NoMemory) (ticket : Ticket) (moment : ℕ) (shape : Shape) (shards : ℕ) (touch : Option ℤ) (count : ℕ) (first : List ℕ) (others keys left : List (List ℕ)) (old now : List (ℕ × Piece)) → keys ≡ first ∷ others → count ≡ length others + 1 → left ≡ [] →
+pub splits_get : (result : Result Form NoMemory) (ticket : Ticket) (moment : ℕ) (shape : Shape) (shards : ℕ) (touch : Option ℤ) (count : ℕ) (first : List ℕ) (others keys left : List (List ℕ)) (old now : List (ℕ × Piece)) → keys ≡ first ∷ others → count ≡ length now - length old → left ≡ [] →
     IfOk result (λ form. form ≡ record { ticket = ticket; kind = Fetch; shape = shape; slots = replicate count None }) → Queued old now ticket moment (gets_of shards touch left) (gets_of shards touch keys) → Splits result ticket moment shape (gets_of shards touch keys) old now
 splits_get result ticket moment shape shards touch count first others keys left old now keys_are count_is none form_is so_far =
-    let number : count ≡ length (gets_of shards touch (first ∷ others)) = omega (arith, count_is, length-map others (λ key. asked_of shards key (op.Fetch key touch))) in
-    let all : Queued old now ticket moment [] (gets_of shards touch keys) = rw none at so_far in
-    rw keys_are (splits result ticket moment shape Fetch (gets_of shards touch (first ∷ others)) old now (rw number at form_is) (gets_kind shards touch first others) (omega arith) (rw keys_are at all))
+    let all : Queued old now ticket moment [] (gets_of shards touch (first ∷ others)) = rw (none, keys_are) at so_far in
+    let number : count ≡ length (gets_of shards touch (first ∷ others)) = omega (arith, count_is, added all, ap length all.together, length-append all.done []) in
+    rw keys_are (splits result ticket moment shape Fetch (gets_of shards touch (first ∷ others)) old now (rw number at form_is) (gets_kind shards touch first others) (omega arith) all)

@@ -58,16 +58,16 @@ impl Splitter {
         let before = queue.len();
         let touch = retrieval.touch;
         let (first, others) = retrieval.keys.parts();
-        let count = others.len() + 1;
         let key = first.clone()?;
         let shard = key.place(self.shards);
         self.push(queue, shard, 0, Op::Fetch { key, touch })?;
-        for other in others {
-            let key = other.clone()?;
+        for word in others {
+            let key = Key::from_key_word(self.alloc, word)?;
             let shard = key.place(self.shards);
             let part = queue.len() - before;
             self.push(queue, shard, part, Op::Fetch { key, touch })?;
         }
+        let count = queue.len() - before;
         let shape = Shape::Values {
             keys: retrieval.keys,
             with_unique: retrieval.with_unique,

@@ -93,15 +93,18 @@ impl Key {
         ensures fault { IfErr result (λ fault. fault ≢ WireFault.Memory → key_fault word.now ≡ Some fault) }
         ensures memory { IsErrOf result WireFault.Memory → key_fault word.now ≡ None }
     {
-        if word.is_empty() {
-            return Err(WireFault::NoKey);
+        if let Some(fault) = key_fault(word) {
+            return Err(fault);
         }
-        if word.len() > KEY_LIMIT {
-            return Err(WireFault::KeyTooLong);
-        }
-        if !is_key_word(word) {
-            return Err(WireFault::KeyByte);
-        }
+        let key = Key::from_key_word(alloc, word)?;
+        Ok(key)
+    }
+
+    /// The key of a word that is known to spell one.
+    pub fn from_key_word(alloc: Global, word: &[u8]) -> Result<Key, AllocError>
+        requires { key_fault word.now ≡ None }
+        ensures { IfOk result (λ key. key ≡ word.now) }
+    {
         let bytes = Vec::from_slice(alloc, word)?;
         Ok(Key { bytes })
     }
@@ -169,6 +172,24 @@ impl Key {
             (hash ^ u32::from(*byte)).wrapping_mul(FNV_PRIME)
         });
         hash as usize % shards
+    }
+}
+
+/// What hinders a word from being a key (protocol.txt, Keys): `NoKey`, `KeyTooLong` or `KeyByte`, tested in this order. Takes
+/// no memory.
+pub fn key_fault(word: &[u8]) -> Option<WireFault>
+    ensures { result ≡ key_fault word.now }
+{
+    if word.is_empty() {
+        return Some(WireFault::NoKey);
+    }
+    if word.len() > KEY_LIMIT {
+        return Some(WireFault::KeyTooLong);
+    }
+    if is_key_word(word) {
+        None
+    } else {
+        Some(WireFault::KeyByte)
     }
 }
 

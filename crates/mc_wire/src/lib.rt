@@ -10,7 +10,7 @@ mod outlet;
 mod walk;
 
 pub use fault::{OutFault, WireFault};
-pub use key::Key;
+pub use key::{Key, key_fault};
 pub use laws::base64_is_text;
 pub use number::{number_i64, number_u64};
 pub use outlet::{Outlet, put_all, put_parts};

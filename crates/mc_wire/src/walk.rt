@@ -22,6 +22,15 @@ pub fn words(text: &[u8]) -> WordWalk<'_>
     WordWalk { rest: text }
 }
 
+impl<'a> WordWalk<'a> {
+    /// The text of the words that the walk has not given yet.
+    pub fn text(&self) -> &'a [u8]
+        ensures { words_of result.now ≡ words_left self.now }
+    {
+        self.rest
+    }
+}
+
 impl<'a> Iterator for WordWalk<'a> {
     type Item = &'a [u8];
 
