@@ -19,8 +19,8 @@ TOP = pathlib.Path(__file__).resolve().parent.parent
 
 # Each test that holds whichever allocation is refused, and how many allocations it makes at least.
 TESTS = [
-    ("mc_protocol_tests", "command::a_line_without_memory_is_given_up", 20),
-    ("mc_protocol_tests", "reader::a_refused_allocation_gives_up_one_command", 7),
+    ("mc_protocol_tests", "command::a_line_without_memory_is_given_up", 25),
+    ("mc_protocol_tests", "reader::a_refused_allocation_gives_up_one_command", 8),
     ("mc_protocol_tests", "store::memory_may_be_refused_once", 50),
     ("mc_connection_tests", "split::a_refused_allocation_refuses_one_plan", 30),
     ("mc_connection_tests", "join::a_hit_copies_no_value", 5),

@@ -23,12 +23,12 @@ refusal_for wire.Memory = Memory
 unfoldable pub is_key : List ℕ → Bool
 is_key word = is_none (key_fault word)
 
+abbrev pub key_of : List ℕ → Result (List ℕ) Refusal
+key_of word = if is_key word then Ok word else Err BadKey
+
 -- words that are keys, each of them
 abbrev pub AreKeys : List (List ℕ) → Type 0
 AreKeys words = AllByRecursion (λ word. key_fault word ≡ None) words
-
-abbrev pub key_of : List ℕ → Result (List ℕ) Refusal
-key_of word = if is_key word then Ok word else Err BadKey
 
 -- an unsigned number below the bound
 abbrev pub unsigned_of : ℕ → List ℕ → Result ℕ Refusal

@@ -174,8 +174,10 @@ pub fn refused(alloc: Global, line: &[u8]) -> (Option<Refusal>, u64) {
 }
 
 /// Lines with the bytes that stand behind them and their faults, if they have one.
-static LINES: [(&str, u64, Option<Refusal>); 18] = [
+static LINES: [(&str, u64, Option<Refusal>); 23] = [
     ("set a 0 0 3", 5, None),
+    ("add a 0 0 3 noreply", 5, None),
+    ("prepend a 0 0 3", 5, None),
     ("cas a 0 0 3 9", 5, None),
     ("set a 0 0 1048577", 1_048_579, Some(Refusal::TooLarge)),
     ("set a x 0 3", 5, Some(Refusal::BadFormat)),
@@ -185,9 +187,12 @@ static LINES: [(&str, u64, Option<Refusal>); 18] = [
     ("ms a 3 C1 MA", 5, Some(Refusal::BadFormat)),
     ("get a b c d e f", 0, None),
     ("get a b\x7f", 0, Some(Refusal::BadKey)),
+    ("get a", 0, None),
+    ("gat 10 a b", 0, None),
     ("gats 10 a b c", 0, None),
     ("delete a", 0, None),
     ("incr a 1", 0, None),
+    ("decr a 1 noreply", 0, None),
     ("touch a 0", 0, None),
     ("mg a v k", 0, None),
     ("mg YQ== b v", 0, None),

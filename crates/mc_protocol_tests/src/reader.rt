@@ -188,10 +188,16 @@ fn a_refused_allocation_gives_up_one_command(rt: HostRuntime) {
     feed_all(
         &rt,
         &mut reader,
-        b"set a 0 0 4\r\nmn\r\n\r\nget a b c\r\nms YQ== 4 b k\r\nmn\r\n\r\nmn\r\n",
+        b"set a 0 0 4\r\nmn\r\n\r\nget a b c\r\nms YQ== 4 b k\r\nmn\r\n\r\nget d\r\nmn\r\n",
     );
     let mut refused = 0u8;
-    for wanted in [Came::Store, Came::Get, Came::MetaSet, Came::MetaNoop] {
+    for wanted in [
+        Came::Store,
+        Came::Get,
+        Came::MetaSet,
+        Came::Get,
+        Came::MetaNoop,
+    ] {
         let given = what_came(&reader.next(alloc));
         if given == Came::Refused(Refusal::Memory) && wanted != Came::MetaNoop {
             refused = refused.saturating_add(1);
