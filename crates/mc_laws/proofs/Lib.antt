@@ -1,0 +1,9 @@
+pub mod Finding
+pub mod Working
+pub mod Summing
+pub mod Measure
+pub mod Trying
+pub mod After
+pub mod Loaded
+pub mod Ordering
+pub mod Linear

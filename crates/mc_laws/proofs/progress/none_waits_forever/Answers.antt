@@ -1,0 +1,11 @@
+-- Each connection goes on, whatever the others do.
+use Rattle.mc_core.specs.World.{empty_world}
+use Rattle.mc_core.proofs.Worlds.{at_begin}
+use Rattle.mc_core.proofs.Every.{all_kept}
+use Rattle.mc_laws.proofs.Loaded.{none_waits}
+use Rattle.mc_laws.proofs.Trying.{all_seated, seated_at_begin}
+use Rattle.mc_laws.proofs.progress.none_waits_forever.Goals as goal
+
+pub returns : goal.returns
+returns c sizes events w within schedule run just =
+    none_waits sizes w run within (all_kept sizes empty_world events w within.shards.0 schedule (at_begin sizes)) (all_seated sizes empty_world events w schedule (seated_at_begin sizes)) just

@@ -1,0 +1,4 @@
+pub mod Progress
+pub mod Fair
+pub mod Order
+pub mod Linear

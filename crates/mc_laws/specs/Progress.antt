@@ -1,0 +1,82 @@
+-- Progress: what the parts can still do by themselves, and how much of it there is at most.
+use Rattle.std.specs.Prelude.{ℕ, ◌≡◌, ◌+◌, ◌*◌, ◌≤◌, false, List, [], ◌∷◌, length, Some}
+use Rattle.std.specs.List.{AllByRecursion, slice_get}
+use Rattle.mc_command.specs.declared.command.Command.{Command}
+use Rattle.mc_split.specs.Pieces.{pieces_of}
+use Rattle.mc_core.specs.Sizes.{Sizes}
+use Rattle.mc_core.specs.Sized.{SpellAll}
+use Rattle.mc_core.specs.World.{IsLink, Link, World}
+use Rattle.mc_core.specs.Rest.{AtRest}
+use Rattle.mc_core.specs.Events.{Event}
+use Rattle.mc_core.specs.Events.Event.{Open, Feed, Take, Send, Pop, Give, Receive, Hand, End, Break}
+use Rattle.mc_core.specs.Schedule.{Happens, Leads, Spared}
+use Rattle.mc_core.specs.Schedule.StepReply.{Done}
+use Rattle.mc_core.specs.Headline.{AreAllReplies, OfEach}
+use Rattle.mc_core.specs.Runs.{done_in}
+
+-- The server does it by itself: no client acts.
+abbrev pub IsWork : Event → Type 0
+IsWork (Open seat) = ⊥
+IsWork (Feed seat bytes) = ⊥
+IsWork (Take seat moment) = Unit {0}
+IsWork (Send seat) = Unit {0}
+IsWork (Pop shard seat) = Unit {0}
+IsWork (Give shard) = Unit {0}
+IsWork (Receive seat shard) = Unit {0}
+IsWork (Hand seat) = Unit {0}
+IsWork (End seat) = ⊥
+IsWork (Break seat) = ⊥
+
+-- Nothing comes in by it: no connection begins, and no bytes come.
+abbrev pub IsNoInput : Event → Type 0
+IsNoInput (Open seat) = ⊥
+IsNoInput (Feed seat bytes) = ⊥
+IsNoInput event = Unit {0}
+
+-- Nothing is left to do, on any connection.
+abbrev pub AllAtRest : Sizes → World → Type 0
+AllAtRest sizes w = OfEach w (λ k link. AtRest sizes link)
+
+-- Each connection that isn't broken was handed the replies to all commands that its bytes spell.
+abbrev pub AllReplied : Sizes → World → Type 0
+AllReplied sizes w = OfEach w (λ k link. link.broken ≡ false → AreAllReplies sizes w k link)
+
+-- Some work is enabled, may not be idle, and can be done.
+pub record HasWork (sizes : Sizes) (w : World) : Type 0 where
+  pub event : Event
+  pub work : IsWork event
+  pub next : World
+  pub happens : Happens sizes w event Done next
+  pub sure : Spared sizes w event → ⊥
+
+-- While nothing comes in no more than so many events are done, however many are tried.
+abbrev pub DoesAtMost : Sizes → World → ℕ → Type 0
+DoesAtMost sizes w most =
+    (events : List Event) (later : World) (led : Leads sizes w events later) → AllByRecursion IsNoInput events → done_in sizes w events later led ≤ most
+
+-- two steps for each command, which is taken and whose reply is handed out, and four for each of its pieces, which is sent,
+-- run, given and received
+abbrev pub steps_of : ℕ → List Command → ℕ
+steps_of shards [] = 0
+steps_of shards (command ∷ commands) = 2 + 4 * length (pieces_of shards command) + steps_of shards commands
+
+-- the steps for the commands of each connection, and two for the connection, which may end and may break
+abbrev pub steps_of_all : ℕ → List (List Command) → ℕ
+steps_of_all shards [] = 0
+steps_of_all shards (commands ∷ others) = 2 + steps_of shards commands + steps_of_all shards others
+
+-- No more events are done than there are steps for the commands that the bytes of all connections spell.
+pub record IsBounded (sizes : Sizes) (w : World) : Type 0 where
+  pub commands : List (List Command)
+  pub of_each : length commands ≡ length w.links
+  pub spelled : (k : ℕ) (link : Link) (own : List Command) → IsLink w k link → slice_get commands k ≡ Some own → SpellAll sizes link.fed own
+  pub most : DoesAtMost sizes w (steps_of_all sizes.shards commands)
+
+-- Some work leads to a world where all are at rest, and then all replies are out.
+pub record CanComeToRest (sizes : Sizes) (w : World) : Type 0 where
+  pub events : List Event
+  pub work : AllByRecursion IsWork events
+  pub later : World
+  pub led : Leads sizes w events later
+  pub rest : AllAtRest sizes later
+  pub replied : AllReplied sizes later

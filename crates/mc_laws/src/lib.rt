@@ -1,0 +1,12 @@
+//! The laws of every schedule that speak of more than one moment: that the server never gets stuck and comes to rest, that no
+//! command waits for ever, and that commands take effect in the order in which clients see them.
+#![tactic(auto)]
+
+mod order;
+mod progress;
+
+pub use order::{keys_are_linearizable, what_was_handed_out_ran_before};
+pub use progress::{
+    all_comes_to_rest, bytes_are_taken_at_rest, fair_runs_come_to_rest, never_stuck,
+    none_waits_forever, what_is_tried_is_fair,
+};
