@@ -260,7 +260,7 @@ pub does_at_most : (sizes : Sizes) (w : World) → 0 < sizes.shards → Law size
 does_at_most sizes w some l events later led work = let all = at_most sizes w events later some l led work in omega (arith, all)
 
 steps_join : (shards : ℕ) (xs ys : List Command) → steps_of shards (xs ++ ys) ≡ steps_of shards xs + steps_of shards ys
-steps_join shards [] ys = refl
+steps_join shards [] ys = omega arith
 steps_join shards (x ∷ xs) ys = let rest = steps_join shards xs ys in omega (arith, rest)
 
 -- the steps for what was taken

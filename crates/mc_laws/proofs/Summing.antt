@@ -34,7 +34,7 @@ sum_more (suc n) f g h each = let here = each n in let rest = sum_more n f g h e
 
 pub sum_none : (n : ℕ) → sum_to n (λ i. 0) ≤ 0
 sum_none zero = omega arith
-sum_none (suc n) = sum_none n
+sum_none (suc n) = let rest = sum_none n in omega (arith, rest)
 
 -- c at one number, and nothing elsewhere
 abbrev pub at_point : ℕ → ℕ → ℕ → ℕ
