@@ -183,7 +183,7 @@ feeds_into old new c number bytes replied.NoMemory place after kept kept' finds 
     let h = world.keeps number link kept at.here at_kept in
     let is : IsConn after.conn (told_of sizes link s.lent s.accepted) = subst (λ x. IsConn x (told_of sizes link s.lent s.accepted)) (sym into.1) s.is in (
       w,
-      ((number, link, at, (sym h.ended ∙ may.0, sym h.broken ∙ may.1, may.2)), refl),
+      ((tt, (number, link, at, (sym h.ended ∙ may.0, sym h.broken ∙ may.1, may.2))), refl),
       feeds_none sizes w old new c number place after kept kept' world finds at_kept link at (record { lent = s.lent; accepted = s.accepted; is = is; fits = s.fits }) same
           (record { differs = fed.differs; connections = fed.connections; seat = fed.seat; ended = fed.ended; broken = fed.broken; fed_is = into.0; handed = fed.handed }),
     )

@@ -206,7 +206,7 @@ hands old new c number reply place after kept kept' passes finds at_kept some pa
           let is : SeatIs sizes w c after.conn after.current = subst (λ o. SeatIs sizes w c after.conn o) (sym (same ∙ finds.current)) (link, at, record { lent = s.lent; accepted = s.accepted; is = d.1; fits = s.fits }) in
           let keeps : Keeps sizes w number link kept' = record { seat = seat ∙ h.seat; ended = ended ∙ h.ended; broken = broken ∙ h.broken; fed = ap (λ v. v.items) fed ∙ h.fed; handed = d.0 ∙ h.handed } in (
             w,
-            ((number, link, at, allows), refl),
+            ((tt, (number, link, at, allows)), refl),
             world_again sizes w c number link old new world at.here
                 (seats_set sizes w c old.seats.items new.seats.items place after finds.here differs.seats is)
                 (kept_set sizes w number link old.connections.items new.connections.items kept kept' at_kept connections keeps)

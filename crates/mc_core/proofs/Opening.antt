@@ -340,4 +340,4 @@ opens_unkept old new c place here may same sizes w world =
           ] in
           inr (k, link, at, (rests sizes (of_asker k w.log) link place.conn (world.law.links k link at.here) s both.0, overs sizes link s.lent s.accepted both.1))
     ] may (world.each_seat c place here) in
-    (w, ((length w.links, new_link c, (refl, refl), (omega (arith, below, counted), free)), refl), world_stays sizes w old new world same)
+    (w, ((tt, (length w.links, new_link c, (refl, refl), (omega (arith, below, counted), free))), refl), world_stays sizes w old new world same)

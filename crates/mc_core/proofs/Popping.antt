@@ -296,4 +296,4 @@ pops_unkept old new c number shard f waits seats connections log sizes w world =
     let t = waits sizes world.wires world.wired in
     let some = t.some refl in
     let may = may_run sizes w old c number g.0 shard world g.1 some.0 some.1 in
-    (w, ((number, g.0, g.1, (may.1, may.2)), refl), only_rings sizes w old new world seats connections log t.now)
+    (w, ((tt, (number, g.0, g.1, (may.1, may.2))), refl), only_rings sizes w old new world seats connections log t.now)
