@@ -1,5 +1,5 @@
 -- A list of events that a core runs: one more of them, the first that finds no memory, and the end of the list.
-use Rattle.std.proofs.Common.{◌≡◌, ℕ, suc, ◌+◌, ◌<◌, ◌≤◌, List, [], ◌∷◌, ◌++◌, length, map, take, drop, get_or, refl, sym, ap, ◌∙◌, subst, arith}
+use Rattle.std.proofs.Common.{◌≡◌, ◌≢◌, ℕ, suc, ◌+◌, ◌<◌, ◌≤◌, List, [], ◌∷◌, ◌++◌, length, map, take, drop, get_or, refl, sym, ap, ◌∙◌, subst, arith}
 use Rattle.std.proofs.Math.Seq.{drop-cons}
 use Rattle.std.proofs.lemmas.List.{map-append, take-append-drop, take_all, take_more}
 use Rattle.mc_core.specs.declared.event.Event.{Event as Asked}
@@ -11,31 +11,32 @@ use Rattle.mc_core.specs.Sizes.{Sizes}
 use Rattle.mc_core.specs.World.{World}
 use Rattle.mc_core.specs.Events.{Event}
 use Rattle.mc_core.specs.Schedule.{Happens, Leads, StepReply}
+use Rattle.mc_core.specs.Schedule.StepReply.{NoMemory}
 use Rattle.mc_core.specs.Stands.{Stands, Steps}
-use Rattle.mc_core.specs.Runs.{Runs, Stops, done_in, is_done}
+use Rattle.mc_core.specs.Runs.{FoundMemory, Runs, Stops, done_in, is_done}
 
-leads_more : (sizes : Sizes) (w mid w' : World) (front : List Event) (last : Event) (reply : StepReply) (led : Leads sizes w front mid) → Happens sizes mid last reply w' →
-    (more : Leads sizes w (front ++ last ∷ []) w') × (done_in sizes w (front ++ last ∷ []) w' more ≡ done_in sizes w front mid led + is_done reply)
-leads_more sizes w mid w' [] last reply led happens = ((reply, w', subst (λ m. Happens sizes m last reply w') led happens, refl), omega arith)
-leads_more sizes w mid w' (event ∷ front) last reply led happens =
-    let more = leads_more sizes led.1 mid w' front last reply led.3 happens in
-    ((led.0, led.1, led.2, more.0), omega (arith, more.1))
+leads_more : (sizes : Sizes) (w mid w' : World) (front : List Event) (last : Event) (reply : StepReply) (led : Leads sizes w front mid) → FoundMemory sizes w front mid led → Happens sizes mid last reply w' → reply ≢ NoMemory →
+    (more : Leads sizes w (front ++ last ∷ []) w') × FoundMemory sizes w (front ++ last ∷ []) w' more × (done_in sizes w (front ++ last ∷ []) w' more ≡ done_in sizes w front mid led + is_done reply)
+leads_more sizes w mid w' [] last reply led found happens memory = ((reply, w', subst (λ m. Happens sizes m last reply w') led happens, refl), (memory, tt), omega arith)
+leads_more sizes w mid w' (event ∷ front) last reply led found happens memory =
+    let more = leads_more sizes led.1 mid w' front last reply led.3 found.1 happens memory in
+    ((led.0, led.1, led.2, more.0), (found.0, more.1), omega (arith, more.2))
 
 pub runs_none : (sim : Sim) → Runs sim [] 0 sim
-runs_none sim sizes w stands = (w, refl, refl, stands)
+runs_none sim sizes w stands = (w, refl, tt, refl, stands)
 
-runs_more : (old mid new : Sim) (front : List Event) (last : Event) (reply : Replied) (done : ℕ) → Runs old front done mid → Steps mid last reply new → Runs old (front ++ last ∷ []) (done + is_done (reply_of reply)) new
-runs_more old mid new front last reply done runs steps sizes w stands =
+runs_more : (old mid new : Sim) (front : List Event) (last : Event) (reply : Replied) (done : ℕ) → Runs old front done mid → Steps mid last reply new → reply_of reply ≢ NoMemory → Runs old (front ++ last ∷ []) (done + is_done (reply_of reply)) new
+runs_more old mid new front last reply done runs steps memory sizes w stands =
     let ran = runs sizes w stands in
-    let step = steps sizes ran.0 ran.3 in
-    let more = leads_more sizes w ran.0 step.0 front last (reply_of reply) ran.1 step.1 in
-    (step.0, more.0, ap (λ n. n + is_done (reply_of reply)) ran.2 ∙ sym more.1, step.2)
+    let step = steps sizes ran.0 ran.4 in
+    let more = leads_more sizes w ran.0 step.0 front last (reply_of reply) ran.1 ran.2 step.1 memory in
+    (step.0, more.0, more.1, ap (λ n. n + is_done (reply_of reply)) ran.3 ∙ sym more.2, step.2)
 
 runs_stop : (old mid new : Sim) (front : List Event) (last : Event) (rest : List Event) (done : ℕ) → Runs old front done mid → Steps mid last replied.NoMemory new → Stops old (front ++ last ∷ rest) new
 runs_stop old mid new front last rest done runs steps sizes w stands =
     let ran = runs sizes w stands in
-    let step = steps sizes ran.0 ran.3 in
-    (front, last, rest, ran.0, refl, ran.1, subst (λ v. Happens sizes ran.0 last StepReply.NoMemory v) step.1.1 step.1, subst (λ v. Stands sizes new v) step.1.1 step.2)
+    let step = steps sizes ran.0 ran.4 in
+    (front, last, rest, ran.0, refl, ran.1, ran.2, subst (λ v. Happens sizes ran.0 last NoMemory v) step.1.1 step.1, subst (λ v. Stands sizes new v) step.1.1 step.2)
 
 map_next : (events : List Asked) (i : ℕ) (event : Asked) → i < length events → event ≡ get_or events i event → map event_of (take (i + 1) events) ≡ map event_of (take i events) ++ event_of event ∷ []
 map_next events i event within here =
@@ -49,9 +50,9 @@ map_around events i event within here =
 
 -- The step was answered so: it counts where it was done.
 pub runs_next : (old mid new : Sim) (events : List Asked) (i : ℕ) (event : Asked) (reply : Replied) (done more : ℕ) → i < length events → event ≡ get_or events i event →
-    Runs old (map event_of (take i events)) done mid → Steps mid (event_of event) reply new → more ≡ done + is_done (reply_of reply) → Runs old (map event_of (take (i + 1) events)) more new
-runs_next old mid new events i event reply done more within here runs steps count =
-    let one = runs_more old mid new (map event_of (take i events)) (event_of event) reply done runs steps in
+    Runs old (map event_of (take i events)) done mid → Steps mid (event_of event) reply new → reply_of reply ≢ NoMemory → more ≡ done + is_done (reply_of reply) → Runs old (map event_of (take (i + 1) events)) more new
+runs_next old mid new events i event reply done more within here runs steps memory count =
+    let one = runs_more old mid new (map event_of (take i events)) (event_of event) reply done runs steps memory in
     subst (λ some. Runs old some more new) (sym (map_next events i event within here)) (subst (λ n. Runs old (map event_of (take i events) ++ event_of event ∷ []) n new) (sym count) one)
 
 pub runs_until : (old mid new : Sim) (events : List Asked) (i : ℕ) (event : Asked) (done : ℕ) → i < length events → event ≡ get_or events i event →

@@ -1,5 +1,5 @@
 -- Lists of events that a simulated core runs, and how many of them were done.
-use Rattle.std.specs.Prelude.{ℕ, ◌≡◌, ◌+◌, List, [], ◌∷◌, ◌++◌}
+use Rattle.std.specs.Prelude.{ℕ, ◌≡◌, ◌≢◌, ◌+◌, List, [], ◌∷◌, ◌++◌}
 use Rattle.mc_core.specs.declared.sim.Sim.{Sim}
 use Rattle.mc_core.specs.Stands.{Stands}
 use Rattle.mc_core.specs.Sizes.{Sizes}
@@ -17,15 +17,21 @@ abbrev pub done_in : (sizes : Sizes) (w : World) (events : List Event) (w' : Wor
 done_in sizes w [] w' led = 0
 done_in sizes w (event ∷ events) w' led = is_done led.0 + done_in sizes led.1 events w' led.3
 
--- From whatever world the core stood in, the events lead it to one, and so many of them were done.
+-- Each of the steps found the memory that it took.
+abbrev pub FoundMemory : (sizes : Sizes) (w : World) (events : List Event) (w' : World) → Leads sizes w events w' → Type 0
+FoundMemory sizes w [] w' led = Unit {0}
+FoundMemory sizes w (event ∷ events) w' led = (led.0 ≢ NoMemory) × FoundMemory sizes led.1 events w' led.3
+
+-- From whatever world the core stood in, all of the events lead it to one, each found its memory, and so many were done.
 abbrev pub Runs : Sim → List Event → ℕ → Sim → Type 0
 Runs old events done new =
     (sizes : Sizes) (w : World) → Stands sizes old w →
-    (w' : World) × (led : Leads sizes w events w') × (done ≡ done_in sizes w events w' led) × Stands sizes new w'
+    (w' : World) × (led : Leads sizes w events w') × FoundMemory sizes w events w' led × (done ≡ done_in sizes w events w' led) × Stands sizes new w'
 
--- The core ran the events before the first that found no memory, and stands in the world to which they lead.
+-- The core ran the events before the first that found no memory, and no more, and stands in the world to which they lead.
 abbrev pub Stops : Sim → List Event → Sim → Type 0
 Stops old events new =
     (sizes : Sizes) (w : World) → Stands sizes old w →
     (front : List Event) × (last : Event) × (rest : List Event) × (w' : World)
-    × (events ≡ front ++ last ∷ rest) × Leads sizes w front w' × Happens sizes w' last NoMemory w' × Stands sizes new w'
+    × (events ≡ front ++ last ∷ rest) × (led : Leads sizes w front w') × FoundMemory sizes w front w' led
+    × Happens sizes w' last NoMemory w' × Stands sizes new w'

@@ -8,7 +8,7 @@ use Rattle.mc_core.specs.Sizes.{Sizes}
 use Rattle.mc_core.specs.World.{IsLink, Link, World, empty_world}
 use Rattle.mc_core.specs.Events.{Event}
 use Rattle.mc_core.specs.Schedule.{Leads, Schedule, StepReply}
-use Rattle.mc_core.specs.Runs.{done_in, is_done}
+use Rattle.mc_core.specs.Runs.{FoundMemory, done_in, is_done}
 use Rattle.mc_core.specs.Schedule.StepReply.{Done, Idle, NoMemory}
 use Rattle.mc_core.specs.Stands.{line_of}
 use Rattle.mc_core.specs.declared.sim.LogEntry.{LogEntry}
@@ -88,12 +88,12 @@ report_is sizes w done idle log begin first second third none one two three same
 -- what is told of a run
 abbrev pub IsTold : Sizes → List Event → List ℕ → ℕ → ℕ → Type 0
 IsTold sizes events text done idle =
-    (w : World) × (led : Schedule sizes events w) × (done ≡ done_in sizes empty_world events w led) × (text ≡ report sizes w done idle)
+    (w : World) × (led : Schedule sizes events w) × FoundMemory sizes empty_world events w led × (done ≡ done_in sizes empty_world events w led) × (text ≡ report sizes w done idle)
 
 is_report : (sizes : Sizes) (events : List Event) (text : List ℕ) (done idle : ℕ) → idle ≡ length events - done → IsTold sizes events text done idle → IsReport sizes events text
 is_report sizes events text done idle rest told =
     let most = done_in-le sizes empty_world events told.0 told.1 in
-    record { w = told.0; led = told.1; done = done; idle = idle; done_is = told.2; all = omega (arith, most, told.2, rest); text_is = told.3 }
+    record { w = told.0; led = told.1; memory = told.2; done = done; idle = idle; done_is = told.3; all = omega (arith, most, told.3, rest); text_is = told.4 }
 
 -- the same, where the events were handed on
 pub is_report_of : (sizes : Sizes) (events given : List Event) (text : List ℕ) (done idle : ℕ) → given ≡ events → idle ≡ length events - done → IsTold sizes given text done idle → IsReport sizes events text

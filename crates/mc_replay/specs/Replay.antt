@@ -8,7 +8,7 @@ use Rattle.mc_core.specs.World.{Link, World, empty_world}
 use Rattle.mc_core.specs.Events.{Event}
 use Rattle.mc_core.specs.Log.{Entry}
 use Rattle.mc_core.specs.Schedule.{Schedule}
-use Rattle.mc_core.specs.Runs.{done_in}
+use Rattle.mc_core.specs.Runs.{FoundMemory, done_in}
 use Rattle.mc_core.specs.Headline.{handed_bytes}
 use Rattle.mc_core.specs.Stands.{line_of}
 use Rattle.mc_core.specs.declared.sim.LogEntry.{LogEntry}
@@ -35,10 +35,11 @@ log_line entry = kept_line (line_of entry)
 abbrev pub report : Sizes → World → ℕ → ℕ → List ℕ
 report sizes w done idle = connection_lines sizes w 0 w.links ++ (flat_map log_line w.log ++ counts_line done idle)
 
--- The text tells of a world to which the events lead.
+-- The text tells of a world to which all of the events lead, where each of them found its memory.
 pub record IsReport (sizes : Sizes) (events : List Event) (text : List ℕ) : Type 0 where
   pub w : World
   pub led : Schedule sizes events w
+  pub memory : FoundMemory sizes empty_world events w led
   pub done : ℕ
   pub idle : ℕ
   pub done_is : done ≡ done_in sizes empty_world events w led
