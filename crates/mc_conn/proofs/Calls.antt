@@ -24,9 +24,9 @@ use Rattle.mc_conn.specs.Told.{Told, IsAllTaken, IsAtRest, IsOver, IsShut, IsSki
 use Rattle.mc_conn.proofs.Forms.{length-forms}
 
 -- A call took no command and handed out nothing: what it made of the reader, of the answers and of the pieces is all that is new.
-pub stays_told : (old new : Conn) (told : Told) (out : ℕ) (lent : Bool) (accepted : List Shown) (h : HasBeenTold old told) → new.shards ≡ old.shards → new.broken ≡ old.broken →
-    IsReader new.reader told.limit told.fed told.ended h.given → new.joiner.window ≡ old.joiner.window → new.joiner.gone ≡ old.joiner.gone → IsJoiner new.joiner (all_forms told) accepted h.texts →
-    out ≤ length (all_pieces told) → put_first new.put_back new.unsent.items ≡ drop out (all_pieces told) → (IsTrue lent → (new.put_back ≡ None) × (0 < out)) →
+pub stays_told : (old new : Conn) (told : Told) (out : ℕ) (lent : Bool) (accepted : List Shown) (h : HasBeenTold old told) → new.dispatcher.shards ≡ old.dispatcher.shards → new.broken ≡ old.broken →
+    IsReader new.reader told.limit told.fed told.ended h.given → new.dispatcher.joiner.window ≡ old.dispatcher.joiner.window → new.dispatcher.joiner.gone ≡ old.dispatcher.joiner.gone → IsJoiner new.dispatcher.joiner (all_forms told) accepted h.texts →
+    out ≤ length (all_pieces told) → put_first new.put_back new.dispatcher.unsent.items ≡ drop out (all_pieces told) → (IsTrue lent → (new.put_back ≡ None) × (0 < out)) →
     HasBeenTold new (record told { out = out; lent = lent; accepted = accepted })
 stays_told old new told out lent accepted h shards broken read window gone joined within unsent lent_is = record {
   given = h.given;
@@ -47,18 +47,18 @@ stays_told old new told out lent accepted h shards broken read window gone joine
 }
 
 -- And the joiner is the same.
-pub joiner_stays : (old new : Conn) (told : Told) (out : ℕ) (lent : Bool) (h : HasBeenTold old told) → new.shards ≡ old.shards → new.broken ≡ old.broken →
-    IsReader new.reader told.limit told.fed told.ended h.given → new.joiner ≡ old.joiner →
-    out ≤ length (all_pieces told) → put_first new.put_back new.unsent.items ≡ drop out (all_pieces told) → (IsTrue lent → (new.put_back ≡ None) × (0 < out)) →
+pub joiner_stays : (old new : Conn) (told : Told) (out : ℕ) (lent : Bool) (h : HasBeenTold old told) → new.dispatcher.shards ≡ old.dispatcher.shards → new.broken ≡ old.broken →
+    IsReader new.reader told.limit told.fed told.ended h.given → new.dispatcher.joiner ≡ old.dispatcher.joiner →
+    out ≤ length (all_pieces told) → put_first new.put_back new.dispatcher.unsent.items ≡ drop out (all_pieces told) → (IsTrue lent → (new.put_back ≡ None) × (0 < out)) →
     HasBeenTold new (record told { out = out; lent = lent })
 joiner_stays old new told out lent h shards broken read joiner =
     stays_told old new told out lent told.accepted h shards broken read (ap (λ (held : Held). held.window) joiner) (ap (λ (held : Held). held.gone) joiner) (rw joiner h.joined)
 
 -- A reply is accepted.
 pub accepts : {A B : Type 0} (result : Result A B) (old new : Conn) (reply : Shown) →
-    new.reader ≡ old.reader → new.unsent ≡ old.unsent → new.put_back ≡ old.put_back → new.shards ≡ old.shards → new.broken ≡ old.broken →
-    OnOk result ((opened : List Form) (accepted : List Shown) (handed : List (List ℕ)) → IsJoiner old.joiner opened accepted handed → Expects opened accepted reply) → OnOk result (TakesIn old.joiner new.joiner reply) →
-    OnOk result ((opened : List Form) (accepted : List Shown) (handed : List (List ℕ)) → IsJoiner old.joiner opened accepted handed → IsJoiner new.joiner opened (accepted ++ reply ∷ []) handed) →
+    new.reader ≡ old.reader → new.dispatcher.unsent ≡ old.dispatcher.unsent → new.put_back ≡ old.put_back → new.dispatcher.shards ≡ old.dispatcher.shards → new.broken ≡ old.broken →
+    OnOk result ((opened : List Form) (accepted : List Shown) (handed : List (List ℕ)) → IsJoiner old.dispatcher.joiner opened accepted handed → Expects opened accepted reply) → OnOk result (TakesIn old.dispatcher.joiner new.dispatcher.joiner reply) →
+    OnOk result ((opened : List Form) (accepted : List Shown) (handed : List (List ℕ)) → IsJoiner old.dispatcher.joiner opened accepted handed → IsJoiner new.dispatcher.joiner opened (accepted ++ reply ∷ []) handed) →
     OnOk result ((told : Told) → HasBeenTold old told → Expects (all_forms told) told.accepted reply × HasBeenTold new (record told { accepted = told.accepted ++ reply ∷ [] }))
 accepts (Ok done) old new reply reader unsent put_back shards broken expected takes joins = λ told h. (
   expected (all_forms told) told.accepted h.texts h.joined,
@@ -69,8 +69,8 @@ accepts (Err fault) old new reply reader unsent put_back shards broken expected 
 
 -- A stranger changes nothing.
 pub refuses : {A B : Type 0} (result : Result A B) (old new : Conn) (reply : Shown) →
-    new.reader ≡ old.reader → new.unsent ≡ old.unsent → new.put_back ≡ old.put_back → new.shards ≡ old.shards → new.broken ≡ old.broken →
-    OnErr result ((opened : List Form) (accepted : List Shown) (handed : List (List ℕ)) → IsJoiner old.joiner opened accepted handed → ¬ Expects opened accepted reply) → OnErr result (new.joiner ≡ old.joiner) →
+    new.reader ≡ old.reader → new.dispatcher.unsent ≡ old.dispatcher.unsent → new.put_back ≡ old.put_back → new.dispatcher.shards ≡ old.dispatcher.shards → new.broken ≡ old.broken →
+    OnErr result ((opened : List Form) (accepted : List Shown) (handed : List (List ℕ)) → IsJoiner old.dispatcher.joiner opened accepted handed → ¬ Expects opened accepted reply) → OnErr result (new.dispatcher.joiner ≡ old.dispatcher.joiner) →
     OnErr result ((told : Told) → HasBeenTold old told → (¬ Expects (all_forms told) told.accepted reply) × HasBeenTold new told)
 refuses (Ok done) old new reply reader unsent put_back shards broken unexpected same = tt
 refuses (Err fault) old new reply reader unsent put_back shards broken unexpected same = λ told h. (
@@ -90,11 +90,11 @@ get_drop n xs x rest here =
 
 -- The oldest piece is taken out.
 pub gives : (old new : Conn) (piece : ℕ × Piece) →
-    new.reader ≡ old.reader → new.joiner ≡ old.joiner → new.shards ≡ old.shards → new.broken ≡ old.broken → new.put_back ≡ None →
-    put_first old.put_back old.unsent.items ≡ piece ∷ new.unsent.items →
+    new.reader ≡ old.reader → new.dispatcher.joiner ≡ old.dispatcher.joiner → new.dispatcher.shards ≡ old.dispatcher.shards → new.broken ≡ old.broken → new.put_back ≡ None →
+    put_first old.put_back old.dispatcher.unsent.items ≡ piece ∷ new.dispatcher.unsent.items →
     (told : Told) → HasBeenTold old told → (slice_get (all_pieces told) told.out ≡ Some piece) × HasBeenTold new (record told { out = told.out + 1; lent = true })
 gives old new piece reader joiner shards broken none left told h =
-    let at = get_drop told.out (all_pieces told) piece new.unsent.items (sym h.unsent ∙ left) in
+    let at = get_drop told.out (all_pieces told) piece new.dispatcher.unsent.items (sym h.unsent ∙ left) in
     let below = slice_get_within (all_pieces told) told.out piece at.0 in (
       at.0,
       joiner_stays old new told (told.out + 1) true h shards broken (rw reader h.read) joiner (omega (arith, below)) (rw none at.1) (λ _. (none, omega arith)),
@@ -102,8 +102,8 @@ gives old new piece reader joiner shards broken none left told h =
 
 -- The same where none was put back.
 pub gives_front : (result : Option (ℕ × Piece)) (old new : Conn) →
-    new.reader ≡ old.reader → new.joiner ≡ old.joiner → new.shards ≡ old.shards → new.broken ≡ old.broken → new.put_back ≡ None → old.put_back ≡ None →
-    old.unsent.items ≡ option_to_list result ++ new.unsent.items →
+    new.reader ≡ old.reader → new.dispatcher.joiner ≡ old.dispatcher.joiner → new.dispatcher.shards ≡ old.dispatcher.shards → new.broken ≡ old.broken → new.put_back ≡ None → old.put_back ≡ None →
+    old.dispatcher.unsent.items ≡ option_to_list result ++ new.dispatcher.unsent.items →
     IfSome result (λ piece. (told : Told) → HasBeenTold old told → (slice_get (all_pieces told) told.out ≡ Some piece) × HasBeenTold new (record told { out = told.out + 1; lent = true }))
 gives_front None old new reader joiner shards broken none before left = tt
 gives_front (Some piece) old new reader joiner shards broken none before left =
@@ -111,30 +111,30 @@ gives_front (Some piece) old new reader joiner shards broken none before left =
 
 -- The piece that was taken out last is put back.
 pub takes_back : (old new : Conn) (piece : ℕ × Piece) →
-    new.reader ≡ old.reader → new.joiner ≡ old.joiner → new.shards ≡ old.shards → new.broken ≡ old.broken → new.put_back ≡ Some piece → new.unsent ≡ old.unsent →
+    new.reader ≡ old.reader → new.dispatcher.joiner ≡ old.dispatcher.joiner → new.dispatcher.shards ≡ old.dispatcher.shards → new.broken ≡ old.broken → new.put_back ≡ Some piece → new.dispatcher.unsent ≡ old.dispatcher.unsent →
     (told : Told) (before : ℕ) → HasBeenTold old told → IsTrue told.lent → told.out ≡ before + 1 → slice_get (all_pieces told) before ≡ Some piece →
     HasBeenTold new (record told { out = before; lent = false })
 takes_back old new piece reader joiner shards broken back unsent told before h lent out here =
     let within = h.within in
     let none = (h.lent lent).0 in
-    let items : old.unsent.items ≡ drop told.out (all_pieces told) = rw none at h.unsent in
+    let items : old.dispatcher.unsent.items ≡ drop told.out (all_pieces told) = rw none at h.unsent in
     joiner_stays old new told before false h shards broken (rw reader h.read) joiner (omega (arith, within, out))
     (rw (back, unsent) (ap (λ rest. piece ∷ rest) (items ∙ ap (λ n. drop n (all_pieces told)) out) ∙ sym (drop_at before (all_pieces told) piece here)))
     (λ yes. absurd (false≢true yes))
 
 -- how many tickets are open
-pub waiting_is : (conn : Conn) (told : Told) → HasBeenTold conn told → told.handed + length conn.joiner.forms ≡ length told.taken
+pub waiting_is : (conn : Conn) (told : Told) → HasBeenTold conn told → told.handed + length conn.dispatcher.joiner.forms ≡ length told.taken
 waiting_is conn told h =
-    let opened = opened_length conn.joiner (all_forms told) told.accepted h.texts h.joined in
+    let opened = opened_length conn.dispatcher.joiner (all_forms told) told.accepted h.texts h.joined in
     let long = length-forms told.shards 0 told.taken in
     let count = h.joined.count in
     let handed = h.handed in
     omega (arith, opened, long, count, handed)
 
 -- no piece is left
-nothing_left : (conn : Conn) (told : Told) → HasBeenTold conn told → conn.put_back ≡ None → length conn.unsent.items ≡ 0 → told.out ≡ length (all_pieces told)
+nothing_left : (conn : Conn) (told : Told) → HasBeenTold conn told → conn.put_back ≡ None → length conn.dispatcher.unsent.items ≡ 0 → told.out ≡ length (all_pieces told)
 nothing_left conn told h none empty =
-    let items : conn.unsent.items ≡ drop told.out (all_pieces told) = rw none at h.unsent in
+    let items : conn.dispatcher.unsent.items ≡ drop told.out (all_pieces told) = rw none at h.unsent in
     let within = h.within in
     omega (arith, within, empty, ap length items, length-drop told.out (all_pieces told))
 
@@ -142,9 +142,9 @@ same_number : (a b : ℕ) → IsTrue (a == b) ↔ (a ≡ b)
 same_number a b = (λ e. grind (arith, nat_tests), λ e. grind (arith, nat_tests))
 
 -- when a broken connection is at rest
-pub rest_broken : (conn : Conn) (told : Told) (passes waiting : ℕ) → conn.put_back ≡ None → length conn.unsent.items ≡ 0 → conn.broken ≡ true →
-    ((opened : List Form) (accepted : List Shown) (handed : List (List ℕ)) → IsJoiner conn.joiner opened accepted handed → length handed + passes ≡ length (replies opened accepted)) →
-    waiting ≡ length conn.joiner.forms → HasBeenTold conn told → IsTrue (passes == waiting) ↔ IsAtRest told
+pub rest_broken : (conn : Conn) (told : Told) (passes waiting : ℕ) → conn.put_back ≡ None → length conn.dispatcher.unsent.items ≡ 0 → conn.broken ≡ true →
+    ((opened : List Form) (accepted : List Shown) (handed : List (List ℕ)) → IsJoiner conn.dispatcher.joiner opened accepted handed → length handed + passes ≡ length (replies opened accepted)) →
+    waiting ≡ length conn.dispatcher.joiner.forms → HasBeenTold conn told → IsTrue (passes == waiting) ↔ IsAtRest told
 rest_broken conn told passes waiting none empty broken passed tickets h =
     let told_broken : told.broken ≡ true = sym h.broken ∙ broken in
     let texts = passed (all_forms told) told.accepted h.texts h.joined in
@@ -160,8 +160,8 @@ rest_broken conn told passes waiting none empty broken passed tickets h =
     )
 
 -- when an unbroken one is
-pub rest_whole : (conn : Conn) (told : Told) (waiting : ℕ) → conn.put_back ≡ None → length conn.unsent.items ≡ 0 → conn.broken ≡ false → IsAllTaken told →
-    waiting ≡ length conn.joiner.forms → HasBeenTold conn told → IsTrue (waiting == 0) ↔ IsAtRest told
+pub rest_whole : (conn : Conn) (told : Told) (waiting : ℕ) → conn.put_back ≡ None → length conn.dispatcher.unsent.items ≡ 0 → conn.broken ≡ false → IsAllTaken told →
+    waiting ≡ length conn.dispatcher.joiner.forms → HasBeenTold conn told → IsTrue (waiting == 0) ↔ IsAtRest told
 rest_whole conn told waiting none empty broken all tickets h =
     let told_broken : told.broken ≡ false = sym h.broken ∙ broken in
     let forms = waiting_is conn told h in (

@@ -11,3 +11,4 @@ pub mod GivenUp
 pub mod Takes
 pub mod Staying
 pub mod Handing
+pub mod Dispatching

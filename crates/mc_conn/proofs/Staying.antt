@@ -28,7 +28,7 @@ pub is_sound : (conn : Conn) (told : Told) → IsConn conn told → IsSound told
 unfolding IsConn IsReader
 is_sound conn told h =
     let Begin : List Command → Type 0 = λ entries. BeginCommands told.limit told.fed entries in
-    let passed = passed_count conn.joiner (all_forms told) told.accepted h.texts h.joined in
+    let passed = passed_count conn.dispatcher.joiner (all_forms told) told.accepted h.texts h.joined in
     let handed = h.handed in
     let opened = all_forms told in
     let most = prefix_len-le-length is_answered (map (answered told.accepted) opened) in
@@ -79,13 +79,13 @@ keeps told later held new texts long old after =
 pub keeps_accept : (conn : Conn) (told : Told) (reply : Shown) → IsConn conn told → Expects (all_forms told) told.accepted reply → KeepsHanded told (record told { accepted = told.accepted ++ reply ∷ [] })
 unfolding IsConn
 keeps_accept conn told reply h expects =
-    let after = joined_accept conn.joiner (all_forms told) told.accepted h.texts reply h.joined expects in
-    keeps told (record told { accepted = told.accepted ++ reply ∷ [] }) conn.joiner after.0 h.texts h.handed h.joined after.1
+    let after = joined_accept conn.dispatcher.joiner (all_forms told) told.accepted h.texts reply h.joined expects in
+    keeps told (record told { accepted = told.accepted ++ reply ∷ [] }) conn.dispatcher.joiner after.0 h.texts h.handed h.joined after.1
 
 pub keeps_take : (conn : Conn) (told : Told) (one : Taken) → IsConn conn told → KeepsHanded told (record told { taken = told.taken ++ one ∷ [] })
 unfolding IsConn
 keeps_take conn told one h =
-    let held = conn.joiner in
+    let held = conn.dispatcher.joiner in
     let form : Form = form_of told.shards (ticket_at (0 + length told.taken)) (planned one) in
     let new : Held = record held { forms = held.forms ++ form ∷ [] } in
     let opened = opened_length held (all_forms told) told.accepted h.texts h.joined in

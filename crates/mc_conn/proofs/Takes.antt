@@ -45,7 +45,7 @@ unbroken told not_over = elim told.broken as (λ b. told.broken ≡ b → b ≡ 
   | false ↦ λ e. refl
 ] refl
 
-pub fills_window : (conn : Conn) → GoesOn conn → length conn.joiner.forms ≡ conn.joiner.window → (told : Told) → IsConn conn told → FillsWindow told conn
+pub fills_window : (conn : Conn) → GoesOn conn → length conn.dispatcher.joiner.forms ≡ conn.dispatcher.joiner.window → (told : Told) → IsConn conn told → FillsWindow told conn
 unfolding IsConn
 fills_window conn on full told h =
     let forms = waiting_is conn told h in
@@ -53,15 +53,15 @@ fills_window conn on full told h =
     record { full = omega (arith, forms, window, full); whole = unbroken told (on told h); goes_on = λ closed. on told h (inr closed); now = h }
 
 -- There are always numbers left.
-pub numbers_left : (conn : Conn) → GoesOn conn → opened_count conn.joiner ≡ 2 ^ 64 → ((told : Told) → IsConn conn told → told.broken ≡ false → length told.taken ≤ most_commands) → (told : Told) → IsConn conn told → FillsWindow told conn
+pub numbers_left : (conn : Conn) → GoesOn conn → opened_count conn.dispatcher.joiner ≡ 2 ^ 64 → ((told : Told) → IsConn conn told → told.broken ≡ false → length told.taken ≤ most_commands) → (told : Told) → IsConn conn told → FillsWindow told conn
 unfolding IsConn
 numbers_left conn on none most told h =
     let few = most told h (unbroken told (on told h)) in
-    let opened = opened_length conn.joiner (all_forms told) told.accepted h.texts h.joined in
+    let opened = opened_length conn.dispatcher.joiner (all_forms told) told.accepted h.texts h.joined in
     absurd (omega (arith, few, opened, none, length-forms told.shards 0 told.taken))
 
-pub needs_more : (old new : Conn) → GoesOn old → length old.joiner.forms < old.joiner.window → NextSays old.reader next.NeedMore new.reader →
-    new.joiner ≡ old.joiner → new.unsent ≡ old.unsent → new.put_back ≡ old.put_back → new.shards ≡ old.shards → new.broken ≡ old.broken →
+pub needs_more : (old new : Conn) → GoesOn old → length old.dispatcher.joiner.forms < old.dispatcher.joiner.window → NextSays old.reader next.NeedMore new.reader →
+    new.dispatcher.joiner ≡ old.dispatcher.joiner → new.dispatcher.unsent ≡ old.dispatcher.unsent → new.put_back ≡ old.put_back → new.dispatcher.shards ≡ old.dispatcher.shards → new.broken ≡ old.broken →
     (told : Told) → IsConn old told → NeedsMore told new
 unfolding IsConn IsAwaiting
 needs_more old new on room says joiner unsent put_back shards broken told h =
@@ -96,11 +96,11 @@ put_first-append : (back : Option (ℕ × Piece)) (others more : List (ℕ × Pi
 put_first-append None others more = refl
 put_first-append (Some piece) others more = refl
 
-pub opens : (old new : Conn) (shown : Command) (ticket : Ticket) (moment : ℕ) (form : Form) → GoesOn old → length old.joiner.forms < old.joiner.window → ticket.0 ≡ opened_count old.joiner →
-    NextSays old.reader (next.Command shown) new.reader → Plans old.shards ticket moment shown form old.unsent.items new.unsent.items →
-    new.joiner ≡ record old.joiner { forms = old.joiner.forms ++ form ∷ [] } →
-    ((opened : List Form) (accepted : List Shown) (handed : List (List ℕ)) → IsJoiner old.joiner opened accepted handed → IsJoiner new.joiner (opened ++ form ∷ []) accepted handed) →
-    new.put_back ≡ old.put_back → new.shards ≡ old.shards → new.broken ≡ old.broken →
+pub opens : (old new : Conn) (shown : Command) (ticket : Ticket) (moment : ℕ) (form : Form) → GoesOn old → length old.dispatcher.joiner.forms < old.dispatcher.joiner.window → ticket.0 ≡ opened_count old.dispatcher.joiner →
+    NextSays old.reader (next.Command shown) new.reader → Plans old.dispatcher.shards ticket moment shown form old.dispatcher.unsent.items new.dispatcher.unsent.items →
+    new.dispatcher.joiner ≡ record old.dispatcher.joiner { forms = old.dispatcher.joiner.forms ++ form ∷ [] } →
+    ((opened : List Form) (accepted : List Shown) (handed : List (List ℕ)) → IsJoiner old.dispatcher.joiner opened accepted handed → IsJoiner new.dispatcher.joiner (opened ++ form ∷ []) accepted handed) →
+    new.put_back ≡ old.put_back → new.dispatcher.shards ≡ old.dispatcher.shards → new.broken ≡ old.broken →
     (told : Told) → IsConn old told → Opens told moment ticket new
 unfolding IsConn
 opens old new shown ticket moment form on room number says plan joiner joins put_back shards broken told h =
@@ -112,7 +112,7 @@ opens old new shown ticket moment form on room number says plan joiner joins put
     let may : MayBeTaken one = may_be given.given_up plan.given_up given.entry shown is said.1.may plan.may in
     let forms = waiting_is old told h in
     let window = h.window in
-    let opened = opened_length old.joiner (all_forms told) told.accepted h.texts h.joined in
+    let opened = opened_length old.dispatcher.joiner (all_forms told) told.accepted h.texts h.joined in
     let long = length-forms told.shards 0 told.taken in
     let place : ticket.0 ≡ length told.taken = omega (arith, number, opened, long) in
     let behind : ticket.0 ≡ 0 + length told.taken = omega (arith, place) in
@@ -122,10 +122,10 @@ opens old new shown ticket moment form on room number says plan joiner joins put
     let Begin : List Command → Type 0 = λ entries. BeginCommands told.limit told.fed entries in
     let form_is : form ≡ form_of told.shards (ticket_at (0 + length told.taken)) (planned one) =
     plan.form_is ∙ (ap (λ k. form_of k ticket (unless_given_up plan.given_up shown)) h.shards ∙ (ap (λ command. form_of told.shards ticket command) same ∙ ap (λ k. form_of told.shards (ticket_at k) (planned one)) behind)) in
-    let Joined : List Form → Type 0 = λ fs. IsJoiner new.joiner fs told.accepted h.texts in
+    let Joined : List Form → Type 0 = λ fs. IsJoiner new.dispatcher.joiner fs told.accepted h.texts in
     let all_is : all_forms told ++ form ∷ [] ≡ forms_of told.shards (told.taken ++ one ∷ []) = ap (λ f. all_forms told ++ f ∷ []) form_is ∙ sym (forms-push told.shards 0 told.taken one) in
     let more : List (ℕ × Piece) = pieces_from told.shards (0 + length told.taken) (one ∷ []) in
-    let added : parts_from 0 ticket moment (pieces_of old.shards (unless_given_up plan.given_up shown)) ≡ more =
+    let added : parts_from 0 ticket moment (pieces_of old.dispatcher.shards (unless_given_up plan.given_up shown)) ≡ more =
     ap (λ k. parts_from 0 ticket moment (pieces_of k (unless_given_up plan.given_up shown))) h.shards
     ∙ (ap (λ command. parts_from 0 ticket moment (pieces_of told.shards command)) same
     ∙ (ap (λ k. parts_from 0 (ticket_at k) moment (pieces_of told.shards (planned one))) behind
@@ -155,9 +155,9 @@ opens old new shown ticket moment form on room number says plan joiner joins put
         works = λ whole. ap (λ (held : Held). held.gone) joiner ∙ h.works (sym broken ∙ whole);
         within = omega (arith, within, ap length longer, length-append (all_pieces told) more);
         unsent =
-            ap (λ back. put_first back new.unsent.items) put_back
-            ∙ (ap (λ items. put_first old.put_back items) (plan.unsent ∙ ap (λ ps. old.unsent.items ++ ps) added)
-            ∙ (put_first-append old.put_back old.unsent.items more
+            ap (λ back. put_first back new.dispatcher.unsent.items) put_back
+            ∙ (ap (λ items. put_first old.put_back items) (plan.unsent ∙ ap (λ ps. old.dispatcher.unsent.items ++ ps) added)
+            ∙ (put_first-append old.put_back old.dispatcher.unsent.items more
             ∙ (ap (λ ps. ps ++ more) h.unsent
             ∙ (sym (drop-append-le told.out (all_pieces told) more h.within) ∙ ap (λ ps. drop told.out ps) (sym longer)))));
         lent = rw put_back h.lent;

@@ -1,3 +1,4 @@
 -- Definitions that only private contracts name.
 pub mod Inside
 pub mod Plans
+pub mod Dispatcher

@@ -8,9 +8,9 @@ ghost use Rattle.mc_join.specs.Length.{capped};
 ghost use Rattle.mc_join.specs.Expects.{Expects};
 ghost use Rattle.mc_conn.specs.Told.{Told, IsAtRest, IsNotAllTaken, IsAllTaken, IsOpen, IsOver, IsShut, IsSkipping, IsUsedUp, LeavesUnread, all_forms, all_pieces, all_texts, told_nothing, waiting_text};
 
-use crate::planning::plan;
+use crate::dispatcher::Dispatcher;
 use mc_join::{Gone, Joiner, Stranger};
-use mc_reader::{Memory, Next, Reader};
+use mc_reader::{Memory, Reader, Step};
 use mc_ring::Reply;
 use mc_split::{Piece, Ticket};
 use mc_wire::{GREATEST_VALUE_LIMIT, LINE_LIMIT, Outlet};
@@ -38,14 +38,10 @@ pub enum Taken {
 #[derive(Drop)]
 pub struct Conn {
     reader: Reader,
-    joiner: Joiner,
-    /// The pieces that have not left, but for one that was put back.
-    unsent: VecDeque<(usize, Piece)>,
+    dispatcher: Dispatcher,
     /// The piece that was put back. It is the oldest, and has a place of its own so that putting it back takes no memory.
     put_back: Option<(usize, Piece)>,
-    shards: usize,
     broken: bool,
-    ghost some_shards: { 0 < shards },
 }
 
 impl Conn {
@@ -62,10 +58,15 @@ impl Conn {
     {
         Ok(Conn {
             reader: Reader::new(alloc, limit)?,
-            joiner: Joiner::new(alloc, window)?,
-            unsent: VecDeque::new(alloc),
+            dispatcher: Dispatcher {
+                joiner: Joiner::new(alloc, window)?,
+                unsent: VecDeque::new(alloc),
+                shards,
+                alloc,
+                ticket: Ticket(0),
+                moment: 0,
+            },
             put_back: None,
-            shards,
             broken: false,
         })
     }
@@ -125,30 +126,20 @@ impl Conn {
         if self.is_over() {
             return Taken::Closed;
         }
-        if self.joiner.is_full() {
+        if self.dispatcher.joiner.is_full() {
             return Taken::Full;
         }
-        let Some(ticket) = self.joiner.next_ticket() else {
+        let Some(ticket) = self.dispatcher.joiner.next_ticket() else {
             // The reader gives no more commands than there are tickets, so this is never reached.
             return Taken::Full;
         };
-        let command = match self.reader.next(alloc) {
-            Next::Command(command) => command,
-            Next::NeedMore => return Taken::NeedMore,
-            Next::Closed => return Taken::Closed,
-        };
-        let form = plan(
-            alloc,
-            command,
-            ticket,
-            moment,
-            self.shards,
-            &mut self.unsent,
-        );
-        let Ok(()) = self.joiner.open(form) else {
-            unreachable!()
-        };
-        Taken::Opened(ticket)
+        self.dispatcher.ticket = ticket;
+        self.dispatcher.moment = moment;
+        match self.reader.next_into(alloc, &mut self.dispatcher) {
+            Step::Gave => Taken::Opened(ticket),
+            Step::NeedMore => Taken::NeedMore,
+            Step::Closed => Taken::Closed,
+        }
     }
 
     /// Takes out the oldest piece that has not left, with its shard. It takes no memory.
@@ -161,7 +152,7 @@ impl Conn {
     {
         match self.put_back.take() {
             Some(piece) => Some(piece),
-            None => self.unsent.pop_front(),
+            None => self.dispatcher.unsent.pop_front(),
         }
     }
 
@@ -185,7 +176,7 @@ impl Conn {
         ensures err { OnErr result ((told : Told) → IsConn self.old told →
             (¬ Expects (all_forms told) told.accepted (shown reply)) × IsConn self.new told) }
     {
-        self.joiner.accept(reply)
+        self.dispatcher.joiner.accept(reply)
     }
 
     /// How many bytes `hand` would write, `u64::MAX` where they are more; of a broken connection 0. It takes no memory.
@@ -197,7 +188,7 @@ impl Conn {
         if self.broken {
             return 0;
         }
-        self.joiner.ready()
+        self.dispatcher.joiner.ready()
     }
 
     /// To how many commands `hand` would hand out the reply, silent ones among them; of a broken connection to none. It takes
@@ -210,7 +201,7 @@ impl Conn {
         if self.broken {
             return 0;
         }
-        self.joiner.passes()
+        self.dispatcher.joiner.passes()
     }
 
     /// Writes the replies whose turn has come, a silent one as nothing, and tells to how many commands they are; of a broken
@@ -228,7 +219,7 @@ impl Conn {
         if self.broken {
             return Ok(0);
         }
-        let handed = self.joiner.hand(out);
+        let handed = self.dispatcher.joiner.hand(out);
         self.broken = handed.is_err();
         handed
     }
@@ -273,13 +264,13 @@ impl Conn {
     pub fn is_at_rest(&self) -> bool
         ensures { (told : Told) → IsConn self.now told → IsTrue result ↔ IsAtRest told }
     {
-        if self.put_back.is_some() || !self.unsent.is_empty() {
+        if self.put_back.is_some() || !self.dispatcher.unsent.is_empty() {
             return false;
         }
         if self.broken {
-            return self.joiner.passes() == self.joiner.waiting();
+            return self.dispatcher.joiner.passes() == self.dispatcher.joiner.waiting();
         }
-        !self.whole() && self.joiner.waiting() == 0
+        !self.whole() && self.dispatcher.joiner.waiting() == 0
     }
 
     /// Begins the next connection in the same room, where this one is at rest and closed or broken, and tells whether it did;
@@ -294,7 +285,7 @@ impl Conn {
             return false;
         }
         self.reader.reset();
-        self.joiner.reset();
+        self.dispatcher.joiner.reset();
         self.broken = false;
         true
     }

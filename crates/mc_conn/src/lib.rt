@@ -3,6 +3,7 @@
 #![tactic(auto)]
 
 mod conn;
+mod dispatcher;
 mod laws;
 mod planning;
 

@@ -162,7 +162,7 @@ never_strange sizes told conn sent shards place piece answer reply next same ref
 
 -- how many pieces are not out
 abbrev pub unsent_count : Conn → ℕ
-unsent_count conn = length (put_first conn.put_back conn.unsent.items)
+unsent_count conn = length (put_first conn.put_back conn.dispatcher.unsent.items)
 
 unsent_is : (conn : Conn) (told : Told) → IsConn conn told → unsent_count conn ≡ length (all_pieces told) - told.out
 unfolding IsConn

@@ -18,20 +18,20 @@ pub record HasBeenTold (conn : Conn) (told : Told) : Type 0 where
   -- what the reader gave, and the texts that the joiner handed out
   pub given : List Given
   pub texts : List (List ℕ)
-  pub shards : conn.shards ≡ told.shards
-  pub window : conn.joiner.window ≡ told.window
+  pub shards : conn.dispatcher.shards ≡ told.shards
+  pub window : conn.dispatcher.joiner.window ≡ told.window
   pub broken : conn.broken ≡ told.broken
   pub read : IsReader conn.reader told.limit told.fed told.ended given
   -- The commands taken are those that the reader gave.
   pub spelled : entries_of given ≡ commands_of told.taken
   pub may : AllByRecursion MayBeTaken told.taken
-  pub joined : IsJoiner conn.joiner (all_forms told) told.accepted texts
+  pub joined : IsJoiner conn.dispatcher.joiner (all_forms told) told.accepted texts
   pub handed : length texts ≡ told.handed
   -- No more commands are open than may be.
   pub bounded : length told.taken ≤ told.handed + told.window
   -- Where the outlet failed, the connection is broken.
-  pub works : conn.broken ≡ false → conn.joiner.gone ≡ false
+  pub works : conn.broken ≡ false → conn.dispatcher.joiner.gone ≡ false
   -- The pieces that have not left are all here.
   pub within : told.out ≤ length (all_pieces told)
-  pub unsent : put_first conn.put_back conn.unsent.items ≡ drop told.out (all_pieces told)
+  pub unsent : put_first conn.put_back conn.dispatcher.unsent.items ≡ drop told.out (all_pieces told)
   pub lent : IsTrue told.lent → (conn.put_back ≡ None) × (0 < told.out)

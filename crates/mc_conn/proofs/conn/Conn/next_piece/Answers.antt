@@ -8,7 +8,7 @@ pub returns-in-Some-clause-some : goal.returns-in-Some-clause-some
 unfolding IsConn
 returns-in-Some-clause-some c =
     gives c.args.self.now _ c.in-Some.piece refl refl refl refl c.in-Some.ensures.after
-    (ap (λ back. put_first back c.args.self.now.unsent.items) (sym c.in-Some.ensures.value))
+    (ap (λ back. put_first back c.args.self.now.dispatcher.unsent.items) (sym c.in-Some.ensures.value))
 
 pub returns-in-None-clause-some : goal.returns-in-None-clause-some
 unfolding IsConn

@@ -1,0 +1,22 @@
+-- What taking a command does to the place where commands are planned and opened.
+use Rattle.std.specs.Prelude.{ℕ, ◌≡◌, ◌<◌, List, [], ◌∷◌, ◌++◌, length}
+use Rattle.mc_command.specs.declared.command.Command.{Command}
+use Rattle.mc_ring.specs.Reply.{Shown}
+use Rattle.mc_split.specs.declared.form.Form.{Form}
+use Rattle.mc_join.specs.Held.{opened_count}
+use Rattle.mc_join.specs.Joined.{IsJoiner}
+use Rattle.mc_conn.specs.declared.dispatcher.Dispatcher.{Dispatcher}
+use Rattle.mc_conn.specs.internal.Plans.{Plans}
+
+-- There is room for one command more, and its number is written.
+pub record CanOpen (dispatcher : Dispatcher) : Type 0 where
+  pub room : length dispatcher.joiner.forms < dispatcher.joiner.window
+  pub number : dispatcher.ticket.0 ≡ opened_count dispatcher.joiner
+
+-- The command was planned, whole or as given up, and the form of its reply is the last of those that are open.
+pub record Opens (old : Dispatcher) (command : Command) (new : Dispatcher) : Type 0 where
+  pub form : Form
+  pub plan : Plans old.shards old.ticket old.moment command form old.unsent.items new.unsent.items
+  pub joiner : new.joiner ≡ record old.joiner { forms = old.joiner.forms ++ form ∷ [] }
+  pub joins : (opened : List Form) (accepted : List Shown) (handed : List (List ℕ)) → IsJoiner old.joiner opened accepted handed → IsJoiner new.joiner (opened ++ form ∷ []) accepted handed
+  pub shards : new.shards ≡ old.shards

@@ -1,0 +1,129 @@
+//! Where commands are planned and opened: the joiner, and the pieces that have not left.
+ghost use Rattle.std.specs.Prelude.{◌≡◌, ◌<◌, ◌++◌, ◌∷◌, [], List, ℕ, MatchResult, length};
+ghost use Rattle.mc_command.specs.declared.refusal.Refusal.TheVariants as refusal;
+ghost use Rattle.mc_command.specs.declared.command.Command.TheVariants as command;
+ghost use Rattle.mc_ring.specs.Reply.{Shown};
+ghost use Rattle.mc_split.specs.declared.form.Form.{Form};
+ghost use Rattle.mc_split.specs.Plan.{form_of};
+ghost use Rattle.mc_join.specs.Held.{opened_count};
+ghost use Rattle.mc_join.specs.Joined.{IsJoiner};
+
+use crate::planning::{form_of_refusal, plan};
+use mc_command::Command;
+use mc_item::NoMemory;
+use mc_join::Joiner;
+use mc_plain::Commands;
+use mc_split::{Form, Piece, Ticket, split_get, split_meta_get, split_no_op, split_set};
+use std::alloc::Global;
+use std::collections::VecDeque;
+
+/// Where a connection's commands are planned and opened.
+#[derive(Drop)]
+pub(crate) struct Dispatcher {
+    pub(crate) joiner: Joiner,
+    /// The pieces that have not left, but for one that was put back.
+    pub(crate) unsent: VecDeque<(usize, Piece)>,
+    pub(crate) shards: usize,
+    pub(crate) alloc: Global,
+    /// The ticket and the moment of the next command.
+    pub(crate) ticket: Ticket,
+    pub(crate) moment: u64,
+    ghost some_shards: { 0 < shards },
+}
+
+impl Dispatcher {
+    /// Opens a form.
+    #[inline(always)]
+    fn open(&mut self, form: Form)
+        requires room { length self.old.joiner.forms < self.old.joiner.window }
+        requires number { form.ticket.0 ≡ opened_count self.old.joiner }
+        ensures joiner { self.new.joiner ≡ record self.old.joiner { forms = self.old.joiner.forms ++ form ∷ [] } }
+        ensures joins { (opened : List Form) (accepted : List Shown) (handed : List (List ℕ)) →
+            IsJoiner self.old.joiner opened accepted handed → IsJoiner self.new.joiner (opened ++ form ∷ []) accepted handed }
+        ensures unsent { self.new.unsent ≡ self.old.unsent }
+        ensures shards { self.new.shards ≡ self.old.shards }
+    {
+        let Ok(()) = self.joiner.open(form) else {
+            unreachable!()
+        };
+    }
+
+    /// The form of a command that was split, or of the refusal where memory ran out.
+    #[inline(always)]
+    fn form_or_refusal(&self, split: Result<Form, NoMemory>) -> Form
+        ensures { MatchResult split (λ form. result ≡ form) (λ _. result ≡ form_of self.now.shards self.now.ticket (command.Refused refusal.Memory)) }
+    {
+        match split {
+            Ok(form) => form,
+            Err(_) => form_of_refusal(self.alloc, self.ticket, self.moment, self.shards),
+        }
+    }
+}
+
+impl Commands for Dispatcher {
+    ghost use Rattle.mc_conn.specs.internal.Dispatcher.{CanOpen, Opens};
+
+    ghost can_take = { CanOpen };
+
+    ghost takes = { Opens };
+
+    fn no_op(&mut self) {
+        let form = split_no_op(self.alloc, self.ticket, self.moment, self.shards);
+        self.open(form);
+    }
+
+    fn get_one(&mut self, key: &[u8]) {
+        let split = split_get(
+            self.alloc,
+            key,
+            self.ticket,
+            self.moment,
+            self.shards,
+            &mut self.unsent,
+        );
+        let form = self.form_or_refusal(split);
+        self.open(form);
+    }
+
+    fn meta_get(&mut self, key: &[u8]) {
+        let split = split_meta_get(
+            self.alloc,
+            key,
+            self.ticket,
+            self.moment,
+            self.shards,
+            &mut self.unsent,
+        );
+        let form = self.form_or_refusal(split);
+        self.open(form);
+    }
+
+    fn set(&mut self, key: &[u8], flags: u32, exptime: i64, block: &[u8]) {
+        let split = split_set(
+            self.alloc,
+            key,
+            flags,
+            exptime,
+            block,
+            self.ticket,
+            self.moment,
+            self.shards,
+            &mut self.unsent,
+        );
+        let form = self.form_or_refusal(split);
+        self.open(form);
+    }
+
+    #[inline(never)]
+    fn other(&mut self, command: Command) {
+        let form = plan(
+            self.alloc,
+            command,
+            self.ticket,
+            self.moment,
+            self.shards,
+            &mut self.unsent,
+        );
+        self.open(form);
+    }
+}
