@@ -1,13 +1,15 @@
 -- Making a shard, moving its time, flushing it, and settling a key.
-use Rattle.std.proofs.Common.{◌≡◌, ℕ, ◌+◌, ◌<◌, ◌≤◌, true, false, List, [], Some, None, arith, nat_eq, max, min}
+use Rattle.std.proofs.Common.{◌≡◌, ℕ, ◌+◌, ◌<◌, ◌≤◌, true, false, List, [], Some, None, arith, nat_eq, max, min, Option, refl, sym, ap, subst}
 use Rattle.std.specs.Cmp.Lexicographic.{pointwise}
 use Rattle.std.specs.Map.{lookup, remove_entry}
-use Rattle.mc_wire.specs.declared.TheConstants.{LATEST_MOMENT}
+use Rattle.mc_wire.specs.Limits.{latest_moment}
 use Rattle.mc_item.specs.declared.item.Item.{Item}
+use Rattle.mc_item.specs.Expiry.{is_dead}
 use Rattle.mc_store.specs.internal.Found.{live}
 use Rattle.mc_store.specs.State.{State, costs, empty_state, is_due, flushed, arrived, without_dead}
 use Rattle.mc_store.specs.Shard.{AllBelow, Held, Keeps}
 use Rattle.mc_store.proofs.Lists.{nothing, get_nothing}
+use Rattle.mc_store.proofs.Listed.{not_found}
 use Rattle.mc_store.proofs.Costs.{costs_nothing}
 use Rattle.mc_store.proofs.Shards.{with_entries, meets, misses, take_out}
 
@@ -25,18 +27,18 @@ flush_all held state h = assumption (none_below (state.uses + 1), none_fits stat
 
 -- the state once its time was moved
 abbrev pub moved : State → ℕ → State
-moved state moment = record state { time = max state.time (min moment LATEST_MOMENT) }
+moved state moment = record state { time = max state.time (min moment latest_moment) }
 
-pub timed : (held : Held) (state : State) (moment time : ℕ) → Keeps held state → time ≡ max held.time (min moment LATEST_MOMENT) → Keeps (record held { time = time }) (moved state moment)
-timed held state moment time h is = let time_is : max state.time (min moment LATEST_MOMENT) ≡ time = rw (h.time, is) in assumption
+pub timed : (held : Held) (state : State) (moment time : ℕ) → Keeps held state → time ≡ max held.time (min moment latest_moment) → Keeps (record held { time = time }) (moved state moment)
+timed held state moment time h is = let time_is : max state.time (min moment latest_moment) ≡ time = rw (h.time, is) in assumption
 
-due_is : (held : Held) (state : State) (moment time : ℕ) → Keeps held state → time ≡ max held.time (min moment LATEST_MOMENT) → is_due state.flush (max state.time (min moment LATEST_MOMENT)) ≡ is_due held.flush time
+due_is : (held : Held) (state : State) (moment time : ℕ) → Keeps held state → time ≡ max held.time (min moment latest_moment) → is_due state.flush (max state.time (min moment latest_moment)) ≡ is_due held.flush time
 due_is held state moment time h is = rw (h.flush, h.time, is)
 
-pub arrived_due : (held : Held) (state : State) (moment time : ℕ) → Keeps held state → time ≡ max held.time (min moment LATEST_MOMENT) → is_due held.flush time ≡ true → arrived state moment ≡ flushed (moved state moment)
+pub arrived_due : (held : Held) (state : State) (moment time : ℕ) → Keeps held state → time ≡ max held.time (min moment latest_moment) → is_due held.flush time ≡ true → arrived state moment ≡ flushed (moved state moment)
 arrived_due held state moment time h is due = rw (due_is held state moment time h is, due)
 
-pub arrived_early : (held : Held) (state : State) (moment time : ℕ) → Keeps held state → time ≡ max held.time (min moment LATEST_MOMENT) → is_due held.flush time ≡ false → arrived state moment ≡ moved state moment
+pub arrived_early : (held : Held) (state : State) (moment time : ℕ) → Keeps held state → time ≡ max held.time (min moment latest_moment) → is_due held.flush time ≡ false → arrived state moment ≡ moved state moment
 arrived_early held state moment time h is early = rw (due_is held state moment time h is, early)
 
 pub settled_gone : (held : Held) (state : State) (key : List ℕ) → Keeps held state → None ≡ live held.time (lookup (pointwise nat_eq key) held.entries) → Keeps (with_entries held (remove_entry (pointwise nat_eq key) held.entries)) (without_dead state (Some key))
@@ -44,3 +46,23 @@ settled_gone held state key h none = rw (misses held state key h none).settled (
 
 pub settled_live : (held : Held) (state : State) (key : List ℕ) (item : Item) → Keeps held state → Some item ≡ live held.time (lookup (pointwise nat_eq key) held.entries) → Keeps held (without_dead state (Some key))
 settled_live held state key item h is = rw (meets held state key item h is).settled h
+
+-- What is told by the item under the key and whether it is dead
+
+pub absent_none : (time : ℕ) (found : Option Item) → None ≡ found → None ≡ live time found
+absent_none time None is = refl
+absent_none time (Some item) is = absurd cc
+
+pub dead_none : (time : ℕ) (item : Item) (found : Option Item) → Some item ≡ found → is_dead item.expiry time ≡ true → None ≡ live time found
+dead_none time item found is dead = rw (← is, dead) refl
+
+pub live_some : (time : ℕ) (item : Item) (found : Option Item) → Some item ≡ found → is_dead item.expiry time ≡ false → Some item ≡ live time found
+live_some time item found is not_dead = rw (← is, not_dead) refl
+
+-- nothing is taken out where nothing is
+pub nothing_out : (held : Held) (key : List ℕ) → None ≡ lookup (pointwise nat_eq key) held.entries → with_entries held (remove_entry (pointwise nat_eq key) held.entries) ≡ held
+nothing_out held key none = ap (with_entries held) (not_found held.entries key (sym none)).1
+
+pub settled_absent : (held : Held) (state : State) (key : List ℕ) → Keeps held state → None ≡ lookup (pointwise nat_eq key) held.entries → Keeps held (without_dead state (Some key))
+settled_absent held state key h none =
+    subst (λ now. Keeps now (without_dead state (Some key))) (nothing_out held key none) (settled_gone held state key h (absent_none held.time (lookup (pointwise nat_eq key) held.entries) none))

@@ -18,6 +18,7 @@ use Rattle.mc_store.specs.Rows.{fetched_item, touched_item, shown_item, hit_of, 
 use Rattle.mc_store.specs.Step.{numbered, fetch_step, touch_step, meta_get_step, absent_meta_get, step_of}
 use Rattle.mc_store.specs.Shard.{Held, Keeps}
 use Rattle.mc_store.proofs.Shards.{with_entries, at_now}
+use Rattle.mc_store.proofs.Changes.{absent_none, nothing_out}
 use Rattle.mc_store.proofs.Writes.{Closes, along, met_time}
 use Rattle.mc_store.proofs.Outcomes.{Ends, ends, misses_as, absent_as, lacks_as, uses_as}
 
@@ -25,6 +26,10 @@ pub fetch_miss : (held : Held) (state : State) (key : List ℕ) (touch : Option 
 unfolding step_of kind_of is_lawful
 fetch_miss held state key touch h none =
     ends (without_dead state (Some key)) (Fetch key touch) Miss _ (λ _. refl) (misses_as held state key (λ s o. fetch_step s key touch o) Miss h none (λ s. refl))
+
+pub fetch_absent : (held : Held) (state : State) (key : List ℕ) (touch : Option ℤ) → Keeps held state → None ≡ lookup (pointwise nat_eq key) held.entries → Ends (without_dead state (Some key)) (Fetch key touch) Miss held
+fetch_absent held state key touch h none =
+    subst (Ends (without_dead state (Some key)) (Fetch key touch) Miss) (nothing_out held key none) (fetch_miss held state key touch h (absent_none held.time (lookup (pointwise nat_eq key) held.entries) none))
 
 pub fetch_lacks : (held : Held) (state : State) (key : List ℕ) (touch : Option ℤ) (item : Item) → Keeps held state → Some item ≡ live held.time (lookup (pointwise nat_eq key) held.entries) → Ends (without_dead state (Some key)) (Fetch key touch) NoMemory held
 unfolding step_of kind_of is_lawful

@@ -7,7 +7,7 @@ use Rattle.std.proofs.lemmas.Nat.{same_from_place}
 use Rattle.std.proofs.Math.Nat.{mul_comm}
 use Rattle.mc_command.specs.declared.meta.MetaMode.{MetaMode}
 use Rattle.mc_command.specs.declared.meta.MetaMode.TheVariants.{Set, Add, Append, Prepend}
-use Rattle.mc_wire.specs.declared.TheConstants.{LATEST_MOMENT}
+use Rattle.mc_wire.specs.Limits.{latest_moment}
 use Rattle.mc_item.specs.declared.item.Item.{Item}
 use Rattle.mc_item.specs.declared.op.Op.{Op}
 use Rattle.mc_item.specs.declared.op.Op.TheVariants.{Store, Fetch, Count, Delete, Touch, Flush, MetaGet, MetaStore, MetaDelete, MetaCount}
@@ -25,7 +25,7 @@ use Rattle.mc_item.specs.Kind.{kind_of, key_of, is_lawful}
 use Rattle.mc_store.specs.State.{Used, Items, State, is_due, arrived, is_dead_at, with_items, without_dead, settle, first, entered, next_unique, with_given}
 use Rattle.mc_store.specs.Rows.{fetched_item, touched_item, stored_item, joined_item, counted_item, counter_item, vivified_item, stale_item, shown_item, hit_of, made_hit, done_of, is_won, has_fewer_left}
 use Rattle.mc_store.specs.Step.{Outcome, Reply, Storing, Counting, is_other, compared, numbered, is_too_large, writes, stores, joins, absent_store, present_store, store_step, storing, mode_of, compare_of, counting, absent_count, counts, count_step, fetch_step, touch_step, absent_meta_get, meta_get_step, delete_step, deletes, stales, meta_delete_step, counted, coming, flush_step, step_of, Answers, IsStep}
-use Rattle.mc_store.specs.Laws.{StaysUnless, IsEvicted, SameStored, IsKept, IsNew, token_of, is_sent, may_clear_sent, AnswersAreLawful, StepsAgree, OthersStay, UniquesRise, UniquesDiffer, UniquesTell, TokensAreTaken, TimeRises, WinnersAreFirst, SentStays}
+use Rattle.mc_store.specs.Laws.{StaysUnless, tells_stored, IsEvicted, SameStored, IsKept, IsNew, token_of, is_sent, may_clear_sent, AnswersAreLawful, StepsAgree, OthersStay, UniquesRise, UniquesDiffer, UniquesTell, TokensAreTaken, TimeRises, WinnersAreFirst, SentStays}
 use Rattle.mc_store.proofs.Lists.{same, same_is, by_key, nothing, get_nothing, get_gone, get_apart, get_here, get_other, get_kept, inserted_all}
 use Rattle.mc_store.proofs.Costs.{fitting_key, fitting_other}
 use Rattle.mc_store.proofs.Shards.{at_now}
@@ -37,8 +37,8 @@ pub record SamePlace (old new : State) : Type 0 where
   pub budget : new.budget ≡ old.budget
 
 -- Why another item may go
-abbrev Reason : State → Kind → Option (List ℕ) → List ℕ → Type 0
-Reason settled asked key other = (asked ≡ kind.Flush) ⊎ IsEvicted settled key other
+abbrev Reason : State → Kind → Option (List ℕ) → Answer → Items → List ℕ → Type 0
+Reason settled asked key answer new other = (asked ≡ kind.Flush) ⊎ IsEvicted settled key answer new other
 
 -- What an outcome of an operation on the key, which gives this unique of the client's, keeps of the settled state
 record Follows (settled : State) (asked : Kind) (token : Option ℕ) (key : Option (List ℕ)) (outcome : Outcome) : Type 0 where
@@ -46,14 +46,14 @@ record Follows (settled : State) (asked : Kind) (token : Option ℕ) (key : Opti
   taken : (unique : ℕ) → token ≡ Some unique → (outcome.1.given ≡ settled.given) × ¬ (outcome.0 ≡ NoCas)
   time : outcome.1.time ≡ settled.time
   place : SamePlace settled outcome.1
-  others : (other : List ℕ) → ¬ (key ≡ Some other) → StaysUnless (Reason settled asked key other) settled.items outcome.1.items other
+  others : (other : List ℕ) → ¬ (key ≡ Some other) → StaysUnless (Reason settled asked key outcome.0 outcome.1.items other) settled.items outcome.1.items other
   lawful : is_lawful asked outcome.0 ≡ true
   items : (k : List ℕ) (u : Used) → get outcome.1.items k ≡ Some u → IsKept settled.items k u.item ⊎ IsNew settled outcome.1 token u.item
   sent : may_clear_sent asked ≡ false → (k : List ℕ) → is_sent settled.items k ≡ true → (get outcome.1.items k ≡ None) ⊎ (is_sent outcome.1.items k ≡ true)
 
 -- what is to be shown of the items that such an outcome leaves, where the shard gives no unique
-record Leaves (s : State) (asked : Kind) (token : Option ℕ) (key : Option (List ℕ)) (items : Items) : Type 0 where
-  others : (other : List ℕ) → ¬ (key ≡ Some other) → StaysUnless (Reason s asked key other) s.items items other
+record Leaves (s : State) (asked : Kind) (token : Option ℕ) (key : Option (List ℕ)) (answer : Answer) (items : Items) : Type 0 where
+  others : (other : List ℕ) → ¬ (key ≡ Some other) → StaysUnless (Reason s asked key answer items other) s.items items other
   items_are : (k : List ℕ) (u : Used) → get items k ≡ Some u → IsKept s.items k u.item ⊎ (token ≡ Some u.item.unique)
   sent : may_clear_sent asked ≡ false → (k : List ℕ) → is_sent s.items k ≡ true → (get items k ≡ None) ⊎ (is_sent items k ≡ true)
 
@@ -62,7 +62,7 @@ abbrev HasUnique : Option ℕ → Answer → Type 0
 HasUnique token answer = (unique : ℕ) → token ≡ Some unique → ¬ (answer ≡ NoCas)
 
 follows : (s : State) (asked : Kind) (token : Option ℕ) (key : Option (List ℕ)) (answer : Answer) (items : Items) (uses : ℕ) (flush : Option ℕ) →
-    HasUnique token answer → is_lawful asked answer ≡ true → Leaves s asked token key items → Follows s asked token key
+    HasUnique token answer → is_lawful asked answer ≡ true → Leaves s asked token key answer items → Follows s asked token key
     (answer, record s { items = items; uses = uses; flush = flush })
 follows s asked token key answer items uses flush has lawful leaves = record {
   given = inl refl;
@@ -140,15 +140,25 @@ uses s asked token key u item answer has is stored keeps lawful =
       sent = λ _ k h. inr (sent_inserted s.items key (put_at s item) (λ had. keeps (rw is at had)) k h);
     })
 
-enters : (s : State) (asked : Kind) (key : List ℕ) (item : Item) (answer : Answer) → ¬ (answer ≡ NoCas) →
+enters : (s : State) (asked : Kind) (key : List ℕ) (item : Item) (answer : Answer) → ¬ (answer ≡ NoCas) → tells_stored answer (get s.items key) ≡ true →
     (may_clear_sent asked ≡ false → is_sent s.items key ≡ true → item.sent ≡ true) → is_lawful asked answer ≡ true →
     Follows s asked (Some item.unique) (Some key) (answer, entered s key item)
-enters s asked key item answer not_no_cas keeps lawful =
+enters s asked key item answer not_no_cas told keeps lawful =
     let all = insert s.items key (put_at s item) in
     follows s asked (Some item.unique) (Some key) answer (entered s key item).items (s.uses + 1) s.flush (λ _ _. not_no_cas) lawful (record {
       others = λ other differ. elim (fitting_other all s.budget key other) [
         | inl e ↦ inl (e ∙ get_other s.items key other (put_at s item) (apart key other differ))
-        | inr gone ↦ inr (gone.0, inr (key, refl, (item, gone.1)))
+        | inr gone ↦ inr (
+          gone.0,
+          inr (record {
+            asked = key;
+            key_is = refl;
+            told = told;
+            stored = put_at s item;
+            stands = fitting_key all s.budget key ∙ get_here s.items key (put_at s item);
+            too_much = gone.1;
+          }),
+        )
       ];
       items_are = λ k u h. elim (fitting_other all s.budget key k) [
         | inl e ↦ inserted_are s.items (Some item.unique) key (put_at s item) (inr refl) k u (sym e ∙ h)
@@ -181,12 +191,13 @@ numbers s asked None key reply put moves refused each = elim (cases_Bool (nat_lt
 ]
 
 numbers_first : (s : State) (asked : Kind) (token : Option ℕ) (key : List ℕ) (reply : ℕ → Answer) (item : Item) →
-    ((unique : ℕ) → ¬ (reply unique ≡ NoCas)) → (may_clear_sent asked ≡ false → is_sent s.items key ≡ true → item.sent ≡ true) →
+    ((unique : ℕ) → ¬ (reply unique ≡ NoCas)) → ((unique : ℕ) → tells_stored (reply unique) (get s.items key) ≡ true) →
+    (may_clear_sent asked ≡ false → is_sent s.items key ≡ true → item.sent ≡ true) →
     is_lawful asked NoCas ≡ true → ((unique : ℕ) → is_lawful asked (reply unique) ≡ true) →
     Follows s asked token (Some key) (numbered s token (λ unique after. (reply unique, entered after key (record item { unique = unique }))))
-numbers_first s asked token key reply item not_no_cas keeps refused lawful =
+numbers_first s asked token key reply item not_no_cas told keeps refused lawful =
     numbers s asked token (Some key) reply (λ unique after. entered after key (record item { unique = unique })) (λ _. refl) refused
-    (λ unique. enters s asked key (record item { unique = unique }) (reply unique) (not_no_cas unique) keeps (lawful unique))
+    (λ unique. enters s asked key (record item { unique = unique }) (reply unique) (not_no_cas unique) (told unique) keeps (lawful unique))
 
 compares : (s : State) (asked : Kind) (token : Option ℕ) (key : Option (List ℕ)) (compare : Option ℕ) (item : Item) (outcome : Outcome) → is_lawful asked Exists ≡ true → Follows s asked token key outcome → Follows s asked token key (compared s compare item outcome)
 compares s asked token key compare item outcome refused done = elim (cases_Bool (is_other compare item.unique)) [
@@ -204,6 +215,7 @@ record Refusals (asked : Kind) (reply : Reply) : Type 0 where
   no_cas : is_lawful asked NoCas ≡ true
   replies : (shown : done.MetaDone) → is_lawful asked (reply shown) ≡ true
   not_no_cas : (shown : done.MetaDone) → ¬ (reply shown ≡ NoCas)
+  told : (shown : done.MetaDone) (before : Option Used) → tells_stored (reply shown) before ≡ true
 
 module _ (s : State) (asked : Kind) (key : List ℕ) (what : Storing) (reply : Reply) (may : Refusals asked reply) where
   writing : (value : List ℕ) (item : Item) →
@@ -213,7 +225,7 @@ module _ (s : State) (asked : Kind) (key : List ℕ) (what : Storing) (reply : R
     | inr f ↦
         let shown : ℕ → done.MetaDone = λ u. done_of (record item { unique = u }) 0 s.time in
         rw f (numbers_first s asked what.unique key (λ u. reply (shown u)) item (λ u. may.not_no_cas (shown u))
-        (λ keeps _. absurd (both_ways (may_clear_sent asked) keeps may.clears)) may.no_cas (λ u. may.replies (shown u)))
+        (λ u. may.told (shown u) (get s.items key)) (λ keeps _. absurd (both_ways (may_clear_sent asked) keeps may.clears)) may.no_cas (λ u. may.replies (shown u)))
   ]
 
   stores_follow : Follows s asked what.unique (Some key) (stores s key what reply)
@@ -249,6 +261,7 @@ record CountRefusals (asked : Kind) (reply : Reply) : Type 0 where
   no_cas : is_lawful asked NoCas ≡ true
   replies : (shown : done.MetaDone) → is_lawful asked (reply shown) ≡ true
   not_no_cas : (shown : done.MetaDone) → ¬ (reply shown ≡ NoCas)
+  told : (shown : done.MetaDone) (before : Option Used) → tells_stored (reply shown) before ≡ true
 
 module _ (s : State) (asked : Kind) (key : List ℕ) (reply : Reply) (may : CountRefusals asked reply) where
   -- an item with a number, which takes no mark away
@@ -258,7 +271,7 @@ module _ (s : State) (asked : Kind) (key : List ℕ) (reply : Reply) (may : Coun
       (reply (done_of (record item { unique = unique }) number s.time), entered after key (record item { unique = unique }))))
   numbers_to token item number keeps =
       let shown : ℕ → done.MetaDone = λ u. done_of (record item { unique = u }) number s.time in
-      numbers_first s asked token key (λ u. reply (shown u)) item (λ u. may.not_no_cas (shown u)) (λ _. keeps) may.no_cas (λ u. may.replies (shown u))
+      numbers_first s asked token key (λ u. reply (shown u)) item (λ u. may.not_no_cas (shown u)) (λ u. may.told (shown u) (get s.items key)) (λ _. keeps) may.no_cas (λ u. may.replies (shown u))
 
   counting_absent : (token : Option ℕ) → get s.items key ≡ None → (vivify : Option Vivify) →
       Follows s asked token (Some key) (absent_count s key token reply vivify)
@@ -292,7 +305,7 @@ unfolding is_lawful
 meta_get_follows s key touch None recache None is = unchanged s kind.MetaGet None (Some key) Miss (λ _ _ e. cc) refl
 meta_get_follows s key touch (Some exptime) recache None is =
     numbers_first s kind.MetaGet None key (λ u. MetaHit (made_hit (vivified_item exptime s.time u) s.time)) (vivified_item exptime s.time 0)
-    (λ _ e. cc) (λ _ _. refl) refl (λ _. refl)
+    (λ _ e. cc) (λ _. rw is refl) (λ _ _. refl) refl (λ _. refl)
 meta_get_follows s key touch vivify recache (Some u) is =
     uses s kind.MetaGet None key u (shown_item u.item touch recache s.time) (MetaHit (hit_of u.item touch recache s.time)) (λ _ _ e. cc) is
     (assumption) (λ h. rw h) refl
@@ -350,15 +363,15 @@ meta_count_follows s key what reply vivify may (Some u) is =
 step_follows : (s : State) (op : Op) → Follows s (kind_of op) (token_of op) (key_of op) (step_of s op)
 unfolding step_of kind_of key_of is_lawful
 step_follows s (Fetch key touch) = fetch_follows s key touch (get s.items key) refl
-step_follows s (Store key m flags exptime value) = storing_follows s kind.Store key (storing (mode_of m) (compare_of m) None flags exptime value) (λ _. Stored) (record { clears = refl; absent = refl; not_stored = refl; exists = refl; large = refl; no_cas = refl; replies = λ _. refl; not_no_cas = λ _ e. cc }) (get s.items key) refl
-step_follows s (Count key direction amount) = classic_count_follows s key (counting None None direction amount None) (λ shown. Number shown.number) refl (record { absent = refl; no_number = refl; no_cas = refl; replies = λ _. refl; not_no_cas = λ _ e. cc }) (get s.items key) refl
+step_follows s (Store key m flags exptime value) = storing_follows s kind.Store key (storing (mode_of m) (compare_of m) None flags exptime value) (λ _. Stored) (record { clears = refl; absent = refl; not_stored = refl; exists = refl; large = refl; no_cas = refl; replies = λ _. refl; not_no_cas = λ _ e. cc; told = λ _ _. refl }) (get s.items key) refl
+step_follows s (Count key direction amount) = classic_count_follows s key (counting None None direction amount None) (λ shown. Number shown.number) refl (record { absent = refl; no_number = refl; no_cas = refl; replies = λ _. refl; not_no_cas = λ _ e. cc; told = λ _ _. refl }) (get s.items key) refl
 step_follows s (Delete key) = delete_follows s key (get s.items key)
 step_follows s (Touch key exptime) = touch_follows s key exptime (get s.items key) refl
 step_follows s (Flush delay) = flush_follows s (coming (expiry_of delay s.time) s.time)
 step_follows s (MetaGet asked) = meta_get_follows s asked.key asked.touch asked.vivify asked.recache (get s.items asked.key) refl
-step_follows s (MetaStore asked) = storing_follows s kind.MetaStore asked.key (storing asked.mode asked.compare asked.unique asked.flags asked.exptime asked.value) (λ shown. MetaDone shown) (record { clears = refl; absent = refl; not_stored = refl; exists = refl; large = refl; no_cas = refl; replies = λ _. refl; not_no_cas = λ _ e. cc }) (get s.items asked.key) refl
+step_follows s (MetaStore asked) = storing_follows s kind.MetaStore asked.key (storing asked.mode asked.compare asked.unique asked.flags asked.exptime asked.value) (λ shown. MetaDone shown) (record { clears = refl; absent = refl; not_stored = refl; exists = refl; large = refl; no_cas = refl; replies = λ _. refl; not_no_cas = λ _ e. cc; told = λ _ _. refl }) (get s.items asked.key) refl
 step_follows s (MetaDelete asked) = meta_delete_follows s asked (get s.items asked.key)
-step_follows s (MetaCount asked) = meta_count_follows s asked.key (counting asked.compare asked.unique asked.direction asked.amount asked.exptime) (λ shown. MetaDone shown) asked.vivify (record { absent = refl; no_number = refl; no_cas = refl; replies = λ _. refl; not_no_cas = λ _ e. cc }) (get s.items asked.key) refl
+step_follows s (MetaCount asked) = meta_count_follows s asked.key (counting asked.compare asked.unique asked.direction asked.amount asked.exptime) (λ shown. MetaDone shown) asked.vivify (record { absent = refl; no_number = refl; no_cas = refl; replies = λ _. refl; not_no_cas = λ _ e. cc; told = λ _ _. refl }) (get s.items asked.key) refl
 
 -- The laws
 
@@ -370,8 +383,8 @@ record Settles (old settled : State) (key : Option (List ℕ)) (time : ℕ) : Ty
   others : (other : List ℕ) → ¬ (key ≡ Some other) → StaysUnless (is_due old.flush time ≡ true) old.items settled.items other
   items : (k : List ℕ) (u : Used) → get settled.items k ≡ Some u → get old.items k ≡ Some u
 
-arrived_settles : (old : State) (moment : ℕ) → Settles old (arrived old moment) None (max old.time (min moment LATEST_MOMENT))
-arrived_settles old moment = elim (cases_Bool (is_due old.flush (max old.time (min moment LATEST_MOMENT)))) [
+arrived_settles : (old : State) (moment : ℕ) → Settles old (arrived old moment) None (max old.time (min moment latest_moment))
+arrived_settles old moment = elim (cases_Bool (is_due old.flush (max old.time (min moment latest_moment)))) [
   | inl t ↦ rw t (record {
     given = refl;
     time_is = refl;
@@ -401,8 +414,8 @@ met_settles old s time (Some key) settles = elim (cases_Bool (is_dead_at s.time 
   })
 ]
 
-settle_settles : (old : State) (key : Option (List ℕ)) (moment : ℕ) → Settles old (settle old key moment) key (max old.time (min moment LATEST_MOMENT))
-settle_settles old key moment = met_settles old (arrived old moment) (max old.time (min moment LATEST_MOMENT)) key (arrived_settles old moment)
+settle_settles : (old : State) (key : Option (List ℕ)) (moment : ℕ) → Settles old (settle old key moment) key (max old.time (min moment latest_moment))
+settle_settles old key moment = met_settles old (arrived old moment) (max old.time (min moment latest_moment)) key (arrived_settles old moment)
 
 step_is : (old new : State) (op : Op) (moment : ℕ) (answer : Answer) → IsStep old op moment answer new → Follows (settle old (key_of op) moment) (kind_of op) (token_of op) (key_of op) (answer, new)
 unfolding IsStep Answers
@@ -425,8 +438,8 @@ stays_through due flushes evicted a b c k before (inr gone) = inr (gone.0, elim 
 pub others_stay : OthersStay
 others_stay old new op moment answer step other differ =
     let settled = settle old (key_of op) moment in
-    stays_through (is_due old.flush (max old.time (min moment LATEST_MOMENT)) ≡ true) (kind_of op ≡ kind.Flush)
-    (IsEvicted settled (key_of op) other) old.items settled.items new.items other
+    stays_through (is_due old.flush (max old.time (min moment latest_moment)) ≡ true) (kind_of op ≡ kind.Flush)
+    (IsEvicted settled (key_of op) answer new.items other) old.items settled.items new.items other
     ((settle_settles old (key_of op) moment).others other differ) ((step_is old new op moment answer step).others other differ)
 
 given_through : (a b c : ℕ) → b ≡ a → (c ≡ b) ⊎ (c ≡ b + 1) → (c ≡ a) ⊎ (c ≡ a + 1)
@@ -446,7 +459,7 @@ tells old settled new token key time k item settles (inr fresh) = inr (rw (settl
 
 pub uniques_tell : UniquesTell
 uniques_tell old new op moment answer step k u h =
-    tells old (settle old (key_of op) moment) new (token_of op) (key_of op) (max old.time (min moment LATEST_MOMENT)) k u.item (settle_settles old (key_of op) moment) ((step_is old new op moment answer step).items k u h)
+    tells old (settle old (key_of op) moment) new (token_of op) (key_of op) (max old.time (min moment latest_moment)) k u.item (settle_settles old (key_of op) moment) ((step_is old new op moment answer step).items k u h)
 
 pub tokens_are_taken : TokensAreTaken
 tokens_are_taken old new op moment answer token step is =

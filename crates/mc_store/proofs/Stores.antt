@@ -1,11 +1,12 @@
 -- The outcomes of storing: which row of the table a look-up leads to.
-use Rattle.std.proofs.Common.{◌≡◌, ℕ, ◌+◌, ℤ, ◌⊎◌, Bool, true, false, List, length, Option, Some, None, is_some, refl, sym, ◌∙◌, inl, inr, arith, nat_eq, subst, length-append}
+use Rattle.std.proofs.Common.{◌≡◌, ℕ, ◌+◌, ℤ, ◌⊎◌, Bool, true, false, List, length, Option, Some, None, is_some, refl, sym, ap, ◌∙◌, inl, inr, arith, nat_eq, subst, length-append}
 use Rattle.std.specs.Cmp.Lexicographic.{pointwise}
 use Rattle.std.specs.Prelude.{◌||◌, nat_lt}
 use Rattle.std.specs.FinMap.{get}
 use Rattle.std.specs.Map.{lookup, set_value}
 use Rattle.lru.specs.LruCache.{promoted}
 use Rattle.mc_command.specs.declared.command.StoreMode.{StoreMode}
+use Rattle.mc_command.specs.declared.command.StoreMode.TheVariants as plain
 use Rattle.mc_command.specs.declared.meta.MetaMode.{MetaMode}
 use Rattle.mc_command.specs.declared.meta.MetaMode.TheVariants.{Set, Add, Append, Prepend}
 use Rattle.mc_item.specs.declared.item.Item.{Item}
@@ -19,12 +20,12 @@ use Rattle.mc_item.specs.Value.{joined}
 use Rattle.mc_item.specs.Kind.{kind_of, is_lawful}
 use Rattle.mc_store.specs.declared.shard.storing.Storing as given
 use Rattle.mc_store.specs.internal.Found.{live, joining, is_unconditional}
-use Rattle.mc_store.specs.State.{Used, State, without_dead, first}
-use Rattle.mc_store.specs.Step.{Outcome, Reply, Storing, is_other, writes, stores, joins, absent_store, present_store, store_step, storing, mode_of, compare_of, step_of}
+use Rattle.mc_store.specs.State.{Used, State, without_dead, first, item_overhead, entered}
+use Rattle.mc_store.specs.Step.{Outcome, Reply, Storing, numbered, is_too_large, is_other, writes, stores, joins, absent_store, present_store, store_step, storing, mode_of, compare_of, step_of}
 use Rattle.mc_store.specs.Shard.{Held, Keeps}
 use Rattle.mc_store.proofs.Shards.{with_entries, at_now}
 use Rattle.mc_store.proofs.Changes.{settled_live}
-use Rattle.mc_store.proofs.Writes.{Closes, along, met_time, large_there, too_large}
+use Rattle.mc_store.proofs.Writes.{Closes, along, met_time, large_there, too_large, writes_is}
 use Rattle.mc_store.proofs.Outcomes.{Ends, ends, absent_as, present_as, unchanged_as, uses_as}
 
 abbrev pub asked_in : given.Storing → Storing
@@ -53,6 +54,19 @@ stored_as held state key asked item reply answer new h made closes =
     along (without_dead state (Some key)) (writes (without_dead state (Some key)) key asked.unique asked.value (λ unique. fresh asked.value asked.flags (expiry_of asked.exptime held.time) unique) reply) (stores (without_dead state (Some key)) key asked reply) answer new
     (stores_is held state key asked reply h)
     (made_as (without_dead state (Some key)) key asked.unique item (fresh_of asked.value asked.flags (expiry_of asked.exptime held.time)) reply answer new made closes)
+
+-- a set whose value is not too large
+pub set_stored : (held : Held) (state : State) (key value : List ℕ) (flags : ℕ) (exptime : ℤ) (item : Item) (answer : Answer) (new : Held) → Keeps held state → item ≡ fresh_of value flags (expiry_of exptime held.time) →
+    is_too_large (without_dead state (Some key)) key value ≡ false →
+    Closes (without_dead state (Some key)) (numbered (without_dead state (Some key)) None (λ unique after. (Stored, entered after key (record item { unique = unique })))) answer new →
+    Closes (without_dead state (Some key)) (stores (without_dead state (Some key)) key (storing Set None None flags exptime value) (λ _. Stored)) answer new
+set_stored held state key value flags exptime item answer new h made small closes =
+    let settled = without_dead state (Some key) in
+    let item_of : ℕ → Item = λ unique. record item { unique = unique } in
+    let is : is_too_large settled key item.value ≡ false = rw made small in
+    stored_as held state key (storing Set None None flags exptime value) item (λ _. Stored) answer new h made
+    (along settled (numbered settled None (λ unique after. (Stored, entered after key (item_of unique)))) (writes settled key None item.value item_of (λ _. Stored)) answer new
+    (writes_is settled key None item.value item_of (λ _. Stored) is) closes)
 
 -- Under an absent key
 
@@ -124,7 +138,7 @@ length_joined value block true = length-append value block
 length_joined value block false = omega (arith, length-append block value)
 
 pub joined_large : (held : Held) (state : State) (key : List ℕ) (item : Item) (asked : Storing) (reply : Reply) (after : Bool) → Keeps held state → Some item ≡ live held.time (lookup (pointwise nat_eq key) held.entries) →
-    Some after ≡ joining asked.mode → is_other asked.compare item.unique ≡ false → (size : ℕ) → size ≡ length item.value + length asked.value → (nat_lt held.limit size || nat_lt held.budget (length key + size + 64)) ≡ true → Closes (without_dead state (Some key)) (store_step (without_dead state (Some key)) key asked reply (get (without_dead state (Some key)).items key)) TooLarge held
+    Some after ≡ joining asked.mode → is_other asked.compare item.unique ≡ false → (size : ℕ) → size ≡ length item.value + length asked.value → (nat_lt held.limit size || nat_lt held.budget (length key + size + item_overhead)) ≡ true → Closes (without_dead state (Some key)) (store_step (without_dead state (Some key)) key asked reply (get (without_dead state (Some key)).items key)) TooLarge held
 joined_large held state key item asked reply after h is mode other size size_is test =
     let settled = without_dead state (Some key) in
     let value = joined item.value asked.value after in
@@ -160,6 +174,14 @@ classic_store settled key mode flags exptime value meta_mode compare answer new 
     ends settled (Store key mode flags exptime value) answer new (λ _. refl)
     (subst (λ v. Closes settled (store_step settled key (storing (mode_of mode) v None flags exptime value) (λ _. Stored) (get settled.items key)) answer new) u
     (subst (λ n. Closes settled (store_step settled key (storing n compare None flags exptime value) (λ _. Stored) (get settled.items key)) answer new) m closes))
+
+pub set_classic : (settled : State) (key : List ℕ) (mode : StoreMode) (flags : ℕ) (exptime : ℤ) (value : List ℕ) (answer : Answer) (new : Held) → mode ≡ plain.Set →
+    Closes settled (stores settled key (storing Set None None flags exptime value) (λ _. Stored)) answer new → Ends settled (Store key mode flags exptime value) answer new
+set_classic settled key mode flags exptime value answer new is closes =
+    let asked = storing Set None None flags exptime value in
+    classic_store settled key mode flags exptime value Set None answer new (sym (ap mode_of is)) (sym (ap compare_of is))
+    (along settled (stores settled key asked (λ _. Stored)) (store_step settled key asked (λ _. Stored) (get settled.items key)) answer new
+    (set_is settled key asked (λ _. Stored) refl) closes)
 
 pub meta_store : (settled : State) (asked : op.MetaStore) (answer : Answer) (new : Held) →
     Closes settled (store_step settled asked.key (storing asked.mode asked.compare asked.unique asked.flags asked.exptime asked.value) (λ done. MetaDone done) (get settled.items asked.key)) answer new → Ends settled (MetaStore asked) answer new

@@ -12,7 +12,7 @@ use Rattle.mc_item.specs.Expiry.{is_dead}
 use Rattle.mc_item.specs.declared.answer.Answer.{Answer}
 use Rattle.mc_item.specs.declared.answer.Answer.TheVariants.{NoCas, NoMemory, TooLarge}
 use Rattle.mc_store.specs.Rows.{done_of}
-use Rattle.mc_store.specs.State.{Used, State, with_items, without_dead, cost, fitting, entered, next_unique, with_given}
+use Rattle.mc_store.specs.State.{Used, State, with_items, without_dead, item_overhead, cost, fitting, entered, next_unique, with_given}
 use Rattle.mc_store.specs.internal.Found.{unique_for, given_after}
 use Rattle.mc_store.specs.internal.Listed.{within}
 use Rattle.mc_store.specs.Step.{Outcome, Reply, numbered, is_too_large, writes}
@@ -124,7 +124,7 @@ pub as_answer : (settled : State) (outcome : Outcome) (one other : Answer) (new 
 as_answer settled outcome one other new is closes = subst (λ a. Closes settled outcome a new) is closes
 
 -- what is held tells whether a value is too large
-pub large_there : (held : Held) (state : State) (key value : List ℕ) (size : ℕ) (test : Bool) → Keeps held state → length value ≡ size → (nat_lt held.limit size || nat_lt held.budget (length key + size + 64)) ≡ test → is_too_large (without_dead state (Some key)) key value ≡ test
+pub large_there : (held : Held) (state : State) (key value : List ℕ) (size : ℕ) (test : Bool) → Keeps held state → length value ≡ size → (nat_lt held.limit size || nat_lt held.budget (length key + size + item_overhead)) ≡ test → is_too_large (without_dead state (Some key)) key value ≡ test
 large_there held state key value size test h long is =
     by_met (λ s. is_too_large s key value ≡ test) state key (rw (h.limit, h.budget, long) is) (λ _ _. rw (h.limit, h.budget, long) is)
 

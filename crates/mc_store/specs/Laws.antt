@@ -1,18 +1,18 @@
 -- What follows from the step, whatever the operations and their moments.
 use Rattle.std.specs.Prelude.{ℕ, ◌≡◌, ◌+◌, ◌<◌, ◌⊎◌, Bool, true, false, max, min, List, Option, Some, None}
 use Rattle.std.specs.Option.{option_map_or}
-use Rattle.std.specs.FinMap.{get}
-use Rattle.mc_wire.specs.declared.TheConstants.{LATEST_MOMENT}
+use Rattle.std.specs.FinMap.{get, insert}
+use Rattle.mc_wire.specs.Limits.{latest_moment}
 use Rattle.mc_item.specs.declared.item.Item.{Item}
 use Rattle.mc_item.specs.declared.op.Op.{Op}
 use Rattle.mc_item.specs.declared.op.Op.TheVariants.{MetaStore, MetaDelete, MetaCount}
 use Rattle.mc_item.specs.declared.answer.Kind.{Kind}
 use Rattle.mc_item.specs.declared.answer.Kind.TheVariants as kind
 use Rattle.mc_item.specs.declared.answer.Answer.{Answer}
-use Rattle.mc_item.specs.declared.answer.Answer.TheVariants.{NoCas, NoMemory, MetaHit}
+use Rattle.mc_item.specs.declared.answer.Answer.TheVariants.{NoCas, NoMemory, Stored, Number, MetaDone, MetaHit}
 use Rattle.mc_item.specs.declared.answer.MetaHit as hit
 use Rattle.mc_item.specs.Kind.{kind_of, key_of, is_lawful}
-use Rattle.mc_store.specs.State.{Used, Items, State, is_due, settle, first, costs, used_since, next_unique}
+use Rattle.mc_store.specs.State.{Used, Items, State, is_due, settle, costs, used_since, next_unique}
 use Rattle.mc_store.specs.Step.{IsStep}
 
 -- An answer is lawful for the kind of its operation.
@@ -30,20 +30,32 @@ StepsAgree = (old one other : State) (op : Op) (moment : ℕ) (answer second : A
 abbrev pub StaysUnless : Type 0 → Items → Items → List ℕ → Type 0
 StaysUnless reason old new key = (get new key ≡ get old key) ⊎ ((get new key ≡ None) × reason)
 
--- An item was stored under the key, and what was used no earlier than that under the other key costs more than the
--- budget with it.
-abbrev pub IsEvicted : State → Option (List ℕ) → List ℕ → Type 0
-IsEvicted settled key other =
-    (stored : List ℕ) × (key ≡ Some stored) × ((item : Item) × (settled.budget < costs (used_since (first settled stored item).items other)))
+-- The answer tells that an item was stored: by storing, by counting, or by mg under a key that was absent.
+abbrev pub tells_stored : Answer → Option Used → Bool
+tells_stored Stored before = true
+tells_stored (Number number) before = true
+tells_stored (MetaDone done) before = true
+tells_stored (MetaHit hit) None = true
+tells_stored _ before = false
+
+-- An item was stored under the operation's key, and stands there. With it, what was used no earlier than the item under
+-- the other key costs more than the budget.
+pub record IsEvicted (settled : State) (key : Option (List ℕ)) (answer : Answer) (new : Items) (other : List ℕ) : Type 0 where
+  pub asked : List ℕ
+  pub key_is : key ≡ Some asked
+  pub told : tells_stored answer (get settled.items asked) ≡ true
+  pub stored : Used
+  pub stands : get new asked ≡ Some stored
+  pub too_much : settled.budget < costs (used_since (insert settled.items asked stored) other)
 
 -- A pending flush was due, or the operation is a flush.
 abbrev pub IsFlushed : State → Op → ℕ → Type 0
-IsFlushed old op moment = (is_due old.flush (max old.time (min moment LATEST_MOMENT)) ≡ true) ⊎ (kind_of op ≡ kind.Flush)
+IsFlushed old op moment = (is_due old.flush (max old.time (min moment latest_moment)) ≡ true) ⊎ (kind_of op ≡ kind.Flush)
 
--- No operation changes an item under another key, but by a flush or by eviction.
+-- No operation changes an item under another key, but by a flush, or by eviction for the item that it stored.
 abbrev pub OthersStay : Type 0
 OthersStay = (old new : State) (op : Op) (moment : ℕ) (answer : Answer) → IsStep old op moment answer new → (other : List ℕ) → ¬ (key_of op ≡ Some other) →
-    StaysUnless (IsFlushed old op moment ⊎ IsEvicted (settle old (key_of op) moment) (key_of op) other) old.items new.items other
+    StaysUnless (IsFlushed old op moment ⊎ IsEvicted (settle old (key_of op) moment) (key_of op) answer new.items other) old.items new.items other
 
 -- Uniques
 
@@ -92,7 +104,7 @@ TokensAreTaken = (old new : State) (op : Op) (moment : ℕ) (answer : Answer) (t
 
 -- The time never goes back, and stays at or below the latest one.
 abbrev pub TimeRises : Type 0
-TimeRises = (old new : State) (op : Op) (moment : ℕ) (answer : Answer) → IsStep old op moment answer new → new.time ≡ max old.time (min moment LATEST_MOMENT)
+TimeRises = (old new : State) (op : Op) (moment : ℕ) (answer : Answer) → IsStep old op moment answer new → new.time ≡ max old.time (min moment latest_moment)
 
 -- Who is told to recompute
 

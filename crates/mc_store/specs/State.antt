@@ -7,7 +7,7 @@ use Rattle.std.specs.Ordering.{nat_cmp}
 use Rattle.std.specs.Cmp.Lexicographic.{slice_cmp}
 use Rattle.std.specs.FinMap.{FinMap, empty, get, insert, remove, retain_keys, entries}
 use Rattle.mc_wire.specs.SameKey.{same_key}
-use Rattle.mc_wire.specs.declared.TheConstants.{LATEST_MOMENT}
+use Rattle.mc_wire.specs.Limits.{latest_moment}
 use Rattle.mc_item.specs.declared.item.Item.{Item}
 use Rattle.mc_item.specs.Expiry.{is_dead}
 
@@ -55,7 +55,7 @@ at_time state time = if is_due state.flush time then flushed (record state { tim
 
 -- The time never goes back, and a flush that is due runs.
 abbrev pub arrived : State → ℕ → State
-arrived state moment = at_time state (max state.time (min moment LATEST_MOMENT))
+arrived state moment = at_time state (max state.time (min moment latest_moment))
 
 abbrev pub is_dead_at : ℕ → Option Used → Bool
 is_dead_at time None = false
@@ -88,9 +88,13 @@ first state key item = record state {
 
 -- Cost, and eviction
 
+-- what an item costs beside its key and its value, in bytes
+abbrev pub item_overhead : ℕ
+item_overhead = 64
+
 -- what an item costs, in bytes: its key, its value, and 64
 abbrev pub cost : List ℕ → List ℕ → ℕ
-cost key value = length key + length value + 64
+cost key value = length key + length value + item_overhead
 
 abbrev pub cost_of : List ℕ × Used → ℕ
 cost_of entry = cost entry.0 entry.1.item.value
@@ -105,6 +109,12 @@ used_since items key = retain_keys items (λ other. nat_le (number_at items key)
 
 -- Eviction for the item under the key, which itself stays: another item stays where all that were used no earlier than
 -- it, with it, cost no more than the budget. So the least recently used go, and no more of them than must.
+--
+-- Say that the budget is 1,024, and that a, b, c and d are stored in this order, each with a value of 235 bytes: each
+-- costs 1 + 235 + 64 = 300. When d is stored, the items used no earlier than c cost 600, those no earlier than b 900, and
+-- those no earlier than a 1,200: a goes, and b and c stay. Were a fetched before d is stored, b would be the least recently
+-- used, and would go in its place. Were the value of d 535 bytes long, c would stay at 600 + 300 = 900, b would go at
+-- 1,200, and a at 1,500: whatever was used earlier than an item that goes, goes too, however small it is.
 unfoldable pub fitting : Items → ℕ → List ℕ → Items
 fitting items budget key = retain_keys items (λ other. same_key key other || nat_le (costs (used_since items other)) budget)
 

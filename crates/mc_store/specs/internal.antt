@@ -3,3 +3,4 @@ pub mod Found
 pub mod Listed
 pub mod Parts
 pub mod Polynomial
+pub mod Secret

@@ -7,6 +7,7 @@
 //! whichever keys he takes.
 ghost use Rattle.std.specs.Prelude.{◌≡◌, ◌+◌, ◌*◌, ◌%◌, ◌^◌, ◌<◌, ◌≤◌, length};
 ghost use Rattle.mc_store.specs.internal.Polynomial as polynomial;
+ghost use Rattle.mc_store.specs.internal.Secret.{drawn};
 
 use std::hash::{BuildHasher, Hasher, RandomState};
 
@@ -39,7 +40,10 @@ impl PolynomialState {
     /// Draws the three words from the random state: SipHash under its secret keys, of three numbers. The polynomial begins
     /// with the coefficient 1, so that keys of different lengths have different polynomials.
     pub fn new(random: RandomState) -> PolynomialState
-        ensures { result.initial.value ≡ 1 }
+        ensures value { result.initial.value ≡ 1 }
+        ensures point { result.initial.point ≡ drawn random 0 }
+        ensures scale { result.initial.scale ≡ drawn random 1 }
+        ensures shift { result.initial.shift ≡ drawn random 2 }
     {
         PolynomialState {
             initial: PolynomialHasher {

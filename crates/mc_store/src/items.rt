@@ -5,7 +5,7 @@ ghost use Rattle.std.specs.Map.{lookup, remove_entry, set_value};
 ghost use Rattle.lru.specs.LruCache.{lru_cache, promoted};
 ghost use Rattle.mc_wire.specs.SameKey.{same_key};
 ghost use Rattle.mc_item.specs.declared.item.Item.{Item as TheItem};
-ghost use Rattle.mc_store.specs.State.{cost};
+ghost use Rattle.mc_store.specs.State.{item_overhead, cost};
 ghost use Rattle.mc_store.specs.Step.{is_other};
 ghost use Rattle.mc_store.specs.internal.Listed.{Fits, freed_by, listed_cost, within};
 
@@ -13,7 +13,7 @@ use crate::hashing::PolynomialState;
 use crate::{GREATEST_BUDGET, ITEM_OVERHEAD, LEAST_BUDGET};
 use lru::LruCache;
 use mc_item::{Expiry, Item, NoMemory};
-use mc_wire::Key;
+use mc_wire::{KEY_LIMIT, Key};
 use std::alloc::{AllocError, Global};
 use std::hash::RandomState;
 use std::marker::Model;
@@ -77,14 +77,14 @@ pub fn is_other(compare: Option<u64>, unique: u64) -> bool
 /// What an item costs with so many bytes of a key and of a value, in bytes.
 pub fn cost_of(key_length: usize, value_length: usize) -> usize
     requires { key_length + value_length ≤ 2 ^ 32 }
-    ensures { result ≡ key_length + value_length + 64 }
+    ensures { result ≡ key_length + value_length + item_overhead }
 {
     key_length + value_length + ITEM_OVERHEAD
 }
 
 /// What an item under a key of so many bytes cost, in bytes; nothing where there was none.
 fn freed_by(old: &Option<Item>, key_length: usize) -> usize
-    requires { key_length ≤ 250 }
+    requires { key_length ≤ KEY_LIMIT }
     ensures { result ≡ freed_by old.now key_length }
 {
     match old {

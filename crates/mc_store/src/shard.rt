@@ -24,10 +24,12 @@ use mc_item::{Answer, Expiry, Item, MetaDone, Op, Value, expiry};
 use mc_wire::{GREATEST_VALUE_LIMIT, Key, LATEST_MOMENT};
 use std::alloc::{AllocError, Global};
 use std::hash::RandomState;
+use thiserror::Error;
 
 /// Why there is no shard.
-#[derive(Clone, Copy, Debug, PartialEq, Eq)]
+#[derive(Clone, Copy, Debug, PartialEq, Eq, Error)]
 pub enum StoreFault {
+    #[error("no memory is left for the shard")]
     Memory,
 }
 
@@ -61,7 +63,7 @@ pub struct Shard {
 }
 
 impl Shard {
-    ghost use Rattle.mc_store.specs.State.{State, empty_state, arrived, is_due, flushed, without_dead, costs, entered};
+    ghost use Rattle.mc_store.specs.State.{State, empty_state, arrived, is_due, flushed, without_dead, item_overhead, costs, entered};
     ghost use Rattle.mc_store.specs.Step.{numbered};
     ghost use Rattle.mc_store.specs.Shard.{IsShard, Steps, held_of};
     ghost use Rattle.mc_store.specs.internal.Parts.{Does, answered};
@@ -193,11 +195,11 @@ impl Shard {
     fn remove_dead(&mut self, key: &Key)
         ensures { (state : State) → IsShard self.old state → IsShard self.new (without_dead state (Some key.now)) }
     {
-        match self.find(key) {
-            Some(_) => {}
-            None => {
-                self.items.remove(key);
-            }
+        let Some(item) = self.items.peek(key) else {
+            return;
+        };
+        if item.is_dead(self.time) {
+            self.items.remove(key);
         }
     }
 
@@ -227,7 +229,7 @@ impl Shard {
     /// budget alone.
     fn is_too_large(&self, key: &Key, size: usize) -> bool
         requires { size ≤ 2 * GREATEST_VALUE_LIMIT }
-        ensures { result ≡ (nat_lt self.now.limit size || nat_lt self.now.items.budget (length key.now + size + 64)) }
+        ensures { result ≡ (nat_lt self.now.limit size || nat_lt self.now.items.budget (length key.now + size + item_overhead)) }
     {
         self.limit < size || self.items.budget() < cost_of(key.bytes().len(), size)
     }

@@ -1,14 +1,15 @@
 -- What decoding says of a base64 key word.
 use Rattle.std.proofs.Common.{◌≡◌, ℕ, ◌<◌, ◌≤◌, ◌+◌, ◌-◌, ◌*◌, ◌/◌, ◌%◌, true, false, cond, Result, List, [], ◌∷◌, length, Some, None, Ok, Err, take, drop, subst, is_some, nat_lt, nat_eq, refl, sym, ap, ◌∙◌, arith, length-append}
-use Rattle.std.proofs.lemmas.List.{length-replicate, take-append-drop}
+use Rattle.std.proofs.lemmas.List.{length-replicate}
 use Rattle.std.proofs.lemmas.Bool.Decides.{nat_tests}
 use Rattle.base64.specs.Engines.{standard}
 use Rattle.base64.specs.Rfc4648.{encoded_size}
 use Rattle.base64.specs.GeneralPurpose.{IsBytes, IsStrict, IsConsistent, decode_of, decoded_of}
 use Rattle.base64.specs.declared.decode.DecodeError.{DecodeError}
 use Rattle.base64.proofs.RoundTrip.{length-encode_symbols}
-use Rattle.base64.proofs.EngineFacts.{front_bytes, decode_of_strict, decode_of-encode_of, encode_of-nil}
+use Rattle.base64.proofs.EngineFacts.{decode_of_strict, decode_of-encode_of, encode_of-nil}
 use Rattle.std.specs.Result.{result_ok}
+use Rattle.mc_wire.proofs.Base64Octets.{decoded_octets}
 use Rattle.mc_wire.specs.Base64Key.{Base64IsText, base64_bytes, base64_of, base64_key, base64_fault, IsBase64Of}
 use Rattle.mc_wire.specs.declared.TheConstants.{KEY_LIMIT}
 use Rattle.mc_wire.specs.declared.fault.WireFault.TheVariants.{NotBase64}
@@ -56,15 +57,15 @@ in_limits word some short =
     let second : nat_lt KEY_LIMIT (length word) ≡ false = grind (arith, nat_tests) in
     (rw (first, second), rw (first, second))
 
-pub decoded_key : (word bytes : List ℕ) → IsBytes word → IsBytes bytes → 0 < length word → length word ≤ KEY_LIMIT → decode_of standard word ≡ Ok bytes → IsKeyWord word bytes
+pub decoded_key : (word bytes : List ℕ) → IsBytes word → 0 < length word → length word ≤ KEY_LIMIT → decode_of standard word ≡ Ok bytes → IsKeyWord word bytes
 unfolding base64_of
-decoded_key word bytes octets octets' some short decoded =
+decoded_key word bytes octets some short decoded =
     let limits = in_limits word some short in
     let value = decoded_ok word bytes decoded in
     let text = decode_of_strict standard word bytes is_strict octets decoded in
     record {
       key = limits.0 ∙ value;
-      text = record { text = text; octets = octets'; some = filled word bytes text some; short = short_text (length bytes) (omega (arith, ap length text, length-base64_of bytes)) };
+      text = record { text = text; octets = decoded_octets word bytes octets decoded; some = filled word bytes text some; short = short_text (length bytes) (omega (arith, ap length text, length-base64_of bytes)) };
       fault = rw (limits.1, value);
     }
 
@@ -81,19 +82,16 @@ text_key word bytes is =
     let back : decode_of standard word ≡ Ok bytes = rw is.text (decode_of-encode_of standard bytes is_consistent is.octets) in
     (in_limits word (omega arith) (omega arith)).0 ∙ decoded_ok word bytes back
 
-pub IsBytes-take : (n : ℕ) (bytes : List ℕ) → IsBytes bytes → IsBytes (take n bytes)
-IsBytes-take n bytes octets = front_bytes (take n bytes) (drop n bytes) (subst IsBytes (sym (take-append-drop n bytes)) octets)
-
 -- a word that gives a key is a text of it
-key_text : (word bytes : List ℕ) → IsBytes word → IsBytes bytes → base64_key word ≡ Some bytes → IsBase64Of word bytes
+key_text : (word bytes : List ℕ) → IsBytes word → base64_key word ≡ Some bytes → IsBase64Of word bytes
 unfolding base64_bytes decoded_of
-key_text word bytes octets octets' is =
+key_text word bytes octets is =
     let some : 0 < length word = grind (arith, nat_tests) in
     let short : length word ≤ KEY_LIMIT = grind (arith, nat_tests) in
-    (decoded_key word bytes octets octets' some short (the_ok (decode_of standard word) (sym (in_limits word some short).0 ∙ is))).text where
+    (decoded_key word bytes octets some short (the_ok (decode_of standard word) (sym (in_limits word some short).0 ∙ is))).text where
       the_ok : (read : Result (List ℕ) DecodeError) → result_ok read ≡ Some bytes → read ≡ Ok bytes
       the_ok (Ok read) is = cc
       the_ok (Err e) is = absurd cc
 
 pub base64_is_text : Base64IsText
-base64_is_text word bytes octets octets' = (key_text word bytes octets octets', text_key word bytes)
+base64_is_text word bytes octets = (key_text word bytes octets, text_key word bytes)

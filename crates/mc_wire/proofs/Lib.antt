@@ -1,5 +1,7 @@
 -- The lemmas of this crate.
+pub mod Base64Octets
 pub mod Base64Keys
+pub mod Places
 pub mod Numbers
 pub mod SameBytes
 pub mod Scanning

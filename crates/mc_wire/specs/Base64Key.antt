@@ -3,7 +3,7 @@
 use Rattle.std.specs.Prelude.{ℕ, ◌≡◌, ◌<◌, ◌≤◌, List, length, Option, Some, None, nat_lt, is_some, ◌↔◌, if◌then◌else◌, ◌==◌}
 use Rattle.base64.specs.Engines.{standard}
 use Rattle.base64.specs.GeneralPurpose.{IsBytes, decoded_of, encode_of}
-use Rattle.mc_wire.specs.declared.TheConstants.{DECODED_KEY_LIMIT, KEY_LIMIT}
+use Rattle.mc_wire.specs.Limits.{decoded_key_limit, key_limit}
 use Rattle.mc_wire.specs.declared.fault.WireFault.{WireFault}
 use Rattle.mc_wire.specs.declared.fault.WireFault.TheVariants.{NoKey, KeyTooLong, NotBase64}
 
@@ -20,22 +20,22 @@ pub record IsBase64Of (word bytes : List ℕ) : Type 0 where
   pub text : word ≡ base64_of bytes
   pub octets : IsBytes bytes
   pub some : 0 < length bytes
-  pub short : length bytes ≤ DECODED_KEY_LIMIT
+  pub short : length bytes ≤ decoded_key_limit
 
 -- what hinders a word from giving a key in base64, in the order of the tests
 abbrev pub base64_fault : List ℕ → Option WireFault
 base64_fault word =
     if length word == 0 then Some NoKey
-    else (if nat_lt KEY_LIMIT (length word) then Some KeyTooLong
+    else (if nat_lt key_limit (length word) then Some KeyTooLong
     else (if is_some (base64_bytes word) then None else Some NotBase64))
 
 -- the key that a word gives in base64
 abbrev pub base64_key : List ℕ → Option (List ℕ)
 base64_key word =
     if length word == 0 then None
-    else (if nat_lt KEY_LIMIT (length word) then None
+    else (if nat_lt key_limit (length word) then None
     else base64_bytes word)
 
--- Of words and keys that are bytes: a word gives these bytes as a key exactly where it is their base64 text.
+-- A word of bytes gives a key exactly where it is the base64 text of the key, which is bytes then.
 abbrev pub Base64IsText : Type 0
-Base64IsText = (word bytes : List ℕ) → IsBytes word → IsBytes bytes → (base64_key word ≡ Some bytes) ↔ IsBase64Of word bytes
+Base64IsText = (word key : List ℕ) → IsBytes word → (base64_key word ≡ Some key) ↔ IsBase64Of word key

@@ -1,7 +1,7 @@
 -- Keys as a word gives them (protocol.txt, Keys), and the shard that each belongs to.
 use Rattle.std.specs.Prelude.{ℕ, ◌*◌, ◌%◌, ◌^◌, Bool, ◌&&◌, ◌||◌, List, length, fold, bit_xor, Option, Some, None, nat_lt, nat_le, if◌then◌else◌, ◌==◌}
 use Rattle.std.specs.List.{list_all}
-use Rattle.mc_wire.specs.declared.TheConstants.{KEY_LIMIT}
+use Rattle.mc_wire.specs.Limits.{key_limit}
 use Rattle.mc_wire.specs.declared.fault.WireFault.{WireFault}
 use Rattle.mc_wire.specs.declared.fault.WireFault.TheVariants.{NoKey, KeyTooLong, KeyByte}
 
@@ -13,7 +13,7 @@ is_key_byte byte = (nat_le 33 byte && nat_le byte 126) || nat_le 128 byte
 abbrev pub key_fault : List ℕ → Option WireFault
 key_fault word =
     if length word == 0 then Some NoKey
-    else (if nat_lt KEY_LIMIT (length word) then Some KeyTooLong
+    else (if nat_lt key_limit (length word) then Some KeyTooLong
     else (if list_all is_key_byte word then None else Some KeyByte))
 
 -- the hash FNV-1a of 32 bits: each byte is mixed in, and the prime multiplies the whole

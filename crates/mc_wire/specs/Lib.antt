@@ -1,4 +1,5 @@
 -- The definitions that the contracts of this crate cite.
+pub mod Limits
 pub mod Words
 pub mod Number
 pub mod Outlet

@@ -4,11 +4,11 @@ use Rattle.std.specs.List.{list_all}
 use Rattle.std.specs.Char.{is_ascii_digit}
 use Rattle.std.specs.Option.{option_map}
 use Rattle.std.specs.Str.Parse.{digits_value, starts_with_minus}
-use Rattle.mc_wire.specs.declared.TheConstants.{DIGIT_LIMIT}
+use Rattle.mc_wire.specs.Limits.{digit_limit}
 
--- 1 to 20 digits, leading zeros among them
+-- 1 to `digit_limit` digits, leading zeros among them
 abbrev pub is_digits : List ℕ → Bool
-is_digits word = nat_lt 0 (length word) && nat_le (length word) DIGIT_LIMIT && list_all is_ascii_digit word
+is_digits word = nat_lt 0 (length word) && nat_le (length word) digit_limit && list_all is_ascii_digit word
 
 -- the number below the bound that a word spells
 unfoldable pub number_of : ℕ → List ℕ → Option ℕ

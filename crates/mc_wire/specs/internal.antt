@@ -1,3 +1,4 @@
 -- Definitions that only private contracts name.
 pub mod Steps
 pub mod Eight
+pub mod Parity

@@ -3,10 +3,11 @@
 ghost use Rattle.std.specs.Prelude.{◌≡◌, ◌≢◌, ◌<◌, ◌≤◌, ℕ, List, length, take, Some, None, OnOk, IfOk, IfErr, IsErrOf, OnSome, IfSome, IfNone};
 ghost use Rattle.std.specs.List.{list_all};
 ghost use Rattle.mc_wire.specs.Base64Key.{base64_of, base64_key, base64_fault, IsBase64Of};
-ghost use Rattle.mc_wire.specs.Key.{key_fault, place_of};
+ghost use Rattle.mc_wire.specs.Key.{key_fault, fnv_of, place_of};
 ghost use Rattle.mc_wire.specs.Key as spec;
 ghost use Rattle.mc_wire.specs.SameKey.{same_key};
 ghost use Rattle.mc_wire.specs.internal.Eight.{IsWord};
+ghost use Rattle.mc_wire.specs.internal.Parity.{parity_of};
 ghost use Rattle.mc_wire.specs.declared.fault.WireFault.TheVariants.{NotBase64};
 
 use crate::fault::WireFault;
@@ -161,18 +162,37 @@ impl Key {
         self.bytes.as_slice()
     }
 
-    /// The shard that the key belongs to, of so many: its hash FNV-1a of 32 bits modulo their number.
-    /// Takes no memory.
-    #[tactic(auto, unfolding(crate::specs::Key::fnv_of))]
+    /// The shard that the key belongs to, of so many: its hash FNV-1a of 32 bits modulo their number. Of one or two
+    /// shards it is told without the hash. Takes no memory.
     pub fn place(&self, shards: usize) -> usize
         requires { 0 < shards }
         ensures { result ≡ place_of self.now shards }
     {
-        let hash = self.bytes.iter().fold(FNV_BASIS, |hash, byte| {
-            (hash ^ u32::from(*byte)).wrapping_mul(FNV_PRIME)
-        });
-        hash as usize % shards
+        match shards {
+            1 => 0,
+            2 => parity(self.bytes()),
+            _ => fnv(self.bytes()) as usize % shards,
+        }
     }
+}
+
+/// The hash FNV-1a of 32 bits.
+#[tactic(auto, unfolding(crate::specs::Key::fnv_of))]
+fn fnv(bytes: &[u8]) -> u32
+    ensures { result ≡ fnv_of bytes.now }
+{
+    bytes.iter().fold(FNV_BASIS, |hash, byte| {
+        (hash ^ u32::from(*byte)).wrapping_mul(FNV_PRIME)
+    })
+}
+
+/// The lowest bit of the hash: its basis and its prime are odd, so it takes no product. The loop is compiled to
+/// mix many bytes at once.
+fn parity(bytes: &[u8]) -> usize
+    ensures { result ≡ parity_of bytes.now }
+{
+    let mixed = bytes.iter().fold(1, |mixed: u8, byte| mixed ^ *byte);
+    usize::from(mixed % 2)
 }
 
 /// What hinders a word from being a key (protocol.txt, Keys): `NoKey`, `KeyTooLong` or `KeyByte`, tested in this order. Takes

@@ -11,7 +11,7 @@ mod walk;
 
 pub use fault::{OutFault, WireFault};
 pub use key::{Key, key_fault};
-pub use laws::base64_is_text;
+pub use laws::{base64_is_text, limits};
 pub use number::{number_i64, number_u64};
 pub use outlet::{Outlet, put_all, put_parts};
 pub use walk::{WordWalk, words};

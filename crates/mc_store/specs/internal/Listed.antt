@@ -4,7 +4,7 @@ use Rattle.std.specs.List.{sum_by}
 use Rattle.mc_item.specs.declared.item.Item.{Item}
 use Rattle.mc_wire.specs.declared.TheConstants.{DIGIT_LIMIT}
 use Rattle.mc_store.specs.declared.TheConstants.{LEAST_BUDGET, GREATEST_BUDGET}
-use Rattle.mc_store.specs.State.{cost}
+use Rattle.mc_store.specs.State.{item_overhead, cost}
 
 abbrev pub Entry : Type 0
 Entry = List ℕ × Item
@@ -19,7 +19,7 @@ listed_cost entries = sum_by entry_cost entries
 -- what an item under a key of so many bytes cost; nothing where there was none
 abbrev pub freed_by : Option Item → ℕ → ℕ
 freed_by None key_length = 0
-freed_by (Some item) key_length = key_length + length item.value + 64
+freed_by (Some item) key_length = key_length + length item.value + item_overhead
 
 -- the items from the front on, as many as cost no more than the room together
 abbrev pub within : ℕ → List Entry → List Entry
@@ -31,7 +31,7 @@ within room (entry ∷ entries) =
 abbrev pub HaveKeys : List Entry → Type 0
 HaveKeys entries = All (λ (entry : Entry). 0 < length entry.0) entries
 
--- An item fits the budget. That of a number does, whatever the budget: a key has at most 250 bytes, and a number 20.
+-- An item fits the budget. That of a number does, whatever the budget: its key and its digits are few.
 abbrev pub Fits : ℕ → List ℕ → List ℕ → Type 0
 Fits budget key value = (length value ≤ DIGIT_LIMIT) ⊎ (cost key value ≤ budget)
 
@@ -40,7 +40,7 @@ pub record IsCounted (entries : List Entry) (capacity cost budget : ℕ) : Type 
   pub counted : cost ≡ listed_cost entries
   pub fits : cost ≤ budget
   pub keys : HaveKeys entries
-  -- each item costs 65 at least, so that there is always room for one more in the list
-  pub room : capacity ≡ budget / 65 + 1
+  -- each item's key has a byte, so that there is always room for one more in the list
+  pub room : capacity ≡ budget / (item_overhead + 1) + 1
   pub least : LEAST_BUDGET ≤ budget
   pub most : budget ≤ GREATEST_BUDGET

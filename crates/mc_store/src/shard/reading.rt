@@ -105,10 +105,13 @@ impl Shard {
         ensures acts { Acts self.old (op.Fetch key.now touch) result self.new }
         ensures lawful { is_lawful Kind.Fetch result ≡ true }
     {
-        let Some(item) = self.find(key) else {
-            self.items.remove(key);
+        let Some(item) = self.items.peek(key) else {
             return Answer::Miss;
         };
+        if item.is_dead(self.time) {
+            self.items.remove(key);
+            return Answer::Miss;
+        }
         let Ok(value) = item.value.clone() else {
             return Answer::NoMemory;
         };

@@ -1,5 +1,5 @@
 //! Storing: `set`, `add`, `replace`, `append`, `prepend`, `cas`, and `ms` in each of its modes.
-ghost use Rattle.std.specs.Prelude.{◌≡◌, true, IfErr};
+ghost use Rattle.std.specs.Prelude.{◌≡◌, true, None, IfErr};
 ghost use Rattle.std.specs.FinMap.{get};
 ghost use Rattle.mc_item.specs.declared.answer.Answer.{Answer as TheAnswer};
 ghost use Rattle.mc_item.specs.declared.answer.MetaDone.{MetaDone as TheDone};
@@ -90,6 +90,9 @@ impl Shard {
         ensures acts { Acts self.old (op.Store key mode flags exptime value) result self.new }
         ensures lawful { is_lawful Kind.Store result ≡ true }
     {
+        if let StoreMode::Set = mode {
+            return self.set(key, flags, exptime, value);
+        }
         let asked = Storing {
             mode: meta_mode(mode),
             compare: compared_unique(mode),
@@ -99,6 +102,23 @@ impl Shard {
             value,
         };
         match self.store(alloc, key, asked) {
+            Ok(_) => Answer::Stored,
+            Err(answer) => answer,
+        }
+    }
+
+    /// `set`, the plainest of them: the item enters, whatever is there.
+    #[tactic(auto, unfolding(mc_item::specs::Kind::is_lawful))]
+    fn set(&mut self, key: Key, flags: u32, exptime: i64, value: Value) -> Answer
+        ensures does { Does self.old key (λ settled. stores settled key (storing MetaMode.Set None None flags exptime value) (λ done. Answer.Stored)) result self.new }
+        ensures lawful { is_lawful Kind.Store result ≡ true }
+    {
+        if self.is_too_large(&key, value.len()) {
+            self.remove_dead(&key);
+            return Answer::TooLarge;
+        }
+        let item = fresh_item(value, flags, expiry(exptime, self.time));
+        match self.write(key, item, None) {
             Ok(_) => Answer::Stored,
             Err(answer) => answer,
         }

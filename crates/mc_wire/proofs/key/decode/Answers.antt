@@ -1,13 +1,12 @@
 -- What the kit's decoder answers, said of key words.
 use Rattle.std.proofs.Common.{take, arith}
-use Rattle.mc_wire.proofs.Base64Keys.{IsKeyWord, IsBytes-take, decoded_key, decoded_err, undecoded_key}
+use Rattle.mc_wire.proofs.Base64Keys.{IsKeyWord, decoded_key, decoded_err, undecoded_key}
 use Rattle.mc_wire.proofs.key.decode.Goals as goal
 use Rattle.mc_wire.proofs.key.decode.Goals.{In-Ok}
 
 key_word : (c : In-Ok) → IsKeyWord c.args.word.now (take c.in-Ok.len c.decode_slice_unchecked.new.output)
 key_word c =
     decoded_key c.args.word.now (take c.in-Ok.len c.decode_slice_unchecked.new.output) (λ i. let fits = c.type_inv.word i in omega arith)
-    (IsBytes-take c.in-Ok.len c.decode_slice_unchecked.new.output (λ i. let fits = c.type_inv.room i in omega arith))
     c.requires.some c.requires.short c.in-Ok.ensures.ok.0
 
 pub returns-in-Ok-clause-key : goal.returns-in-Ok-clause-key

@@ -1,5 +1,5 @@
 use Rattle.std.proofs.Common.{◌≡◌, ◌+◌, sym, ◌∙◌, Some, true, false, inr, length}
-use Rattle.mc_store.specs.State.{without_dead}
+use Rattle.mc_store.specs.State.{item_overhead, without_dead}
 use Rattle.mc_store.specs.Step.{is_too_large, writes}
 use Rattle.mc_store.specs.Shard.{IsShard, held_of}
 use Rattle.mc_store.specs.internal.Parts.{answered}
@@ -15,7 +15,7 @@ returns-then-is_too_large-clause-does c = λ reply state h.
 
 pub write_done-requires : goal.write_done-requires
 write_done-requires c =
-    let both = fits_both c.args.self.now.limit c.len.result c.args.self.now.items.budget (length c.args.key + c.len.result + 64) (sym c.is_too_large.ensures ∙ c.if-is_too_large.false) in
+    let both = fits_both c.args.self.now.limit c.len.result c.args.self.now.items.budget (length c.args.key + c.len.result + item_overhead) (sym c.is_too_large.ensures ∙ c.if-is_too_large.false) in
     record { fits = inr (rw (← c.len.ensures.value) both.1) }
 
 pub returns-clause-does : goal.returns-clause-does
