@@ -12,8 +12,14 @@ import sys
 TOP = pathlib.Path(__file__).resolve().parent.parent
 CRATES = TOP / "crates"
 
-# The statements of the public theorems: one line, every schedule, and real threads, as far as they are there.
-THEOREMS = ["mc_server/specs/Explains.antt", "mc_core/specs/Headline.antt", "mc_core/specs/Schedule.antt"]
+# The statements of the public theorems: one line, every schedule, and the laws of progress and order, as far as they are there.
+THEOREMS = [
+    "mc_server/specs/Explains.antt",
+    "mc_core/specs/Headline.antt",
+    "mc_core/specs/Schedule.antt",
+    "mc_laws/specs/Fair.antt",
+    "mc_laws/specs/Linear.antt",
+]
 
 IMPORT = re.compile(r"^use Rattle\.(\w+)\.specs\.([\w.]+?)(?:\.\{.*| as .*)?$", re.M)
 
