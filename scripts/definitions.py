@@ -20,10 +20,12 @@ CRATES = TOP / "crates"
 PAGE = TOP / "docs/PROOFS.md"
 BEGIN, END = "<!-- scripts/definitions.py -->\n", "<!-- end -->\n"
 
-# The functions whose contracts are the theorems: the headline, what ties the simulator to it, one line, real threads, replay
-# files and the command line.
+# The functions whose contracts are the theorems: the headline, the laws of progress and order, what ties the simulator to
+# them, one line, real threads, replay files and the command line.
 THEOREMS = [
     ("mc_core/src/laws.rt", ["every_schedule"]),
+    ("mc_laws/src/progress.rt", ["never_stuck", "all_comes_to_rest", "fair_runs_come_to_rest", "none_waits_forever"]),
+    ("mc_laws/src/order.rt", ["what_was_handed_out_ran_before", "keys_are_linearizable"]),
     ("mc_core/src/sim.rt", ["new", "connections", "fed", "handed", "log", "step", "run"]),
     ("mc_server/src/serve.rt", ["serve_one"]),
     ("mc_threads/src/over.rt", ["serve_over"]),

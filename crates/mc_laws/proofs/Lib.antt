@@ -7,3 +7,5 @@ pub mod After
 pub mod Loaded
 pub mod Ordering
 pub mod Linear
+pub mod Rows
+pub mod Moments

@@ -24,8 +24,7 @@ use Rattle.mc_core.specs.Events.Event.{Open, Feed, Take, Send, Pop, Give, Receiv
 use Rattle.mc_core.specs.Schedule.{Happens, Leads, StepReply}
 use Rattle.mc_core.specs.Schedule.StepReply.{Done, Idle, NoMemory}
 use Rattle.mc_core.specs.Law.{Law, LinkLaw}
-use Rattle.mc_core.specs.Runs.{done_in, is_done}
-use Rattle.mc_laws.specs.Progress.{AllAtRest, AllReplied, CanComeToRest, DoesAtMost, IsBounded, IsNoInput, IsWork, steps_of, steps_of_all}
+use Rattle.mc_laws.specs.Progress.{AllAtRest, AllReplied, CanComeToRest, DoesAtMost, IsBounded, IsNoInput, IsWork, done_in, is_done, steps_of, steps_of_all}
 use Rattle.mc_core.proofs.Every.{event_kept}
 use Rattle.mc_core.proofs.Follows.{headline}
 use Rattle.mc_core.proofs.Links.{ran_within}

@@ -1,0 +1,90 @@
+-- A get of keys on two shards is not one moment: here it sees the newer value of one key and the older one of another.
+use Rattle.std.proofs.Common.{◌≡◌, ℕ, zero, suc, ◌<◌, false, inr, List, [], ◌∷◌, Some, None, refl, ◌∙◌, arith, codes, pos}
+use Rattle.std.specs.FinMap.{empty, get, get-empty, insert}
+use Rattle.std.specs.Ordering.{nat_cmp}
+use Rattle.std.specs.Cmp.Lexicographic.{slice_cmp}
+use Rattle.mc_wire.specs.Key.{fnv_of}
+use Rattle.mc_command.specs.declared.command.Command.TheVariants as command
+use Rattle.mc_command.specs.declared.command.StoreMode.TheVariants as mode
+use Rattle.mc_item.specs.declared.answer.Answer.{Answer}
+use Rattle.mc_item.specs.declared.answer.Answer.TheVariants.{Hit, Miss, Stored}
+use Rattle.mc_item.specs.declared.item.Item.{Item}
+use Rattle.mc_item.specs.declared.item.Expiry.TheVariants.{Never}
+use Rattle.mc_item.specs.declared.op.Op.{Op}
+use Rattle.mc_item.specs.declared.op.Op.TheVariants as op
+use Rattle.mc_item.specs.Expiry.{expiry_of, is_dead}
+use Rattle.mc_item.specs.Kind.{key_of}
+use Rattle.mc_split.specs.Pieces.{Asked, pieces_of}
+use Rattle.mc_store.specs.State.{State, Used, entered, first}
+use Rattle.mc_store.specs.Step.{Answers, IsStep, step_of}
+use Rattle.mc_store.specs.Rows.{fetched_item}
+use Rattle.mc_store.proofs.Costs.{fitting_key}
+use Rattle.mc_store.proofs.Lists.{get_here}
+use Rattle.mc_conn.specs.Due.{ticket_at}
+use Rattle.mc_core.specs.Sizes.{Sizes}
+use Rattle.mc_core.specs.Sized.{empty_shard}
+use Rattle.mc_core.specs.Log.{Entry, IsLawful}
+
+abbrev two : Sizes
+two = record { seats = 2; shards = 2; bytes = 1024; ring = 1; value = 1024; window = 1 }
+
+-- keys of the first and of the second shard
+abbrev a : List ℕ
+a = codes "a"
+
+abbrev b : List ℕ
+b = codes "b"
+
+-- A get asks the first shard for the one and the second shard for the other.
+asks_both : pieces_of 2 (command.Get (record { keys = a ∷ b ∷ []; with_unique = false; touch = None })) ≡ record { shard = 0; op = op.Fetch a None } ∷ record { shard = 1; op = op.Fetch b None } ∷ []
+unfolding pieces_of fnv_of
+asks_both = refl
+
+abbrev store : List ℕ → Op
+store key = op.Store key mode.Set 0 (pos 0) (codes "2")
+
+-- a shard at the second 1000, which holds nothing
+abbrev old : ℕ → State
+old s = record (empty_shard two s) { time = 1000 }
+
+abbrev item : ℕ → Item
+item unique = record { value = codes "2"; flags = 0; expiry = Never; unique = unique; last_access = 1000; fetched = false; stale = false; sent = false }
+
+-- and when the key was stored there
+abbrev new : ℕ → List ℕ → ℕ → State
+new s key unique = entered (record (old s) { given = 1 }) key (item unique)
+
+nothing : (key : List ℕ) → get {X = Used} {R = slice_cmp nat_cmp} empty key ≡ None
+nothing key = get-empty (slice_cmp nat_cmp) key
+
+misses : IsStep (empty_shard two 1) (op.Fetch b None) 1000 Miss (old 1)
+unfolding IsStep Answers step_of key_of
+misses = inr (rw (nothing b, nothing b))
+
+stores_b : IsStep (old 1) (store b) 1000 Stored (new 1 b 2)
+unfolding IsStep Answers step_of key_of expiry_of
+stores_b = inr (rw (nothing b, nothing b))
+
+stores_a : IsStep (empty_shard two 0) (store a) 1000 Stored (new 0 a 1)
+unfolding IsStep Answers step_of key_of expiry_of
+stores_a = inr (rw (nothing a, nothing a))
+
+found : get (new 0 a 1).items a ≡ Some (record { item = item 1; number = 1 })
+found = fitting_key (insert empty a (record { item = item 1; number = 1 })) 1024 a ∙ get_here empty a (record { item = item 1; number = 1 })
+
+hits : IsStep (new 0 a 1) (op.Fetch a None) 1000 (Hit 0 1 (codes "2")) (first (new 0 a 1) a (fetched_item (item 1) None 1000))
+unfolding IsStep Answers step_of key_of is_dead
+hits = inr (rw (found, found))
+
+-- what a connection asks of a shard for its command of that number
+abbrev entry : ℕ → ℕ → ℕ → ℕ → Op → Answer → Entry
+entry shard asker ticket part asked answer = record { shard = shard; asker = asker; piece = record { ticket = ticket_at ticket; part = part; op = asked; moment = 1000 }; answer = answer }
+
+-- The first connection gets both keys; the second one stores b, and then a. The get misses b, though it hits a.
+abbrev log : List Entry
+log = entry 1 0 0 1 (op.Fetch b None) Miss ∷ entry 1 1 0 0 (store b) Stored ∷ entry 0 1 1 0 (store a) Stored ∷ entry 0 0 0 0 (op.Fetch a None) (Hit 0 1 (codes "2")) ∷ []
+
+pub lawful : IsLawful two log
+lawful zero below = (first (new 0 a 1) a (fetched_item (item 1) None 1000), (new 0 a 1, stores_a, (first (new 0 a 1) a (fetched_item (item 1) None 1000), hits, refl)))
+lawful (suc zero) below = (new 1 b 2, (old 1, misses, (new 1 b 2, stores_b, refl)))
+lawful (suc (suc s)) below = absurd (omega (arith, below))

@@ -1,0 +1,381 @@
+-- Worked rows: in each the premises of a law hold, and something is done. One connection after another flushes one shard.
+use Rattle.std.proofs.Common.{◌≡◌, ◌≢◌, ℕ, zero, suc, ◌+◌, ◌*◌, ◌<◌, ◌≤◌, Bool, true, false, ◌||◌, inl, inr, List, [], ◌∷◌, length, Some, None, refl, sym, ap, ◌∙◌, arith, codes, pos, lit<, ◌==◌, subst}
+use Rattle.std.specs.List.{slice_get}
+use Rattle.std.proofs.lemmas.Bool.Decides.{eqb_tells}
+use Rattle.std.proofs.lemmas.Option.{same_Some}
+use Rattle.mc_wire.specs.Number.{number_of}
+use Rattle.mc_wire.specs.Words.{words_of}
+use Rattle.mc_command.specs.declared.command.Command.{Command}
+use Rattle.mc_command.specs.declared.command.Command.TheVariants as command
+use Rattle.mc_command.specs.Name.{name_of}
+use Rattle.mc_command.specs.Table.{line_of}
+use Rattle.mc_item.specs.declared.answer.Answer.TheVariants as answer
+use Rattle.mc_item.specs.declared.op.Op.TheVariants as op
+use Rattle.mc_item.specs.Expiry.{expiry_of}
+use Rattle.mc_item.specs.Kind.{key_of, kind_of}
+use Rattle.mc_split.specs.declared.plan.Piece.{Piece}
+use Rattle.mc_split.specs.Pieces.{pieces_of}
+use Rattle.mc_reader.specs.Spelling.{AreCommands, BeginCommands, HasNoEnd, Spells}
+use Rattle.mc_reader.proofs.Machine.{lined}
+use Rattle.mc_reader.proofs.Texts.{nothing_without_end}
+use Rattle.mc_store.specs.State.{State, empty_state}
+use Rattle.mc_store.specs.Step.{Answers, IsStep, step_of}
+use Rattle.mc_conn.specs.History.{Taken}
+use Rattle.mc_conn.specs.Due.{due, pieces, ticket_at}
+use Rattle.mc_conn.specs.Fits.{HasCome}
+use Rattle.mc_core.specs.Sizes.{AreWithin, Sizes}
+use Rattle.mc_core.specs.Log.{Entry}
+use Rattle.mc_core.specs.World.{IsAt, Link, World, new_link, ran, sent_to}
+use Rattle.mc_core.specs.Rest.{AtRest, IsAllTaken}
+use Rattle.mc_core.specs.Events.{Event, RunsNext, one_more}
+use Rattle.mc_core.specs.Events.Event.{Open, Feed, Take, Send, Pop, Give, Receive, Hand, End, Break}
+use Rattle.mc_core.specs.Schedule.{Enabled, Happens, Leads, Schedule, StepReply}
+use Rattle.mc_core.specs.Schedule.StepReply.{Done, Idle, NoMemory}
+use Rattle.mc_laws.specs.Progress.{IsWork}
+use Rattle.mc_laws.specs.Fair.{EndlessRun, HasNoInput, IsSameStep, IsStronglyFair, IsTried, TriesAll}
+use Rattle.mc_laws.specs.Order.{HappensBefore, IsPieceOf}
+use Rattle.mc_laws.proofs.Measure.{work_inside}
+use Rattle.mc_laws.proofs.Working.{none_next}
+
+abbrev one_each : Sizes
+one_each = record { seats = 1; shards = 1; bytes = 1024; ring = 1; value = 1024; window = 1 }
+
+within : AreWithin one_each
+within = record { seats = (lit< tt, lit< tt); shards = (lit< tt, lit< tt); bytes = (lit< tt, lit< tt); ring = (lit< tt, lit< tt); value = (lit< tt, lit< tt); window = (lit< tt, lit< tt) }
+
+abbrev line : List ℕ
+line = codes "flush_all\r\n"
+
+abbrev flush : Command
+flush = command.FlushAll (pos 0) false
+
+abbrev one : Taken
+one = record { entry = flush; moment = 1000; given_up = false }
+
+abbrev piece : Piece
+piece = record { ticket = ticket_at 0; part = 0; op = op.Flush (pos 0); moment = 1000 }
+
+-- the connection of this number has its piece run
+abbrev ran_for : ℕ → Entry
+ran_for k = record { shard = 0; asker = k; piece = piece; answer = answer.Done }
+
+abbrev counted : ℕ → ℕ
+counted = one_more (λ _. 0) 0
+
+abbrev fed : Link
+fed = record (new_link 0) { fed = line }
+
+abbrev taken : Link
+taken = record fed { taken = one ∷ [] }
+
+abbrev sent : Link
+sent = record taken { sent = 1 }
+
+abbrev given : Link
+given = record sent { given = counted }
+
+abbrev received : Link
+received = record given { received = counted }
+
+abbrev handed : Link
+handed = record received { handed = 1 }
+
+abbrev ended : Link
+ended = record handed { ended = true }
+
+-- the world of one connection
+abbrev alone : List Entry → Link → World
+alone log link = record { log = log; links = link ∷ [] }
+
+-- and of two, the first of which has ended
+abbrev both : List Entry → Link → World
+both log link = record { log = log; links = ended ∷ link ∷ [] }
+
+only : (x y : Link) (j : ℕ) → 0 < j → slice_get (x ∷ []) j ≡ Some y → ⊥
+only x y zero less here = absurd (omega (arith, less))
+only x y (suc j) less here = absurd (cc)
+
+only_two : (x z y : Link) (j : ℕ) → 1 < j → slice_get (x ∷ z ∷ []) j ≡ Some y → ⊥
+only_two x z y zero less here = absurd (omega (arith, less))
+only_two x z y (suc j) less here = only z y j (omega (arith, less)) here
+
+first_at : (log : List Entry) (link : Link) → link.seat ≡ 0 → IsAt (alone log link) 0 0 link
+first_at log link seat = record { here = refl; seat_is = seat; last = λ j other less here same. only link other j less here }
+
+second_at : (log : List Entry) (link : Link) → link.seat ≡ 0 → IsAt (both log link) 0 1 link
+second_at log link seat = record { here = refl; seat_is = seat; last = λ j other less here same. only_two ended link other j less here }
+
+abbrev has_end : List ℕ → Bool
+has_end [] = false
+has_end (x ∷ xs) = (x == 10) || has_end xs
+
+both_false : (a b : Bool) → (a || b) ≡ false → (a ≡ false) × (b ≡ false)
+both_false false b e = (refl, e)
+both_false true b e = absurd cc
+
+no_end : (bytes : List ℕ) → has_end bytes ≡ false → HasNoEnd bytes
+no_end [] e = tt
+no_end (x ∷ xs) e = let parts = both_false (x == 10) (has_end xs) e in (parts.0, no_end xs parts.1)
+
+spells_flush : Spells one_each.value line flush
+unfolding line_of words_of name_of number_of
+spells_flush = lined one_each.value (codes "flush_all\r") [] flush (no_end (codes "flush_all\r") refl) (lit< tt) refl refl
+
+begins : BeginCommands one_each.value line (flush ∷ [])
+begins = ([], (line, [], refl, spells_flush, refl))
+
+all_taken : AreCommands one_each.value line (flush ∷ [])
+all_taken = ([], (line, [], refl, spells_flush, refl), nothing_without_end one_each.value [] tt (lit< tt))
+
+come : HasCome 1 (one ∷ []) counted 1
+unfolding pieces_of
+come s = elim (eqb_tells 0 s) [
+  | inl here ↦ subst (λ t. length (due 1 t (one ∷ [])) ≤ counted t) here.1 (omega arith)
+  | inr other ↦ rw other.0 (omega arith)
+]
+
+abbrev before : State
+before = empty_state 0 1 1024 0 1024
+
+abbrev after : State
+after = record before { time = 1000 }
+
+runs : RunsNext one_each (alone [] sent) 0 0 sent (ran_for 0)
+unfolding IsStep Answers step_of pieces_of expiry_of kind_of key_of
+runs = record { shard_is = refl; asker_is = refl; next = refl; before = before; after = after; left = refl; step = inr refl }
+
+runs_again : RunsNext one_each (both (ran_for 0 ∷ []) sent) 0 1 sent (ran_for 1)
+unfolding IsStep Answers step_of pieces_of expiry_of kind_of key_of
+runs_again = record { shard_is = refl; asker_is = refl; next = refl; before = after; after = after; left = (after, inr refl, refl); step = inr refl }
+
+at_rest : AtRest one_each ended
+unfolding pieces_of
+at_rest = (all_taken, refl, refl)
+
+-- the steps of the server for the first connection
+took : Happens one_each (alone [] fed) (Take 0 1000) Done (alone [] taken)
+took = (0, fed, first_at [] fed refl, ((flush, begins), lit< tt, refl), (one, record { next = begins; moment_is = refl; may = λ gone. absurd (cc) }, refl))
+
+sends : Happens one_each (alone [] taken) (Send 0) Done (alone [] sent)
+unfolding pieces_of
+sends = (0, taken, first_at [] taken refl, record { piece = (0, piece); next = refl; room = lit< tt }, refl)
+
+popped : Happens one_each (alone [] sent) (Pop 0 0) Done (alone (ran_for 0 ∷ []) sent)
+unfolding pieces_of
+popped = (0, sent, first_at [] sent refl, (λ k link here. omega arith, lit< tt), (ran_for 0, runs, refl))
+
+gave : Happens one_each (alone (ran_for 0 ∷ []) sent) (Give 0) Done (alone (ran_for 0 ∷ []) given)
+gave = (0, sent, (refl, lit< tt), lit< tt, refl)
+
+got : Happens one_each (alone (ran_for 0 ∷ []) given) (Receive 0 0) Done (alone (ran_for 0 ∷ []) received)
+got = (0, given, first_at (ran_for 0 ∷ []) given refl, lit< tt, refl)
+
+gone_out : Happens one_each (alone (ran_for 0 ∷ []) received) (Hand 0) Done (alone (ran_for 0 ∷ []) handed)
+gone_out = (0, received, first_at (ran_for 0 ∷ []) received refl, (lit< tt, come, refl), (1, record { within = omega arith; come = come; most = λ more within has. within }, refl))
+
+opened : Happens one_each (record { log = []; links = [] }) (Open 0) Done (alone [] (new_link 0))
+opened = (0, new_link 0, (refl, refl), (lit< tt, inl (λ k link here same. absurd (cc))), refl)
+
+came : Happens one_each (alone [] (new_link 0)) (Feed 0 line) Done (alone [] fed)
+came = (0, new_link 0, first_at [] (new_link 0) refl, (refl, refl, lit< tt), (11, record { within = omega arith; whole = λ used short. refl; some = λ all room some. lit< tt }, lit< tt, refl))
+
+has_ended : Happens one_each (alone (ran_for 0 ∷ []) handed) (End 0) Done (alone (ran_for 0 ∷ []) ended)
+has_ended = (0, handed, first_at (ran_for 0 ∷ []) handed refl, refl, refl)
+
+-- and for the second, on the same seat
+opened_again : Happens one_each (alone (ran_for 0 ∷ []) ended) (Open 0) Done (both (ran_for 0 ∷ []) (new_link 0))
+opened_again = (1, new_link 0, (refl, refl), (lit< tt, inr (0, ended, first_at (ran_for 0 ∷ []) ended refl, (at_rest, inl (inr (refl, all_taken))))), refl)
+
+came_again : Happens one_each (both (ran_for 0 ∷ []) (new_link 0)) (Feed 0 line) Done (both (ran_for 0 ∷ []) fed)
+came_again = (1, new_link 0, second_at (ran_for 0 ∷ []) (new_link 0) refl, (refl, refl, lit< tt), (11, record { within = omega arith; whole = λ used short. refl; some = λ all room some. lit< tt }, lit< tt, refl))
+
+took_again : Happens one_each (both (ran_for 0 ∷ []) fed) (Take 0 1000) Done (both (ran_for 0 ∷ []) taken)
+took_again = (1, fed, second_at (ran_for 0 ∷ []) fed refl, ((flush, begins), lit< tt, refl), (one, record { next = begins; moment_is = refl; may = λ gone. absurd (cc) }, refl))
+
+sends_again : Happens one_each (both (ran_for 0 ∷ []) taken) (Send 0) Done (both (ran_for 0 ∷ []) sent)
+unfolding pieces_of
+sends_again = (1, taken, second_at (ran_for 0 ∷ []) taken refl, record { piece = (0, piece); next = refl; room = lit< tt }, refl)
+
+popped_again : Happens one_each (both (ran_for 0 ∷ []) sent) (Pop 0 0) Done (both (ran_for 0 ∷ ran_for 1 ∷ []) sent)
+unfolding pieces_of
+popped_again = (1, sent, second_at (ran_for 0 ∷ []) sent refl, (empty_hand, lit< tt), (ran_for 1, runs_again, refl))
+  where
+    empty_hand : (k : ℕ) (link : Link) → slice_get (ended ∷ sent ∷ []) k ≡ Some link → ran (both (ran_for 0 ∷ []) sent) k 0 ≤ link.given 0
+    empty_hand zero link here = subst (λ (x : Link). 1 ≤ x.given 0) (same_Some ended link here) (omega arith)
+    empty_hand (suc k) link here = elim (eqb_tells 0 (suc k)) [
+      | inl first ↦ let e = first.1 in absurd (omega (arith, e))
+      | inr other ↦ rw other.0 (omega arith)
+    ]
+
+-- The first connection's reply is out before the second is opened. Both flushes are run.
+abbrev goes : Schedule one_each (Open 0 ∷ Feed 0 line ∷ Take 0 1000 ∷ Send 0 ∷ Pop 0 0 ∷ Give 0 ∷ Receive 0 0 ∷ Hand 0 ∷ End 0 ∷ Open 0 ∷ Feed 0 line ∷ Take 0 1000 ∷ Send 0 ∷ Pop 0 0 ∷ []) (both (ran_for 0 ∷ ran_for 1 ∷ []) sent)
+goes =
+    let log = ran_for 0 ∷ [] in
+    let second : Leads one_each (alone log handed) (End 0 ∷ Open 0 ∷ Feed 0 line ∷ Take 0 1000 ∷ Send 0 ∷ Pop 0 0 ∷ []) (both (ran_for 0 ∷ ran_for 1 ∷ []) sent) =
+    (Done, alone log ended, has_ended, (Done, both log (new_link 0), opened_again, (Done, both log fed, came_again, (Done, both log taken, took_again, (Done, both log sent, sends_again, (Done, both (ran_for 0 ∷ ran_for 1 ∷ []) sent, popped_again, refl)))))) in
+    let served : Leads one_each (alone [] sent) (Pop 0 0 ∷ Give 0 ∷ Receive 0 0 ∷ Hand 0 ∷ End 0 ∷ Open 0 ∷ Feed 0 line ∷ Take 0 1000 ∷ Send 0 ∷ Pop 0 0 ∷ []) (both (ran_for 0 ∷ ran_for 1 ∷ []) sent) =
+    (Done, alone log sent, popped, (Done, alone log given, gave, (Done, alone log received, got, (Done, alone log handed, gone_out, second)))) in
+    (Done, alone [] (new_link 0), opened, (Done, alone [] fed, came, (Done, alone [] taken, took, (Done, alone [] sent, sends, served))))
+
+happens_before : HappensBefore one_each (Open 0 ∷ Feed 0 line ∷ Take 0 1000 ∷ Send 0 ∷ Pop 0 0 ∷ Give 0 ∷ Receive 0 0 ∷ Hand 0 ∷ End 0 ∷ Open 0 ∷ Feed 0 line ∷ Take 0 1000 ∷ Send 0 ∷ Pop 0 0 ∷ []) (both (ran_for 0 ∷ ran_for 1 ∷ []) sent) goes 0 0 1 0
+happens_before = record { p = 8; q = 8; order = omega arith; out = record { link = handed; here = refl; handed = lit< tt }; not_yet = λ link commands here spelled. absurd (cc) }
+
+pieces_of_both : IsPieceOf 0 0 (ran_for 0) × IsPieceOf 1 0 (ran_for 1)
+pieces_of_both = (record { asker = refl; ticket = refl }, record { asker = refl; ticket = refl })
+
+-- An endless run that tries all work in turn, from the world in which the first connection's bytes have come.
+abbrev cycle : ℕ → Event
+cycle zero = Take 0 1000
+cycle (suc zero) = Send 0
+cycle (suc (suc zero)) = Pop 0 0
+cycle (suc (suc (suc zero))) = Give 0
+cycle (suc (suc (suc (suc zero)))) = Receive 0 0
+cycle (suc (suc (suc (suc (suc zero))))) = Hand 0
+cycle (suc (suc (suc (suc (suc (suc n)))))) = cycle n
+
+abbrev resting : World
+resting = alone (ran_for 0 ∷ []) handed
+
+abbrev world_of : ℕ → World
+world_of zero = alone [] fed
+world_of (suc zero) = alone [] taken
+world_of (suc (suc zero)) = alone [] sent
+world_of (suc (suc (suc zero))) = alone (ran_for 0 ∷ []) sent
+world_of (suc (suc (suc (suc zero)))) = alone (ran_for 0 ∷ []) given
+world_of (suc (suc (suc (suc (suc zero))))) = alone (ran_for 0 ∷ []) received
+world_of (suc (suc (suc (suc (suc (suc n)))))) = resting
+
+abbrev told : ℕ → StepReply
+told zero = Done
+told (suc zero) = Done
+told (suc (suc zero)) = Done
+told (suc (suc (suc zero))) = Done
+told (suc (suc (suc (suc zero)))) = Done
+told (suc (suc (suc (suc (suc zero))))) = Done
+told (suc (suc (suc (suc (suc (suc n)))))) = Idle
+
+has_memory : (n : ℕ) → told n ≢ NoMemory
+has_memory zero e = absurd (cc)
+has_memory (suc zero) e = absurd (cc)
+has_memory (suc (suc zero)) e = absurd (cc)
+has_memory (suc (suc (suc zero))) e = absurd (cc)
+has_memory (suc (suc (suc (suc zero)))) e = absurd (cc)
+has_memory (suc (suc (suc (suc (suc zero))))) e = absurd (cc)
+has_memory (suc (suc (suc (suc (suc (suc n)))))) e = absurd (cc)
+
+cycle_work : (n : ℕ) → IsWork (cycle n)
+cycle_work zero = tt
+cycle_work (suc zero) = tt
+cycle_work (suc (suc zero)) = tt
+cycle_work (suc (suc (suc zero))) = tt
+cycle_work (suc (suc (suc (suc zero)))) = tt
+cycle_work (suc (suc (suc (suc (suc zero))))) = tt
+cycle_work (suc (suc (suc (suc (suc (suc n)))))) = cycle_work n
+
+-- the only connection
+sole : (k : ℕ) (link : Link) → slice_get (handed ∷ []) k ≡ Some link → (k ≡ 0) × (handed ≡ link)
+sole zero link here = (refl, same_Some handed link here)
+sole (suc k) link here = absurd (cc)
+
+none_more : (link : Link) → handed ≡ link → slice_get (pieces 1 link.taken) link.sent ≡ None
+unfolding pieces_of
+none_more link same = subst (λ (x : Link). slice_get (pieces 1 x.taken) x.sent ≡ None) same refl
+
+all_run : (k shard : ℕ) (link : Link) → k ≡ 0 → handed ≡ link → (sent_to one_each shard link ≤ ran resting k shard) × (ran resting k shard ≤ link.given shard)
+unfolding pieces_of
+all_run k shard link here same =
+    subst (λ j. (sent_to one_each shard link ≤ ran resting j shard) × (ran resting j shard ≤ link.given shard)) (sym here) (
+    subst (λ (x : Link). (sent_to one_each shard x ≤ ran resting 0 shard) × (ran resting 0 shard ≤ x.given shard)) same (at_shard shard))
+  where
+    at_shard : (s : ℕ) → (sent_to one_each s handed ≤ ran resting 0 s) × (ran resting 0 s ≤ handed.given s)
+    at_shard s = elim (eqb_tells 0 s) [
+      | inl first ↦ subst (λ t. (sent_to one_each t handed ≤ ran resting 0 t) × (ran resting 0 t ≤ handed.given t)) first.1 (omega arith, omega arith)
+      | inr other ↦ rw other.0 (omega arith, omega arith)
+    ]
+
+-- At rest no work is enabled.
+none_enabled : (event : Event) → IsWork event → Enabled one_each resting event → ⊥
+none_enabled (Open seat) work e = work
+none_enabled (Feed seat bytes) work e = work
+none_enabled (Take seat moment) work e = none_next one_each e.1 e.3.0.0 (subst (λ x. IsAllTaken one_each x) (sole e.0 e.1 e.2.here).1 all_taken) e.3.0.1
+none_enabled (Send seat) work e = let none = none_more e.1 (sole e.0 e.1 e.2.here).1 in let some = e.3.next in cc
+none_enabled (Pop shard seat) work e =
+    let same = sole e.0 e.1 e.2.here in
+    let run = (all_run e.0 shard e.1 same.0 same.1).0 in
+    let waits = e.3.1 in
+    omega (arith, run, waits)
+none_enabled (Give shard) work e =
+    let same = sole e.0 e.1 e.2.0 in
+    let run = (all_run e.0 shard e.1 same.0 same.1).1 in
+    let waits = e.2.1 in
+    omega (arith, run, waits)
+none_enabled (Receive seat shard) work e =
+    let same = (sole e.0 e.1 e.2.here).1 in
+    let waits = subst (λ (x : Link). x.received shard < x.given shard) (sym same) e.3 in
+    omega (arith, waits)
+none_enabled (Hand seat) work e =
+    let same = (sole e.0 e.1 e.2.here).1 in
+    let open_ones = subst (λ (x : Link). x.handed < length x.taken) (sym same) e.3.0 in
+    omega (arith, open_ones)
+none_enabled (End seat) work e = work
+none_enabled (Break seat) work e = work
+
+happens_at : (n : ℕ) → Happens one_each (world_of n) (cycle n) (told n) (world_of (n + 1))
+happens_at zero = took
+happens_at (suc zero) = sends
+happens_at (suc (suc zero)) = popped
+happens_at (suc (suc (suc zero))) = gave
+happens_at (suc (suc (suc (suc zero)))) = got
+happens_at (suc (suc (suc (suc (suc zero))))) = gone_out
+happens_at (suc (suc (suc (suc (suc (suc n)))))) =
+    let next : suc (suc (suc (suc (suc (suc n))))) + 1 ≡ suc (suc (suc (suc (suc (suc (suc n)))))) = omega arith in
+    (inl (λ e. none_enabled (cycle n) (cycle_work n) e), ap world_of next)
+
+abbrev run : EndlessRun one_each (alone [] fed)
+run = record { events = cycle; replies = told; worlds = world_of; begins = refl; happens = happens_at }
+
+cycle_at : (n i : ℕ) → cycle (6 * n + i) ≡ cycle i
+cycle_at zero i = let at : 6 * 0 + i ≡ i = omega arith in ap cycle at
+cycle_at (suc n) i = let at : 6 * suc n + i ≡ suc (suc (suc (suc (suc (suc (6 * n + i)))))) = omega arith in ap cycle at ∙ cycle_at n i
+
+no_input : HasNoInput run
+no_input n = work_inside (cycle n) (cycle_work n)
+
+-- the event at a place of some later round
+tried_at : (n i : ℕ) (event : Event) → IsSameStep event (cycle (6 * n + i)) → IsTried run n event
+tried_at n i event same = record { later = 6 * n + i; after = omega arith; same = same; memory = has_memory (6 * n + i) }
+
+tries_all : TriesAll run
+tries_all n (Open seat) work there = absurd work
+tries_all n (Feed seat bytes) work there = absurd work
+tries_all n (Take seat moment) work there = let at : 0 ≡ seat = omega (arith, there) in tried_at n 0 (Take seat moment) (1000, cycle_at n 0 ∙ ap (λ s. Take s 1000) at)
+tries_all n (Send seat) work there = let at : 0 ≡ seat = omega (arith, there) in tried_at n 1 (Send seat) (cycle_at n 1 ∙ ap (λ s. Send s) at)
+tries_all n (Pop shard seat) work there =
+    let on = there.0 in
+    let of = there.1 in
+    let at : 0 ≡ seat = omega (arith, of) in
+    let by : 0 ≡ shard = omega (arith, on) in
+    tried_at n 2 (Pop shard seat) (cycle_at n 2 ∙ (ap (λ s. Pop 0 s) at ∙ ap (λ s. Pop s seat) by))
+tries_all n (Give shard) work there = let by : 0 ≡ shard = omega (arith, there) in tried_at n 3 (Give shard) (cycle_at n 3 ∙ ap (λ s. Give s) by)
+tries_all n (Receive seat shard) work there =
+    let of = there.0 in
+    let on = there.1 in
+    let at : 0 ≡ seat = omega (arith, of) in
+    let by : 0 ≡ shard = omega (arith, on) in
+    tried_at n 4 (Receive seat shard) (cycle_at n 4 ∙ (ap (λ s. Receive 0 s) by ∙ ap (λ s. Receive s shard) at))
+tries_all n (Hand seat) work there = let at : 0 ≡ seat = omega (arith, there) in tried_at n 5 (Hand seat) (cycle_at n 5 ∙ ap (λ s. Hand s) at)
+tries_all n (End seat) work there = absurd work
+tries_all n (Break seat) work there = absurd work
+
+rests_from : (m : ℕ) → 6 ≤ m → world_of m ≡ resting
+rests_from zero from = absurd (omega (arith, from))
+rests_from (suc zero) from = absurd (omega (arith, from))
+rests_from (suc (suc zero)) from = absurd (omega (arith, from))
+rests_from (suc (suc (suc zero))) from = absurd (omega (arith, from))
+rests_from (suc (suc (suc (suc zero)))) from = absurd (omega (arith, from))
+rests_from (suc (suc (suc (suc (suc zero))))) from = absurd (omega (arith, from))
+rests_from (suc (suc (suc (suc (suc (suc n)))))) from = refl
+
+strongly_fair : IsStronglyFair run
+strongly_fair n event work there =
+    inr (record { later = n + 6; after = omega arith; never = λ m from e. none_enabled event work (subst (λ v. Enabled one_each v event) (rests_from m (omega (arith, from))) e) })
