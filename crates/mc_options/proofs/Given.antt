@@ -1,13 +1,15 @@
 -- What the words of a command line give.
-use Rattle.std.proofs.Common.{◌≡◌, ℕ, List, [], ap, ◌∙◌}
+use Rattle.std.proofs.Common.{◌≡◌, ℕ, List, [], Option, None, true, false, codes, Ok, Err, ap, ◌∙◌, refl}
 use Rattle.clap.specs.Words.{first_of, first_value, found_of, rows_of}
 use Rattle.clap.specs.declared.parser.matches.ArgMatches.{ArgMatches}
 use Rattle.clap.proofs.WalkLemmas.{first_value-rows}
 use Rattle.mc_options.specs.Program.{rows_in, word_faults}
-use Rattle.mc_options.specs.Calls.{given_in}
-use Rattle.mc_options.specs.Faults.{IsFaultOf, IsOfOptions, SpellsNone}
+use Rattle.mc_options.specs.Wrong.{wrong_of}
+use Rattle.mc_options.specs.Wrong as wrong
+use Rattle.mc_options.specs.Calls.{RunsSchedule, call_by, first_given, given_in, is_flag, other_than_replay, replay_by}
+use Rattle.mc_options.specs.Faults.{IsFaultOf, IsOfOptions}
 use Rattle.mc_options.specs.declared.fault.OptionFault.{OptionFault}
-use Rattle.mc_options.specs.declared.fault.OptionFault.TheVariants.{Call, Foreign, Items, Number}
+use Rattle.mc_options.specs.declared.fault.OptionFault.TheVariants.{BytesAndMemory, Call, Items, NotOfReplay, NotOfStdio, NotOfTcp, Number, Size}
 
 -- the options are read of what was found
 pub found_given : (matches : ArgMatches) (words : List (List ℕ)) → rows_of (found_of matches) ≡ rows_in words → first_value (found_of matches) ≡ given_in words
@@ -15,9 +17,21 @@ found_given matches words rows =
     let each : (name : List ℕ) → first_value (found_of matches) name ≡ first_of name (rows_in words) = λ name. first_value-rows (found_of matches) name ∙ ap (first_of name) rows in
     λ i name. each name i
 
--- what is given is refused
-pub refused_of_words : (words : List (List ℕ)) (fault : OptionFault) → word_faults words ≡ [] → SpellsNone (given_in words) → IsOfOptions fault → IsFaultOf words fault
-refused_of_words words (Call error) none spells of_options = absurd of_options
-refused_of_words words (Foreign call options) none spells of_options = (none, spells)
-refused_of_words words Items none spells of_options = (none, spells)
-refused_of_words words (Number option least most) none spells of_options = (none, spells)
+-- what is wrong with what is given is wrong with the words
+pub refused_of_words : (words : List (List ℕ)) (fault : OptionFault) → word_faults words ≡ [] → call_by (given_in words) ≡ Err (wrong_of fault) → IsOfOptions fault → IsFaultOf words fault
+refused_of_words words (Call error) none wrong of_options = absurd of_options
+refused_of_words words Items none wrong of_options = (none, wrong)
+refused_of_words words (NotOfReplay option) none wrong of_options = (none, wrong)
+refused_of_words words (NotOfStdio option) none wrong of_options = (none, wrong)
+refused_of_words words (NotOfTcp option) none wrong of_options = (none, wrong)
+refused_of_words words BytesAndMemory none wrong of_options = (none, wrong)
+refused_of_words words (Number option word least most) none wrong of_options = (none, wrong)
+refused_of_words words (Size option word least most) none wrong of_options = (none, wrong)
+
+-- `--stdio` doesn't go with a file
+pub stdio_beside_file : (given : List ℕ → Option (List ℕ)) (file : List ℕ) → first_given given other_than_replay ≡ None → is_flag given (codes "stdio") ≡ true → replay_by given file ≡ Err (wrong.NotOfReplay (codes "stdio"))
+stdio_beside_file given file none stdio = rw (none, stdio) refl
+
+-- a file goes by itself
+pub file_without_stdio : (given : List ℕ → Option (List ℕ)) (file : List ℕ) → first_given given other_than_replay ≡ None → is_flag given (codes "stdio") ≡ false → replay_by given file ≡ Ok (RunsSchedule file)
+file_without_stdio given file none stdio = rw (none, stdio) refl

@@ -1,65 +1,106 @@
--- The three calls of the program, each with the options that it has.
-use Rattle.std.specs.Prelude.{ℕ, ◌≡◌, ◌≤◌, true, false, Bool, List, [], ◌∷◌, Option, Some, None, bytes_eq, codes, is_some, unwrap_or}
-use Rattle.std.specs.List.{list_any}
+-- The calls of the program, each with the options that it has.
+use Rattle.std.specs.Prelude.{ℕ, ◌≡◌, ◌≤◌, true, false, Bool, List, [], ◌∷◌, Option, Some, None, Ok, Err, Result, bytes_eq, codes, find, is_some, unwrap_or, if◌then◌else◌}
 use Rattle.clap.specs.Words.{first_of}
-use Rattle.mc_core.specs.declared.sizes.TheConstants.{LEAST, MOST_SEATS}
+use Rattle.mc_options.specs.declared.options.Limits.{Limits}
 use Rattle.mc_options.specs.declared.options.Options.{Options}
-use Rattle.mc_options.specs.declared.options.Options.TheVariants.{Listen, Replay, Stdio}
+use Rattle.mc_options.specs.declared.options.Options.TheVariants.{Listen, Replay, Stdio, Version}
 use Rattle.mc_options.specs.Program.{rows_in}
-use Rattle.mc_options.specs.Numbers.{AreWithin, connections_by, limits_by, moment_by, seats_by}
+use Rattle.mc_options.specs.Wrong.{HasItems, NotOfReplay, NotOfStdio, NotOfTcp, Wrong}
+use Rattle.mc_options.specs.Numbers.{AreWithin, and_then, connections_by, limits_by, moment_by, seats_by}
+
+-- what the program is called to do
+pub data Call : Type 0 where
+  TellsVersion : Call
+  RunsSchedule : (file : List ℕ) → Call
+  ServesLine : (at : Option ℕ) (limits : Limits) → Call
+  ServesTcp : (address : List ℕ) (seats : ℕ) (connections : Option ℕ) (limits : Limits) → Call
+
+-- the call as the program has it
+abbrev pub call_of : Options → Call
+call_of Version = TellsVersion
+call_of (Replay file) = RunsSchedule file.now
+call_of (Stdio at limits) = ServesLine at limits
+call_of (Listen address seats connections limits) = ServesTcp address.now seats connections limits
 
 -- The option is given.
 abbrev pub is_given : (List ℕ → Option (List ℕ)) → List ℕ → Bool
 is_given given name = is_some (given name)
 
--- One of the options is given.
-abbrev pub is_any_given : (List ℕ → Option (List ℕ)) → List (List ℕ) → Bool
-is_any_given given names = list_any (is_given given) names
+-- the first of the options that is given
+abbrev pub first_given : (List ℕ → Option (List ℕ)) → List (List ℕ) → Option (List ℕ)
+first_given given names = find (is_given given) names
 
 abbrev pub is_true : Option (List ℕ) → Bool
 is_true None = false
 is_true (Some text) = bytes_eq text (codes "true")
 
--- `--stdio` is given
-abbrev pub is_stdio : (List ℕ → Option (List ℕ)) → Bool
-is_stdio given = is_true (given (codes "stdio"))
+-- An option without a value is given.
+abbrev pub is_flag : (List ℕ → Option (List ℕ)) → List ℕ → Bool
+is_flag given name = is_true (given name)
 
 -- the options that `--replay` doesn't have, those that `--stdio` doesn't have, and those that serving TCP doesn't have
 abbrev pub other_than_replay : List (List ℕ)
 other_than_replay =
-    codes "at" ∷ codes "listen" ∷ codes "shards" ∷ codes "seats" ∷ codes "bytes" ∷ codes "value-limit" ∷ codes "window" ∷ codes "connections" ∷ []
+    codes "at" ∷ codes "listen" ∷ codes "shards" ∷ codes "seats" ∷ codes "bytes" ∷ codes "memory" ∷ codes "value-limit" ∷ codes "window" ∷ codes "connections" ∷ []
 
 abbrev pub other_than_stdio : List (List ℕ)
 other_than_stdio = codes "listen" ∷ codes "seats" ∷ codes "connections" ∷ []
 
-abbrev pub other_than_listen : List (List ℕ)
-other_than_listen = codes "at" ∷ []
+abbrev pub other_than_tcp : List (List ℕ)
+other_than_tcp = codes "at" ∷ []
+
+-- the call, where no option of another one is given
+abbrev pub unless_foreign : (List ℕ → Wrong) → Option (List ℕ) → Result Call Wrong → Result Call Wrong
+unless_foreign wrong None call = call
+unless_foreign wrong (Some name) call = Err (wrong name)
+
+-- the schedule in the file is run, where no other option is given
+abbrev pub unless_stdio : (List ℕ → Option (List ℕ)) → List ℕ → Result Call Wrong
+unless_stdio given file = if is_flag given (codes "stdio") then Err (NotOfReplay (codes "stdio")) else Ok (RunsSchedule file)
+
+abbrev pub replay_by : (List ℕ → Option (List ℕ)) → List ℕ → Result Call Wrong
+replay_by given file = unless_foreign NotOfReplay (first_given given other_than_replay) (unless_stdio given file)
+
+-- one line is served over standard input and output
+abbrev pub stdio_by : (List ℕ → Option (List ℕ)) → Result Call Wrong
+stdio_by given =
+    unless_foreign NotOfStdio (first_given given other_than_stdio)
+    (and_then (λ at. and_then (λ limits. Ok (ServesLine at limits)) (limits_by given)) (moment_by given))
 
 -- the address to listen on
 abbrev pub address_by : (List ℕ → Option (List ℕ)) → List ℕ
 address_by given = unwrap_or (given (codes "listen")) (codes "127.0.0.1:11211")
 
--- What is given is this call.
-abbrev pub IsCall : (List ℕ → Option (List ℕ)) → Options → Type 0
-IsCall given (Replay file) =
-    (given (codes "replay") ≡ Some file.now) × (is_stdio given ≡ false) × (is_any_given given other_than_replay ≡ false)
-IsCall given (Stdio at limits) =
-    (given (codes "replay") ≡ None) × (is_stdio given ≡ true) × (is_any_given given other_than_stdio ≡ false)
-    × (moment_by given ≡ Some at) × (limits_by given ≡ Some limits)
-IsCall given (Listen address seats connections limits) =
-    (given (codes "replay") ≡ None) × (is_stdio given ≡ false) × (is_any_given given other_than_listen ≡ false)
-    × (address.now ≡ address_by given) × (seats_by given ≡ Some seats) × (connections_by given ≡ Some connections) × (limits_by given ≡ Some limits)
+-- TCP is served
+abbrev pub tcp_by : (List ℕ → Option (List ℕ)) → Result Call Wrong
+tcp_by given =
+    unless_foreign NotOfTcp (first_given given other_than_tcp)
+    (and_then (λ seats. and_then (λ connections. and_then (λ limits. Ok (ServesTcp (address_by given) seats connections limits))
+    (limits_by given)) (connections_by given)) (seats_by given))
+
+-- a file's schedule is run, or one line or TCP is served
+abbrev pub served_by : (List ℕ → Option (List ℕ)) → Option (List ℕ) → Result Call Wrong
+served_by given (Some file) = replay_by given file
+served_by given None = if is_flag given (codes "stdio") then stdio_by given else tcp_by given
+
+-- the call that is given, or the first thing that is wrong with it
+abbrev pub call_by : (List ℕ → Option (List ℕ)) → Result Call Wrong
+call_by given =
+    if is_flag given (codes "version") then Ok TellsVersion
+    else if is_given given (codes "items") then Err HasItems
+    else served_by given (given (codes "replay"))
 
 -- what the words of the command line give under the name of an option
 abbrev pub given_in : List (List ℕ) → List ℕ → Option (List ℕ)
 given_in words name = first_of name (rows_in words)
 
--- What is given is a call of the program, and this one.
+-- What is given is this call of the program.
 abbrev pub Spells : (List ℕ → Option (List ℕ)) → Options → Type 0
-Spells given options = (given (codes "items") ≡ None) × IsCall given options
+Spells given options = call_by given ≡ Ok (call_of options)
 
 -- The sizes of the call are those that a server may have.
 abbrev pub MayServe : Options → Type 0
+MayServe Version = Unit {0}
 MayServe (Replay file) = Unit {0}
 MayServe (Stdio at limits) = AreWithin limits
-MayServe (Listen address seats connections limits) = (LEAST ≤ seats) × (seats ≤ MOST_SEATS) × AreWithin limits
+MayServe (Listen address seats connections limits) = (1 ≤ seats) × (seats ≤ 64) × AreWithin limits

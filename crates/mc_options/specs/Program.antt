@@ -17,12 +17,12 @@ with_rules app [] = app
 with_rules app (rule ∷ rules) = with_rules (with_rule app rule) rules
 
 abbrev pub call_rules : List Rule
-call_rules = option_rule (codes "listen") ∷ flag_rule (codes "stdio") ∷ option_rule (codes "replay") ∷ option_rule (codes "at") ∷ []
+call_rules = option_rule (codes "listen") ∷ flag_rule (codes "stdio") ∷ option_rule (codes "replay") ∷ option_rule (codes "at") ∷ flag_rule (codes "version") ∷ []
 
 abbrev pub limit_rules : List Rule
 limit_rules =
-    option_rule (codes "shards") ∷ option_rule (codes "seats") ∷ option_rule (codes "bytes") ∷ option_rule (codes "value-limit")
-    ∷ option_rule (codes "window") ∷ option_rule (codes "connections") ∷ option_rule (codes "items") ∷ []
+    option_rule (codes "shards") ∷ option_rule (codes "seats") ∷ option_rule (codes "bytes") ∷ option_rule (codes "memory")
+    ∷ option_rule (codes "value-limit") ∷ option_rule (codes "window") ∷ option_rule (codes "connections") ∷ option_rule (codes "items") ∷ []
 
 unfoldable pub program : App
 program = with_rules (with_rules (new_app (codes "mcd")) call_rules) limit_rules

@@ -7,31 +7,52 @@ use std::io;
 use std::io::{Eprint, Print};
 use thiserror::Error;
 
-/// What is wrong with a command line, or the help that it asks for.
+/// What is wrong with a command line, or the help that it asks for. An option is named without its dashes.
 #[derive(Debug, Drop, Error)]
-pub enum OptionFault {
+pub enum OptionFault<'a> {
     /// It has words that are none of the program's options, or it asks for help.
     #[error(transparent)]
     Call(#[from] clap::Error),
-    /// An option is given that the call doesn't have.
-    #[error("{call} takes no other options than {options}")]
-    Foreign {
-        call: &'static str,
-        options: &'static str,
-    },
     /// Items are limited by what they cost together, not by their number.
     #[error("there is no option --items: --bytes says what the items of a shard may cost together")]
     Items,
-    /// A value is no number in its range.
-    #[error("{option} takes a number from {least} to {most}")]
+    /// An option is given beside `--replay`.
+    #[error("--{option} doesn't go with --replay, which takes no other option")]
+    NotOfReplay {
+        option: &'static str,
+    },
+    /// An option is given beside `--stdio` that serves TCP alone.
+    #[error("--{option} doesn't go with --stdio, which takes --at, --shards, --bytes, --memory, --value-limit and --window")]
+    NotOfStdio {
+        option: &'static str,
+    },
+    /// An option is given that goes with `--stdio` alone.
+    #[error("--{option} goes with --stdio alone")]
+    NotOfTcp {
+        option: &'static str,
+    },
+    /// Two options say what the items may cost.
+    #[error("--bytes and --memory don't go together: --bytes is for each shard, --memory for all of them")]
+    BytesAndMemory,
+    /// The word is no number in its range.
+    #[error("--{option} takes a number from {least} to {most}, not '{word}'")]
     Number {
         option: &'static str,
+        word: &'a str,
+        least: u64,
+        most: u64,
+    },
+    /// The word is no number of bytes in its range.
+    #[error("--{option} takes a number of bytes from {least} to {most}, or one of k, m and g (1024 each) behind a number, not '{word}'")]
+    Size {
+        option: &'static str,
+        word: &'a str,
         least: u64,
         most: u64,
     },
 }
 
-impl OptionFault {
+impl OptionFault<'_> {
     /// The status with which the program ends: 0 where help was asked for, 1 without memory, else 2.
     pub fn status(&self) -> u8
         ensures { result ≡ status_of self.now }
@@ -42,7 +63,7 @@ impl OptionFault {
                 ErrorKind::OutOfMemory => 1,
                 _ => 2,
             },
-            OptionFault::Foreign { .. } | OptionFault::Items | OptionFault::Number { .. } => 2,
+            _ => 2,
         }
     }
 

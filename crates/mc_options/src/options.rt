@@ -1,10 +1,11 @@
 //! The calls of the program, with the sizes that they give.
-ghost use Rattle.std.specs.Prelude.{◌≡◌, ◌≤◌, [], false, true, codes, IfOk, IfErr, IfSome, OnOk, Some, None, map, option_map, string_bytes};
+ghost use Rattle.std.specs.Prelude.{◌≡◌, ◌≤◌, ◌^◌, [], ok_or, codes, Ok, Err, IfOk, IfErr, IfSome, OnOk, map, option_map, string_bytes};
 ghost use Rattle.clap.specs.Words.{FailsBy, first_value, found_of, rows_of};
 ghost use Rattle.mc_options.specs.Program.{rows_in, word_faults};
-ghost use Rattle.mc_options.specs.Numbers.{AreWithin, limits_by, number_given, number_if_given};
-ghost use Rattle.mc_options.specs.Calls.{MayServe, Spells, given_in, is_any_given, is_given, is_stdio, other_than_listen, other_than_replay, other_than_stdio};
-ghost use Rattle.mc_options.specs.Faults.{IsFaultOf, IsOfOptions, SpellsNone};
+ghost use Rattle.mc_options.specs.Wrong.{wrong_of};
+ghost use Rattle.mc_options.specs.Numbers.{AreWithin, budget_of, bytes_of, digits_of, limits_by, number_given, number_if_given, size_given, size_in, unit_of};
+ghost use Rattle.mc_options.specs.Calls.{MayServe, Spells, call_by, call_of, first_given, given_in, is_flag, is_given, replay_by, stdio_by, tcp_by};
+ghost use Rattle.mc_options.specs.Faults.{IsFaultOf, IsOfOptions};
 
 use crate::fault::OptionFault;
 use crate::program::program_options;
@@ -66,10 +67,12 @@ pub enum Options<'a> {
     Replay {
         file: &'a str,
     },
+    /// It tells its version.
+    Version,
 }
 
 /// Reads the words of the command line, the program's name among them.
-pub fn read_options<'a>(alloc: Global, words: &'a [String]) -> Result<Options<'a>, OptionFault>
+pub fn read_options<'a>(alloc: Global, words: &'a [String]) -> Result<Options<'a>, OptionFault<'a>>
     ensures words { OnOk result (word_faults (map string_bytes words.entry.now) ≡ []) }
     ensures given { IfOk result (Spells (given_in (map string_bytes words.entry.now))) }
     ensures within { IfOk result MayServe }
@@ -91,92 +94,80 @@ fn parse<'a>(alloc: Global, words: &'a [String]) -> Result<ArgMatches<'a>, clap:
 }
 
 /// The call that is given.
-fn options_in<'a>(matches: &ArgMatches<'a>) -> Result<Options<'a>, OptionFault>
+fn options_in<'a>(matches: &ArgMatches<'a>) -> Result<Options<'a>, OptionFault<'a>>
     ensures given { IfOk result (Spells (first_value (found_of matches.now))) }
     ensures within { IfOk result MayServe }
-    ensures refused { IfErr result (λ fault. IsOfOptions fault × SpellsNone (first_value (found_of matches.now))) }
+    ensures refused { IfErr result (λ fault. IsOfOptions fault × (call_by (first_value (found_of matches.now)) ≡ Err (wrong_of fault))) }
 {
+    if is_flag(matches, "version") {
+        return Ok(Options::Version);
+    }
     if is_given(matches, "items") {
         return Err(OptionFault::Items);
     }
     if let Some(file) = matches.get_str("replay") {
         return replay_in(matches, file);
     }
-    if is_stdio(matches) {
+    if is_flag(matches, "stdio") {
         return stdio_in(matches);
     }
     listen_in(matches)
 }
 
 /// The call that runs the schedule in a file.
-fn replay_in<'a>(matches: &ArgMatches<'a>, file: &'a str) -> Result<Options<'a>, OptionFault>
-    requires items { first_value (found_of matches.now) (codes "items") ≡ None }
-    requires file { first_value (found_of matches.now) (codes "replay") ≡ Some file.now }
-    ensures given { IfOk result (Spells (first_value (found_of matches.now))) }
+fn replay_in<'a>(matches: &ArgMatches<'a>, file: &'a str) -> Result<Options<'a>, OptionFault<'a>>
+    ensures given { IfOk result (λ options. replay_by (first_value (found_of matches.now)) file.now ≡ Ok (call_of options)) }
     ensures within { IfOk result MayServe }
-    ensures refused { IfErr result (λ fault. IsOfOptions fault × SpellsNone (first_value (found_of matches.now))) }
+    ensures refused { IfErr result (λ fault. IsOfOptions fault × (replay_by (first_value (found_of matches.now)) file.now ≡ Err (wrong_of fault))) }
 {
-    if is_stdio(matches)
-        || is_given(matches, "at")
-        || is_given(matches, "listen")
-        || is_given(matches, "shards")
-        || is_given(matches, "seats")
-        || is_given(matches, "bytes")
-        || is_given(matches, "value-limit")
-        || is_given(matches, "window")
-        || is_given(matches, "connections")
-    {
-        return Err(OptionFault::Foreign {
-            call: "--replay",
-            options: "its file",
-        });
+    let others = &[
+        "at",
+        "listen",
+        "shards",
+        "seats",
+        "bytes",
+        "memory",
+        "value-limit",
+        "window",
+        "connections",
+    ];
+    if let Some(option) = first_given(matches, others) {
+        return Err(OptionFault::NotOfReplay { option });
+    }
+    if is_flag(matches, "stdio") {
+        return Err(OptionFault::NotOfReplay { option: "stdio" });
     }
     Ok(Options::Replay { file })
 }
 
 /// The call that serves standard input and output.
-fn stdio_in<'a>(matches: &ArgMatches<'a>) -> Result<Options<'a>, OptionFault>
-    requires items { first_value (found_of matches.now) (codes "items") ≡ None }
-    requires replay { first_value (found_of matches.now) (codes "replay") ≡ None }
-    requires stdio { is_stdio (first_value (found_of matches.now)) ≡ true }
-    ensures given { IfOk result (Spells (first_value (found_of matches.now))) }
+fn stdio_in<'a>(matches: &ArgMatches<'a>) -> Result<Options<'a>, OptionFault<'a>>
+    ensures given { IfOk result (λ options. stdio_by (first_value (found_of matches.now)) ≡ Ok (call_of options)) }
     ensures within { IfOk result MayServe }
-    ensures refused { IfErr result (λ fault. IsOfOptions fault × SpellsNone (first_value (found_of matches.now))) }
+    ensures refused { IfErr result (λ fault. IsOfOptions fault × (stdio_by (first_value (found_of matches.now)) ≡ Err (wrong_of fault))) }
 {
-    if is_given(matches, "listen")
-        || is_given(matches, "seats")
-        || is_given(matches, "connections")
-    {
-        return Err(OptionFault::Foreign {
-            call: "--stdio",
-            options: "--at, --shards, --bytes, --value-limit and --window",
-        });
+    if let Some(option) = first_given(matches, &["listen", "seats", "connections"]) {
+        return Err(OptionFault::NotOfStdio { option });
     }
-    let at = number_if_given("--at", matches.get_str("at"), 0, u64::MAX)?;
+    let at = number_if_given("at", matches.get_str("at"), 0, u64::MAX)?;
     let limits = limits_in(matches)?;
     Ok(Options::Stdio { at, limits })
 }
 
 /// The call that serves TCP.
-fn listen_in<'a>(matches: &ArgMatches<'a>) -> Result<Options<'a>, OptionFault>
-    requires items { first_value (found_of matches.now) (codes "items") ≡ None }
-    requires replay { first_value (found_of matches.now) (codes "replay") ≡ None }
-    requires stdio { is_stdio (first_value (found_of matches.now)) ≡ false }
-    ensures given { IfOk result (Spells (first_value (found_of matches.now))) }
+fn listen_in<'a>(matches: &ArgMatches<'a>) -> Result<Options<'a>, OptionFault<'a>>
+    ensures given { IfOk result (λ options. tcp_by (first_value (found_of matches.now)) ≡ Ok (call_of options)) }
     ensures within { IfOk result MayServe }
-    ensures refused { IfErr result (λ fault. IsOfOptions fault × SpellsNone (first_value (found_of matches.now))) }
+    ensures refused { IfErr result (λ fault. IsOfOptions fault × (tcp_by (first_value (found_of matches.now)) ≡ Err (wrong_of fault))) }
 {
-    if is_given(matches, "at") {
-        return Err(OptionFault::Foreign {
-            call: "serving TCP",
-            options: "--listen, --connections, --seats and the limits",
-        });
+    if let Some(option) = first_given(matches, &["at"]) {
+        return Err(OptionFault::NotOfTcp { option });
     }
     let seats = matches.get_str("seats");
-    let seats = number_given("--seats", seats, LEAST, DEFAULT_SEATS, MOST_SEATS)?;
+    let seats = number_given("seats", seats, LEAST, DEFAULT_SEATS, MOST_SEATS)?;
     let most = MOST_CONNECTIONS as u64;
     let connections = matches.get_str("connections");
-    let connections = number_if_given("--connections", connections, 1, most)?;
+    let connections = number_if_given("connections", connections, 1, most)?;
     let limits = limits_in(matches)?;
     let address = matches.get_str("listen").unwrap_or(DEFAULT_ADDRESS);
     Ok(Options::Listen {
@@ -188,31 +179,52 @@ fn listen_in<'a>(matches: &ArgMatches<'a>) -> Result<Options<'a>, OptionFault>
 }
 
 /// The limits that are given.
-fn limits_in(matches: &ArgMatches<'_>) -> Result<Limits, OptionFault>
-    ensures given { IfOk result (λ limits. limits_by (first_value (found_of matches.now)) ≡ Some limits) }
+fn limits_in<'a>(matches: &ArgMatches<'a>) -> Result<Limits, OptionFault<'a>>
+    ensures given { IfOk result (λ limits. limits_by (first_value (found_of matches.now)) ≡ Ok limits) }
     ensures within { IfOk result AreWithin }
-    ensures refused { IfErr result (λ fault. IsOfOptions fault × (limits_by (first_value (found_of matches.now)) ≡ None)) }
+    ensures refused { IfErr result (λ fault. IsOfOptions fault × (limits_by (first_value (found_of matches.now)) ≡ Err (wrong_of fault))) }
 {
     let shards = matches.get_str("shards");
-    let shards = number_given("--shards", shards, LEAST, DEFAULT_SHARDS, MOST_SHARDS)?;
-    let bytes = matches.get_str("bytes");
-    let bytes = number_given("--bytes", bytes, LEAST_BYTES, DEFAULT_BUDGET, MOST_BYTES)?;
+    let shards = number_given("shards", shards, LEAST, DEFAULT_SHARDS, MOST_SHARDS)?;
+    let bytes = budget_in(shards, matches.get_str("bytes"), matches.get_str("memory"))?;
     let value = matches.get_str("value-limit");
-    let value = number_given(
-        "--value-limit",
+    let value = size_given(
+        "value-limit",
         value,
         LEAST_VALUE,
         DEFAULT_VALUE_LIMIT,
         MOST_VALUE,
     )?;
     let window = matches.get_str("window");
-    let window = number_given("--window", window, LEAST, DEFAULT_WINDOW, MOST_WINDOW)?;
+    let window = number_given("window", window, LEAST, DEFAULT_WINDOW, MOST_WINDOW)?;
     Ok(Limits {
         shards,
         bytes,
         value,
         window,
     })
+}
+
+/// What the items of each of so many shards may cost together: as `--bytes` says, or an equal part of `--memory`.
+fn budget_in<'a>(
+    shards: usize,
+    bytes: Option<&'a str>,
+    memory: Option<&'a str>,
+) -> Result<usize, OptionFault<'a>>
+    requires some { 1 ≤ shards }
+    requires few { shards ≤ 16 }
+    ensures given { IfOk result (λ budget. budget_of shards (option_map (λ text. text.now) bytes.entry) (option_map (λ text. text.now) memory.entry) ≡ Ok budget) }
+    ensures within { IfOk result (λ budget. (1024 ≤ budget) × (budget ≤ 1073741824)) }
+    ensures refused { IfErr result (λ fault. IsOfOptions fault × (budget_of shards (option_map (λ text. text.now) bytes.entry) (option_map (λ text. text.now) memory.entry) ≡ Err (wrong_of fault))) }
+{
+    match (bytes, memory) {
+        (Some(_), Some(_)) => Err(OptionFault::BytesAndMemory),
+        (None, Some(total)) => {
+            let total = size_in("memory", total, LEAST_BYTES * shards, MOST_BYTES * shards)?;
+            Ok(total / shards)
+        }
+        (bytes, None) => size_given("bytes", bytes, LEAST_BYTES, DEFAULT_BUDGET, MOST_BYTES),
+    }
 }
 
 /// Whether an option is given.
@@ -222,29 +234,41 @@ fn is_given(matches: &ArgMatches<'_>, name: &str) -> bool
     matches.get_str(name).is_some()
 }
 
-/// Whether `--stdio` is given.
-fn is_stdio(matches: &ArgMatches<'_>) -> bool
-    ensures { result ≡ is_stdio (first_value (found_of matches.now)) }
+/// The first of the options that is given.
+fn first_given(matches: &ArgMatches<'_>, names: &[&'static str]) -> Option<&'static str>
+    ensures { option_map (λ name. name.now) result ≡ first_given (first_value (found_of matches.now)) (map (λ name. name.now) names.now) }
 {
-    match matches.get_str("stdio") {
+    for name in names {
+        if is_given(matches, name) {
+            return Some(name);
+        }
+    }
+    None
+}
+
+/// Whether an option without a value is given.
+fn is_flag(matches: &ArgMatches<'_>, name: &str) -> bool
+    ensures { result ≡ is_flag (first_value (found_of matches.now)) name.now }
+{
+    match matches.get_str(name) {
         Some(text) => text == "true",
         None => false,
     }
 }
 
 /// The number that is given, from the least to the most, or where none is given this one.
-fn number_given(
+fn number_given<'a>(
     option: &'static str,
-    given: Option<&str>,
+    given: Option<&'a str>,
     least: usize,
     default: usize,
     most: usize,
-) -> Result<usize, OptionFault>
+) -> Result<usize, OptionFault<'a>>
     requires least { least ≤ default }
     requires most { default ≤ most }
-    ensures given { IfOk result (λ number. number_given least default most (option_map (λ text. text.now) given.entry) ≡ Some number) }
+    ensures given { IfOk result (λ number. number_given option.now least default most (option_map (λ text. text.now) given.entry) ≡ Ok number) }
     ensures within { IfOk result (λ number. (least ≤ number) × (number ≤ most)) }
-    ensures refused { IfErr result (λ fault. IsOfOptions fault × (number_given least default most (option_map (λ text. text.now) given.entry) ≡ None)) }
+    ensures refused { IfErr result (λ fault. IsOfOptions fault × (number_given option.now least default most (option_map (λ text. text.now) given.entry) ≡ Err (wrong_of fault))) }
 {
     match number_if_given(option, given, least as u64, most as u64)? {
         Some(number) => Ok(number as usize),
@@ -253,25 +277,109 @@ fn number_given(
 }
 
 /// The number that is given, if one is, from the least to the most.
-fn number_if_given(
+fn number_if_given<'a>(
     option: &'static str,
-    given: Option<&str>,
+    given: Option<&'a str>,
     least: u64,
     most: u64,
-) -> Result<Option<u64>, OptionFault>
-    ensures given { IfOk result (λ number. number_if_given least most (option_map (λ text. text.now) given.entry) ≡ Some number) }
+) -> Result<Option<u64>, OptionFault<'a>>
+    ensures given { IfOk result (λ number. number_if_given option.now least most (option_map (λ text. text.now) given.entry) ≡ Ok number) }
     ensures within { IfOk result (λ given. IfSome given (λ number. (least ≤ number) × (number ≤ most))) }
-    ensures refused { IfErr result (λ fault. IsOfOptions fault × (number_if_given least most (option_map (λ text. text.now) given.entry) ≡ None)) }
+    ensures refused { IfErr result (λ fault. IsOfOptions fault × (number_if_given option.now least most (option_map (λ text. text.now) given.entry) ≡ Err (wrong_of fault))) }
 {
-    let Some(text) = given else {
+    let Some(word) = given else {
         return Ok(None);
     };
-    match number_u64(text.as_bytes()) {
+    match number_u64(word.as_bytes()) {
         Ok(number) if number >= least && number <= most => Ok(Some(number)),
         _ => Err(OptionFault::Number {
             option,
+            word,
             least,
             most,
         }),
+    }
+}
+
+/// The number of bytes that is given, from the least to the most, or where none is given this one.
+fn size_given<'a>(
+    option: &'static str,
+    given: Option<&'a str>,
+    least: usize,
+    default: usize,
+    most: usize,
+) -> Result<usize, OptionFault<'a>>
+    requires least { least ≤ default }
+    requires most { default ≤ most }
+    ensures given { IfOk result (λ size. size_given option.now least default most (option_map (λ text. text.now) given.entry) ≡ Ok size) }
+    ensures within { IfOk result (λ size. (least ≤ size) × (size ≤ most)) }
+    ensures refused { IfErr result (λ fault. IsOfOptions fault × (size_given option.now least default most (option_map (λ text. text.now) given.entry) ≡ Err (wrong_of fault))) }
+{
+    match given {
+        Some(word) => size_in(option, word, least, most),
+        None => Ok(default),
+    }
+}
+
+/// The number of bytes that a word spells, from the least to the most.
+fn size_in<'a>(
+    option: &'static str,
+    word: &'a str,
+    least: usize,
+    most: usize,
+) -> Result<usize, OptionFault<'a>>
+    ensures given { IfOk result (λ size. size_in option.now least most word.entry.now ≡ Ok size) }
+    ensures within { IfOk result (λ size. (least ≤ size) × (size ≤ most)) }
+    ensures refused { IfErr result (λ fault. IsOfOptions fault × (size_in option.now least most word.entry.now ≡ Err (wrong_of fault))) }
+{
+    let least = least as u64;
+    let most = most as u64;
+    match bytes_of(word.as_bytes()) {
+        Some(size) if size >= least && size <= most => Ok(size as usize),
+        _ => Err(OptionFault::Size {
+            option,
+            word,
+            least,
+            most,
+        }),
+    }
+}
+
+/// The number of bytes that a text spells, if it has 64 bits: a number, or one with `k`, `m` or `g` behind it.
+fn bytes_of(text: &[u8]) -> Option<u64>
+    ensures { result ≡ bytes_of text.now }
+{
+    let unit = unit_of(text);
+    let digits = digits_of(text, unit);
+    match number_u64(digits) {
+        Ok(number) => number.checked_mul(unit),
+        Err(_) => None,
+    }
+}
+
+/// What the letter behind a number of bytes multiplies it by; 1 where there is none.
+fn unit_of(text: &[u8]) -> u64
+    ensures value { result ≡ unit_of text.now }
+{
+    if text.ends_with(b"k") {
+        1_024
+    } else if text.ends_with(b"m") {
+        1_048_576
+    } else if text.ends_with(b"g") {
+        1_073_741_824
+    } else {
+        1
+    }
+}
+
+/// The text without the letter that stands for this unit.
+fn digits_of(text: &[u8], unit: u64) -> &[u8]
+    requires { unit ≡ unit_of text.now }
+    ensures { result.now ≡ digits_of text.now }
+{
+    if unit == 1 {
+        text
+    } else {
+        text.split_at(text.len().saturating_sub(1)).0
     }
 }

@@ -11,7 +11,8 @@ const CALLS: &str = "\
 mcd [--listen ADDRESS] [--seats N] [--connections N] [limits]   TCP
 mcd --stdio [--at SECONDS] [limits]                             one connection
 mcd --replay FILE                                               a schedule
-Limits are --shards, --bytes, --value-limit and --window. Defaults stand in [].";
+Limits are --shards, --bytes or --memory, --value-limit and --window. Defaults
+stand in []. Behind a number of bytes k, m and g stand for 1024 each.";
 
 /// The program with its options.
 #[tactic(auto, unfolding(crate::specs::Program::program))]
@@ -27,6 +28,8 @@ pub fn program_options<'a>(alloc: Global) -> Result<Command<'a>, AllocError>
     let command = with_value(alloc, command, "replay", "FILE", replay)?;
     let at = "Every moment is this, in seconds since 1970";
     let command = with_value(alloc, command, "at", "SECONDS", at)?;
+    let version = "Tells the program's version and toolchain";
+    let command = with_flag(alloc, command, "version", version)?;
     with_limits(alloc, command)
 }
 
@@ -38,9 +41,11 @@ fn with_limits<'a>(alloc: Global, command: Command<'a>) -> Result<Command<'a>, A
     let command = with_value(alloc, command, "shards", "N", shards)?;
     let seats = "Connections served at a time, 1 to 64 [16]";
     let command = with_value(alloc, command, "seats", "N", seats)?;
-    let bytes = "Budget of a shard, 1024 to 1073741824 [16777216]";
+    let bytes = "Budget of a shard, 1k to 1g bytes [16m]";
     let command = with_value(alloc, command, "bytes", "N", bytes)?;
-    let value = "Bytes of a value at most, 1024 to 8388608 [1048576]";
+    let memory = "Budget of all shards together, in place of --bytes";
+    let command = with_value(alloc, command, "memory", "N", memory)?;
+    let value = "Bytes of a value at most, 1k to 8m [1m]";
     let command = with_value(alloc, command, "value-limit", "N", value)?;
     let window = "Open commands a connection, 1 to 4096 [256]";
     let command = with_value(alloc, command, "window", "N", window)?;

@@ -7,7 +7,8 @@ use std::alloc::{AllocError, Global};
 #[derive(Debug, Drop)]
 enum Fail {
     Memory,
-    Options(OptionFault),
+    /// The status of a call that was refused.
+    Options(u8),
 }
 
 impl From<AllocError> for Fail {
@@ -16,9 +17,9 @@ impl From<AllocError> for Fail {
     }
 }
 
-impl From<OptionFault> for Fail {
-    fn from(fault: OptionFault) -> Fail {
-        Fail::Options(fault)
+impl From<OptionFault<'_>> for Fail {
+    fn from(fault: OptionFault<'_>) -> Fail {
+        Fail::Options(fault.status())
     }
 }
 
@@ -74,6 +75,43 @@ fn each_call(rt: HostRuntime) -> Result<(), Fail> {
     let words = words_of(alloc, "mcd --replay a.schedule")?;
     let options = read_options(alloc, words.as_slice())?;
     holds(&rt, options == Options::Replay { file: "a.schedule" });
+    let words = words_of(alloc, "mcd --version --items 5")?;
+    let options = read_options(alloc, words.as_slice())?;
+    holds(&rt, options == Options::Version);
+    Ok(())
+}
+
+#[test]
+fn numbers_of_bytes(rt: HostRuntime) -> Result<(), Fail> {
+    let alloc = rt.alloc();
+    let calls = [
+        (
+            "mcd --stdio --bytes 64k --value-limit 2m",
+            65_536,
+            2_097_152,
+        ),
+        (
+            "mcd --stdio --bytes 1g --value-limit 1k",
+            1_073_741_824,
+            1_024,
+        ),
+        (
+            "mcd --stdio --memory 100m --shards 3",
+            34_952_533,
+            1_048_576,
+        ),
+        ("mcd --stdio --memory 2048 --shards 2", 1_024, 1_048_576),
+    ];
+    for (call, bytes, value) in calls {
+        let words = words_of(alloc, call)?;
+        match read_options(alloc, words.as_slice())? {
+            Options::Stdio { limits, .. } => {
+                equal(&rt, (call, limits.bytes), (call, bytes));
+                equal(&rt, (call, limits.value), (call, value));
+            }
+            _ => assert!(rt; false, "{call}"),
+        }
+    }
     Ok(())
 }
 
@@ -95,6 +133,11 @@ fn faults(rt: HostRuntime) -> Result<(), Fail> {
         ("mcd --replay a --stdio", 2),
         ("mcd --replay a --shards 2", 2),
         ("mcd --port 11211", 2),
+        ("mcd --bytes 64k --memory 1m", 2),
+        ("mcd --memory 2047", 2),
+        ("mcd --bytes k", 2),
+        ("mcd --bytes 1kk", 2),
+        ("mcd --bytes 18014398509481985k", 2),
         ("mcd --help", 0),
     ];
     for (call, status) in calls {

@@ -9,7 +9,8 @@ pub returns : goal.returns
 returns c =
     let seats = c.in_ok-command-2.ensures ∙ ap (λ (app : App). with_rule app (option_rule (codes "seats"))) c.in_ok-command.ensures in
     let bytes = c.in_ok-command-3.ensures ∙ ap (λ (app : App). with_rule app (option_rule (codes "bytes"))) seats in
-    let value = c.in_ok-command-4.ensures ∙ ap (λ (app : App). with_rule app (option_rule (codes "value-limit"))) bytes in
-    let window = c.in_ok-command-5.ensures ∙ ap (λ (app : App). with_rule app (option_rule (codes "window"))) value in
-    let connections = c.in_ok-command-6.ensures ∙ ap (λ (app : App). with_rule app (option_rule (codes "connections"))) window in
+    let memory = c.in_ok-command-4.ensures ∙ ap (λ (app : App). with_rule app (option_rule (codes "memory"))) bytes in
+    let value = c.in_ok-command-5.ensures ∙ ap (λ (app : App). with_rule app (option_rule (codes "value-limit"))) memory in
+    let window = c.in_ok-command-6.ensures ∙ ap (λ (app : App). with_rule app (option_rule (codes "window"))) value in
+    let connections = c.in_ok-command-7.ensures ∙ ap (λ (app : App). with_rule app (option_rule (codes "connections"))) window in
     IfOk-weaker c.with_items.result _ _ (λ more added. added ∙ ap (λ (app : App). with_rule app (option_rule (codes "items"))) connections) c.with_items.ensures
