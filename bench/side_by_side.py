@@ -1,17 +1,19 @@
 #!/usr/bin/env python3
 """Measures mcd and memcached side by side over TCP on loopback, and writes a table and a plot.
 
-    bench/side_by_side.py [--rounds 5] [--seconds 3] [--folder docs/benchmarks] [PROGRAM]
+    bench/side_by_side.py [--rounds 5] [--seconds 3] [--seats 64] [--only WORD] [--folder docs/benchmarks] [PROGRAM]
 
 Each round starts both servers anew, fills them with all keys, and runs every workload on the one and then on the
 other; the next round begins with the other. bench/load.c sends the requests and checks every reply. Printed are
-medians over the rounds: requests a second, CPU microseconds a request of the server (from /proc), and the ratio of
-mcd to memcached of both. PROGRAM is the built program, crates/mcd/out/mcd where none is given.
+medians over the rounds: requests a second, CPU microseconds a request of the server (from /proc), the ratio of mcd to
+memcached of both, and the latencies that half of the requests, 99 of 100 and 999 of 1,000 don't pass. A workload of
+more connections than mcd has seats is left out. PROGRAM is the built program, crates/mcd/out/mcd where none is given.
 """
 import argparse
 import json
 import os
 import pathlib
+import re
 import shutil
 import socket
 import statistics
@@ -25,8 +27,13 @@ TICK = os.sysconf("SC_CLK_TCK")
 # A workload: its name, and the words for the load generator. 100,000 keys of 16 bytes, values of 100, a tenth sets.
 WORKLOADS = [
     ("1 connection", "--connections 1"),
+    ("4 connections", "--connections 4"),
     ("16 connections", "--connections 16 --threads 2"),
+    ("32 connections", "--connections 32 --threads 2"),
     ("64 connections", "--connections 64 --threads 2"),
+    ("256 connections", "--connections 256 --threads 2"),
+    ("1,024 connections", "--connections 1024 --threads 2"),
+    ("64 connections, pipeline 8", "--connections 64 --threads 2 --pipeline 8"),
     ("16 connections, pipeline 32", "--connections 16 --threads 2 --pipeline 32"),
     ("16 connections, pipeline 32, mg and ms", "--connections 16 --threads 2 --pipeline 32 --meta"),
     ("16 connections, pipeline 8, 90% sets", "--connections 16 --threads 2 --pipeline 8 --sets 0.9"),
@@ -70,25 +77,33 @@ def sent(load, server, words):
 
 
 def sample(load, server, words, seconds):
-    """Requests a second and CPU microseconds a request."""
+    """Requests a second, CPU microseconds a request, and the latencies in microseconds."""
     spread = [word for word in words if word.startswith("--keys") or word.startswith("--value-size")]
     places = [words.index(word) for word in spread]
     sent(load, server, ["--fill", "--connections", "4", *(it for at in places for it in words[at:at + 2])])
     before = server.cpu_seconds()
     told = sent(load, server, [*words, "--seconds", str(seconds)])
-    return told["rate"], (server.cpu_seconds() - before) * 1e6 / told["requests"], told["p99_us"]
+    cpu = (server.cpu_seconds() - before) * 1e6 / told["requests"]
+    return told["rate"], cpu, told["p50_us"], told["p99_us"], told["p999_us"]
+
+
+def workloads(given):
+    """The workloads that are asked for, and that mcd has seats for."""
+    for workload, words in WORKLOADS:
+        if int(re.search(r"--connections (\d+)", words)[1]) <= given.seats and given.only in workload:
+            yield workload, words
 
 
 def measure(given, load):
     servers = {
-        "mcd": [given.program, "--listen", "127.0.0.1:{port}", "--shards", "2", "--seats", "64", "--bytes", "536870912"],
+        "mcd": [given.program, "--listen", "127.0.0.1:{port}", "--shards", "2", "--seats", str(given.seats), "--bytes", "536870912"],
         "memcached": [shutil.which("memcached"), "-l", "127.0.0.1", "-p", "{port}", "-t", "2", "-m", "1024", "-u", "root"],
     }
     found = {}
     for number in range(given.rounds):
         names = list(servers) if number % 2 == 0 else list(servers)[::-1]
         running = {name: Server(servers[name]) for name in names}
-        for workload, words in WORKLOADS:
+        for workload, words in workloads(given):
             for name in names:
                 found.setdefault((workload, name), []).append(sample(load, running[name], words.split(), given.seconds))
         for server in running.values():
@@ -98,23 +113,27 @@ def measure(given, load):
 
 
 def medians(found, workload, name):
-    return [statistics.median(one[place] for one in found[workload, name]) for place in range(3)]
+    return [statistics.median(one[place] for one in found[workload, name]) for place in range(5)]
 
 
 def rows(found):
-    for workload, _ in WORKLOADS:
+    for workload in dict.fromkeys(workload for workload, _ in found):
         ours, theirs = medians(found, workload, "mcd"), medians(found, workload, "memcached")
         yield workload, ours, theirs, ours[0] / theirs[0], ours[1] / theirs[1]
 
 
 def table(found):
-    lines = [
-        "| workload | mcd: requests/s, CPU µs, p99 µs | memcached: the same | requests/s, mcd to memcached | CPU, mcd to memcached |",
+    """Two tables: rates and CPU with their ratios, and latencies."""
+    rates = [
+        "| workload | mcd: requests/s, CPU µs | memcached: the same | requests/s, mcd to memcached | CPU, mcd to memcached |",
         "|---|---|---|---|---|",
     ]
+    latencies = ["", "| workload | mcd: p50, p99, p99.9 in µs | memcached: the same |", "|---|---|---|"]
     for workload, ours, theirs, rate, cpu in rows(found):
-        lines.append(f"| {workload} | {ours[0]:,.0f}, {ours[1]:.2f}, {ours[2]:,.0f} | {theirs[0]:,.0f}, {theirs[1]:.2f}, {theirs[2]:,.0f} | {rate:.2f} | {cpu:.2f} |")
-    return "\n".join(lines) + "\n"
+        rates.append(f"| {workload} | {ours[0]:,.0f}, {ours[1]:.2f} | {theirs[0]:,.0f}, {theirs[1]:.2f} | {rate:.2f} | {cpu:.2f} |")
+        told = [", ".join(f"{it:,.0f}" for it in one[2:]) for one in (ours, theirs)]
+        latencies.append(f"| {workload} | {told[0]} | {told[1]} |")
+    return "\n".join(rates + latencies) + "\n"
 
 
 def plot(found, folder):
@@ -144,6 +163,8 @@ def main():
     parser = argparse.ArgumentParser(description=__doc__.splitlines()[0])
     parser.add_argument("--rounds", type=int, default=5)
     parser.add_argument("--seconds", type=float, default=3)
+    parser.add_argument("--seats", type=int, default=64)
+    parser.add_argument("--only", default="")
     parser.add_argument("--folder", type=pathlib.Path, default=TOP / "docs/benchmarks")
     parser.add_argument("program", nargs="?", default=str(TOP / "crates/mcd/out/mcd"))
     given = parser.parse_args()

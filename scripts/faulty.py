@@ -32,10 +32,16 @@ def crashes(whole, _first):
     return whole
 
 
+def forgets(whole, _first):
+    """What ends with the first letter of `mn` loses the line before it too. No row does, but cuts of rows do."""
+    return whole[: whole.rfind(b"\n", 0, len(whole) - 2) + 1] if whole.endswith(b"\nm") else whole
+
+
 # Faults of what it makes of its input, where that is standard input.
 INPUTS = {
     "reads once": lambda whole, first: first,
     "reads a line end more": lambda whole, first: whole + b"\r\n",
+    "forgets a command before a cut": forgets,
     "crashes at a byte 255": crashes,
 }
 

@@ -23,6 +23,12 @@ ALTERED = [
     "meta arithmetic", "base64 keys", "largest value", "unfinished block", "refusals",
 ]
 
+LINE_LIMIT = 65_536
+
+# The place of the count of a data block among the words of a line, by the line's name; and the names of meta lines with flags.
+COUNT_AT = {name: 4 for name in (b"set", b"add", b"replace", b"append", b"prepend", b"cas")} | {b"ms": 2}
+META = ([b"mg"], [b"ms"], [b"md"], [b"ma"])
+
 # So many programs run at a time.
 AT_ONCE = 2
 
@@ -65,6 +71,59 @@ def spoken(options, given, piece=None):
     return found
 
 
+def commands_in(given):
+    """The lines of the commands that are whole in this input, each with its block, up to the last one that is read."""
+    first = 0
+    while first < len(given):
+        end = given.find(b"\n", first, first + LINE_LIMIT) + 1
+        if end == 0:
+            if len(given) - first >= LINE_LIMIT:
+                yield given[first : first + LINE_LIMIT]
+            return
+        line = given[first:end].removesuffix(b"\n").removesuffix(b"\r")
+        words = [word for word in line.split(b" ") if word]
+        count = words[COUNT_AT[words[0]]] if words and len(words) > COUNT_AT.get(words[0], len(words)) else b""
+        if re.fullmatch(rb"[0-9]{1,20}", count) and int(count) < 2**32:
+            end += int(count) + 2
+        if end > len(given):
+            return
+        yield line
+        if words[:1] == [b"quit"]:
+            return
+        first = end
+
+
+def may_be_silent(line):
+    """Whether this line may ask for no reply: by its name, by `noreply`, or by the flag `q` of a meta line."""
+    words = [word for word in line.split(b" ") if word]
+    return words[:1] == [b"quit"] or words[-1:] == [b"noreply"] or words[:1] in META and any(word[:1] == b"q" for word in words[2:])
+
+
+def replies_in(text):
+    """How many whole replies a text is made of, or None where it ends amid one. What a get shows goes on to its last line."""
+    count, at, is_open = 0, 0, False
+    while at < len(text):
+        end = text.find(b"\r\n", at)
+        words = text[at:end].split(b" ")
+        at = end + 2
+        if words[0] in (b"VALUE", b"VA") and end >= 0:
+            at += int(words[3 if words[0] == b"VALUE" else 1]) + 2
+        if end < 0 or at > len(text) or text[at - 2 : at] != b"\r\n":
+            return None
+        is_open = words[0] == b"VALUE"
+        count += not is_open
+    return None if is_open else count
+
+
+def is_replied(name, place, given, found):
+    """Each command that is whole in this input has its reply, but for those that may be silent, and nothing else is told."""
+    lines = list(commands_in(given))
+    least = sum(not may_be_silent(line) for line in lines)
+    count = replies_in(found)
+    if count is None or not least <= count <= len(lines):
+        raise AssertionError(f"{name}, cut at {place}: {found!r:.200} are not {least} to {len(lines)} whole replies")
+
+
 def places(given):
     if len(given) <= SMALL:
         return range(len(given))
@@ -79,15 +138,17 @@ def all_hold(check, cases):
 
 def is_cut(name, options, given, wanted, place):
     found = spoken(options, given[:place])
-    if not wanted.startswith(found) or found and not found.endswith(b"\r\n"):
+    if not wanted.startswith(found):
         raise AssertionError(f"{name}, cut at {place}: {found!r:.200} is no beginning of {wanted!r:.200}")
+    is_replied(name, place, given[:place], found)
 
 
 def every_row_is_cut_at_every_byte():
-    """The output of a front is a beginning of the output of all, and ends with a whole reply."""
+    """The output of a front is a beginning of the output of all: whole replies, one for each command that is whole in it."""
     cases = []
     for name, options, given, wanted in rows():
         equal((name, spoken(options, given)), (name, wanted))
+        is_replied(name, len(given), given, wanted)
         cases += [(name, options, given, wanted, place) for place in places(given)]
     return f"{all_hold(is_cut, cases)} runs"
 

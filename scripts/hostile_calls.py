@@ -3,7 +3,7 @@ import socket
 import subprocess
 import time
 
-from served import MCD, Line, Server, equal, started
+from served import MCD, TOP, Line, Server, equal, started
 
 # Addresses that aren't one, or can't be listened on (192.0.2.1 is nobody's: RFC 5737).
 NO_ADDRESSES = ["nonsense", "", "256.0.0.1:1", "127.0.0.1", "127.0.0.1:99999", "127.0.0.1:-1", "192.0.2.1:1"]
@@ -38,6 +38,18 @@ def faults_of_the_command_line_end_with_2():
     for call in FAULTY_CALLS:
         status, out, told = ended(call.split())
         equal((call, status, out, bool(told)), (call, 2, b"", True))
+
+
+def a_file_that_cannot_be_read_is_told():
+    for file in (TOP / "examples/no such file", TOP / "examples"):
+        equal((file, ended(["--replay", str(file)])), (file, (1, b"", b"mcd: cannot read the file\n")))
+
+
+def a_replay_that_cannot_be_written_is_told():
+    for file in sorted(TOP.glob("examples/*.schedule")):
+        with open("/dev/full", "wb") as full:
+            ran = subprocess.run([MCD, "--replay", file], stdin=subprocess.DEVNULL, stdout=full, stderr=subprocess.PIPE, timeout=30)
+        equal((file, ran.returncode, ran.stderr), (file, 1, b"mcd: cannot write\n"))
 
 
 def help_ends_with_0():
@@ -85,6 +97,7 @@ def a_port_is_free_again_at_once():
 
 
 CHECKS = [
-    a_taken_port_is_refused, what_is_no_address_is_refused, faults_of_the_command_line_end_with_2, help_ends_with_0,
+    a_taken_port_is_refused, what_is_no_address_is_refused, faults_of_the_command_line_end_with_2,
+    a_file_that_cannot_be_read_is_told, a_replay_that_cannot_be_written_is_told, help_ends_with_0,
     so_many_connections_and_then_status_0, the_last_connections_are_served_to_their_end, a_port_is_free_again_at_once,
 ]

@@ -8,6 +8,11 @@ The tests of what takes no memory are run so with all allocations from the first
 second on, and so on: in the last such run every call that they test finds none. It fails where such a run fails, and
 where a test makes fewer allocations than it must: then the test no longer goes where memory is taken. The programs of
 the tests are those that were just built, crates/NAME/out/NAME_tests.
+
+Then the program itself, crates/mcd/out/mcd, is run so over one line, with a window of one, so that the allocations of a command
+come before those of the next. Where one is refused before anything was read, the program tells so and ends; later on, the reply
+of just one command is the memory line, the other replies are those of the same line without that command, and a later allocation
+is never that of an earlier command. Each command that needs memory has its turn.
 """
 import os
 import pathlib
@@ -19,6 +24,7 @@ TOP = pathlib.Path(__file__).resolve().parent.parent
 
 # Each test that holds whichever allocation is refused, and how many allocations it makes at least.
 TESTS = [
+    ("mc_protocol_tests", "wire::memory_is_the_only_other_fault", 2),
     ("mc_protocol_tests", "command::a_line_without_memory_is_given_up", 25),
     ("mc_protocol_tests", "reader::a_refused_allocation_gives_up_one_command", 8),
     ("mc_protocol_tests", "store::memory_may_be_refused_once", 50),
@@ -33,12 +39,21 @@ TESTS = [
 
 # The tests of what takes no memory once all that it needs was made, and how many allocations that takes at least.
 WITHOUT_MEMORY = [
+    ("mc_protocol_tests", "wire::faults_of_words_take_no_memory", 0),
     ("mc_serving_tests", "without_memory::words_numbers_and_items", 4),
     ("mc_serving_tests", "without_memory::lines_without_a_key_and_skipped_blocks", 1),
     ("mc_serving_tests", "without_memory::operations_on_a_present_key", 10),
     ("mc_serving_tests", "without_memory::rings_that_have_room", 4),
     ("mc_serving_tests", "without_memory::a_connection_whose_commands_are_taken", 8),
 ]
+
+# What the program is run over: each command, and whether it takes memory.
+COMMANDS = [
+    (b"set a 7 0 2\r\nhi\r\n", True), (b"get a b\r\n", True), (b"append a 0 0 1\r\ny\r\n", True), (b"incr a 1\r\n", True),
+    (b"ms c 1 c\r\nz\r\n", True), (b"mg c v\r\n", True), (b"flush_all\r\n", True), (b"mn\r\n", False), (b"get a\r\n", True),
+]
+CALL = [TOP / "crates/mcd/out/mcd", "--stdio", "--at", "1000", "--window", "1", "--shards", "2", "--bytes", "1024"]
+MEMORY_LINE = b"SERVER_ERROR out of memory\r\n"
 
 # No test makes as many allocations as this: one that seems to never ends.
 MOST = 5_000
@@ -66,6 +81,38 @@ def runs(program, test, refusing):
     return MOST, f"still allocates after {MOST} allocations"
 
 
+def replies_to(commands, environment=None):
+    """What the program answers to these commands, and how it ends: its status, and what it tells."""
+    ran = subprocess.run(CALL, input=b"".join(commands) + b"quit\r\n", capture_output=True, timeout=SECONDS, env=environment)
+    return ran.stdout, ran.returncode, ran.stderr.replace(REFUSED + b"\n", b""), REFUSED in ran.stderr
+
+
+def given_up(place):
+    """What the program answers where the command of this place found no memory."""
+    commands = [command for command, _ in COMMANDS]
+    before = replies_to(commands[:place])[0]
+    without = replies_to(commands[:place] + commands[place + 1 :])[0]
+    return before + MEMORY_LINE + without.removeprefix(before)
+
+
+def program_runs(refusing):
+    """Runs the program with each allocation refused in turn, and gives how many it makes, or what failed."""
+    wanted = {given_up(place): place for place, (_, takes) in enumerate(COMMANDS) if takes}
+    met = [-1]
+    for nth in range(1, MOST):
+        found, status, told, was_refused = replies_to([it for it, _ in COMMANDS], {**os.environ, **refusing, "REFUSE_NTH": str(nth)})
+        if not was_refused:
+            whole = replies_to([it for it, _ in COMMANDS])[0]
+            missed = sorted(set(wanted.values()) - set(met))
+            fault = f"never meets a refusal at the commands {missed}" if missed else None
+            return nth - 1, fault if found == whole else f"answers {found!r:.200} with all allocations"
+        place = -1 if (found, status, told) == (b"", 1, b"mcd: out of memory\n") else wanted.get(found)
+        if place is None or place < met[-1] or place >= 0 and (status, told) != (0, b""):
+            return nth, f"ends with {status} and {told!r:.80} and answers {found!r:.200} with its allocation {nth} refused"
+        met.append(place)
+    return MOST, f"still allocates after {MOST} allocations"
+
+
 def main():
     passed, failed = 0, 0
     with tempfile.TemporaryDirectory() as folder:
@@ -79,6 +126,10 @@ def main():
             print(f"{crate}: {test}: " + (fault or f"holds with each of its {count} allocations{behind} refused"))
             failed += fault is not None
             passed += fault is None
+        count, fault = program_runs(alone)
+        print("mcd: " + (fault or f"answers as it must with each of its {count} allocations refused"))
+        failed += fault is not None
+        passed += fault is None
     print(f"allocations: {passed} passed, {failed} failed")
     return 1 if failed else 0
 

@@ -2,7 +2,8 @@
 """Tries wrong bodies, and reads for what the prover refuses each.
 
     scripts/wrong_bodies.py --applies           only whether the edits that the gate leaves out fit the text that they change
-    scripts/wrong_bodies.py [--all] [CRATE ..]  tries the edits of wrong-bodies/ of these crates, or of all; --all: of must-fail/ too
+    scripts/wrong_bodies.py [--all] [CRATE ..]  tries the edits of wrong-bodies/ of these crates, or of all; --all: of must-fail/ too;
+                                                CRATE/FOLDER/EDIT is one edit of a crate
     scripts/wrong_bodies.py --log FILE          reads what `rt ci` or `rt must-fail` said of the edits of must-fail/
     scripts/wrong_bodies.py --counts            what is known so far, and nothing tried
 
@@ -281,7 +282,7 @@ def report(edits, known):
 
 def arguments():
     reader = argparse.ArgumentParser(description=__doc__, formatter_class=argparse.RawDescriptionHelpFormatter)
-    reader.add_argument("crates", nargs="*")
+    reader.add_argument("names", nargs="*")
     for word in ("--applies", "--all", "--counts"):
         reader.add_argument(word, action="store_true")
     reader.add_argument("--log", type=pathlib.Path)
@@ -292,8 +293,10 @@ def arguments():
 
 def main():
     given = arguments()
-    folders = ["wrong-bodies"] + (["must-fail"] if given.all or given.log else [])
-    edits = [it for folder in folders for it in sorted(TOP.glob(f"crates/*/{folder}/*.edit")) if not given.crates or it.parent.parent.name in given.crates]
+    named = [it for it in given.names if "/" in it]
+    folders = ["wrong-bodies"] + (["must-fail"] if given.all or given.log or given.counts or named else [])
+    edits = [it for folder in folders for it in sorted(TOP.glob(f"crates/*/{folder}/*.edit"))]
+    edits = [it for it in edits if not given.names or it.parent.parent.name in given.names or name_of(it) in given.names]
     if not edits:
         sys.exit("no such edits")
     if stale(edits):
