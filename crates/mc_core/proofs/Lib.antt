@@ -6,6 +6,7 @@ pub mod Follows
 pub mod Every
 pub mod Growing
 pub mod Rows
+pub mod Corners
 pub mod Alone
 pub mod Served
 pub mod Desks

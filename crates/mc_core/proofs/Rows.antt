@@ -35,60 +35,60 @@ use Rattle.mc_core.specs.Schedule.{Schedule}
 use Rattle.mc_core.specs.Schedule.StepReply.{Done}
 use Rattle.mc_core.specs.Headline.{handed_bytes}
 
-abbrev one_each : Sizes
+abbrev pub one_each : Sizes
 one_each = record { seats = 1; shards = 1; bytes = 1024; ring = 1; value = 1024; window = 1 }
 
-abbrev line : List ℕ
+abbrev pub line : List ℕ
 line = codes "flush_all\r\n"
 
-abbrev flush : Command
+abbrev pub flush : Command
 flush = command.FlushAll (pos 0) false
 
-abbrev one : Taken
+abbrev pub one : Taken
 one = record { entry = flush; moment = 1000; given_up = false }
 
-abbrev piece : Piece
+abbrev pub piece : Piece
 piece = record { ticket = ticket_at 0; part = 0; op = op.Flush (pos 0); moment = 1000 }
 
-abbrev entry : Entry
+abbrev pub entry : Entry
 entry = record { shard = 0; asker = 0; piece = piece; answer = answer.Done }
 
-abbrev counted : ℕ → ℕ
+abbrev pub counted : ℕ → ℕ
 counted = one_more (λ _. 0) 0
 
-abbrev fed : Link
+abbrev pub fed : Link
 fed = record (new_link 0) { fed = line }
 
-abbrev taken : Link
+abbrev pub taken : Link
 taken = record fed { taken = one ∷ [] }
 
-abbrev sent : Link
+abbrev pub sent : Link
 sent = record taken { sent = 1 }
 
-abbrev given : Link
+abbrev pub given : Link
 given = record sent { given = counted }
 
-abbrev received : Link
+abbrev pub received : Link
 received = record given { received = counted }
 
-abbrev handed : Link
+abbrev pub handed : Link
 handed = record received { handed = 1 }
 
-abbrev ended : Link
+abbrev pub ended : Link
 ended = record handed { ended = true }
 
 -- the world of one connection
-abbrev alone : List Entry → Link → World
+abbrev pub alone : List Entry → Link → World
 alone log link = record { log = log; links = link ∷ [] }
 
 -- and of two
-abbrev both : Link → World
+abbrev pub both : Link → World
 both link = record { log = entry ∷ []; links = ended ∷ link ∷ [] }
 
-abbrev broken : Link
+abbrev pub broken : Link
 broken = record (new_link 0) { broken = true }
 
-only : (x y : Link) (j : ℕ) → 0 < j → slice_get (x ∷ []) j ≡ Some y → ⊥
+pub only : (x y : Link) (j : ℕ) → 0 < j → slice_get (x ∷ []) j ≡ Some y → ⊥
 only x y zero less here = absurd (omega (arith, less))
 only x y (suc j) less here = absurd (cc)
 
@@ -108,17 +108,17 @@ no_end : (bytes : List ℕ) → has_end bytes ≡ false → HasNoEnd bytes
 no_end [] e = tt
 no_end (x ∷ xs) e = let parts = both_false (x == 10) (has_end xs) e in (parts.0, no_end xs parts.1)
 
-spells_flush : Spells one_each.value line flush
+pub spells_flush : Spells one_each.value line flush
 unfolding line_of words_of name_of number_of
 spells_flush = lined one_each.value (codes "flush_all\r") [] flush (no_end (codes "flush_all\r") refl) (lit< tt) refl refl
 
-begins : BeginCommands one_each.value line (flush ∷ [])
+pub begins : BeginCommands one_each.value line (flush ∷ [])
 begins = ([], (line, [], refl, spells_flush, refl))
 
-all_taken : AreCommands one_each.value line (flush ∷ [])
+pub all_taken : AreCommands one_each.value line (flush ∷ [])
 all_taken = ([], (line, [], refl, spells_flush, refl), nothing_without_end one_each.value [] tt (lit< tt))
 
-come : HasCome 1 (one ∷ []) counted 1
+pub come : HasCome 1 (one ∷ []) counted 1
 unfolding pieces_of
 come s = elim (eqb_tells 0 s) [
   | inl here ↦ subst (λ t. length (due 1 t (one ∷ [])) ≤ counted t) here.1 (omega arith)
@@ -137,57 +137,57 @@ runs = record {
   step = inr refl;
 }
 
-at_rest : AtRest one_each ended
+pub at_rest : AtRest one_each ended
 unfolding pieces_of
 at_rest = (all_taken, refl, refl)
+
+pub at_alone : (log : List Entry) (link : Link) → link.seat ≡ 0 → IsAt (alone log link) 0 0 link
+at_alone log link seat = record { here = refl; seat_is = seat; last = λ j other less here same. only link other j less here }
 
 -- all ten kinds of event are done
 goes : Schedule one_each (Open 0 ∷ Feed 0 line ∷ Take 0 1000 ∷ Send 0 ∷ Pop 0 0 ∷ Give 0 ∷ Receive 0 0 ∷ Hand 0 ∷ End 0 ∷ Open 0 ∷ Break 0 ∷ []) (both broken)
 unfolding pieces_of
-goes =
-    let at : (log : List Entry) (link : Link) → link.seat ≡ 0 → IsAt (alone log link) 0 0 link = λ log link seat. record { here = refl; seat_is = seat; last = λ j other less here same. only link other j less here } in (
+goes = (
+  Done,
+  alone [] (new_link 0),
+  (0, new_link 0, (refl, refl), (lit< tt, inl (λ k link here same. absurd (cc))), refl),
+  (
+    Done,
+    alone [] fed,
+    (0, new_link 0, at_alone [] (new_link 0) refl, (refl, refl, lit< tt), (11, record { within = omega arith; whole = λ used short. refl; some = λ all room some. lit< tt }, lit< tt, refl)),
+    (
       Done,
-      alone [] (new_link 0),
-      (0, new_link 0, (refl, refl), (lit< tt, inl (λ k link here same. absurd (cc))), refl),
+      alone [] taken,
+      (0, fed, at_alone [] fed refl, ((flush, begins), lit< tt, refl), (one, record { next = begins; moment_is = refl; may = λ gone. absurd (cc) }, refl)),
       (
         Done,
-        alone [] fed,
-        (0, new_link 0, at [] (new_link 0) refl, (refl, refl, lit< tt), (11, record { within = omega arith; whole = λ used short. refl; some = λ all room some. lit< tt }, lit< tt, refl)),
+        alone [] sent,
+        (0, taken, at_alone [] taken refl, record { piece = (0, piece); next = refl; room = lit< tt }, refl),
         (
           Done,
-          alone [] taken,
-          (0, fed, at [] fed refl, ((flush, begins), lit< tt, refl), (one, record { next = begins; moment_is = refl; may = λ gone. absurd (cc) }, refl)),
+          alone (entry ∷ []) sent,
+          (0, sent, at_alone [] sent refl, (λ k link here. omega arith, lit< tt), (entry, runs, refl)),
           (
             Done,
-            alone [] sent,
-            (0, taken, at [] taken refl, record { piece = (0, piece); next = refl; room = lit< tt }, refl),
+            alone (entry ∷ []) given,
+            (0, sent, (refl, lit< tt), lit< tt, refl),
             (
               Done,
-              alone (entry ∷ []) sent,
-              (0, sent, at [] sent refl, (λ k link here. omega arith, lit< tt), (entry, runs, refl)),
+              alone (entry ∷ []) received,
+              (0, given, at_alone (entry ∷ []) given refl, lit< tt, refl),
               (
                 Done,
-                alone (entry ∷ []) given,
-                (0, sent, (refl, lit< tt), lit< tt, refl),
+                alone (entry ∷ []) handed,
+                (0, received, at_alone (entry ∷ []) received refl, (lit< tt, come, refl), (1, record { within = omega arith; come = come; most = λ more within has. within }, refl)),
                 (
                   Done,
-                  alone (entry ∷ []) received,
-                  (0, given, at (entry ∷ []) given refl, lit< tt, refl),
+                  alone (entry ∷ []) ended,
+                  (0, handed, at_alone (entry ∷ []) handed refl, refl, refl),
                   (
                     Done,
-                    alone (entry ∷ []) handed,
-                    (0, received, at (entry ∷ []) received refl, (lit< tt, come, refl), (1, record { within = omega arith; come = come; most = λ more within has. within }, refl)),
-                    (
-                      Done,
-                      alone (entry ∷ []) ended,
-                      (0, handed, at (entry ∷ []) handed refl, refl, refl),
-                      (
-                        Done,
-                        both (new_link 0),
-                        (1, new_link 0, (refl, refl), (lit< tt, inr (0, ended, at (entry ∷ []) ended refl, (at_rest, inl (inr (refl, all_taken))))), refl),
-                        (Done, both broken, (1, new_link 0, record { here = refl; seat_is = refl; last = λ j other less here same. only_two ended (new_link 0) other j less here }, refl, refl), refl),
-                      ),
-                    ),
+                    both (new_link 0),
+                    (1, new_link 0, (refl, refl), (lit< tt, inr (0, ended, at_alone (entry ∷ []) ended refl, (at_rest, inl (inr (refl, all_taken))))), refl),
+                    (Done, both broken, (1, new_link 0, record { here = refl; seat_is = refl; last = λ j other less here same. only_two ended (new_link 0) other j less here }, refl, refl), refl),
                   ),
                 ),
               ),
@@ -195,7 +195,9 @@ goes =
           ),
         ),
       ),
-    )
+    ),
+  ),
+)
 
 -- and the first connection, followed by another, has its reply
 replied : handed_bytes one_each (both broken) 0 ended ≡ codes "OK\r\n"

@@ -24,13 +24,16 @@ use numbers::Numbers;
 use rings::Rings;
 use std::alloc::{AllocError, Global};
 use std::random::RandomSource;
+use thiserror::Error;
 
 /// Why there is no simulated core.
-#[derive(Clone, Copy, Debug, PartialEq, Eq)]
+#[derive(Clone, Copy, Debug, PartialEq, Eq, Error)]
 pub enum SimRefusal {
     /// A size is out of its limits.
+    #[error("a size of the server is out of its limits")]
     Size,
     /// Memory ran out.
+    #[error("out of memory")]
     Memory,
 }
 

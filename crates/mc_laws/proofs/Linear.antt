@@ -1,5 +1,5 @@
 -- What a shard ran is one order of all that was asked of its keys.
-use Rattle.std.proofs.Common.{◌≡◌, ℕ, zero, suc, ◌+◌, ◌<◌, inl, inr, List, [], ◌∷◌, ◌++◌, length, Some, refl, sym, subst, arith}
+use Rattle.std.proofs.Common.{◌≡◌, ℕ, zero, suc, ◌+◌, ◌<◌, inl, inr, List, [], ◌∷◌, length, Some, refl, sym, subst, arith}
 use Rattle.std.specs.Prelude.{IfSome}
 use Rattle.std.specs.List.{AllByRecursion, slice_get}
 use Rattle.std.proofs.lemmas.Bool.Decides.{eqb_tells}
@@ -16,7 +16,7 @@ use Rattle.mc_conn.specs.Due.{due, lane, pieces, pieces_at, pieces_from, ticket_
 use Rattle.mc_conn.proofs.Gets.{all_at, get_below}
 use Rattle.mc_core.specs.Sizes.{AreWithin, Sizes}
 use Rattle.mc_core.specs.Log.{Entry, of_asker, on_shard, pieces_in}
-use Rattle.mc_core.specs.World.{IsLink, Link, World, empty_world}
+use Rattle.mc_core.specs.World.{Link, World, empty_world}
 use Rattle.mc_core.specs.Events.{Event}
 use Rattle.mc_core.specs.Schedule.{Schedule}
 use Rattle.mc_core.specs.Law.{Law, LinkLaw}

@@ -1,5 +1,5 @@
 -- A get of keys on two shards is not one moment: here it sees the newer value of one key and the older one of another.
-use Rattle.std.proofs.Common.{◌≡◌, ℕ, zero, suc, ◌<◌, false, inr, List, [], ◌∷◌, Some, None, refl, ◌∙◌, arith, codes, pos}
+use Rattle.std.proofs.Common.{◌≡◌, ℕ, zero, suc, false, inr, List, [], ◌∷◌, Some, None, refl, ◌∙◌, arith, codes, pos}
 use Rattle.std.specs.FinMap.{empty, get, get-empty, insert}
 use Rattle.std.specs.Ordering.{nat_cmp}
 use Rattle.std.specs.Cmp.Lexicographic.{slice_cmp}
@@ -14,7 +14,7 @@ use Rattle.mc_item.specs.declared.op.Op.{Op}
 use Rattle.mc_item.specs.declared.op.Op.TheVariants as op
 use Rattle.mc_item.specs.Expiry.{expiry_of, is_dead}
 use Rattle.mc_item.specs.Kind.{key_of}
-use Rattle.mc_split.specs.Pieces.{Asked, pieces_of}
+use Rattle.mc_split.specs.Pieces.{pieces_of}
 use Rattle.mc_store.specs.State.{State, Used, entered, first}
 use Rattle.mc_store.specs.Step.{Answers, IsStep, step_of}
 use Rattle.mc_store.specs.Rows.{fetched_item}
