@@ -4,6 +4,8 @@ ghost use Rattle.std.specs.List.{flat_map};
 ghost use Rattle.mc_core.specs.Sizes.{Sizes};
 ghost use Rattle.mc_core.specs.World.{IsLink, Link, World};
 ghost use Rattle.mc_core.specs.Headline.{handed_bytes};
+ghost use Rattle.mc_core.specs.Asked.{event_of};
+ghost use Rattle.mc_core.specs.Runs.{Runs};
 ghost use Rattle.mc_core.specs.Stands.{Stands};
 ghost use Rattle.mc_replay.specs.Report.{connection_line};
 ghost use Rattle.mc_replay.specs.Replay.{Replays, Tells, connection_lines, kept_line, report};
@@ -11,19 +13,24 @@ ghost use Rattle.mc_replay.specs.declared.run.ReplayFault.TheVariants.{Memory};
 
 use crate::report::{push_connection, push_counts, push_entry};
 use crate::schedule::Schedule;
-use mc_core::{LogEntry, Sim, SimRefusal};
+use mc_core::{Event, LogEntry, Sim, SimRefusal};
+use mc_item::NoMemory;
 use mc_wire::{Outlet, put_all};
 use std::alloc::{AllocError, Global};
 use std::random::RandomSource;
+use thiserror::Error;
 
 /// Why a schedule wasn't replayed to its end.
-#[derive(Clone, Copy, Debug, PartialEq, Eq)]
+#[derive(Clone, Copy, Debug, PartialEq, Eq, Error)]
 pub enum ReplayFault {
     /// A size of the server is out of its limits. Nothing was written.
+    #[error("a size of the server is out of its limits")]
     Size,
     /// Memory ran out. Nothing was written.
+    #[error("out of memory")]
     Memory,
     /// The outlet has failed. It took a beginning of what is told.
+    #[error("cannot write")]
     Gone,
 }
 
@@ -70,13 +77,24 @@ fn tell<R: RandomSource>(rt: &R, alloc: Global, schedule: &Schedule) -> Result<V
         Err(SimRefusal::Size) => return Err(ReplayFault::Size),
         Err(SimRefusal::Memory) => return Err(ReplayFault::Memory),
     };
-    let Ok(done) = sim.run(alloc, &schedule.events) else {
+    let Ok(done) = run_all(alloc, &mut sim, &schedule.events) else {
         return Err(ReplayFault::Memory);
     };
     let idle = (schedule.events.len() as u64).saturating_sub(done);
     match report(alloc, &sim, done, idle) {
         Ok(text) => Ok(text),
         Err(_) => Err(ReplayFault::Memory),
+    }
+}
+
+/// Runs all events, and tells how many of them were done. A replay ends at the first event that finds no memory: what the
+/// core has become by then is never told.
+fn run_all(alloc: Global, sim: &mut Sim, events: &[Event]) -> Result<u64, ReplayFault>
+    ensures { IfOk result (λ done. Runs sim.old (map event_of events.now) done sim.new) }
+{
+    match sim.run(alloc, events) {
+        Ok(done) => Ok(done),
+        Err(NoMemory) => Err(ReplayFault::Memory),
     }
 }
 

@@ -11,6 +11,7 @@ use crate::header::{Header, read_header};
 use crate::parts::{PartWalk, parts};
 use mc_core::Event;
 use std::alloc::{AllocError, Global};
+use thiserror::Error;
 
 /// A server and a list of events: what a replay file says.
 #[derive(Drop)]
@@ -32,11 +33,13 @@ pub struct Schedule {
 }
 
 /// Why a replay file wasn't read.
-#[derive(Clone, Copy, Debug, PartialEq, Eq)]
+#[derive(Clone, Copy, Debug, PartialEq, Eq, Error)]
 pub enum ScheduleFault {
     /// The line of this number, counted from 1, is the first that is no header or no event.
+    #[error("line {0}: bad event")]
     Bad(usize),
     /// There is no memory for the events.
+    #[error("out of memory")]
     Memory,
 }
 

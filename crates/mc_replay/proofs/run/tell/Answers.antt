@@ -10,7 +10,7 @@ use Rattle.mc_replay.proofs.run.tell.Goals as goal
 pub returns-in-Ok-report : goal.returns-in-Ok-report
 returns-in-Ok-report g c =
     let plan = c.args.schedule.now in
-    let ran = c.in-Ok-run.ensures.ran (sizes_of plan) empty_world c.in-Ok.ensures.ok in
+    let ran = c.in-Ok-run_all.ensures (sizes_of plan) empty_world c.in-Ok.ensures.ok in
     let count = length-map plan.events.items event_of in
-    is_report_of (sizes_of plan) (events_of plan) (map event_of c.deref.result.now) c.in-Ok-report.text.items c.in-Ok-run.done c.saturating_sub-idle.result
+    is_report_of (sizes_of plan) (events_of plan) (map event_of c.deref.result.now) c.in-Ok-report.text.items c.in-Ok-run_all.done c.saturating_sub-idle.result
     (ap (map event_of) c.deref.ensures.value) (omega (arith, count, c.saturating_sub-idle.ensures, c.len.ensures)) (ran.0, ran.1, ran.2, ran.3, c.in-Ok-report.ensures (sizes_of plan) ran.0 ran.4)
