@@ -1,5 +1,6 @@
 //! The laws of the step, for whoever reasons about runs of one shard or of several.
 ghost use Rattle.mc_store.specs.Laws.{AnswersAreLawful, StepsAgree, OthersStay, UniquesRise, UniquesDiffer, UniquesTell, TokensAreTaken, TimeRises, WinnersAreFirst, SentStays};
+ghost use Rattle.mc_store.specs.Limits.{BudgetsAre};
 ghost use Rattle.mc_store.specs.RunLaws.{RunsAreOrderly, RunsShareNoUnique, RunsLeaveOthers, NewIsGiven, SameUniqueSameItem, ToldAlone};
 
 /// Does nothing: its contract states what follows from the step, whatever the operations and their moments.
@@ -24,4 +25,9 @@ pub fn every_run()
     ensures new_is_given { NewIsGiven }
     ensures same_unique_same_item { SameUniqueSameItem }
     ensures told_alone { ToldAlone }
+{}
+
+/// The limits of a shard's budget are these numbers, and so is what an item costs beside its key and its value.
+pub fn budgets()
+    ensures { BudgetsAre }
 {}

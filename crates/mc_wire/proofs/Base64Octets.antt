@@ -1,10 +1,10 @@
 -- What decodes as base64 is bytes: each number that decoding gives is below 256.
 use Rattle.std.proofs.Common.{◌≡◌, ◌⊎◌, length, ℕ, zero, suc, ◌+◌, ◌*◌, ◌<◌, Result, Option, List, [], ◌∷◌, ◌++◌, slice_index, Some, None, Ok, Err, take, drop, refl, subst, sym, arith, inl, inr, ◌==◌}
-use Rattle.std.proofs.lemmas.Bool.{cases_Bool, cases_lt}
+use Rattle.std.proofs.lemmas.Bool.{cases_Bool}
 use Rattle.std.proofs.lemmas.List.{take-append-drop, get_or-drop}
 use Rattle.base64.specs.Engines.{standard}
 use Rattle.base64.specs.GeneralPurpose.{IsBytes, decode_of}
-use Rattle.base64.specs.Decode.{IsDecodeTable, or_else, symbol_error, group_error, group_bytes, groups_error, groups_bytes, groups_before_last, decode_group, decode_error, decode_outcome, decoded_bytes, lone_error, no_leftover, leftover_bytes, push_leftover, scan, scan_steps, scan_last, scan_bytes, suffix_bytes, suffix_error}
+use Rattle.base64.specs.Decode.{IsDecodeTable, or_else, symbol_error, group_error, group_bytes, groups_error, groups_bytes, groups_before_last, decode_group, decode_outcome, lone_error, no_leftover, leftover_bytes, push_leftover, scan, scan_steps, scan_last, scan_bytes, suffix_bytes}
 use Rattle.base64.specs.declared.decode.DecodeError.{DecodeError}
 use Rattle.base64.proofs.Decoding.{IsLeftover, IsLeftover_next}
 use Rattle.base64.proofs.EngineFacts.{front_bytes}

@@ -1,6 +1,6 @@
 -- The place of a key among two shards is a parity: the hash's basis and prime are odd, so its lowest bit is that of the
 -- basis and of each byte, mixed by exclusive or.
-use Rattle.std.proofs.Common.{◌≡◌, ℕ, ◌+◌, ◌*◌, ◌%◌, ◌^◌, List, [], ◌∷◌, refl, sym, ap, ◌∙◌, arith}
+use Rattle.std.proofs.Common.{◌≡◌, ℕ, ◌*◌, ◌%◌, ◌^◌, List, [], ◌∷◌, refl, sym, ap, ◌∙◌, arith}
 use Rattle.std.specs.Prelude.{fold, bit_xor}
 use Rattle.std.proofs.lemmas.Nat.{xor_mod}
 use Rattle.mc_wire.specs.Key.{fnv_step, fnv_of, place_of}

@@ -1,8 +1,5 @@
-use Rattle.std.proofs.Common.{◌≡◌, ◌∙◌, sym, Some}
-use Rattle.std.specs.Map.{lookup}
-use Rattle.mc_wire.specs.SameKey.{same_key}
+use Rattle.std.proofs.Common.{◌∙◌, sym}
 use Rattle.mc_item.specs.Kind.{key_of}
-use Rattle.mc_store.specs.internal.Found.{live}
 use Rattle.mc_store.specs.Shard.{IsShard, held_of}
 use Rattle.mc_store.proofs.Changes.{dead_none, live_some}
 use Rattle.mc_store.proofs.Gets.{fetch_absent, fetch_miss, fetch_lacks, fetch_hit}
