@@ -227,7 +227,7 @@ def refusal(history):
 
 
 def tell_faults(tally, histories):
-    """Each fault is put into the first history that has a place for it."""
+    """Each fault is put into the first history that has a place for it. Without it these histories are linearizable."""
     for fault in FAULTS:
         altered = next((found for found in map(fault, histories) if found), None)
         why = altered and refusal(altered)
@@ -246,7 +246,7 @@ def run(tally, port, given):
         name = f"{'counter' if place >= REGISTERS else 'register'} {place}: {len(histories[place])} commands"
         tally.tell(not why, f"{name} are linearizable" if not why else f"{name}: {why}")
     tally.tell(total >= given.commands - PROCESSES, f"{total} commands are answered")
-    tell_faults(tally, histories)
+    tell_faults(tally, [history for history, why in zip(histories, found) if not why])
 
 
 def main():

@@ -2,9 +2,9 @@ pub mod Finding
 pub mod Working
 pub mod Summing
 pub mod Measure
-pub mod Trying
+pub mod Fairness
 pub mod After
-pub mod Loaded
+pub mod Waiting
 pub mod Ordering
 pub mod Linear
 pub mod Rows

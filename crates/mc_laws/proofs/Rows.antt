@@ -220,8 +220,17 @@ goes =
 happens_before : HappensBefore one_each (Open 0 ∷ Feed 0 line ∷ Take 0 1000 ∷ Send 0 ∷ Pop 0 0 ∷ Give 0 ∷ Receive 0 0 ∷ Hand 0 ∷ End 0 ∷ Open 0 ∷ Feed 0 line ∷ Take 0 1000 ∷ Send 0 ∷ Pop 0 0 ∷ []) (both (ran_for 0 ∷ ran_for 1 ∷ []) sent) goes 0 0 1 0
 happens_before = record { p = 8; q = 8; order = omega arith; out = record { link = handed; here = refl; handed = lit< tt }; not_yet = λ link commands here spelled. absurd (cc) }
 
+-- Before it ended the first connection was at rest.
+rests_open : AtRest one_each handed
+unfolding pieces_of
+rests_open = (all_taken, refl, refl)
+
 pieces_of_both : IsPieceOf 0 0 (ran_for 0) × IsPieceOf 1 0 (ran_for 1)
 pieces_of_both = (record { asker = refl; ticket = refl }, record { asker = refl; ticket = refl })
+
+-- to the world in which the first connection's bytes have come, and none is taken
+fed_only : Schedule one_each (Open 0 ∷ Feed 0 line ∷ []) (alone [] fed)
+fed_only = (Done, alone [] (new_link 0), opened, (Done, alone [] fed, came, refl))
 
 -- An endless run that tries all work in turn, from the world in which the first connection's bytes have come.
 abbrev cycle : ℕ → Event

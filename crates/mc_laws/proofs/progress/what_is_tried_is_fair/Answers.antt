@@ -1,5 +1,5 @@
 -- A try is done where the event is enabled.
-use Rattle.mc_laws.proofs.Trying.{strong_is_weak, tries_fairly}
+use Rattle.mc_laws.proofs.Fairness.{strong_is_weak, tries_fairly}
 use Rattle.mc_laws.proofs.progress.what_is_tried_is_fair.Goals as goal
 
 pub returns-clause-tried : goal.returns-clause-tried

@@ -32,7 +32,7 @@ use Rattle.mc_laws.proofs.After.{IsMore, Later, event_later, lane_grows, later_s
 use Rattle.mc_core.proofs.Links.{ran_within}
 use Rattle.mc_core.proofs.Lists.{at_once, push_cases, set_cases}
 use Rattle.mc_laws.proofs.Measure.{ran_here}
-use Rattle.mc_laws.proofs.Trying.{AreSeated, at_seat, at_shard, enabled_in, law_along, one_place}
+use Rattle.mc_laws.proofs.Fairness.{AreSeated, at_seat, at_shard, enabled_in, law_along, one_place}
 use Rattle.mc_laws.proofs.Working.{at_waiting, hand_or_empty, last_at, next_or_all, none_next, sent_within}
 
 -- a run, and what holds at each of its places
