@@ -7,8 +7,8 @@ the constants, each with the lines that a reader has to check.
     scripts/definitions.py --check    fails where docs/PROOFS.md has others (the gate does this)
 
 A definition is counted where a theorem reaches it, through others or alone, and stands behind those that it stands on; so is a
-type, and what its fields or its model name. Lines of imports, comments and attributes are not counted. What is private inside a type that has a model isn't reached: clauses
-see its model alone.
+type, and what its fields or its model name. Lines of imports, comments and attributes are not counted. What is private inside a
+type that has a model isn't reached: clauses see its model alone.
 """
 import functools
 import pathlib
