@@ -3,14 +3,10 @@
 ghost use Rattle.mc_wire.specs.Outlet.{Listed, sight_out};
 
 use crate::asserting::{equal, holds};
-use mc_item::NoMemory;
-use mc_store::StoreFault;
 use mc_wire::{
     BASE64_LIMIT, DECODED_KEY_LIMIT, KEY_LIMIT, Key, OutFault, Outlet, WireFault, base64_is_text,
-    key_fault, limits, number_i64, number_u64, put_all, put_parts, words,
+    key_fault, number_i64, number_u64, put_all, put_parts, words,
 };
-use std::alloc::Global;
-use std::fmt::Display;
 use std::test::Fail;
 
 /// Takes one byte a write, and fails once it was written to so often.
@@ -127,7 +123,6 @@ fn base64_keys_are_shown_as_they_were_read(rt: HostRuntime) -> Result<(), Fail> 
     }
     let longest = Key::from_base64(rt.alloc(), &[b'A'; 248])?;
     base64_is_text();
-    limits();
     equal(&rt, longest.bytes(), [0; DECODED_KEY_LIMIT].as_slice());
     let long = Key::from_word(rt.alloc(), &[b'k'; KEY_LIMIT])?;
     equal(
@@ -222,45 +217,5 @@ fn a_failing_outlet_has_taken_a_front(rt: HostRuntime) -> Result<(), Fail> {
         equal(&rt, at_once.store.as_slice(), &whole[..writes as usize]);
         equal(&rt, in_parts.store.as_slice(), &whole[..writes as usize]);
     }
-    Ok(())
-}
-
-/// What a fault says, as text.
-fn said<T: Display + Copy>(alloc: Global, fault: T) -> Result<String, Fail> {
-    Ok(format!(in alloc; "{fault}")?)
-}
-
-#[test]
-fn faults_say_what_is_wanted(rt: HostRuntime) -> Result<(), Fail> {
-    let texts = [
-        (WireFault::NoKey, "a key needs at least one byte"),
-        (WireFault::KeyTooLong, "a key has at most 250 bytes"),
-        (
-            WireFault::KeyByte,
-            "a key has no space and no control byte: send such a key in base64, with the flag b",
-        ),
-        (
-            WireFault::NotBase64,
-            "the key is not the base64 text of any bytes, in the standard alphabet with padding",
-        ),
-        (
-            WireFault::NotNumber,
-            "a number of at most 20 digits that fits 64 bits is wanted",
-        ),
-        (WireFault::Memory, "no memory is left for the key"),
-    ];
-    for (fault, text) in texts {
-        equal(&rt, said(rt.alloc(), fault)?.as_str(), text);
-    }
-    let failed = said(rt.alloc(), OutFault)?;
-    equal(
-        &rt,
-        failed.as_str(),
-        "the outlet has failed, and takes no more bytes",
-    );
-    let value = said(rt.alloc(), NoMemory)?;
-    equal(&rt, value.as_str(), "no memory is left for the value");
-    let shard = said(rt.alloc(), StoreFault::Memory)?;
-    equal(&rt, shard.as_str(), "no memory is left for the shard");
     Ok(())
 }
