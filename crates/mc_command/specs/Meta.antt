@@ -243,6 +243,16 @@ command_by Set key asked = unless (compare_refusal (set_by key asked)) (Ok (comm
 command_by Delete key asked = Ok (command.MetaDelete (delete_by key asked))
 command_by Arithmetic key asked = Ok (command.MetaArithmetic (arithmetic_by key asked))
 
+-- what was read of mg, as a command
+abbrev pub as_meta_get : Result MetaGet Refusal → Result Command Refusal
+as_meta_get (Ok get) = Ok (command.MetaGet get)
+as_meta_get (Err refusal) = Err refusal
+
+-- what was read of ms, as a command
+abbrev pub as_meta_set : Result MetaSet Refusal → Result Command Refusal
+as_meta_set (Ok set) = Ok (command.MetaSet set)
+as_meta_set (Err refusal) = Err refusal
+
 -- what a key word and the flags behind it ask: the flags are judged first
 abbrev pub meta_command_of : MetaKind → List ℕ → List (List ℕ) → Result Command Refusal
 meta_command_of name word words =

@@ -26,7 +26,7 @@ pub(crate) fn read_u64(word: &[u8]) -> Result<u64, Refusal>
 
 /// Reads an unsigned number of 32 bits.
 #[tactic(auto, using(crate::proofs::Fields::narrows))]
-pub(crate) fn read_u32(word: &[u8]) -> Result<u32, Refusal>
+pub fn read_u32(word: &[u8]) -> Result<u32, Refusal>
     ensures { result ≡ unsigned_of (2 ^ 32) word.now }
 {
     let number = read_u64(word)?;
@@ -37,7 +37,7 @@ pub(crate) fn read_u32(word: &[u8]) -> Result<u32, Refusal>
 }
 
 /// Reads a signed number of 64 bits.
-pub(crate) fn read_i64(word: &[u8]) -> Result<i64, Refusal>
+pub fn read_i64(word: &[u8]) -> Result<i64, Refusal>
     ensures { result ≡ signed_of word.now }
 {
     let number = number_i64(word)?;
@@ -45,7 +45,7 @@ pub(crate) fn read_i64(word: &[u8]) -> Result<i64, Refusal>
 }
 
 /// Reads the word behind the fields: it is `noreply`, or there is none.
-pub(crate) fn read_noreply(word: Option<&[u8]>) -> Result<bool, Refusal>
+pub fn read_noreply(word: Option<&[u8]>) -> Result<bool, Refusal>
     ensures { result ≡ noreply_of (option_copied word.entry) }
 {
     match word {

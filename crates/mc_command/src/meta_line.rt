@@ -3,7 +3,7 @@ ghost use Rattle.std.specs.Prelude.{◌≡◌};
 ghost use Rattle.mc_wire.specs.Words.{words_left};
 ghost use Rattle.mc_command.specs.Line.{Says};
 ghost use Rattle.mc_command.specs.Field.{Reads};
-ghost use Rattle.mc_command.specs.Meta.{decoded_key, line_with_block, line_without_block, meta_command_of, meta_key_of, meta_line_of};
+ghost use Rattle.mc_command.specs.Meta.{as_meta_get, as_meta_set, decoded_key, line_with_block, line_without_block, meta_command_of, meta_key_of, meta_line_of};
 ghost use Rattle.mc_command.specs.Meta.{arithmetic_by, command_by, delete_by, get_by, set_by};
 
 use crate::block::Block;
@@ -62,6 +62,25 @@ fn read_command(
     asked.into_command(alloc, name, key)
 }
 
+/// Reads what `mg` asks by its key word and the words of its flags. The refusals are those of a line of `mg`.
+pub fn read_meta_get(alloc: Global, word: &[u8], flags: WordWalk<'_>) -> Result<MetaGet, Refusal>
+    ensures { Reads (meta_command_of MetaKind.Get word.now (words_left flags.entry)) (as_meta_get result) }
+{
+    let asked = read_flags(MetaKind::Get, flags)?;
+    let key = read_meta_key(alloc, asked.flags.base64, word)?;
+    Ok(asked.into_get(key))
+}
+
+/// Reads what `ms` asks by its key word and the words of its flags, its block still empty. The refusals are those of a
+/// line of `ms`, but for those of the block.
+pub fn read_meta_set(alloc: Global, word: &[u8], flags: WordWalk<'_>) -> Result<MetaSet, Refusal>
+    ensures { Reads (meta_command_of MetaKind.Set word.now (words_left flags.entry)) (as_meta_set result) }
+{
+    let asked = read_flags(MetaKind::Set, flags)?;
+    let key = read_meta_key(alloc, asked.flags.base64, word)?;
+    asked.into_checked_set(alloc, key)
+}
+
 /// Reads a key word, which may be base64.
 fn read_meta_key(alloc: Global, base64: bool, word: &[u8]) -> Result<Key, Refusal>
     ensures { Reads (meta_key_of base64 word.now) result }
@@ -89,16 +108,21 @@ impl Asked {
     {
         match name {
             MetaKind::Get => Ok(Command::MetaGet(self.into_get(key))),
-            MetaKind::Set => {
-                let set = self.into_set(alloc, key);
-                if set.compare.is_some() && set.mode != MetaMode::Set {
-                    return Err(Refusal::BadFormat);
-                }
-                Ok(Command::MetaSet(set))
-            }
+            MetaKind::Set => Ok(Command::MetaSet(self.into_checked_set(alloc, key)?)),
             MetaKind::Delete => Ok(Command::MetaDelete(self.into_delete(key))),
             MetaKind::Arithmetic => Ok(Command::MetaArithmetic(self.into_arithmetic(key))),
         }
+    }
+
+    /// What `ms` asks; it compares in its mode `S` alone.
+    fn into_checked_set(self, alloc: Global, key: Key) -> Result<MetaSet, Refusal>
+        ensures { as_meta_set result ≡ command_by MetaKind.Set key self }
+    {
+        let set = self.into_set(alloc, key);
+        if set.compare.is_some() && set.mode != MetaMode::Set {
+            return Err(Refusal::BadFormat);
+        }
+        Ok(set)
     }
 
     fn into_get(self, key: Key) -> MetaGet

@@ -3,6 +3,7 @@ use Rattle.std.specs.Prelude.{ℕ, ◌≡◌, ◌+◌, ◌<◌, true, false, [],
 use Rattle.mc_wire.specs.Outlet.{Sight, took}
 use Rattle.mc_wire.specs.Outlet as outlet
 use Rattle.mc_reader.specs.Reader.{IsWaiting}
+use Rattle.mc_reader.specs.Reader as reader
 use Rattle.mc_reader.specs.Spelling.{BeginCommands, is_closed}
 use Rattle.mc_split.specs.declared.plan.Ticket.{Ticket}
 use Rattle.mc_conn.specs.declared.conn.Conn.{Conn}
@@ -19,6 +20,14 @@ IsConn conn told = HasBeenTold conn told
 -- The connection has just found that it needs more bytes for the next command, and has room for some.
 unfoldable pub IsAwaiting : Conn → Type 0
 IsAwaiting conn = IsWaiting conn.reader
+
+-- how many bytes a connection holds: those that its reader does
+unfoldable pub held_bytes : Conn → ℕ
+held_bytes conn = reader.held_bytes conn.reader
+
+-- The bytes that come next are skipped: those that a refused line announced, or a block that memory ran out for.
+unfoldable pub SkipsBytes : Conn → Type 0
+SkipsBytes conn = reader.IsSkipping conn.reader
 
 -- One command more was taken, at this moment.
 pub record Opens (told : Told) (moment : ℕ) (ticket : Ticket) (new : Conn) : Type 0 where

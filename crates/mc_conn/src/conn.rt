@@ -45,7 +45,7 @@ pub struct Conn {
 }
 
 impl Conn {
-    ghost use Rattle.mc_conn.specs.Conn.{IsConn, IsAwaiting, TakeSays, HandsOut, BreaksOff, StaysSilent};
+    ghost use Rattle.mc_conn.specs.Conn.{IsConn, IsAwaiting, TakeSays, HandsOut, BreaksOff, SkipsBytes, StaysSilent, held_bytes};
 
     /// A new connection over so many shards, for values of at most `limit` bytes and with this window. It takes the room for
     /// the longest line and for the open commands. `Memory`: memory ran out.
@@ -244,8 +244,9 @@ impl Conn {
 
     /// How many bytes are held that are not part of a command taken: those that are unread, and those of a data block that is
     /// being read. It takes no memory.
-    #[tactic(auto, unfolding(crate::specs::Conn::IsConn))]
+    #[tactic(auto, unfolding(crate::specs::Conn::IsConn, crate::specs::Conn::held_bytes, crate::specs::Conn::SkipsBytes))]
     pub fn held(&self) -> usize
+        ensures value { result ≡ held_bytes self.now }
         ensures most { (told : Told) → IsConn self.now told → result ≤ LINE_LIMIT + told.limit + 2 }
         // No more than the bytes fed that are not part of a command taken, until the last command is taken.
         ensures unread { (told : Told) (unread : List ℕ) → IsConn self.now told → LeavesUnread told unread → result ≤ length unread }
@@ -254,6 +255,8 @@ impl Conn {
             result ≡ length unread }
         // A block that is skipped is not held.
         ensures skipping { (told : Told) → IsConn self.now told → IsSkipping told → result ≤ LINE_LIMIT }
+        // Nor is one that memory ran out for.
+        ensures skipped { SkipsBytes self.now → result ≤ LINE_LIMIT }
     {
         self.reader.held()
     }

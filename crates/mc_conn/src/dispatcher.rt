@@ -9,11 +9,14 @@ ghost use Rattle.mc_join.specs.Held.{opened_count};
 ghost use Rattle.mc_join.specs.Joined.{IsJoiner};
 
 use crate::planning::{form_of_refusal, plan};
-use mc_command::Command;
+use mc_command::{Command, MetaGet, MetaSet};
 use mc_item::NoMemory;
 use mc_join::Joiner;
 use mc_plain::Commands;
-use mc_split::{Form, Piece, Ticket, split_get, split_meta_get, split_no_op, split_set};
+use mc_split::{
+    Form, Piece, Ticket, split_get, split_get_one, split_meta_get, split_meta_get_value,
+    split_meta_set, split_no_op, split_set,
+};
 use std::alloc::Global;
 use std::collections::VecDeque;
 
@@ -72,10 +75,26 @@ impl Commands for Dispatcher {
         self.open(form);
     }
 
-    fn get_one(&mut self, key: &[u8]) {
+    fn get_one(&mut self, key: &[u8], with_unique: bool) {
+        let split = split_get_one(
+            self.alloc,
+            key,
+            with_unique,
+            self.ticket,
+            self.moment,
+            self.shards,
+            &mut self.unsent,
+        );
+        let form = self.form_or_refusal(split);
+        self.open(form);
+    }
+
+    fn get(&mut self, first: &[u8], others: &[u8], with_unique: bool) {
         let split = split_get(
             self.alloc,
-            key,
+            first,
+            others,
+            with_unique,
             self.ticket,
             self.moment,
             self.shards,
@@ -85,8 +104,8 @@ impl Commands for Dispatcher {
         self.open(form);
     }
 
-    fn meta_get(&mut self, key: &[u8]) {
-        let split = split_meta_get(
+    fn meta_get_value(&mut self, key: &[u8]) {
+        let split = split_meta_get_value(
             self.alloc,
             key,
             self.ticket,
@@ -98,12 +117,40 @@ impl Commands for Dispatcher {
         self.open(form);
     }
 
-    fn set(&mut self, key: &[u8], flags: u32, exptime: i64, block: &[u8]) {
+    fn meta_get(&mut self, get: MetaGet) {
+        let split = split_meta_get(
+            self.alloc,
+            get,
+            self.ticket,
+            self.moment,
+            self.shards,
+            &mut self.unsent,
+        );
+        let form = self.form_or_refusal(split);
+        self.open(form);
+    }
+
+    fn meta_set(&mut self, set: MetaSet, block: &[u8]) {
+        let split = split_meta_set(
+            self.alloc,
+            set,
+            block,
+            self.ticket,
+            self.moment,
+            self.shards,
+            &mut self.unsent,
+        );
+        let form = self.form_or_refusal(split);
+        self.open(form);
+    }
+
+    fn set(&mut self, key: &[u8], flags: u32, exptime: i64, noreply: bool, block: &[u8]) {
         let split = split_set(
             self.alloc,
             key,
             flags,
             exptime,
+            noreply,
             block,
             self.ticket,
             self.moment,

@@ -17,13 +17,16 @@ use mc_split::{Form, Ticket};
 use mc_wire::Outlet;
 use std::alloc::{AllocError, Global};
 use std::marker::Model;
+use thiserror::Error;
 
 /// As many tickets are open as may be.
-#[derive(Clone, Copy, Debug, PartialEq, Eq)]
+#[derive(Clone, Copy, Debug, Error, PartialEq, Eq)]
+#[error("as many commands are open as the window has room for")]
 pub struct Full;
 
 /// The outlet has failed, and nothing is handed out any more.
-#[derive(Clone, Copy, Debug, PartialEq, Eq)]
+#[derive(Clone, Copy, Debug, Error, PartialEq, Eq)]
+#[error("the outlet of a connection has failed")]
 pub struct Gone;
 
 /// A reply that isn't awaited, handed back.

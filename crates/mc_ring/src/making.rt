@@ -8,13 +8,16 @@ use crate::shard::{ShardEnds, ShardLane};
 use crate::{RING_LIMIT, SEAT_LIMIT, SHARD_LIMIT};
 use rtrb::RingBuffer;
 use std::alloc::{AllocError, Global};
+use thiserror::Error;
 
 /// Why there are no lanes.
-#[derive(Clone, Copy, Debug, PartialEq, Eq)]
+#[derive(Clone, Copy, Debug, Error, PartialEq, Eq)]
 pub enum RingRefusal {
     /// A number is out of its range.
+    #[error("the number of seats, of shards or of places in a ring is out of its range")]
     Size,
     /// There is no memory for the rings.
+    #[error("out of memory for the rings between seats and shards")]
     Memory,
 }
 

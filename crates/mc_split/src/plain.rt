@@ -1,7 +1,11 @@
 //! The commands that are split without a value of a command: from their words to their piece and the form of their reply.
-ghost use Rattle.std.specs.Prelude.{◌≡◌, ◌<◌, ◌≤◌, None, length};
+ghost use Rattle.std.specs.Prelude.{◌≡◌, ◌<◌, ◌≤◌, ◌∷◌, [], None, length};
+ghost use Rattle.mc_command.specs.declared.command.Command.{Command};
+ghost use Rattle.mc_command.specs.Command.{with_block};
+ghost use Rattle.mc_command.specs.Field.{AreKeys};
 ghost use Rattle.mc_command.specs.declared.command.Command.TheVariants as command;
 ghost use Rattle.mc_wire.specs.Key.{key_fault};
+ghost use Rattle.mc_wire.specs.Words.{words_of};
 ghost use Rattle.mc_wire.specs.declared.TheConstants.{GREATEST_VALUE_LIMIT};
 ghost use Rattle.mc_plain.specs.Plain.{get_of, meta_get_of, set_of};
 ghost use Rattle.mc_split.specs.Pieces.{pieces_of};
@@ -12,7 +16,9 @@ ghost use Rattle.mc_split.specs.internal.Splits.{Splits};
 use crate::form::{Fixed, Form, Shape};
 use crate::plan::{Piece, Ticket};
 use crate::splitter::Splitter;
-use mc_command::{Keys, MetaFlags, MetaKind, Opaque, Returned, StoreMode};
+use mc_command::{
+    Block, Keys, MetaFlags, MetaGet, MetaKind, MetaSet, Opaque, Retrieval, Returned, StoreMode,
+};
 use mc_item::{NoMemory, Op, Value};
 use mc_wire::Key;
 use std::alloc::Global;
@@ -33,12 +39,13 @@ pub fn split_no_op(alloc: Global, ticket: Ticket, moment: u64, shards: usize) ->
     splitter.fixed(Fixed::MetaNoop)
 }
 
-/// Splits `get KEY`: puts its piece behind those of the queue, and gives the form of its reply. Where memory runs out, the
-/// queue holds what it held.
+/// Splits `get KEY`, or `gets KEY`, which shows the unique: puts its piece behind those of the queue, and gives the form of
+/// its reply. Where memory runs out, the queue holds what it held.
 #[inline(always)]
-pub fn split_get(
+pub fn split_get_one(
     alloc: Global,
     key: &[u8],
+    with_unique: bool,
     ticket: Ticket,
     moment: u64,
     shards: usize,
@@ -46,7 +53,7 @@ pub fn split_get(
 ) -> Result<Form, NoMemory>
     requires shards { 0 < shards }
     requires key { key_fault key.now ≡ None }
-    ensures { SplitsInto shards ticket moment (get_of key.now) result queue.old.items queue.new.items }
+    ensures { SplitsInto shards ticket moment (get_of (key.now ∷ []) with_unique) result queue.old.items queue.new.items }
 {
     let before = queue.len();
     let splitter = Splitter {
@@ -55,16 +62,47 @@ pub fn split_get(
         moment,
         shards,
     };
-    let form = splitter.get_one(queue, key);
+    let form = splitter.get_one(queue, key, with_unique);
     if form.is_err() {
         queue.truncate(before);
     }
     form
 }
 
-/// Splits `mg KEY v`, as `split_get` does.
+/// Splits `get KEY ..`, or `gets KEY ..`, as `split_get_one` does, by the first key and the text of the others: one piece a
+/// key, in the order of the request.
+pub fn split_get(
+    alloc: Global,
+    first: &[u8],
+    others: &[u8],
+    with_unique: bool,
+    ticket: Ticket,
+    moment: u64,
+    shards: usize,
+    queue: &mut VecDeque<(usize, Piece)>,
+) -> Result<Form, NoMemory>
+    requires shards { 0 < shards }
+    requires first { key_fault first.now ≡ None }
+    requires others { AreKeys (words_of others.now) }
+    ensures { SplitsInto shards ticket moment (get_of (first.now ∷ words_of others.now) with_unique) result queue.old.items queue.new.items }
+{
+    let before = queue.len();
+    let splitter = Splitter {
+        alloc,
+        ticket,
+        moment,
+        shards,
+    };
+    let form = splitter.get_keys(queue, first, others, with_unique);
+    if form.is_err() {
+        queue.truncate(before);
+    }
+    form
+}
+
+/// Splits `mg KEY v`, as `split_get_one` does.
 #[inline(always)]
-pub fn split_meta_get(
+pub fn split_meta_get_value(
     alloc: Global,
     key: &[u8],
     ticket: Ticket,
@@ -90,13 +128,68 @@ pub fn split_meta_get(
     form
 }
 
-/// Splits `set KEY FLAGS E N` with its block, as `split_get` does.
+/// Splits `mg` with any flags, as `split_get_one` does.
+pub fn split_meta_get(
+    alloc: Global,
+    get: MetaGet,
+    ticket: Ticket,
+    moment: u64,
+    shards: usize,
+    queue: &mut VecDeque<(usize, Piece)>,
+) -> Result<Form, NoMemory>
+    requires { 0 < shards }
+    ensures { SplitsInto shards ticket moment (command.MetaGet get) result queue.old.items queue.new.items }
+{
+    let before = queue.len();
+    let splitter = Splitter {
+        alloc,
+        ticket,
+        moment,
+        shards,
+    };
+    let form = splitter.meta_get(queue, get);
+    if form.is_err() {
+        queue.truncate(before);
+    }
+    form
+}
+
+/// Splits `ms` with this block in place of its own, as `split_get_one` does.
+pub fn split_meta_set(
+    alloc: Global,
+    set: MetaSet,
+    block: &[u8],
+    ticket: Ticket,
+    moment: u64,
+    shards: usize,
+    queue: &mut VecDeque<(usize, Piece)>,
+) -> Result<Form, NoMemory>
+    requires shards { 0 < shards }
+    requires small { length block.now ≤ GREATEST_VALUE_LIMIT }
+    ensures { SplitsInto shards ticket moment (with_block (command.MetaSet set) block.now) result queue.old.items queue.new.items }
+{
+    let before = queue.len();
+    let splitter = Splitter {
+        alloc,
+        ticket,
+        moment,
+        shards,
+    };
+    let form = splitter.meta_set_with(queue, set, block);
+    if form.is_err() {
+        queue.truncate(before);
+    }
+    form
+}
+
+/// Splits `set KEY FLAGS E N [noreply]` with its block, as `split_get_one` does.
 #[inline(always)]
 pub fn split_set(
     alloc: Global,
     key: &[u8],
     flags: u32,
     exptime: i64,
+    noreply: bool,
     block: &[u8],
     ticket: Ticket,
     moment: u64,
@@ -106,7 +199,7 @@ pub fn split_set(
     requires shards { 0 < shards }
     requires key { key_fault key.now ≡ None }
     requires small { length block.now ≤ GREATEST_VALUE_LIMIT }
-    ensures { SplitsInto shards ticket moment (set_of key.now flags exptime block.now) result queue.old.items queue.new.items }
+    ensures { SplitsInto shards ticket moment (set_of key.now flags exptime noreply block.now) result queue.old.items queue.new.items }
 {
     let before = queue.len();
     let splitter = Splitter {
@@ -115,7 +208,7 @@ pub fn split_set(
         moment,
         shards,
     };
-    let form = splitter.set(queue, key, flags, exptime, block);
+    let form = splitter.set(queue, key, flags, exptime, noreply, block);
     if form.is_err() {
         queue.truncate(before);
     }
@@ -123,19 +216,50 @@ pub fn split_set(
 }
 
 impl Splitter {
-    /// `get KEY`.
+    /// `get KEY ..` and `gets KEY ..`.
+    #[tactic(auto, unfolding(crate::specs::Pieces::pieces_of, crate::specs::Shape::shape_of))]
+    fn get_keys(
+        self,
+        queue: &mut VecDeque<(usize, Piece)>,
+        first: &[u8],
+        others: &[u8],
+        with_unique: bool,
+    ) -> Result<Form, NoMemory>
+        requires shards { 0 < self.shards }
+        requires first { key_fault first.now ≡ None }
+        requires others { AreKeys (words_of others.now) }
+        ensures { let asked : Command = get_of (first.now ∷ words_of others.now) with_unique in
+            Splits result self.ticket self.moment (shape_of asked) (pieces_of self.shards asked) queue.old.items queue.new.items }
+    {
+        let keys = Keys::from_key_words(self.alloc, first, others)?;
+        self.get(
+            queue,
+            Retrieval {
+                keys,
+                touch: None,
+                with_unique,
+            },
+        )
+    }
+
+    /// `get KEY` and `gets KEY`.
     #[inline(always)]
     #[tactic(auto, unfolding(crate::specs::Pieces::pieces_of, crate::specs::Shape::shape_of))]
-    fn get_one(self, queue: &mut VecDeque<(usize, Piece)>, key: &[u8]) -> Result<Form, NoMemory>
+    fn get_one(
+        self,
+        queue: &mut VecDeque<(usize, Piece)>,
+        key: &[u8],
+        with_unique: bool,
+    ) -> Result<Form, NoMemory>
         requires shards { 0 < self.shards }
         requires key { key_fault key.now ≡ None }
-        ensures { Splits result self.ticket self.moment (shape_of (get_of key.now)) (pieces_of self.shards (get_of key.now)) queue.old.items queue.new.items }
+        ensures { Splits result self.ticket self.moment (shape_of (get_of (key.now ∷ []) with_unique)) (pieces_of self.shards (get_of (key.now ∷ []) with_unique)) queue.old.items queue.new.items }
     {
         let shown = Key::from_key_word(self.alloc, key)?;
         let key = Key::from_key_word(self.alloc, key)?;
         let shape = Shape::Values {
             keys: Keys::one(self.alloc, shown),
-            with_unique: false,
+            with_unique,
         };
         let shard = key.place(self.shards);
         self.one(queue, shape, shard, Op::Fetch { key, touch: None })
@@ -175,7 +299,30 @@ impl Splitter {
         self.one(queue, shape, shard, op)
     }
 
-    /// `set KEY FLAGS E N`.
+    /// `ms` with this block.
+    #[tactic(auto, unfolding(crate::specs::Pieces::pieces_of, crate::specs::Shape::shape_of))]
+    fn meta_set_with(
+        self,
+        queue: &mut VecDeque<(usize, Piece)>,
+        set: MetaSet,
+        block: &[u8],
+    ) -> Result<Form, NoMemory>
+        requires shards { 0 < self.shards }
+        requires small { length block.now ≤ GREATEST_VALUE_LIMIT }
+        ensures { let asked : Command = with_block (command.MetaSet set) block.now in
+            Splits result self.ticket self.moment (shape_of asked) (pieces_of self.shards asked) queue.old.items queue.new.items }
+    {
+        let block = Vec::from_slice(self.alloc, block)?;
+        self.meta_set(
+            queue,
+            MetaSet {
+                block: Block::new(block),
+                ..set
+            },
+        )
+    }
+
+    /// `set KEY FLAGS E N [noreply]`.
     #[inline(always)]
     #[tactic(auto, unfolding(crate::specs::Pieces::pieces_of, crate::specs::Shape::shape_of))]
     fn set(
@@ -184,12 +331,13 @@ impl Splitter {
         key: &[u8],
         flags: u32,
         exptime: i64,
+        noreply: bool,
         block: &[u8],
     ) -> Result<Form, NoMemory>
         requires shards { 0 < self.shards }
         requires key { key_fault key.now ≡ None }
         requires small { length block.now ≤ GREATEST_VALUE_LIMIT }
-        ensures { Splits result self.ticket self.moment (shape_of (set_of key.now flags exptime block.now)) (pieces_of self.shards (set_of key.now flags exptime block.now)) queue.old.items queue.new.items }
+        ensures { Splits result self.ticket self.moment (shape_of (set_of key.now flags exptime noreply block.now)) (pieces_of self.shards (set_of key.now flags exptime noreply block.now)) queue.old.items queue.new.items }
     {
         let key = Key::from_key_word(self.alloc, key)?;
         let block = Vec::from_slice(self.alloc, block)?;
@@ -201,6 +349,6 @@ impl Splitter {
             exptime,
             value: Value::new(block)?,
         };
-        self.one(queue, Shape::Line { noreply: false }, shard, op)
+        self.one(queue, Shape::Line { noreply }, shard, op)
     }
 }

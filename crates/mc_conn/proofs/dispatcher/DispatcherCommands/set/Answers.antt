@@ -14,7 +14,7 @@ returns c =
     let splits = rw (to_z-of_z w64 c.args.exptime fits) at c.split_set-split.ensures in
     record {
       form = form;
-      plan = rw c.open.ensures.unsent (plans_split dispatcher.shards dispatcher.ticket dispatcher.moment (set_of c.args.key.now c.args.flags c.args.exptime c.args.block.now) c.split_set-split.result form dispatcher.unsent.items c.split_set-split.new.queue.items splits c.form_or_refusal-form.ensures);
+      plan = rw c.open.ensures.unsent (plans_split dispatcher.shards dispatcher.ticket dispatcher.moment (set_of c.args.key.now c.args.flags c.args.exptime c.args.noreply c.args.block.now) c.split_set-split.result form dispatcher.unsent.items c.split_set-split.new.queue.items splits c.form_or_refusal-form.ensures);
       joiner = c.open.ensures.joiner;
       joins = c.open.ensures.joins;
       shards = c.open.ensures.shards;
