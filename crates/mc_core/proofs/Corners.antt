@@ -1,5 +1,5 @@
 -- Corners of the definitions, each computed: the sizes at both ends of their ranges, and how each event may be answered.
-use Rattle.std.proofs.Common.{◌≡◌, ℕ, zero, suc, ◌+◌, ◌<◌, ◌≤◌, ◌++◌, ◌⊎◌, true, false, IsTrue, inl, inr, List, [], ◌∷◌, length, Some, refl, sym, subst, arith, codes, lit<, lit≤}
+use Rattle.std.proofs.Common.{◌≡◌, ℕ, zero, suc, ◌+◌, ◌<◌, ◌≤◌, ◌++◌, ◌⊎◌, true, false, IsTrue, inl, inr, List, [], ◌∷◌, Some, refl, sym, subst, arith, codes, lit<, lit≤}
 use Rattle.std.specs.List.{slice_get}
 use Rattle.mc_reader.specs.Spelling.{SpellsNothing}
 use Rattle.mc_item.specs.Kind.{kind_of}
@@ -20,7 +20,7 @@ use Rattle.mc_core.proofs.Rows.{alone, at_alone, begins, broken, come, ended, en
 
 -- The sizes
 
-abbrev pub least : Sizes
+abbrev least : Sizes
 least = record { seats = 1; shards = 1; bytes = 1024; ring = 1; value = 1024; window = 1 }
 
 abbrev most : Sizes

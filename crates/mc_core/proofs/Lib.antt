@@ -7,6 +7,7 @@ pub mod Every
 pub mod Growing
 pub mod Rows
 pub mod Corners
+pub mod Crossing
 pub mod Alone
 pub mod Served
 pub mod Desks
