@@ -14,7 +14,7 @@ use Rattle.mc_core.specs.Schedule.{Enabled, Happens, Leads, Spared, StepReply}
 use Rattle.mc_core.specs.Schedule.StepReply.{Done, Idle, NoMemory}
 use Rattle.mc_core.specs.Law.{Law}
 use Rattle.mc_laws.specs.Progress.{HasWork, IsWork}
-use Rattle.mc_laws.specs.Fair.{ComesToRest, EndlessRun, HasNoInput, IsOfServer, IsSameStep, IsStronglyFair, IsWeaklyFair, TakesBytes, TriesAll}
+use Rattle.mc_laws.specs.Fair.{ComesToRest, EndlessRun, HasNoInput, IsOfServer, IsSameStep, IsWeaklyFair, TakesBytes, TriesAll}
 use Rattle.mc_core.proofs.Every.{event_kept}
 use Rattle.mc_core.proofs.Links.{ran_within}
 use Rattle.mc_core.proofs.Lists.{at_once, push_cases, set_cases}
@@ -134,13 +134,6 @@ tries_fairly sizes w run tries n event work there =
       | inl done ↦ inl (record { later = m; after = tried.after; same = tried.same; done = done })
       | inr never ↦ inr (record { later = m; after = tried.after; never = never })
     ]
-
--- A strongly fair run is weakly fair.
-pub strong_is_weak : (sizes : Sizes) (w : World) (run : EndlessRun sizes w) → IsStronglyFair run → IsWeaklyFair run
-strong_is_weak sizes w run strong n event work there = elim (strong n event work there) [
-  | inl done ↦ inl done
-  | inr over ↦ inr (record { later = over.later; after = over.after; never = over.never over.later (omega arith) })
-]
 
 -- Whether a step is done, or changes nothing.
 done_or_same : (sizes : Sizes) (w : World) (event : Event) (reply : StepReply) (w' : World) → Happens sizes w event reply w' → (reply ≡ Done) ⊎ (w' ≡ w)

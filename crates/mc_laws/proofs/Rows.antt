@@ -32,7 +32,7 @@ use Rattle.mc_core.specs.Events.Event.{Open, Feed, Take, Send, Pop, Give, Receiv
 use Rattle.mc_core.specs.Schedule.{Enabled, Happens, Leads, Schedule, StepReply}
 use Rattle.mc_core.specs.Schedule.StepReply.{Done, Idle, NoMemory}
 use Rattle.mc_laws.specs.Progress.{IsWork}
-use Rattle.mc_laws.specs.Fair.{EndlessRun, HasNoInput, IsSameStep, IsStronglyFair, IsTried, TriesAll}
+use Rattle.mc_laws.specs.Fair.{EndlessRun, HasNoInput, IsFairToSeats, IsSameStep, IsTried, TriesAll}
 use Rattle.mc_laws.specs.Order.{HappensBefore, IsPieceOf}
 use Rattle.mc_laws.proofs.Measure.{work_inside}
 use Rattle.mc_laws.proofs.Working.{none_next}
@@ -385,6 +385,6 @@ rests_from (suc (suc (suc (suc zero)))) from = absurd (omega (arith, from))
 rests_from (suc (suc (suc (suc (suc zero))))) from = absurd (omega (arith, from))
 rests_from (suc (suc (suc (suc (suc (suc n)))))) from = refl
 
-strongly_fair : IsStronglyFair run
-strongly_fair n event work there =
-    inr (record { later = n + 6; after = omega arith; never = λ m from e. none_enabled event work (subst (λ v. Enabled one_each v event) (rests_from m (omega (arith, from))) e) })
+fair_to_seats : IsFairToSeats run
+fair_to_seats n shard seat by of =
+    inr (record { later = n + 6; after = omega arith; never = λ m from e. none_enabled (Pop shard seat) tt (subst (λ v. Enabled one_each v (Pop shard seat)) (rests_from m (omega (arith, from))) e) })

@@ -27,7 +27,7 @@ use Rattle.mc_core.specs.Schedule.{Enabled, Happens, StepReply}
 use Rattle.mc_core.specs.Schedule.StepReply.{Done, Idle, NoMemory}
 use Rattle.mc_core.specs.Law.{Law}
 use Rattle.mc_laws.specs.Progress.{IsWork}
-use Rattle.mc_laws.specs.Fair.{EndlessRun, IsSameStep, IsOfServer, IsStronglyFair, GetsReply, NoneWaitsForever}
+use Rattle.mc_laws.specs.Fair.{EndlessRun, IsSameStep, IsFairToSeats, IsOfServer, IsWeaklyFair, GetsReply, NoneWaitsForever}
 use Rattle.mc_laws.proofs.After.{IsMore, Later, event_later, lane_grows, later_same, later_then, sent_grows, sent_stays, set_here}
 use Rattle.mc_core.proofs.Links.{ran_within}
 use Rattle.mc_core.proofs.Lists.{at_once, push_cases, set_cases}
@@ -40,7 +40,8 @@ record Load (sizes : Sizes) (w : World) (run : EndlessRun sizes w) : Type 0 wher
   within : AreWithin sizes
   law : (n : ℕ) → Law sizes (run.worlds n)
   seated : (n : ℕ) → AreSeated sizes (run.worlds n)
-  just : IsStronglyFair run
+  fair : IsWeaklyFair run
+  seats : IsFairToSeats run
 
 -- a connection at a later place
 later_by : (sizes : Sizes) (w : World) (run : EndlessRun sizes w) → Load sizes w run → (n count k : ℕ) (link : Link) → IsLink (run.worlds n) k link → Later (run.worlds n) k link (run.worlds (n + count))
@@ -65,11 +66,20 @@ record Grown {sizes : Sizes} {w : World} (run : EndlessRun sizes w) (n k : ℕ) 
   here : IsLink (run.worlds place) k link
   more : before < count (run.worlds place) link
 
--- An event that never can't be done for good is done.
-by_just : (sizes : Sizes) (w : World) (run : EndlessRun sizes w) → Load sizes w run → (G : Type 0) (n : ℕ) (event : Event) → IsWork event → IsOfServer sizes event →
-    ((m : ℕ) → n ≤ m → ((i : ℕ) → m ≤ i → Enabled sizes (run.worlds i) event → ⊥) → G) →
+-- Work is done, or at some place it isn't enabled.
+by_fair : (sizes : Sizes) (w : World) (run : EndlessRun sizes w) → Load sizes w run → (G : Type 0) (n : ℕ) (event : Event) → IsWork event → IsOfServer sizes event →
+    ((m : ℕ) → n ≤ m → (Enabled sizes (run.worlds m) event → ⊥) → G) →
     ((m : ℕ) (other : Event) → n ≤ m → IsSameStep event other → Happens sizes (run.worlds m) other Done (run.worlds (m + 1)) → G) → G
-by_just sizes w run c G n event work there never done = elim (c.just n event work there) [
+by_fair sizes w run c G n event work there never done = elim (c.fair n event work there) [
+  | inl d ↦ done d.later (run.events d.later) d.after d.same (subst (λ r. Happens sizes (run.worlds d.later) (run.events d.later) r (run.worlds (d.later + 1))) d.done (run.happens d.later))
+  | inr o ↦ never o.later o.after o.never
+]
+
+-- A shard takes a piece of the seat, or from some place on it never may.
+by_seats : (sizes : Sizes) (w : World) (run : EndlessRun sizes w) → Load sizes w run → (G : Type 0) (n s seat : ℕ) → s < sizes.shards → seat < sizes.seats →
+    ((m : ℕ) → n ≤ m → ((i : ℕ) → m ≤ i → Enabled sizes (run.worlds i) (Pop s seat) → ⊥) → G) →
+    ((m : ℕ) (other : Event) → n ≤ m → IsSameStep (Pop s seat) other → Happens sizes (run.worlds m) other Done (run.worlds (m + 1)) → G) → G
+by_seats sizes w run c G n s seat there on never done = elim (c.seats n s seat there on) [
   | inl d ↦ done d.later (run.events d.later) d.after d.same (subst (λ r. Happens sizes (run.worlds d.later) (run.events d.later) r (run.worlds (d.later + 1))) d.done (run.happens d.later))
   | inr o ↦ never o.later o.after o.never
 ]
@@ -113,10 +123,10 @@ receive_later sizes w run c n k s link here waits =
       | inl grown ↦ grown
       | inr now ↦
           let enabled : Enabled sizes (run.worlds n) (Receive link.seat s) = (k, now.0, now.1, now.2) in
-          by_just sizes w run c (Grown run n k (λ v x. x.received s) (link.received s)) n (Receive link.seat s) tt (enabled_in sizes (run.worlds n) (Receive link.seat s) c.within.shards.0 (c.law n) (c.seated n) enabled tt)
+          by_fair sizes w run c (Grown run n k (λ v x. x.received s) (link.received s)) n (Receive link.seat s) tt (enabled_in sizes (run.worlds n) (Receive link.seat s) c.within.shards.0 (c.law n) (c.seated n) enabled tt)
           (λ m after never. elim (still m after) [
             | inl grown ↦ grown
-            | inr x ↦ absurd (never m (omega arith) (k, x.0, x.1, x.2))
+            | inr x ↦ absurd (never (k, x.0, x.1, x.2))
           ])
           (λ m other after alike done. elim (still m after) [
             | inl grown ↦ grown
@@ -148,36 +158,26 @@ set_given w k link new w' s here same is j x y at_x at_y = elim (set_cases w.lin
 past : (links : List Link) (j : ℕ) (x : Link) → slice_get links j ≡ Some x → j ≡ length links → ⊥
 past links j x here at = let within = slice_get_within links j x here in absurd (omega (arith, within, at))
 
-given_stays : (sizes : Sizes) (w : World) (event : Event) (reply : StepReply) (w' : World) (s : ℕ) → Happens sizes w event reply w' → (Enabled sizes w (Give s) → ⊥) → (j : ℕ) (x y : Link) → IsLink w j x → IsLink w' j y → y.given s ≡ x.given s
-given_stays sizes w (Open seat) Done w' s h never j x y at_x at_y = elim (push_cases w.links h.1 j y (subst (λ v. IsLink v j y) h.4 at_y)) [
+-- The worker gave its reply, or no connection was given any more by the shard.
+given_or : (sizes : Sizes) (w : World) (event : Event) (reply : StepReply) (w' : World) (s : ℕ) → Happens sizes w event reply w' → Happens sizes w (Give s) Done w' ⊎ ((j : ℕ) (x y : Link) → IsLink w j x → IsLink w' j y → y.given s ≡ x.given s)
+given_or sizes w (Open seat) Done w' s h = inr (λ j x y at_x at_y. elim (push_cases w.links h.1 j y (subst (λ v. IsLink v j y) h.4 at_y)) [
   | inl old ↦ ap (λ (z : Link). z.given s) (at_once w.links j j y x old at_x refl)
   | inr new ↦ absurd (past w.links j x at_x new.0)
+])
+given_or sizes w (Feed seat bytes) Done w' s h = inr (λ j x y at_x at_y. set_given w h.0 h.1 (record h.1 { fed = h.1.fed ++ take h.4.0 bytes }) w' s h.2.here refl h.4.3 j x y at_x at_y)
+given_or sizes w (Take seat moment) Done w' s h = inr (λ j x y at_x at_y. set_given w h.0 h.1 (record h.1 { taken = h.1.taken ++ h.4.0 ∷ [] }) w' s h.2.here refl h.4.2 j x y at_x at_y)
+given_or sizes w (Send seat) Done w' s h = inr (λ j x y at_x at_y. set_given w h.0 h.1 (record h.1 { sent = h.1.sent + 1 }) w' s h.2.here refl h.4 j x y at_x at_y)
+given_or sizes w (Pop shard seat) Done w' s h = inr (λ j x y at_x at_y. ap (λ (z : Link). z.given s) (at_once w.links j j y x (subst (λ v. IsLink v j y) h.4.2 at_y) at_x refl))
+given_or sizes w (Give shard) Done w' s h = elim (cases_eq shard s) [
+  | inl same ↦ inl (subst (λ t. Happens sizes w (Give t) Done w') same h)
+  | inr apart ↦ inr (λ j x y at_x at_y. set_given w h.0 h.1 (record h.1 { given = one_more h.1.given shard }) w' s h.2.0 (one_more-other h.1.given shard s apart) h.4 j x y at_x at_y)
 ]
-given_stays sizes w (Feed seat bytes) Done w' s h never j x y at_x at_y = set_given w h.0 h.1 (record h.1 { fed = h.1.fed ++ take h.4.0 bytes }) w' s h.2.here refl h.4.3 j x y at_x at_y
-given_stays sizes w (Take seat moment) Done w' s h never j x y at_x at_y = set_given w h.0 h.1 (record h.1 { taken = h.1.taken ++ h.4.0 ∷ [] }) w' s h.2.here refl h.4.2 j x y at_x at_y
-given_stays sizes w (Send seat) Done w' s h never j x y at_x at_y = set_given w h.0 h.1 (record h.1 { sent = h.1.sent + 1 }) w' s h.2.here refl h.4 j x y at_x at_y
-given_stays sizes w (Pop shard seat) Done w' s h never j x y at_x at_y = ap (λ (z : Link). z.given s) (at_once w.links j j y x (subst (λ v. IsLink v j y) h.4.2 at_y) at_x refl)
-given_stays sizes w (Give shard) Done w' s h never j x y at_x at_y = elim (cases_eq shard s) [
-  | inl same ↦ absurd (never (subst (λ t. Enabled sizes w (Give t)) same (h.0, h.1, h.2, h.3)))
-  | inr apart ↦ set_given w h.0 h.1 (record h.1 { given = one_more h.1.given shard }) w' s h.2.0 (one_more-other h.1.given shard s apart) h.4 j x y at_x at_y
-]
-given_stays sizes w (Receive seat shard) Done w' s h never j x y at_x at_y = set_given w h.0 h.1 (record h.1 { received = one_more h.1.received shard }) w' s h.2.here refl h.4 j x y at_x at_y
-given_stays sizes w (Hand seat) Done w' s h never j x y at_x at_y = set_given w h.0 h.1 (record h.1 { handed = h.4.0 }) w' s h.2.here refl h.4.2 j x y at_x at_y
-given_stays sizes w (End seat) Done w' s h never j x y at_x at_y = set_given w h.0 h.1 (record h.1 { ended = true }) w' s h.2.here refl h.4 j x y at_x at_y
-given_stays sizes w (Break seat) Done w' s h never j x y at_x at_y = set_given w h.0 h.1 (record h.1 { broken = true }) w' s h.2.here refl h.4 j x y at_x at_y
-given_stays sizes w event Idle w' s h never j x y at_x at_y = ap (λ (z : Link). z.given s) (at_once w.links j j y x (subst (λ v. IsLink v j y) h.1 at_y) at_x refl)
-given_stays sizes w event NoMemory w' s h never j x y at_x at_y = ap (λ (z : Link). z.given s) (at_once w.links j j y x (subst (λ v. IsLink v j y) h.1 at_y) at_x refl)
-
-given_by : (sizes : Sizes) (w : World) (run : EndlessRun sizes w) → Load sizes w run → (n s : ℕ) → ((i : ℕ) → n ≤ i → Enabled sizes (run.worlds i) (Give s) → ⊥) → (count k : ℕ) (x y : Link) → IsLink (run.worlds n) k x → IsLink (run.worlds (n + count)) k y → y.given s ≡ x.given s
-given_by sizes w run c n s never zero k x y at_x at_y =
-    let at : n + 0 ≡ n = omega arith in
-    ap (λ (z : Link). z.given s) (at_once (run.worlds n).links k k y x (subst (λ m. IsLink (run.worlds m) k y) at at_y) at_x refl)
-given_by sizes w run c n s never (suc count) k x y at_x at_y =
-    let mid = n + count in
-    let z = later_by sizes w run c n count k x at_x in
-    let at : n + suc count ≡ mid + 1 = omega arith in
-    given_stays sizes (run.worlds mid) (run.events mid) (run.replies mid) (run.worlds (mid + 1)) s (run.happens mid) (never mid (omega arith)) k z.link' y z.here (subst (λ m. IsLink (run.worlds m) k y) at at_y)
-    ∙ given_by sizes w run c n s never count k x z.link' at_x z.here
+given_or sizes w (Receive seat shard) Done w' s h = inr (λ j x y at_x at_y. set_given w h.0 h.1 (record h.1 { received = one_more h.1.received shard }) w' s h.2.here refl h.4 j x y at_x at_y)
+given_or sizes w (Hand seat) Done w' s h = inr (λ j x y at_x at_y. set_given w h.0 h.1 (record h.1 { handed = h.4.0 }) w' s h.2.here refl h.4.2 j x y at_x at_y)
+given_or sizes w (End seat) Done w' s h = inr (λ j x y at_x at_y. set_given w h.0 h.1 (record h.1 { ended = true }) w' s h.2.here refl h.4 j x y at_x at_y)
+given_or sizes w (Break seat) Done w' s h = inr (λ j x y at_x at_y. set_given w h.0 h.1 (record h.1 { broken = true }) w' s h.2.here refl h.4 j x y at_x at_y)
+given_or sizes w event Idle w' s h = inr (λ j x y at_x at_y. ap (λ (z : Link). z.given s) (at_once w.links j j y x (subst (λ v. IsLink v j y) h.1 at_y) at_x refl))
+given_or sizes w event NoMemory w' s h = inr (λ j x y at_x at_y. ap (λ (z : Link). z.given s) (at_once w.links j j y x (subst (λ v. IsLink v j y) h.1 at_y) at_x refl))
 
 -- The worker's hand is empty at a later place.
 record Empties {sizes : Sizes} {w : World} (run : EndlessRun sizes w) (n s : ℕ) : Type 0 where
@@ -200,33 +200,68 @@ give_empties sizes w s w' l h = subst (λ v. IsEmptyHand v s) (sym h.4) (λ j on
   ]
 ])
 
-empties : (sizes : Sizes) (w : World) (run : EndlessRun sizes w) → Load sizes w run → (n s : ℕ) → s < sizes.shards → Empties run n s
-empties sizes w run c n s there = by_just sizes w run c (Empties run n s) n (Give s) tt there
-    (λ m after never. elim (hand_or_empty (run.worlds m) s) [
-      | inr empty ↦ record { place = m; after = after; empty = empty }
-      | inl held ↦
-          let k = held.place in
-          let x = held.x in
-          let ungiven = held.holds in
-          elim (cases_lt (x.given s) (x.received s + sizes.ring)) [
-            | inl room ↦ absurd (never m (omega arith) (k, x, (held.here, ungiven), room))
-            | inr full ↦
-                let places : 0 < sizes.ring = c.within.ring.0 in
-                let grown = receive_later sizes w run c m k s x held.here (omega (arith, full, places)) in
-                let y = grown.link in
-                let past_m = grown.after in
-                let at : m + (grown.place - m) ≡ grown.place = omega (arith, past_m) in
-                let same = given_by sizes w run c m s never (grown.place - m) k x y held.here (subst (λ p. IsLink (run.worlds p) k y) (sym at) grown.here) in
-                let later = later_at sizes w run c m grown.place k x past_m held.here in
-                let ran_more = later.ran s in
-                let bound = ((c.law m).links k x held.here).answer_ring s in
-                let more = grown.more in
-                absurd (never grown.place past_m (k, y, (grown.here, omega (arith, same, ungiven, ran_more)), omega (arith, same, bound, more)))
-          ]
+-- The connection was given no more by the shard up to a later place, or the hand was empty on the way.
+given_by : (sizes : Sizes) (w : World) (run : EndlessRun sizes w) → Load sizes w run → (n s count k : ℕ) (x y : Link) → IsLink (run.worlds n) k x → IsLink (run.worlds (n + count)) k y → (y.given s ≡ x.given s) ⊎ Empties run n s
+given_by sizes w run c n s zero k x y at_x at_y =
+    let at : n + 0 ≡ n = omega arith in
+    inl (ap (λ (z : Link). z.given s) (at_once (run.worlds n).links k k y x (subst (λ m. IsLink (run.worlds m) k y) at at_y) at_x refl))
+given_by sizes w run c n s (suc count) k x y at_x at_y =
+    let mid = n + count in
+    let z = later_by sizes w run c n count k x at_x in
+    let at : n + suc count ≡ mid + 1 = omega arith in
+    elim (given_by sizes w run c n s count k x z.link' at_x z.here) [
+      | inr empty ↦ inr empty
+      | inl same ↦ elim (given_or sizes (run.worlds mid) (run.events mid) (run.replies mid) (run.worlds (mid + 1)) s (run.happens mid)) [
+        | inl gave ↦ inr (record { place = mid + 1; after = omega arith; empty = give_empties sizes (run.worlds mid) s (run.worlds (mid + 1)) (c.law mid) gave })
+        | inr stays ↦ inl (stays k z.link' y z.here (subst (λ m. IsLink (run.worlds m) k y) at at_y) ∙ same)
+      ]
+    ]
+
+-- A reply in the hand that finds room is given.
+gives_with_room : (sizes : Sizes) (w : World) (run : EndlessRun sizes w) → Load sizes w run → (n s k : ℕ) (x : Link) → s < sizes.shards → IsLink (run.worlds n) k x → x.given s < ran (run.worlds n) k s → x.given s < x.received s + sizes.ring → Empties run n s
+gives_with_room sizes w run c n s k x there here ungiven room = by_fair sizes w run c (Empties run n s) n (Give s) tt there
+    (λ m after never.
+    let y = later_at sizes w run c n m k x after here in
+    let at : n + (m - n) ≡ m = omega (arith, after) in
+    elim (given_by sizes w run c n s (m - n) k x y.link' here (subst (λ p. IsLink (run.worlds p) k y.link') (sym at) y.here)) [
+      | inr empty ↦ empty
+      | inl same ↦
+          let ran_more = y.ran s in
+          let got = y.more.received s in
+          absurd (never (k, y.link', (y.here, omega (arith, same, ungiven, ran_more)), omega (arith, same, room, got)))
     ])
     (λ m other after alike done.
     let h = subst (λ e. Happens sizes (run.worlds m) e Done (run.worlds (m + 1))) alike done in
     record { place = m + 1; after = omega (arith, after); empty = give_empties sizes (run.worlds m) s (run.worlds (m + 1)) (c.law m) h })
+
+empties : (sizes : Sizes) (w : World) (run : EndlessRun sizes w) → Load sizes w run → (n s : ℕ) → s < sizes.shards → Empties run n s
+empties sizes w run c n s there = elim (hand_or_empty (run.worlds n) s) [
+  | inr empty ↦ record { place = n; after = omega arith; empty = empty }
+  | inl held ↦
+      let k = held.place in
+      let x = held.x in
+      let ungiven = held.holds in
+      elim (cases_lt (x.given s) (x.received s + sizes.ring)) [
+        | inl room ↦ gives_with_room sizes w run c n s k x there held.here ungiven room
+        | inr full ↦
+            let places : 0 < sizes.ring = c.within.ring.0 in
+            let grown = receive_later sizes w run c n k s x held.here (omega (arith, full, places)) in
+            let y = grown.link in
+            let past_n = grown.after in
+            let at : n + (grown.place - n) ≡ grown.place = omega (arith, past_n) in
+            elim (given_by sizes w run c n s (grown.place - n) k x y held.here (subst (λ p. IsLink (run.worlds p) k y) (sym at) grown.here)) [
+              | inr empty ↦ empty
+              | inl same ↦
+                  let later = later_at sizes w run c n grown.place k x past_n held.here in
+                  let ran_more = later.ran s in
+                  let bound = ((c.law n).links k x held.here).answer_ring s in
+                  let more = grown.more in
+                  let e = gives_with_room sizes w run c grown.place s k y there grown.here (omega (arith, same, ungiven, ran_more)) (omega (arith, same, bound, more)) in
+                  let past_place = e.after in
+                  record { place = e.place; after = omega (arith, past_n, past_place); empty = e.empty }
+            ]
+      ]
+]
 
 -- A piece that was sent is run.
 run_later : (sizes : Sizes) (w : World) (run : EndlessRun sizes w) → Load sizes w run → (n k s : ℕ) (link : Link) → IsLink (run.worlds n) k link → ran (run.worlds n) k s < sent_to sizes s link → Grown run n k (λ v x. ran v k s) (ran (run.worlds n) k s)
@@ -252,7 +287,7 @@ run_later sizes w run c n k s link here waits =
           let due_there = sent_within sizes now.0 s in
           let some = now.2 in
           let there = at_shard sizes now.0 s c.within.shards.0 (omega (arith, due_there, some)) in
-          by_just sizes w run c G n (Pop s link.seat) tt (there, at_seat sizes (run.worlds n) link.seat k now.0 (c.seated n) now.1)
+          by_seats sizes w run c G n s link.seat there (at_seat sizes (run.worlds n) link.seat k now.0 (c.seated n) now.1)
           (λ m after never. elim (still m after) [
             | inl grown ↦ grown
             | inr x ↦
@@ -290,11 +325,12 @@ pieces_grow : (sizes : Sizes) (link new : Link) → IsMore link new → (extra :
 pieces_grow sizes link new more =
     (pieces_from sizes.shards (0 + length link.taken) more.taken.0, ap (λ ts. pieces sizes.shards ts) more.taken.1 ∙ pieces_from-append sizes.shards 0 link.taken more.taken.0)
 
--- A piece that isn't sent is sent.
-send_later : (sizes : Sizes) (w : World) (run : EndlessRun sizes w) → Load sizes w run → (n k : ℕ) (link : Link) → IsLink (run.worlds n) k link → link.sent < length (pieces sizes.shards link.taken) → Grown run n k (λ v x. x.sent) link.sent
-send_later sizes w run c n k link here unsent =
-    let G : Type 0 = Grown run n k (λ v x. x.sent) link.sent in
-    let still : (m : ℕ) → n ≤ m → G ⊎ ((x : Link) × IsAt (run.worlds m) link.seat k x × (x.sent < length (pieces sizes.shards x.taken)) × (x.sent ≡ link.sent)) = λ m after.
+-- what holds of a connection with a piece that isn't sent, at a later place, where no more was sent
+abbrev Unsent : (sizes : Sizes) (w : World) (run : EndlessRun sizes w) → (k : ℕ) (link : Link) → ℕ → Type 0
+Unsent sizes w run k link m = (x : Link) × IsAt (run.worlds m) link.seat k x × (x.sent < length (pieces sizes.shards x.taken)) × (x.sent ≡ link.sent)
+
+unsent_still : (sizes : Sizes) (w : World) (run : EndlessRun sizes w) → Load sizes w run → (n k : ℕ) (link : Link) → IsLink (run.worlds n) k link → link.sent < length (pieces sizes.shards link.taken) → (m : ℕ) → n ≤ m → Grown run n k (λ v x. x.sent) link.sent ⊎ Unsent sizes w run k link m
+unsent_still sizes w run c n k link here unsent m after =
     let x = later_at sizes w run c n m k link after here in
     let grows = x.more.sent in
     elim (cases_lt link.sent x.link'.sent) [
@@ -306,42 +342,36 @@ send_later sizes w run c n k link here unsent =
           let less : x.link'.sent < length (pieces sizes.shards x.link'.taken) = omega (arith, unsent, same, count, long) in
           let at = last_at sizes (run.worlds m) k x.link' (c.law m) x.here (unsent_busy sizes x.link' less) in
           inr (x.link', subst (λ seat. IsAt (run.worlds m) seat k x.link') x.more.seat at, less, omega (arith, grows, same))
-    ] in
+    ]
+
+-- The oldest piece that isn't sent stays the same, and no more are sent to its shard, where none is sent.
+next_stays : (sizes : Sizes) (x z : Link) (next : ℕ × Piece) → x.sent ≤ length (pieces sizes.shards x.taken) → IsMore x z → z.sent ≡ x.sent → slice_get (pieces sizes.shards x.taken) x.sent ≡ Some next → (slice_get (pieces sizes.shards z.taken) z.sent ≡ Some next) × (sent_to sizes next.0 z ≡ sent_to sizes next.0 x)
+next_stays sizes x z next within more as_before at =
+    let extra = pieces_grow sizes x z more in (
+      ap (λ i. slice_get (pieces sizes.shards z.taken) i) as_before
+          ∙ (ap (λ ps. slice_get ps x.sent) extra.1 ∙ get_front (pieces sizes.shards x.taken) extra.0 x.sent next at),
+      sent_stays sizes x z next.0 within more as_before,
+    )
+
+-- A piece that finds room is sent.
+send_with_room : (sizes : Sizes) (w : World) (run : EndlessRun sizes w) → Load sizes w run → (n k : ℕ) (link : Link) (next : ℕ × Piece) → IsLink (run.worlds n) k link → link.sent < length (pieces sizes.shards link.taken) → slice_get (pieces sizes.shards link.taken) link.sent ≡ Some next → sent_to sizes next.0 link < ran (run.worlds n) k next.0 + sizes.ring → Grown run n k (λ v x. x.sent) link.sent
+send_with_room sizes w run c n k link next here unsent at room =
+    let G : Type 0 = Grown run n k (λ v x. x.sent) link.sent in
+    let still = unsent_still sizes w run c n k link here unsent in
     elim (still n (omega arith)) [
       | inl grown ↦ grown
       | inr now ↦
-          by_just sizes w run c G n (Send link.seat) tt (at_seat sizes (run.worlds n) link.seat k now.0 (c.seated n) now.1)
+          by_fair sizes w run c G n (Send link.seat) tt (at_seat sizes (run.worlds n) link.seat k now.0 (c.seated n) now.1)
           (λ m after never. elim (still m after) [
             | inl grown ↦ grown
-            | inr x ↦
-                let next = get_below (pieces sizes.shards x.0.taken) x.0.sent x.2 in
-                let s = next.0.0 in
-                elim (cases_lt (sent_to sizes s x.0) (ran (run.worlds m) k s + sizes.ring)) [
-                  | inl room ↦ absurd (never m (omega arith) (k, x.0, x.1, record { piece = next.0; next = next.1; room = room }))
-                  | inr full ↦
-                      let places : 0 < sizes.ring = c.within.ring.0 in
-                      let grown = run_later sizes w run c m k s x.0 x.1.here (omega (arith, full, places)) in
-                      let past_m = grown.after in
-                      elim (still grown.place (omega (arith, after, past_m))) [
-                        | inl sent ↦ sent
-                        | inr z ↦
-                            let later = later_at sizes w run c m grown.place k x.0 past_m x.1.here in
-                            let this : later.link' ≡ z.0 = at_once (run.worlds grown.place).links k k later.link' z.0 later.here z.1.here refl in
-                            let more = subst (λ y. IsMore x.0 y) this later.more in
-                            let was = x.3 in
-                            let is = z.3 in
-                            let as_before : z.0.sent ≡ x.0.sent = omega (arith, was, is) in
-                            let own = (c.law m).links k x.0 x.1.here in
-                            let stays = sent_stays sizes x.0 z.0 s own.sent more as_before in
-                            let bound = own.piece_ring s in
-                            let ran_more = grown.more in
-                            let extra = pieces_grow sizes x.0 z.0 more in
-                            let next_there : slice_get (pieces sizes.shards z.0.taken) z.0.sent ≡ Some next.0 =
-                            ap (λ i. slice_get (pieces sizes.shards z.0.taken) i) as_before
-                            ∙ (ap (λ ps. slice_get ps x.0.sent) extra.1 ∙ get_front (pieces sizes.shards x.0.taken) extra.0 x.0.sent next.0 next.1) in
-                            absurd (never grown.place past_m (k, z.0, z.1, record { piece = next.0; next = next_there; room = omega (arith, stays, bound, ran_more) }))
-                      ]
-                ]
+            | inr z ↦
+                let later = later_at sizes w run c n m k link after here in
+                let this : later.link' ≡ z.0 = at_once (run.worlds m).links k k later.link' z.0 later.here z.1.here refl in
+                let more = subst (λ y. IsMore link y) this later.more in
+                let both = next_stays sizes link z.0 next ((c.law n).links k link here).sent more z.3 at in
+                let stays = both.1 in
+                let ran_more = later.ran next.0 in
+                absurd (never (k, z.0, z.1, record { piece = next; next = both.0; room = omega (arith, stays, room, ran_more) }))
           ])
           (λ m other after alike done. elim (still m after) [
             | inl grown ↦ grown
@@ -358,6 +388,36 @@ send_later sizes w run c n k link here unsent =
                   more = omega (arith, was, before);
                 }
           ])
+    ]
+
+-- A piece that isn't sent is sent.
+send_later : (sizes : Sizes) (w : World) (run : EndlessRun sizes w) → Load sizes w run → (n k : ℕ) (link : Link) → IsLink (run.worlds n) k link → link.sent < length (pieces sizes.shards link.taken) → Grown run n k (λ v x. x.sent) link.sent
+send_later sizes w run c n k link here unsent =
+    let next = get_below (pieces sizes.shards link.taken) link.sent unsent in
+    let s = next.0.0 in
+    let own = (c.law n).links k link here in
+    elim (cases_lt (sent_to sizes s link) (ran (run.worlds n) k s + sizes.ring)) [
+      | inl room ↦ send_with_room sizes w run c n k link next.0 here unsent next.1 room
+      | inr full ↦
+          let places : 0 < sizes.ring = c.within.ring.0 in
+          let grown = run_later sizes w run c n k s link here (omega (arith, full, places)) in
+          let past_n = grown.after in
+          elim (unsent_still sizes w run c n k link here unsent grown.place past_n) [
+            | inl sent ↦ sent
+            | inr z ↦
+                let later = later_at sizes w run c n grown.place k link past_n here in
+                let this : later.link' ≡ z.0 = at_once (run.worlds grown.place).links k k later.link' z.0 later.here z.1.here refl in
+                let more = subst (λ y. IsMore link y) this later.more in
+                let both = next_stays sizes link z.0 next.0 own.sent more z.3 next.1 in
+                let stays = both.1 in
+                let bound = own.piece_ring s in
+                let ran_more = grown.more in
+                let as_before = z.3 in
+                let g = send_with_room sizes w run c grown.place k z.0 next.0 z.1.here z.2 both.0 (omega (arith, stays, bound, ran_more)) in
+                let past_place = g.after in
+                let more_sent = g.more in
+                record { place = g.place; after = omega (arith, past_n, past_place); link = g.link; here = g.here; more = omega (arith, more_sent, as_before) }
+          ]
     ]
 
 -- What grew from a later place on has grown.
@@ -453,10 +513,10 @@ take_later sizes w run c n k number link commands here spelled less handed =
     elim (still n (omega arith)) [
       | inl grown ↦ grown
       | inr now ↦
-          by_just sizes w run c G n (Take link.seat 0) tt (at_seat sizes (run.worlds n) link.seat k now.0 (c.seated n) now.1)
+          by_fair sizes w run c G n (Take link.seat 0) tt (at_seat sizes (run.worlds n) link.seat k now.0 (c.seated n) now.1)
           (λ m after never. elim (still m after) [
             | inl grown ↦ grown
-            | inr x ↦ absurd (never m (omega arith) (k, x.0, x.1, x.2))
+            | inr x ↦ absurd (never (k, x.0, x.1, x.2))
           ])
           (λ m other after alike done. elim (still m after) [
             | inl grown ↦ grown
@@ -508,10 +568,10 @@ hand_later sizes w run c n k number link here waits come =
     elim (still n (omega arith)) [
       | inl grown ↦ grown
       | inr now ↦
-          by_just sizes w run c G n (Hand link.seat) tt (at_seat sizes (run.worlds n) link.seat k now.0 (c.seated n) now.1)
+          by_fair sizes w run c G n (Hand link.seat) tt (at_seat sizes (run.worlds n) link.seat k now.0 (c.seated n) now.1)
           (λ m after never. elim (still m after) [
             | inl grown ↦ grown
-            | inr x ↦ absurd (never m (omega arith) (k, x.0, x.1, x.2))
+            | inr x ↦ absurd (never (k, x.0, x.1, x.2))
           ])
           (λ m other after alike done. elim (still m after) [
             | inl grown ↦ grown
@@ -714,8 +774,8 @@ replied_in (suc fuel) sizes w run c n k number link commands here spelled less f
 ]
 
 -- Each command that is spelled gets its reply.
-pub none_waits : (sizes : Sizes) (w : World) (run : EndlessRun sizes w) → AreWithin sizes → Law sizes w → AreSeated sizes w → IsStronglyFair run → NoneWaitsForever run
-none_waits sizes w run within l seated just n k number link commands here spelled less =
+pub none_waits : (sizes : Sizes) (w : World) (run : EndlessRun sizes w) → AreWithin sizes → Law sizes w → AreSeated sizes w → IsWeaklyFair run → IsFairToSeats run → NoneWaitsForever run
+none_waits sizes w run within l seated fair seats n k number link commands here spelled less =
     let along = law_along sizes w run within.shards.0 l seated in
-    let c : Load sizes w run = record { within = within; law = λ m. (along m).0; seated = λ m. (along m).1; just = just } in
+    let c : Load sizes w run = record { within = within; law = λ m. (along m).0; seated = λ m. (along m).1; fair = fair; seats = seats } in
     replied_in (number + 1) sizes w run c n k number link commands here spelled less (omega arith)

@@ -64,9 +64,9 @@ pub record IsDisabledForGood {sizes : Sizes} {w : World} (run : EndlessRun sizes
 abbrev pub IsWeaklyFair : {sizes : Sizes} {w : World} → EndlessRun sizes w → Type 0
 IsWeaklyFair {sizes} run = (n : ℕ) (event : Event) → IsWork event → IsOfServer sizes event → IsDoneLater run n event ⊎ IsDisabledLater run n event
 
--- Work that is enabled again and again is done again and again.
-abbrev pub IsStronglyFair : {sizes : Sizes} {w : World} → EndlessRun sizes w → Type 0
-IsStronglyFair {sizes} run = (n : ℕ) (event : Event) → IsWork event → IsOfServer sizes event → IsDoneLater run n event ⊎ IsDisabledForGood run n event
+-- No shard passes over a seat for ever: a seat whose piece it may take again and again has pieces taken again and again.
+abbrev pub IsFairToSeats : {sizes : Sizes} {w : World} → EndlessRun sizes w → Type 0
+IsFairToSeats {sizes} run = (n shard seat : ℕ) → shard < sizes.shards → seat < sizes.seats → IsDoneLater run n (Pop shard seat) ⊎ IsDisabledForGood run n (Pop shard seat)
 
 -- The event is tried, there or later, and memory is there for it.
 pub record IsTried {sizes : Sizes} {w : World} (run : EndlessRun sizes w) (n : ℕ) (event : Event) : Type 0 where
