@@ -46,7 +46,9 @@ def rows():
     for line in ROWS.read_text(encoding="latin-1").splitlines():
         if line and not line.startswith("#"):
             name, moment, budget, given, wanted = line.split("\t")
-            yield name, ["--stdio", "--at", moment, "--bytes", budget], unescaped(given), unescaped(wanted)
+            budget, _, limit = budget.partition("/")
+            options = ["--stdio", "--at", moment, "--bytes", budget, *(["--value-limit", limit] if limit else [])]
+            yield name, options, unescaped(given), unescaped(wanted)
 
 
 def spoken(options, given, piece=None):

@@ -22,16 +22,24 @@ def ended(words):
     return ran.returncode, ran.stdout, ran.stderr
 
 
+def is_refused_address(address):
+    """The program tells that it can't listen, and why it can't listen there."""
+    status, out, told = ended(["--listen", address])
+    first, _, second = told.decode().partition("\n")
+    equal((address, status, out, first), (address, 1, b"", "mcd: cannot listen"))
+    equal(second.startswith(f"mcd: --listen {address}: ") and second.count("\n") == 1, True)
+
+
 def a_taken_port_is_refused():
     with Server() as server:
-        equal(ended(["--listen", f"127.0.0.1:{server.port}"]), (1, b"", b"mcd: cannot listen\n"))
+        is_refused_address(f"127.0.0.1:{server.port}")
         with Line(server.port) as line:
             line.ask(b"mn\r\n", b"MN\r\n")
 
 
 def what_is_no_address_is_refused():
     for address in NO_ADDRESSES:
-        equal((address, ended(["--listen", address])), (address, (1, b"", b"mcd: cannot listen\n")))
+        is_refused_address(address)
 
 
 def faults_of_the_command_line_end_with_2():

@@ -13,7 +13,7 @@ use line::{Cutting, MemoryLine};
 use mc_seat::{Line, Served};
 use mc_server::{DEFAULT_RING, Sizes, StillClock, serve_one};
 use mc_store::{GREATEST_BUDGET, LEAST_BUDGET};
-use mc_wire::DEFAULT_VALUE_LIMIT;
+use mc_wire::GREATEST_VALUE_LIMIT;
 use row::{Row, split_at_tab};
 use std::alloc::Global;
 use std::random::RandomSource;
@@ -47,14 +47,15 @@ fn served<R: Wait + RandomSource, L: Line>(
     row: &Row,
     line: &mut L,
 ) -> Option<Served> {
-    if row.bytes < LEAST_BUDGET || row.bytes > GREATEST_BUDGET {
+    let is_budget = row.bytes >= LEAST_BUDGET && row.bytes <= GREATEST_BUDGET;
+    if !is_budget || row.value > GREATEST_VALUE_LIMIT {
         return None;
     }
     let sizes = Sizes {
         shards: 2,
         bytes: row.bytes,
         ring: DEFAULT_RING,
-        value: DEFAULT_VALUE_LIMIT,
+        value: row.value,
         window: 256,
     };
     serve_one(rt, alloc, line, sizes, &StillClock(row.moment)).ok()

@@ -1,5 +1,6 @@
 //! One row of the file of rows.
 use crate::escape::{number, unescape};
+use mc_wire::DEFAULT_VALUE_LIMIT;
 use std::alloc::{AllocError, Global};
 
 /// What is sent at one moment to new shards, and what must come back.
@@ -9,12 +10,15 @@ pub struct Row {
     pub moment: u64,
     /// What the items of a shard may cost together, in bytes.
     pub bytes: usize,
+    /// How many bytes a value has at most.
+    pub value: usize,
     pub input: Vec<u8>,
     pub output: Vec<u8>,
 }
 
 impl Row {
-    /// Reads a row: name, moment, bytes, input and output, parted by tabs. A line that begins with `#` is none.
+    /// Reads a row: name, moment, bytes, input and output, parted by tabs. Behind the bytes a value limit may stand,
+    /// after a `/`. A line that begins with `#` is none.
     pub fn read(alloc: Global, line: &[u8]) -> Result<Option<Row>, AllocError> {
         if line.is_empty() || line.starts_with(b"#") {
             return Ok(None);
@@ -23,12 +27,18 @@ impl Row {
         let (moment, rest) = split_at_tab(rest);
         let (bytes, rest) = split_at_tab(rest);
         let (input, output) = split_at_tab(rest);
+        let (bytes, value) = split_at(bytes, b'/');
         let Ok(bytes) = usize::try_from(number(bytes)) else {
             return Ok(None);
+        };
+        let value = match usize::try_from(number(value)) {
+            Ok(limit) if limit > 0 => limit,
+            _ => DEFAULT_VALUE_LIMIT,
         };
         Ok(Some(Row {
             moment: number(moment),
             bytes,
+            value,
             input: unescape(alloc, input)?,
             output: unescape(alloc, output)?,
         }))
@@ -37,8 +47,13 @@ impl Row {
 
 /// What stands before the first tab, and what stands behind it.
 pub fn split_at_tab(text: &[u8]) -> (&[u8], &[u8]) {
-    match text.iter().position(|byte| *byte == b'\t') {
-        Some(tab) => (&text[..tab], &text[tab + 1..]),
+    split_at(text, b'\t')
+}
+
+/// What stands before the first such byte, and what stands behind it.
+fn split_at(text: &[u8], mark: u8) -> (&[u8], &[u8]) {
+    match text.iter().position(|byte| *byte == mark) {
+        Some(place) => (&text[..place], &text[place + 1..]),
         None => (text, &[]),
     }
 }

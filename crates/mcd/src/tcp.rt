@@ -4,9 +4,10 @@ ghost use Rattle.mc_core.specs.declared.sizes.TheConstants.{LEAST, MOST_SEATS};
 ghost use Rattle.mc_options.specs.Numbers.{AreWithin};
 
 use crate::refuse;
+use crate::sizes::sizes_of;
 use mc_options::Limits;
-use mc_server::{DEFAULT_RING, MachineClock};
-use mc_threads::{ServeRefusal, Sizes, serve_tcp};
+use mc_server::MachineClock;
+use mc_threads::{ServeRefusal, serve_tcp};
 use std::alloc::Global;
 use std::io::Eprint;
 use std::net::{Net, TcpListener, TcpStream};
@@ -14,7 +15,7 @@ use std::process::ExitCode;
 use std::random::RandomSource;
 use std::sync::Wait;
 use std::thread::Threads;
-use std::time;
+use std::{io, time};
 
 /// Listens on the address, and serves who connects; the status with which the program ends.
 pub fn listen<
@@ -34,33 +35,42 @@ pub fn listen<
     requires most { seats ≤ MOST_SEATS }
     requires limits { AreWithin limits }
 {
-    let Ok(listener) = TcpListener::bind(rt, address) else {
-        return refuse(rt, "cannot listen");
+    let listener = match TcpListener::bind(rt, address) {
+        Ok(listener) => listener,
+        Err(error) => return refuse_address(rt, address, &error),
     };
-    let Ok(local) = listener.local_addr() else {
-        return refuse(rt, "cannot listen");
+    let local = match listener.local_addr() {
+        Ok(local) => local,
+        Err(error) => return refuse_address(rt, address, &error),
     };
     let _ = eprintln!(rt; "listening {local}");
-    let sizes = Sizes {
-        shards: limits.shards,
-        bytes: limits.bytes,
-        ring: DEFAULT_RING,
-        value: limits.value,
-        window: limits.window,
-    };
     let ended = serve_tcp(
         rt,
         rt.alloc(),
         listener,
         seats,
-        sizes,
+        sizes_of(limits),
         connections,
         MachineClock(*rt),
     );
     match ended {
         Ok(_) => ExitCode::SUCCESS,
         Err(ServeRefusal::Memory) => refuse(rt, "out of memory"),
-        Err(ServeRefusal::Thread) => refuse(rt, "cannot start a thread"),
+        Err(ServeRefusal::Thread) => refuse_threads(rt, seats, limits.shards),
         Err(ServeRefusal::Bind) => refuse(rt, "cannot listen"),
     }
+}
+
+/// Tells why there is no listening on the address; the status with which the program ends.
+fn refuse_address(rt: &impl Eprint, address: &str, error: &io::Error) -> ExitCode {
+    let status = refuse(rt, "cannot listen");
+    let _ = eprintln!(rt; "mcd: --listen {address}: {error}");
+    status
+}
+
+/// Tells how many threads the options ask for, where they can't be started; the status with which the program ends.
+fn refuse_threads(rt: &impl Eprint, seats: usize, shards: usize) -> ExitCode {
+    let status = refuse(rt, "cannot start a thread");
+    let _ = eprintln!(rt; "mcd: --seats {seats} and --shards {shards} need a thread each");
+    status
 }

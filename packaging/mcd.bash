@@ -1,0 +1,11 @@
+# Completes the options of mcd in bash.
+_mcd() {
+    local word=$2 before=$3
+    COMPREPLY=()
+    case $before in
+        --replay) mapfile -t COMPREPLY < <(compgen -f -- "$word") ;;
+        --listen | --at | --shards | --seats | --bytes | --memory | --value-limit | --window | --connections) ;;
+        *) mapfile -t COMPREPLY < <(compgen -W "--listen --stdio --replay --at --version --shards --seats --bytes --memory --value-limit --window --connections --help" -- "$word") ;;
+    esac
+}
+complete -F _mcd mcd

@@ -1,0 +1,227 @@
+#!/usr/bin/env python3
+"""Runs the program with each of its options, and says where an option is ignored, or a fault told otherwise than it must be.
+
+    scripts/options.py [NAME ..]      all checks, or those whose names have one of these words in them
+
+What is expected follows from the rules of docs/PROTOCOL.md: what an item costs, on which shard a key lies, which cas uniques
+a shard gives. Each row gives another output where its option is ignored. The last line is `options: N passed, M failed`.
+"""
+import os
+import random
+import subprocess
+import sys
+import tempfile
+import time
+
+from replay_model import place
+from served import MCD, MIB, Line, Server, Tally, bounded, equal, hit_of, needs_program, set_of, started
+
+LIMIT_SECONDS = 300
+TOO_LARGE = b"SERVER_ERROR object too large for cache\r\n"
+STORED = b"STORED\r\n"
+
+# So long it takes at most until what must not happen would have happened, in seconds.
+A_WHILE = 0.5
+
+
+def over_stdio(options, given):
+    ran = subprocess.run([MCD, "--stdio", "--at", "1000", *options], input=given, capture_output=True, timeout=60)
+    equal((ran.returncode, ran.stderr), (0, b""))
+    return ran.stdout
+
+
+def over_tcp(options, given, length):
+    """The first bytes of the output, so many."""
+    with Server(*options) as server, Line(server.port) as line:
+        line.send(given)
+        return line.read(length)
+
+
+def row(options, given, wanted):
+    """The input must give this output by both ways to serve."""
+    equal(over_stdio(options.split(), given), wanted)
+    equal(over_tcp(options.split(), given, len(wanted)), wanted)
+
+
+def a_value_limit_of_1024():
+    given = set_of(b"a", b"x" * 1024) + b"append a 0 0 1\r\nx\r\n" + set_of(b"a", b"x" * 1025) + b"mn\r\n"
+    for size in ("1024", "1k"):
+        row(f"--value-limit {size}", given, STORED + 2 * TOO_LARGE + b"MN\r\n")
+
+
+def values_of_2_mib():
+    """Their bytes don't repeat, so that one that is written twice, left out or exchanged is seen."""
+    value = random.Random(1).randbytes(2 * MIB)
+    given = set_of(b"a", value) + 2 * b"get a\r\n" + b"mn\r\n"
+    row("--value-limit 4194304", given, STORED + 2 * hit_of(b"a", value) + b"MN\r\n")
+    row("--value-limit 4m", set_of(b"a", value) + b"mn\r\n", STORED + b"MN\r\n")
+
+
+def sets_of(count, keys):
+    return b"".join(set_of(key, b"v" * count) for key in keys)
+
+
+def values_of(count, keys):
+    return b"".join(b"VALUE %s 0 %d\r\n%s\r\n" % (key, count, b"v" * count) for key in keys) + b"END\r\n"
+
+
+def a_budget_of_1024():
+    """An item costs its key, its value and 64: two of 300 bytes fit beside each other, the third drives out the first."""
+    given = sets_of(300, [b"a", b"c", b"e"]) + b"get a c e\r\n" + sets_of(960, [b"a"]) + sets_of(959, [b"a"]) + b"get a c e\r\n"
+    wanted = 3 * STORED + values_of(300, [b"c", b"e"]) + TOO_LARGE + STORED + values_of(959, [b"a"])
+    for options in ("--bytes 1024", "--bytes 1k", "--memory 2048", "--memory 2k", "--shards 2 --memory 2049"):
+        row(options, given, wanted)
+
+
+def one_mebibyte_more(options):
+    """A value of 1 MiB less 65 and one byte costs the budget of 1 MiB with a key of one byte; a byte more is too large."""
+    row(options, set_of(b"a", b"v" * (MIB - 65)) + b"mn\r\n", STORED + b"MN\r\n")
+    row(options, set_of(b"a", b"v" * (MIB - 64)) + b"mn\r\n", TOO_LARGE + b"MN\r\n")
+
+
+def a_budget_of_1_mib():
+    for options in ("--bytes 1m", "--memory 2m", "--memory 3m --shards 3"):
+        one_mebibyte_more(options)
+
+
+def uniques(shards, keys):
+    """What sets of these keys and a `gets` of each give: shard s of S gives the uniques s+1, s+1+S, s+1+2S and so on."""
+    given, told = {}, b""
+    for key in keys:
+        shard = place(key, shards)
+        told += b"VALUE %s 0 1 %d\r\nx\r\nEND\r\n" % (key, shard + 1 + shards * given.get(shard, 0))
+        given[shard] = given.get(shard, 0) + 1
+    return told
+
+
+def each_number_of_shards():
+    keys = [b"a", b"b", b"c", b"d", b"e", b"f", b"g"]
+    given = b"".join(set_of(key, b"x") for key in keys) + b"".join(b"gets %s\r\n" % key for key in keys)
+    told = {shards: uniques(shards, keys) for shards in (1, 2, 3, 16)}
+    equal(len(set(told.values())), len(told))
+    for shards, wanted in told.items():
+        row(f"--shards {shards}", given, len(keys) * STORED + wanted)
+
+
+def two_seats():
+    """The third client waits until one of the two seats is free."""
+    with Server("--seats", 2) as server:
+        with Line(server.port) as first, Line(server.port) as second, Line(server.port, timeout=A_WHILE) as third:
+            for line in (first, second):
+                line.ask(b"mn\r\n", b"MN\r\n")
+            third.send(b"mn\r\n")
+            try:
+                raise AssertionError(f"a third client is served beside two: {third.read(4)!r}")
+            except TimeoutError:
+                pass
+            first.close()
+            third.socket.settimeout(60)
+            equal(third.read(4), b"MN\r\n")
+
+
+def the_clock_goes_on():
+    """Without `--at` an item that lives a second is gone after two."""
+    process = started([MCD, "--stdio"], stdin=subprocess.PIPE, stdout=subprocess.PIPE)
+    try:
+        process.stdin.write(b"set a 0 1 1\r\nx\r\nset b 0 0 1\r\ny\r\n")
+        process.stdin.flush()
+        equal(process.stdout.read(len(2 * STORED)), 2 * STORED)
+        time.sleep(2.1)
+        out, _ = process.communicate(b"get a\r\nget b\r\n", timeout=30)
+        equal(out, b"END\r\n" + hit_of(b"b", b"y"))
+    finally:
+        process.kill()
+        process.wait()
+
+
+def the_clock_tells_the_year():
+    """An expiry as a second since 1970: one in a thousand seconds is to come, one of a thousand seconds ago is past."""
+    now = int(time.time())
+    given = b"set a 0 %d 1\r\nx\r\nset b 0 %d 1\r\ny\r\nget a\r\nget b\r\n" % (now + 1000, now - 1000)
+    ran = subprocess.run([MCD, "--stdio"], input=given, capture_output=True, timeout=30)
+    equal((ran.returncode, ran.stdout), (0, 2 * STORED + hit_of(b"a", b"x") + b"END\r\n"))
+
+
+def ended(words, **streams):
+    ran = subprocess.run([MCD, *words], **{"stdin": subprocess.DEVNULL, "stdout": subprocess.PIPE, **streams}, stderr=subprocess.PIPE, timeout=30)
+    return ran.returncode, ran.stdout, ran.stderr.decode()
+
+
+WITH_STDIO = "--stdio, which takes --at, --shards, --bytes, --memory, --value-limit and --window"
+NUMBER = "takes a number from {0} to {1}, not '{2}'"
+SIZE = "takes a number of bytes from {0} to {1}, or one of k, m and g (1024 each) behind a number, not '{2}'"
+ITEMS = "there is no option --items: --bytes says what the items of a shard may cost together"
+
+# Calls, and what is told of them behind `mcd: `.
+FAULTS = [
+    ("--items 5", ITEMS), ("--items 5 --replay x --shards 2", ITEMS),
+    *((f"--replay x --{name} 2", f"--{name} doesn't go with --replay, which takes no other option")
+      for name in ("at", "listen", "shards", "seats", "bytes", "memory", "value-limit", "window", "connections")),
+    ("--replay x --stdio", "--stdio doesn't go with --replay, which takes no other option"),
+    *((f"--stdio --{name} 2", f"--{name} doesn't go with {WITH_STDIO}") for name in ("listen", "seats", "connections")),
+    ("--at 5", "--at goes with --stdio alone"), ("--at 5 --seats 65", "--at goes with --stdio alone"),
+    ("--bytes 64k --memory 1m", "--bytes and --memory don't go together: --bytes is for each shard, --memory for all of them"),
+    ("--seats 65", "--seats " + NUMBER.format(1, 64, "65")), ("--seats 2k", "--seats " + NUMBER.format(1, 64, "2k")),
+    ("--shards 0", "--shards " + NUMBER.format(1, 16, "0")), ("--window 4097", "--window " + NUMBER.format(1, 4096, "4097")),
+    ("--connections 0", "--connections " + NUMBER.format(1, 4294967295, "0")),
+    ("--stdio --at x", "--at " + NUMBER.format(0, 18446744073709551615, "x")),
+    ("--bytes 1023", "--bytes " + SIZE.format(1024, 1073741824, "1023")),
+    ("--bytes 2g", "--bytes " + SIZE.format(1024, 1073741824, "2g")),
+    ("--bytes 1kk", "--bytes " + SIZE.format(1024, 1073741824, "1kk")),
+    ("--bytes 18014398509481985k", "--bytes " + SIZE.format(1024, 1073741824, "18014398509481985k")),
+    ("--memory 2047", "--memory " + SIZE.format(2048, 2147483648, "2047")),
+    ("--memory 4g --shards 3", "--memory " + SIZE.format(3072, 3221225472, "4g")),
+    ("--value-limit 9m", "--value-limit " + SIZE.format(1024, 8388608, "9m")),
+]
+
+
+def each_fault_of_the_command_line():
+    for call, text in FAULTS:
+        equal((call, *ended(call.split())), (call, 2, b"", f"mcd: {text}\n"))
+
+
+def what_cannot_be_read_is_told():
+    status, out, told = ended(["--replay", "no-such-file"])
+    first, second = told.splitlines()
+    equal((status, out, first), (1, b"", "mcd: cannot read the file"))
+    equal(second.startswith("mcd: --replay no-such-file: "), True)
+    equal("No such file" in second, True)
+
+
+def what_cannot_be_written_is_told():
+    with tempfile.NamedTemporaryFile("w", suffix=".schedule") as file, open("/dev/full", "wb") as full:
+        file.write("sim 1 1 1024 1\nopen 0\n")
+        file.flush()
+        for words in (["--replay", file.name], ["--version"]):
+            equal((words[0], *ended(words, stdout=full)), (words[0], 1, None, "mcd: cannot write\n"))
+
+
+def a_taken_address_is_told():
+    with Server() as server:
+        address = f"127.0.0.1:{server.port}"
+        status, out, told = ended(["--listen", address])
+        first, second = told.splitlines()
+        equal((status, out, first), (1, b"", "mcd: cannot listen"))
+        equal(second.startswith(f"mcd: --listen {address}: Address already in use"), True)
+
+
+CHECKS = [
+    a_value_limit_of_1024, values_of_2_mib, a_budget_of_1024, a_budget_of_1_mib, each_number_of_shards, two_seats,
+    the_clock_goes_on, the_clock_tells_the_year, each_fault_of_the_command_line, what_cannot_be_read_is_told,
+    what_cannot_be_written_is_told, a_taken_address_is_told,
+]
+
+
+def main():
+    needs_program()
+    bounded(LIMIT_SECONDS)
+    os.chdir(tempfile.gettempdir())
+    tally = Tally("options")
+    for check in CHECKS:
+        if not sys.argv[1:] or any(name in check.__name__ for name in sys.argv[1:]):
+            tally.run(check)
+    return tally.done()
+
+
+if __name__ == "__main__":
+    sys.exit(main())
