@@ -1,9 +1,5 @@
 //! Serves one line, as the command line says.
-ghost use Rattle.std.specs.Prelude.{IfOk};
 ghost use Rattle.mc_options.specs.Numbers.{AreWithin};
-ghost use Rattle.mc_server.specs.Sizes.{line_sizes};
-ghost use Rattle.mc_server.specs.Explains.{IsExplained};
-ghost use Rattle.mcd.specs.Served.{MayBe, sizes_by};
 
 use crate::sizes::sizes_of;
 use mc_options::Limits;
@@ -22,9 +18,6 @@ pub fn serve_line<R: Wait + RandomSource + time::Clock + Alloc<A = Global>, L: L
     limits: Limits,
 ) -> Result<Served, ServeRefusal>
     requires { AreWithin limits }
-    // A server of these limits explains what was read and written, at such moments.
-    ensures explained { IfOk result (λ served. IsExplained (line_sizes (sizes_by limits)) (MayBe at)
-        (record { begin = L.sight line.old; now = L.sight line.new; commands = served.commands; broke = served.broke })) }
 {
     let sizes = sizes_of(limits);
     match at {
