@@ -7,8 +7,8 @@ use mc_core::{
     Gate, LEAST, LEAST_BYTES, MOST_BYTES, MOST_RING, MOST_SEATS, MOST_SHARDS, MOST_VALUE, OpenGate,
 };
 use mc_seat::{Clock, Served};
+use mc_serve::{ServedLine, Sizes, serve_over};
 use mc_server::{StillClock, serve_one};
-use mc_threads::{ServedLine, Sizes, serve_over};
 use std::alloc::Global;
 use std::random::RandomSource;
 use std::sync::Wait;

@@ -6,8 +6,8 @@ use crate::rising::Rising;
 use crate::server::{MOMENT, Server};
 use crate::text::split_line;
 use mc_core::OpenGate;
+use mc_serve::{ServedLine, Sizes};
 use mc_server::StillClock;
-use mc_threads::{ServedLine, Sizes};
 use mc_wire::number_u64;
 use std::alloc::AllocError;
 use std::random::RandomSource;
@@ -150,7 +150,7 @@ impl<R: Threads + Wait + RandomSource + Copy + Send + Drop + 'static> Server<R> 
     /// Whether each line has what is its own, however many there are and over whatever shards, rings and windows.
     fn lines_side_by_side(&self) -> Result<bool, AllocError> {
         let mut is_right = true;
-        for shards in [1, 2, 16] {
+        for shards in [1, 2, 3, 16] {
             is_right = self.lines_over(shards)? && is_right;
         }
         Ok(is_right)

@@ -5,8 +5,8 @@ ghost use Rattle.mc_options.specs.Numbers.{AreWithin};
 
 use crate::refuse;
 use mc_options::Limits;
+use mc_serve::{ServeRefusal, Sizes, serve_tcp};
 use mc_server::{DEFAULT_RING, MachineClock};
-use mc_threads::{ServeRefusal, Sizes, serve_tcp};
 use std::alloc::Global;
 use std::io::Eprint;
 use std::net::{Net, TcpListener, TcpStream};
