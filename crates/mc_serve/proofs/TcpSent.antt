@@ -2,8 +2,7 @@
 use denote.RattleType.{RattleType}
 use denote.Param.Send.{IsSend, sendable}
 use Rattle.std.proofs.Crossing.{crosses}
-use Rattle.http_server.proofs.log.Log.TheSendSync.Send.{send}
 use Rattle.mc_serve.specs.contracts.tcp_door.TcpDoor as door
 
 pub tcp_send : (R : RattleType) → IsSend R → IsSend (door.the_row R)
-tcp_send R sent = search (sendable, crosses, send) depth 20
+tcp_send R sent = search (sendable, crosses) depth 20

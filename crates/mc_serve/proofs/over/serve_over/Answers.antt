@@ -6,6 +6,8 @@ use Rattle.mc_serve.specs.Over.{came_back}
 use Rattle.mc_serve.specs.Sizes.{MayServe}
 use Rattle.mc_serve.specs.One.{told_one, waits}
 use Rattle.mc_serve.proofs.One.{all_free, if_ok, over_all}
+use denote.Param.Send.{sendable}
+use Rattle.std.proofs.Crossing.{crosses}
 use Rattle.mc_serve.proofs.Sent.{door_send}
 use Rattle.mc_serve.proofs.over.serve_over.Goals as goal
 
@@ -25,4 +27,4 @@ serve-requires-clause-sizes g c κs within =
     subst P (sym count) c.requires
 
 pub serve-requires-send-D : goal.serve-requires-send-D
-serve-requires-send-D g c κs within = door_send g.row.L c.type_bounds.send-L
+serve-requires-send-D g c κs within = let sent = c.type_bounds.send-L in search (sendable, crosses, door_send, sent) depth 20

@@ -6,6 +6,8 @@ use Rattle.mc_serve.specs.Sizes.{MayServe}
 use Rattle.mc_serve.specs.Tcp.{told_tcp}
 use Rattle.mc_serve.proofs.Connections.{all_connections, new_free, tcp_new}
 use Rattle.mc_serve.proofs.One.{if_ok}
+use denote.Param.Send.{sendable}
+use Rattle.std.proofs.Crossing.{crosses}
 use Rattle.mc_serve.proofs.TcpSent.{tcp_send}
 use Rattle.mc_serve.proofs.tcp.serve_tcp.Goals as goal
 
@@ -24,4 +26,4 @@ returns g c =
     c.in_ok-doors.ensures.count c.in_ok-doors.ensures.new (λ door. tcp_new door.is_out door.gone.items door.is_over) (subst P c.in_ok-doors.ensures.count c.in_ok-back.ensures.explained) counted) c.count_ended.ensures
 
 pub serve-requires-send-D : goal.serve-requires-send-D
-serve-requires-send-D g c κs within = tcp_send g.row.R c.type_bounds.send-R
+serve-requires-send-D g c κs within = let sent = c.type_bounds.send-R in search (sendable, crosses, tcp_send, sent) depth 20
