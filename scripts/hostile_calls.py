@@ -50,7 +50,10 @@ def faults_of_the_command_line_end_with_2():
 
 def a_file_that_cannot_be_read_is_told():
     for file in (TOP / "examples/no such file", TOP / "examples"):
-        equal((file, ended(["--replay", str(file)])), (file, (1, b"", b"mcd: cannot read the file\n")))
+        status, out, told = ended(["--replay", str(file)])
+        first, _, reason = told.partition(b"\n")
+        equal((file, status, out, first), (file, 1, b"", b"mcd: cannot read the file"))
+        equal(reason.startswith(b"mcd: --replay %s: " % bytes(file)), True)
 
 
 def a_replay_that_cannot_be_written_is_told():

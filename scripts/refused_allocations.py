@@ -12,7 +12,8 @@ the tests are those that were just built, crates/NAME/out/NAME_tests.
 Then the program itself, crates/mcd/out/mcd, is run so over one line, with a window of one, so that the allocations of a command
 come before those of the next. Where one is refused before anything was read, the program tells so and ends; later on, the reply
 of just one command is the memory line, the other replies are those of the same line without that command, and a later allocation
-is never that of an earlier command. Each command that needs memory has its turn.
+is never that of an earlier command. Each command that needs memory has its turn. Where the program asks again, or does without,
+all replies are as with memory.
 """
 import os
 import pathlib
@@ -98,14 +99,16 @@ def given_up(place):
 def program_runs(refusing):
     """Runs the program with each allocation refused in turn, and gives how many it makes, or what failed."""
     wanted = {given_up(place): place for place, (_, takes) in enumerate(COMMANDS) if takes}
+    whole = replies_to([it for it, _ in COMMANDS])[:3]
     met = [-1]
     for nth in range(1, MOST):
         found, status, told, was_refused = replies_to([it for it, _ in COMMANDS], {**os.environ, **refusing, "REFUSE_NTH": str(nth)})
         if not was_refused:
-            whole = replies_to([it for it, _ in COMMANDS])[0]
             missed = sorted(set(wanted.values()) - set(met))
             fault = f"never meets a refusal at the commands {missed}" if missed else None
-            return nth - 1, fault if found == whole else f"answers {found!r:.200} with all allocations"
+            return nth - 1, fault if (found, status, told) == whole else f"answers {found!r:.200} with all allocations"
+        if (found, status, told) == whole:
+            continue
         place = -1 if (found, status, told) == (b"", 1, b"mcd: out of memory\n") else wanted.get(found)
         if place is None or place < met[-1] or place >= 0 and (status, told) != (0, b""):
             return nth, f"ends with {status} and {told!r:.80} and answers {found!r:.200} with its allocation {nth} refused"
