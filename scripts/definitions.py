@@ -21,14 +21,17 @@ PAGE = TOP / "docs/PROOFS.md"
 BEGIN, END = "<!-- scripts/definitions.py -->\n", "<!-- end -->\n"
 
 # The functions whose contracts are the theorems: the headline, the laws of progress and order, what ties the simulator to
-# them, one line, real threads, replay files and the command line.
+# them, one line, real threads over doors, lines in memory and sockets, replay files and the command line.
 THEOREMS = [
     ("mc_core/src/laws.rt", ["every_schedule"]),
-    ("mc_laws/src/progress.rt", ["never_stuck", "all_comes_to_rest", "fair_runs_come_to_rest", "none_waits_forever"]),
+    ("mc_laws/src/progress.rt", ["never_stuck", "all_comes_to_rest", "fair_runs_come_to_rest", "what_is_tried_is_fair", "none_waits_forever", "bytes_are_taken_at_rest"]),
     ("mc_laws/src/order.rt", ["what_was_handed_out_ran_before", "keys_are_linearizable"]),
+    ("mc_laws/src/settling.rt", ["settle"]),
     ("mc_core/src/sim.rt", ["new", "connections", "fed", "handed", "log", "step", "run"]),
     ("mc_server/src/serve.rt", ["serve_one"]),
-    ("mc_threads/src/over.rt", ["serve_over"]),
+    ("mc_serve/src/serving.rt", ["serve"]),
+    ("mc_serve/src/over.rt", ["serve_over"]),
+    ("mc_serve/src/tcp.rt", ["serve_tcp"]),
     ("mc_replay/src/schedule.rt", ["read_schedule"]),
     ("mc_replay/src/run.rt", ["replay"]),
     ("mc_options/src/options.rt", ["read_options"]),

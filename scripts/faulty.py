@@ -23,7 +23,7 @@ KEPT = []
 TORN = b"set torn 0 0 100000\r\n"
 
 # Faults of the status with which the program ends.
-STATUSES = {"ends with 0": 0, "ends with 1": 1}
+STATUSES = {"ends with 0": 0, "ends with 1": 1, "is another process": 0}
 
 
 def crashes(whole, _first):
@@ -153,6 +153,16 @@ class SlowForChosenKeys(Honest):
         super().up(got)
 
 
+class Spins(Honest):
+    def __init__(self, *given):
+        super().__init__(*given)
+        threading.Thread(target=self.spin, daemon=True).start()
+
+    def spin(self):
+        while True:
+            pass
+
+
 def takes(mebibytes, at_start=0):
     """The fault that each connection takes so much memory more, or the server at its start."""
 
@@ -172,6 +182,7 @@ LINES = {
     "slow for chosen keys": SlowForChosenKeys, "keeps its port": Honest, "takes 64 MiB": takes(0, 64),
     "takes 1 MiB a connection": takes(1), "takes 4 MiB a connection": takes(4), "takes 16 MiB a connection": takes(16),
     "takes 64 MiB a connection": takes(64), "counts a connection twice": Honest,
+    "spins": Spins,
 }
 
 

@@ -17,6 +17,7 @@ import hostile_flood
 import hostile_lines
 import hostile_memory
 import hostile_soak
+import hostile_system
 from served import TOP, Tally, bounded, needs_program
 
 LIMIT_SECONDS = 900
@@ -26,7 +27,10 @@ REST = 0.2
 
 
 def checks():
-    return [*hostile_calls.CHECKS, *hostile_lines.CHECKS, *hostile_memory.CHECKS, *hostile_flood.CHECKS, *hostile_bytes.CHECKS, *hostile_soak.CHECKS]
+    return [
+        *hostile_calls.CHECKS, *hostile_lines.CHECKS, *hostile_system.CHECKS, *hostile_memory.CHECKS, *hostile_flood.CHECKS,
+        *hostile_bytes.CHECKS, *hostile_soak.CHECKS,
+    ]
 
 
 def run(tally, names):

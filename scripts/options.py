@@ -120,6 +120,51 @@ def two_seats():
             equal(third.read(4), b"MN\r\n")
 
 
+# A client that asks for these and doesn't read holds up the server amid the first reply, which no buffer on the way has room for.
+HELD_UP = b"get a\r\nget b\r\nget c\r\n"
+LARGE = 8 * MIB
+
+# What is stored for it: `a` for good, `b` and `c` for two seconds.
+SHORT_LIVED = set_of(b"a", b"v" * LARGE) + b"set b 0 2 1\r\nx\r\nset c 0 2 1\r\ny\r\n"
+
+
+def replies_by_window(window):
+    """Commands are taken as long as the window has room: what is taken before the first reply is out finds `b` and `c` alive."""
+    alive = [hit_of(key, value) if place < window else b"END\r\n" for place, (key, value) in enumerate([(b"b", b"x"), (b"c", b"y")], 1)]
+    return hit_of(b"a", b"v" * LARGE) + b"".join(alive)
+
+
+def held_up_over_tcp(options, wanted):
+    with Server(*options) as server, Line(server.port, room=4096) as line:
+        line.ask(SHORT_LIVED, 3 * STORED)
+        line.send(HELD_UP)
+        time.sleep(3.2)
+        equal(line.read(len(wanted)) == wanted, True)
+
+
+def held_up_over_stdio(options, wanted):
+    process = started([MCD, "--stdio", *options], stdin=subprocess.PIPE, stdout=subprocess.PIPE)
+    try:
+        process.stdin.write(SHORT_LIVED)
+        process.stdin.flush()
+        equal(process.stdout.read(len(3 * STORED)), 3 * STORED)
+        process.stdin.write(HELD_UP)
+        process.stdin.flush()
+        time.sleep(3.2)
+        equal(process.communicate(timeout=30)[0] == wanted, True)
+    finally:
+        process.kill()
+        process.wait()
+
+
+def each_window():
+    for window in (1, 2, 256):
+        options = ["--value-limit", "8m", "--bytes", "64m", "--window", str(window)]
+        wanted = replies_by_window(window)
+        held_up_over_tcp(options, wanted)
+        held_up_over_stdio(options, wanted)
+
+
 def the_clock_goes_on():
     """Without `--at` an item that lives a second is gone after two."""
     process = started([MCD, "--stdio"], stdin=subprocess.PIPE, stdout=subprocess.PIPE)
@@ -208,7 +253,7 @@ def a_taken_address_is_told():
 
 CHECKS = [
     a_value_limit_of_1024, values_of_2_mib, a_budget_of_1024, a_budget_of_1_mib, each_number_of_shards, two_seats,
-    the_clock_goes_on, the_clock_tells_the_year, each_fault_of_the_command_line, what_cannot_be_read_is_told,
+    each_window, the_clock_goes_on, the_clock_tells_the_year, each_fault_of_the_command_line, what_cannot_be_read_is_told,
     what_cannot_be_written_is_told, a_taken_address_is_told,
 ]
 

@@ -16,3 +16,4 @@ pub mod RowsMeta
 pub mod Sizes
 pub mod StorageLines
 pub mod Told
+pub mod Few

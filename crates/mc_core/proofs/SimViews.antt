@@ -7,6 +7,8 @@ use Rattle.mc_core.specs.declared.sim.Sim.{Sim}
 use Rattle.mc_core.specs.Sizes.{Sizes}
 use Rattle.mc_core.specs.World.{IsLink, Link, World}
 use Rattle.mc_core.specs.Headline.{handed_bytes}
+use Rattle.mc_core.specs.Laid.{Laid}
+use Rattle.mc_core.specs.Rings.{AreWired, Wires}
 use Rattle.mc_core.specs.Stands.{Stands, line_of}
 use Rattle.mc_core.proofs.AtSeat.{get_index}
 
@@ -57,3 +59,18 @@ kept_always sizes sim w k link xs world here same past =
 pub kept_within : (sizes : Sizes) (sim : Sim) (w : World) (k : ℕ) (xs : List Connection) → Stands sizes sim w → xs ≡ sim.connections.items → k < length xs → k < length w.links
 unfolding Stands
 kept_within sizes sim w k xs world same within = omega (arith, within, world.count, ap length same)
+
+-- as many seats as the sizes say
+pub seats_counted : (sizes : Sizes) (sim : Sim) (w : World) → Stands sizes sim w → length sim.seats.items ≡ sizes.seats
+unfolding Stands
+seats_counted sizes sim w world = world.seat_count
+
+-- the rings hold what the world says
+pub wires_there : (sizes : Sizes) (sim : Sim) (w : World) → Stands sizes sim w → (wires : Wires) × AreWired sizes sim.rings wires
+unfolding Stands
+wires_there sizes sim w world = (world.wires, world.wired)
+
+-- as many shards as the sizes say
+pub shards_counted : (sizes : Sizes) (laid : Laid) (wires : Wires) → AreWired sizes laid wires → length laid.workers ≡ sizes.shards
+unfolding AreWired
+shards_counted sizes laid wires was = was.shard_count

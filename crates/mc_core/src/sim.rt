@@ -128,6 +128,20 @@ impl Sim {
         })
     }
 
+    /// How many connections it has at a time.
+    pub fn seats(&self) -> usize
+        ensures { (sizes : Sizes) (w : World) → Stands sizes self.now w → result ≡ sizes.seats }
+    {
+        self.seats.len()
+    }
+
+    /// How many shards it has.
+    pub fn shards(&self) -> usize
+        ensures { (sizes : Sizes) (w : World) → Stands sizes self.now w → result ≡ sizes.shards }
+    {
+        self.rings.shards()
+    }
+
     /// The connections, in the order in which they were opened.
     pub fn connections(&self) -> &[Connection]
         ensures seats { (sizes : Sizes) (w : World) → Stands sizes self.now w → map (λ one. one.seat) result.now ≡ map (λ link. link.seat) w.links }

@@ -4,6 +4,7 @@ ghost use Rattle.mc_item.specs.Expiry.{is_dead, seconds_left};
 ghost use Rattle.mc_item.specs.Value.{number_in, joined};
 
 use crate::memory::NoMemory;
+use crate::packed::PackedExpiry;
 use crate::value::Value;
 use mc_wire::GREATEST_VALUE_LIMIT;
 use std::alloc::Global;
@@ -28,7 +29,7 @@ pub struct Item {
     pub stale: bool,
     /// A client was told to recompute it.
     pub sent: bool,
-    pub expiry: Expiry,
+    pub expiry: PackedExpiry,
     /// The cas unique.
     pub unique: u64,
     /// The second at which it was last made the most recent one.

@@ -8,7 +8,7 @@ ghost use Rattle.mc_split.specs.Text.{answer_line, item_text, plain_item, unique
 ghost use Rattle.mc_join.specs.internal.Slots.{fixed_line, slot_text, first_text, items_text, lacks_memory};
 
 use crate::fixed::MEMORY_LINE;
-use crate::header::{HEADER_LIMIT, gathered};
+use crate::header::{HEADER_LIMIT, SHORT_VALUE, gathered};
 use itoa::Buffer;
 use mc_command::Keys;
 use mc_item::Answer;
@@ -184,6 +184,15 @@ fn put_plain_item<O: Outlet>(
     let flags = flag_digits.format(flags).as_bytes();
     let size = size_digits.format(value.len()).as_bytes();
     let mut room = [0; HEADER_LIMIT];
+    if value.len() <= SHORT_VALUE {
+        let item = gathered(
+            &mut room,
+            &[
+                b"VALUE ", key, b" ", flags, b" ", size, b"\r\n", value, b"\r\n",
+            ],
+        );
+        return put_all(out, item);
+    }
     let line = gathered(
         &mut room,
         &[b"VALUE ", key, b" ", flags, b" ", size, b"\r\n"],

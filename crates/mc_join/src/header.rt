@@ -1,9 +1,13 @@
-//! The line before a value, put together in a room of its own so that it goes out in one write.
+//! The line before a value, and a short value with it, put together in a room of its own so that it goes out in one write.
 ghost use Rattle.std.specs.Prelude.{◌≡◌, ◌+◌, ◌++◌, ◌≤◌, length, take};
 ghost use Rattle.std.specs.List.{flat_map};
 
-/// Room for the longest line before a value: `VALUE`, a key, the client flags, the size and the cas unique.
-pub const HEADER_LIMIT: usize = 384;
+/// Room for the longest line before a value: `VALUE`, a key, the client flags, the size and the cas unique; and for a short
+/// value behind it.
+pub const HEADER_LIMIT: usize = 512;
+
+/// A value of at most so many bytes goes out in one write with the line before it.
+pub const SHORT_VALUE: usize = 120;
 
 /// Puts a part into the room behind the first `at` bytes, and tells where it ends.
 #[inline(always)]

@@ -27,10 +27,16 @@ pub(crate) fn add(forms: &mut HeapCircularBuffer<Form>, form: Form) -> bool
     ensures capacity { forms.new.capacity ≡ forms.old.capacity }
 {
     if forms.len() >= forms.capacity() {
+        let_go(form);
         return false;
     }
     forms.try_push_back(form).is_ok()
 }
+
+/// Lets a form go. It is kept out of line, so that a form that is added is moved whole and not field by field.
+#[cold]
+#[inline(never)]
+fn let_go(_form: Form) {}
 
 /// How many forms from the front on have all their answers.
 pub(crate) fn count_complete(forms: &HeapCircularBuffer<Form>) -> usize

@@ -9,3 +9,5 @@ pub mod Ordering
 pub mod Linear
 pub mod Rows
 pub mod Moments
+pub mod Few
+pub mod Rounds

@@ -24,7 +24,8 @@ use Rattle.mc_core.specs.Events.Event.{Open, Feed, Take, Send, Pop, Give, Receiv
 use Rattle.mc_core.specs.Schedule.{Happens, Leads, StepReply}
 use Rattle.mc_core.specs.Schedule.StepReply.{Done, Idle, NoMemory}
 use Rattle.mc_core.specs.Law.{Law, LinkLaw}
-use Rattle.mc_laws.specs.Progress.{AllAtRest, AllReplied, CanComeToRest, DoesAtMost, IsBounded, IsNoInput, IsWork, done_in, is_done, steps_of, steps_of_all}
+use Rattle.mc_core.specs.Runs.{done_in, is_done}
+use Rattle.mc_laws.specs.Progress.{AllAtRest, AllReplied, CanComeToRest, DoesAtMost, IsBounded, IsNoInput, IsWork, steps_of, steps_of_all}
 use Rattle.mc_core.proofs.Every.{event_kept}
 use Rattle.mc_core.proofs.Follows.{headline}
 use Rattle.mc_core.proofs.Links.{ran_within}
@@ -318,9 +319,12 @@ spelled_at sizes (first ∷ links) zero link own here at =
 spelled_at sizes (first ∷ links) (suc k) link own here at = spelled_at sizes links k link own here at
 
 -- No more is left than there are steps for what is spelled.
+pub left_within : (sizes : Sizes) (w : World) → Law sizes w → left sizes w ≤ steps_of_all sizes.shards (map (spelled_by sizes) w.links)
+left_within sizes w l = over_within sizes w.log 0 w.links (λ i link here. let at : i ≡ 0 + i = omega arith in subst (λ n. LinkLaw sizes (of_asker n w.log) link) at (l.links i link here))
+
 pub is_bounded : (sizes : Sizes) (w : World) → 0 < sizes.shards → Law sizes w → IsBounded sizes w
 is_bounded sizes w some l =
-    let few : left sizes w ≤ steps_of_all sizes.shards (map (spelled_by sizes) w.links) = over_within sizes w.log 0 w.links (λ i link here. let at : i ≡ 0 + i = omega arith in subst (λ n. LinkLaw sizes (of_asker n w.log) link) at (l.links i link here)) in
+    let few = left_within sizes w l in
     record {
       commands = map (spelled_by sizes) w.links;
       of_each = length-map w.links (spelled_by sizes);

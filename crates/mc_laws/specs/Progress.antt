@@ -9,9 +9,10 @@ use Rattle.mc_core.specs.World.{IsLink, Link, World}
 use Rattle.mc_core.specs.Rest.{AtRest}
 use Rattle.mc_core.specs.Events.{Event}
 use Rattle.mc_core.specs.Events.Event.{Open, Feed, Take, Send, Pop, Give, Receive, Hand, End, Break}
-use Rattle.mc_core.specs.Schedule.{Happens, Leads, Spared, StepReply}
-use Rattle.mc_core.specs.Schedule.StepReply.{Done, Idle, NoMemory}
+use Rattle.mc_core.specs.Schedule.{Happens, Leads, Spared}
+use Rattle.mc_core.specs.Schedule.StepReply.{Done}
 use Rattle.mc_core.specs.Headline.{AreAllReplies, OfEach}
+use Rattle.mc_core.specs.Runs.{done_in}
 
 -- The server does it by itself: no client acts.
 abbrev pub IsWork : Event → Type 0
@@ -47,16 +48,6 @@ pub record HasWork (sizes : Sizes) (w : World) : Type 0 where
   pub next : World
   pub happens : Happens sizes w event Done next
   pub sure : Spared sizes w event → ⊥
-
--- how many of the events are done
-abbrev pub is_done : StepReply → ℕ
-is_done Done = 1
-is_done Idle = 0
-is_done NoMemory = 0
-
-abbrev pub done_in : (sizes : Sizes) (w : World) (events : List Event) (w' : World) → Leads sizes w events w' → ℕ
-done_in sizes w [] w' led = 0
-done_in sizes w (event ∷ events) w' led = is_done led.0 + done_in sizes led.1 events w' led.3
 
 -- While nothing comes in no more than so many events are done, however many are tried.
 abbrev pub DoesAtMost : Sizes → World → ℕ → Type 0

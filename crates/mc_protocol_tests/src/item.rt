@@ -2,7 +2,7 @@
 ghost use Rattle.std.specs.Prelude.{◌≤◌, length};
 
 use crate::asserting::{equal, holds};
-use mc_item::{Answer, Expiry, Item, Kind, NoMemory, Op, Value, expiry};
+use mc_item::{Answer, Expiry, Item, Kind, NoMemory, Op, PackedExpiry, Value, expiry};
 use mc_wire::Key;
 use std::alloc::Global;
 use std::test::Fail;
@@ -69,7 +69,7 @@ fn item_of(value: Value) -> Item {
     Item {
         value,
         flags: 3,
-        expiry: Expiry::At(1000),
+        expiry: PackedExpiry::from_exptime(1, 999),
         unique: 1,
         last_access: 1000,
         fetched: false,

@@ -37,14 +37,21 @@ const CUTTINGS: [(usize, usize); 7] = [
     (1, 1),
 ];
 
+/// How many commands of a line may be open: one, or more than a read brings.
+const WINDOWS: [usize; 2] = [1, WIDE];
+
+/// A window that no row fills.
+const WIDE: usize = 256;
+
 /// So many of the first reads and writes of a line fail in turn.
 const FAILURES: usize = 200;
 
-/// What became of a line that new shards served at the row's moment; none where the server refuses.
+/// What became of a line that new shards served at the row's moment, by this window; none where the server refuses.
 fn served<R: Wait + RandomSource, L: Line>(
     rt: &R,
     alloc: Global,
     row: &Row,
+    window: usize,
     line: &mut L,
 ) -> Option<Served> {
     let is_budget = row.bytes >= LEAST_BUDGET && row.bytes <= GREATEST_BUDGET;
@@ -56,7 +63,7 @@ fn served<R: Wait + RandomSource, L: Line>(
         bytes: row.bytes,
         ring: DEFAULT_RING,
         value: row.value,
-        window: 256,
+        window: window.max(1),
     };
     serve_one(rt, alloc, line, sizes, &StillClock(row.moment)).ok()
 }
@@ -66,19 +73,20 @@ fn takes<R: Wait + RandomSource>(
     rt: &R,
     alloc: Global,
     row: &Row,
+    window: usize,
     input: &[u8],
     cutting: Cutting,
     output: &[u8],
 ) -> bool {
     let mut line = MemoryLine::new(alloc, input, cutting);
-    match served(rt, alloc, row, &mut line) {
+    match served(rt, alloc, row, window, &mut line) {
         Some(served) => !served.broke && line.output() == output,
         None => false,
     }
 }
 
 /// Whether the row's output comes however its input and output are cut.
-fn is_right_cut<R: Wait + RandomSource>(rt: &R, alloc: Global, row: &Row) -> bool {
+fn is_right_cut<R: Wait + RandomSource>(rt: &R, alloc: Global, row: &Row, window: usize) -> bool {
     for (piece, portion) in CUTTINGS {
         let cutting = Cutting {
             piece,
@@ -89,6 +97,7 @@ fn is_right_cut<R: Wait + RandomSource>(rt: &R, alloc: Global, row: &Row) -> boo
             rt,
             alloc,
             row,
+            window,
             row.input.as_slice(),
             cutting,
             row.output.as_slice(),
@@ -107,7 +116,7 @@ fn is_right_whole<R: Wait + RandomSource>(rt: &R, alloc: Global, row: &Row) -> b
         fails_at: NEVER,
     };
     let mut line = MemoryLine::new(alloc, row.input.as_slice(), cutting);
-    let Some(served) = served(rt, alloc, row, &mut line) else {
+    let Some(served) = served(rt, alloc, row, WIDE, &mut line) else {
         return false;
     };
     // One read of the input, one of its end, and one write.
@@ -133,11 +142,16 @@ fn is_right_failed<R: Wait + RandomSource>(
         portion: WHOLE,
         fails_at: NEVER,
     };
-    !line.has_failed_reading() || takes(rt, alloc, row, line.given(), whole, line.output())
+    !line.has_failed_reading() || takes(rt, alloc, row, WIDE, line.given(), whole, line.output())
 }
 
 /// Whether the row is right with each of its first reads and writes failing in turn.
-fn is_right_failing<R: Wait + RandomSource>(rt: &R, alloc: Global, row: &Row) -> bool {
+fn is_right_failing<R: Wait + RandomSource>(
+    rt: &R,
+    alloc: Global,
+    row: &Row,
+    window: usize,
+) -> bool {
     for fails_at in 0..FAILURES {
         let cutting = Cutting {
             piece: 5,
@@ -145,7 +159,7 @@ fn is_right_failing<R: Wait + RandomSource>(rt: &R, alloc: Global, row: &Row) ->
             fails_at,
         };
         let mut line = MemoryLine::new(alloc, row.input.as_slice(), cutting);
-        let Some(served) = served(rt, alloc, row, &mut line) else {
+        let Some(served) = served(rt, alloc, row, window, &mut line) else {
             return false;
         };
         if !line.has_failed() {
@@ -160,14 +174,16 @@ fn is_right_failing<R: Wait + RandomSource>(rt: &R, alloc: Global, row: &Row) ->
 
 /// What is wrong with a row, if anything is.
 fn fault_of<R: Wait + RandomSource>(rt: &R, alloc: Global, row: &Row) -> Option<&'static str> {
-    if !is_right_cut(rt, alloc, row) {
-        return Some("wrong");
-    }
     if !is_right_whole(rt, alloc, row) {
         return Some("wrong where nothing is cut");
     }
-    if !is_right_failing(rt, alloc, row) {
-        return Some("wrong where the line fails");
+    for window in WINDOWS {
+        if !is_right_cut(rt, alloc, row, window) {
+            return Some("wrong");
+        }
+        if !is_right_failing(rt, alloc, row, window) {
+            return Some("wrong where the line fails");
+        }
     }
     if !is_bounded(alloc, row.input.as_slice()) {
         return Some("held beyond its bound");

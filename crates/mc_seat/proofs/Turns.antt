@@ -1,5 +1,5 @@
 -- How a turn ends.
-use Rattle.std.proofs.Common.{◌≡◌, ℕ, true, false, ◌⊎◌, inl, inr, List, [], ◌++◌, ◌==◌, length, take, drop, IsTrue, refl, sym, ap, ◌∙◌, arith, append_assoc, append-nil}
+use Rattle.std.proofs.Common.{◌≡◌, ℕ, true, false, ◌⊎◌, inl, inr, List, [], ◌++◌, ◌==◌, length, take, drop, IsTrue, refl, sym, ap, subst, ◌∙◌, arith, append_assoc, append-nil}
 use Rattle.std.specs.List.{concat}
 use Rattle.std.proofs.lemmas.Bool.{eqb-true}
 use Rattle.std.proofs.lemmas.List.{nil_from_length, take-append-drop, take_all}
@@ -51,6 +51,10 @@ ends received begin now unread told conn is whole over serving =
     let sound = is_sound conn (all_handed told) is in
     let stands = rw (handed_all told) at serving in
     let closed : IsClosed told = elim over [ inl broken ↦ absurd (let bad : true ≡ false = sym broken ∙ whole in cc) | inr closed ↦ closed ] in
+    let all_taken : IsAllTaken told = elim closed [
+      | inl shut ↦ (let P : List ℕ → Type 0 = λ bytes. AreCommands told.limit bytes (commands_of told.taken) in subst P (append-nil told.fed) (closed_more told.limit told.fed [] (commands_of told.taken) shut sound.begin))
+      | inr all ↦ all.1
+    ] in
     let read : AreCommands told.limit (told.fed ++ unread) (commands_of told.taken) × (IsTrue now.ended ⊎ IsTrue (is_closed (commands_of told.taken))) = elim closed [
       | inl shut ↦ (closed_more told.limit told.fed unread (commands_of told.taken) shut sound.begin, inr shut)
       | inr all ↦ let is = stands.ended_is all.0 in (rw (is.1, append-nil) all.1, inl is.0)
@@ -59,6 +63,7 @@ ends received begin now unread told conn is whole over serving =
       handed = length (all_texts told);
       conn_is = rw (← whole) is;
       over = inr closed;
+      rest = λ e. (all_taken, refl);
       story = record {
         read = told.fed ++ unread;
         written = concat (all_texts told);
@@ -86,6 +91,7 @@ breaks_hand received begin before now unread told conn is off serving =
       handed = told.handed;
       conn_is = is;
       over = inl refl;
+      rest = λ e. absurd cc;
       story = record {
         read = told.fed ++ unread;
         written = concat texts ++ take off.count waiting;
@@ -123,7 +129,7 @@ pub breaks_read : (received : ℕ → List Shown) (begin before now : Sight) (un
 breaks_read received begin before now unread told conn is all complete fails empty serving =
     let off : BreaksOff (waiting_text (all_handed told)) (asked before) now = record { count = 0; within = omega arith; sight = fails ∙ ap broke (sym (took-nil (asked before))) } in
     let served = breaks_hand received begin (asked before) now [] (all_handed told) conn is off (asks received begin before unread told all complete empty serving) in
-    record { handed = served.handed; conn_is = served.conn_is; over = served.over; story = served.story; reads = served.reads }
+    record { handed = served.handed; conn_is = served.conn_is; over = served.over; rest = served.rest; story = served.story; reads = served.reads }
 
 -- some of what was read is fed
 pub goes_feed : (received : ℕ → List Shown) (begin now : Sight) (unread : List ℕ) (told : Told) (count : ℕ) (conn : Conn) → told.ended ≡ false → IsConn conn (record (all_handed told) { fed = told.fed ++ take count unread }) → Serving received begin now unread (all_handed told) → GoesOn received begin now told conn (drop count unread)

@@ -11,7 +11,7 @@ use Rattle.mc_conn.specs.declared.conn.Conn.{Conn}
 use Rattle.mc_conn.specs.Conn.{IsConn}
 use Rattle.mc_conn.specs.Due.{due}
 use Rattle.mc_conn.specs.Fits.{KeysFit, Serves}
-use Rattle.mc_conn.specs.Told.{IsOver, Told, all_pieces, all_texts, commands_of}
+use Rattle.mc_conn.specs.Told.{IsAtRest, IsOver, Told, all_pieces, all_texts, commands_of}
 use Rattle.mc_seat.specs.Reads.{ReadsOwingNothing}
 use Rattle.mc_seat.specs.Story.{Story}
 
@@ -41,3 +41,5 @@ pub record LineServed (shards limit : ℕ) (may_answer : ℕ → Type 0) (begin 
   -- And then it was read only where all replies to the bytes read so far were written out, and each command has its reply.
   pub reads : KeysFit told.shards told.taken received → ReadsOwingNothing told.limit begin now (commands_of told.taken) (all_texts told)
   pub complete : KeysFit told.shards told.taken received → length (all_texts told) ≡ length told.taken
+  -- And nothing is under way any more, so that the connection can be renewed.
+  pub rest : KeysFit told.shards told.taken received → IsAtRest told

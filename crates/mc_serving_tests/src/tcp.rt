@@ -2,8 +2,8 @@
 ghost use Rattle.std.specs.Prelude.{◌≤◌};
 
 use crate::asserting::equal;
+use mc_serve::{Sizes, serve_tcp};
 use mc_server::StillClock;
-use mc_threads::{Sizes, serve_tcp};
 use std::alloc::Global;
 use std::io::{Read, Write};
 use std::net::{Net, SocketAddr, TcpListener, TcpStream};
@@ -69,5 +69,47 @@ fn a_client_is_served(rt: HostRuntime) -> Result<(), Fail> {
     let expected = b"STORED\r\nVALUE a 0 1\r\nx\r\nEND\r\n";
     equal(&rt, replies.as_slice(), expected.as_slice());
     equal(&rt, ended, Some(1));
+    Ok(())
+}
+
+/// Serves three clients by so many seats; whether each had its replies, and how many connections ended.
+fn serve_three<
+    R: Threads
+        + Wait
+        + RandomSource
+        + time::Clock
+        + Net<Listener = TcpListener, Stream = TcpStream>
+        + Copy
+        + Send
+        + 'static,
+>(rt: &R, alloc: Global, seats: usize) -> io::Result<(bool, Option<u64>)>
+    requires seats { (1 ≤ seats) × (seats ≤ 64) }
+{
+    let listener = TcpListener::bind(rt, "127.0.0.1:0")?;
+    let server = listener.local_addr()?;
+    let own = *rt;
+    let first = thread::spawn(rt, move || talk(&own, alloc, server, b"mn\r\nquit\r\n"))?;
+    let second = thread::spawn(rt, move || talk(&own, alloc, server, b"get a\r\nquit\r\n"))?;
+    let third = thread::spawn(rt, move || talk(&own, alloc, server, b"mg a b\r\nquit\r\n"))?;
+    let sizes = Sizes {
+        shards: 2,
+        bytes: 65_536,
+        ring: 1,
+        value: 1_048_576,
+        window: 2,
+    };
+    let ended = serve_tcp(rt, alloc, listener, seats, sizes, Some(3), StillClock(1000)).ok();
+    let no_op = first.join(rt)?.as_slice() == b"MN\r\n".as_slice();
+    let miss = second.join(rt)?.as_slice() == b"END\r\n".as_slice();
+    let bad = third.join(rt)?.as_slice() == b"CLIENT_ERROR bad key\r\n".as_slice();
+    Ok((no_op && miss && bad, ended))
+}
+
+/// Also where there are more seats than shards, or fewer than clients.
+#[test]
+fn each_connection_is_counted(rt: HostRuntime) -> Result<(), Fail> {
+    equal(&rt, serve_three(&rt, rt.alloc(), 1)?, (true, Some(3)));
+    equal(&rt, serve_three(&rt, rt.alloc(), 2)?, (true, Some(3)));
+    equal(&rt, serve_three(&rt, rt.alloc(), 5)?, (true, Some(3)));
     Ok(())
 }

@@ -6,7 +6,7 @@ use crate::asserting::{equal, holds};
 use crate::memory_line::MemoryLine;
 use mc_command::{Command, Refusal, StoreMode};
 use mc_conn::{Conn, Taken};
-use mc_item::{Answer, Expiry, Item, Kind, MetaDelete, Op, Value, expiry};
+use mc_item::{Answer, Expiry, Item, Kind, MetaDelete, Op, PackedExpiry, Value, expiry};
 use mc_reader::{Next, Reader};
 use mc_ring::{Parcel, Reply, SeatEnds, ShardEnds, lanes};
 use mc_split::{Piece, Ticket};
@@ -38,7 +38,7 @@ fn item_of(alloc: Global) -> Result<Item, AllocError> {
     Ok(Item {
         value: value_of(alloc)?,
         flags: 0,
-        expiry: Expiry::At(1_010),
+        expiry: PackedExpiry::from_exptime(10, 1_000),
         unique: 1,
         last_access: 1_000,
         fetched: false,

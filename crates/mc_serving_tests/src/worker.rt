@@ -156,27 +156,54 @@ fn what_waits_for_a_worker_is_counted(rt: HostRuntime) -> Result<(), Fail> {
     Ok(())
 }
 
-/// A gate that keeps the ticket that it was last asked for.
+/// A gate that keeps what it was asked for so far: each time the shard's number and the command's, as four digits.
 #[derive(Drop)]
-struct Watched(Cell<u64>);
+struct Recording(Cell<u64>);
 
-impl Gate for Watched {
-    fn before(&self, _shard: usize, ticket: Ticket) {
-        self.0.set(ticket.0);
+impl Gate for Recording {
+    fn before(&self, shard: usize, ticket: Ticket) {
+        let call = (shard as u64).wrapping_mul(100).wrapping_add(ticket.0);
+        self.0
+            .set(self.0.get().wrapping_mul(10_000).wrapping_add(call));
+    }
+}
+
+/// A turn for a seat, where it is there, by way of this gate.
+fn turn_by(alloc: Global, worker: &mut Worker, seat: usize, gate: &Recording) -> Option<Turn> {
+    if seat < worker.seats() {
+        Some(worker.turn(alloc, seat, gate))
+    } else {
+        None
     }
 }
 
 #[test]
-fn the_gate_is_asked_before_a_piece(rt: HostRuntime) -> Result<(), Fail> {
+fn the_gate_is_asked_before_each_piece(rt: HostRuntime) -> Result<(), Fail> {
     let alloc = rt.alloc();
-    let (_first, mut second, mut worker) = two_seats(alloc, RandomState::new(&rt)?)?;
-    let gate = Watched(Cell::new(0));
-    holds(&rt, worker.seats() == 2);
-    worker.turn(alloc, 1, &gate);
-    equal(&rt, gate.0.get(), 0);
+    let (mut first, mut second, mut worker) = two_seats(alloc, RandomState::new(&rt)?)?;
+    let gate = Recording(Cell::new(7));
+    equal(
+        &rt,
+        turn_by(alloc, &mut worker, 1, &gate),
+        Some(Turn::Nothing),
+    );
+    equal(&rt, gate.0.get(), 7);
     holds(&rt, sends(&mut second, piece(5)));
-    holds(&rt, worker.seats() == 2);
-    worker.turn(alloc, 1, &gate);
-    equal(&rt, gate.0.get(), 5);
+    holds(&rt, sends(&mut first, piece(6)));
+    equal(&rt, turn_by(alloc, &mut worker, 1, &gate), ran(5));
+    equal(&rt, gate.0.get(), 70_005);
+    // Its reply is given, and the gate isn't asked for that.
+    equal(&rt, turn_by(alloc, &mut worker, 0, &gate), Some(Turn::Gave));
+    equal(&rt, gate.0.get(), 70_005);
+    equal(&rt, turn_by(alloc, &mut worker, 0, &gate), ran(6));
+    equal(&rt, gate.0.get(), 700_050_006);
+    holds(&rt, sends(&mut second, Parcel::End));
+    equal(&rt, turn_by(alloc, &mut worker, 1, &gate), Some(Turn::Gave));
+    equal(
+        &rt,
+        turn_by(alloc, &mut worker, 1, &gate),
+        Some(Turn::Ended),
+    );
+    equal(&rt, gate.0.get(), 700_050_006);
     Ok(())
 }

@@ -12,7 +12,7 @@ ghost use Rattle.mc_store.specs.internal.Listed.{Fits, freed_by, listed_cost, wi
 use crate::hashing::PolynomialState;
 use crate::{GREATEST_BUDGET, ITEM_OVERHEAD, LEAST_BUDGET};
 use lru::LruCache;
-use mc_item::{Expiry, Item, NoMemory};
+use mc_item::{Item, NoMemory, PackedExpiry};
 use mc_wire::{KEY_LIMIT, Key};
 use std::alloc::{AllocError, Global};
 use std::hash::RandomState;
@@ -52,7 +52,7 @@ impl Model for Items {
 pub struct Use {
     /// The second of the access.
     pub time: u64,
-    pub expiry: Expiry,
+    pub expiry: PackedExpiry,
     pub fetched: bool,
     pub sent: bool,
 }
@@ -61,7 +61,7 @@ pub struct Use {
 #[derive(Clone, Copy)]
 pub struct Staling {
     pub unique: u64,
-    pub expiry: Expiry,
+    pub expiry: PackedExpiry,
 }
 
 /// Whether a unique is asked for that is not this one.

@@ -20,7 +20,7 @@ mod storing;
 
 use crate::items::{Items, cost_of};
 use crate::{GREATEST_BUDGET, LEAST_BUDGET};
-use mc_item::{Answer, Expiry, Item, MetaDone, Op, Value, expiry};
+use mc_item::{Answer, Item, MetaDone, Op, PackedExpiry, Value};
 use mc_wire::{GREATEST_VALUE_LIMIT, Key, LATEST_MOMENT};
 use std::alloc::{AllocError, Global};
 use std::hash::RandomState;
@@ -235,11 +235,11 @@ impl Shard {
     }
 
     /// The expiry that an exptime sets now; where none is given, the old one.
-    fn expiry_from(&self, exptime: Option<i64>, old: Expiry) -> Expiry
+    fn expiry_from(&self, exptime: Option<i64>, old: PackedExpiry) -> PackedExpiry
         ensures { result ≡ expiry_from exptime old self.now.time }
     {
         match exptime {
-            Some(exptime) => expiry(exptime, self.time),
+            Some(exptime) => PackedExpiry::from_exptime(exptime, self.time),
             None => old,
         }
     }
@@ -288,7 +288,7 @@ impl Shard {
 }
 
 /// An item with this value that nobody fetched, and of which nothing is marked. It has no unique yet.
-fn fresh_item(value: Value, flags: u32, expiry: Expiry) -> Item
+fn fresh_item(value: Value, flags: u32, expiry: PackedExpiry) -> Item
     ensures { result ≡ record { value = value; flags = flags; expiry = expiry; unique = 0; last_access = 0; fetched = false; stale = false; sent = false } }
 {
     Item {

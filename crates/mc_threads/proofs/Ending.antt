@@ -11,7 +11,7 @@ use Rattle.mc_ring.specs.EndsLaws.{at_lane-kept, at_lane-longer, at_lane-other, 
 use Rattle.mc_conn.specs.Due.{due}
 use Rattle.mc_conn.specs.Told.{Told}
 use Rattle.mc_seat.specs.LineServed.{Exchanges}
-use Rattle.mc_threads.specs.Serving.{EndsAll, SendsPieces}
+use Rattle.mc_threads.specs.Serving.{EndsAll}
 use Rattle.mc_threads.specs.internal.Ending.{EndsFirst, EndsOne, StandsStill}
 
 pub still_refl : (ends : Ends Near) → StandsStill ends ends
@@ -53,27 +53,4 @@ ends_all count before ends whole first = record {
   same = first.same;
   sent = λ s below. first.sent s (omega (arith, below, whole));
   received = first.received;
-}
-
--- no piece was sent
-pub pieces_none : (ends : Ends Near) → SendsPieces ends ends
-pieces_none ends = record { same = same_ends-refl ends; sent = λ s below. ([], sym (append-nil (sent_on ends s))) }
-
--- those due for a line were
-pub pieces_line : (shards : ℕ) (before after : Ends Near) (told : Told) (received : ℕ → List Shown) → told.shards ≡ shards → shards ≡ length before.lanes → Exchanges before after told received → SendsPieces before after
-pieces_line shards before after told received shards_is width exchanges = record {
-  same = exchanges.same;
-  sent = λ s below. (due told.shards s told.taken, exchanges.sent s (omega (arith, below, shards_is, width)));
-}
-
--- and then more
-pub pieces_trans : (first mid last : Ends Near) → SendsPieces first mid → SendsPieces mid last → SendsPieces first last
-pieces_trans first mid last one two = record {
-  same = same_ends-trans first mid last one.same two.same;
-  sent = λ s below.
-      let count = one.same.count in
-      let x = one.sent s below in
-      let y = two.sent s (omega (arith, count, below)) in
-      let later = map parcel.Piece y.0 in
-      (x.0 ++ y.0, y.1 ∙ ap (λ ps. ps ++ later) x.1 ∙ append_assoc (sent_on first s) (map parcel.Piece x.0) later ∙ ap (λ ps. sent_on first s ++ ps) (sym (map-append parcel.Piece x.0 y.0)));
 }

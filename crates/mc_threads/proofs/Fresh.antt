@@ -6,7 +6,6 @@ use Rattle.mc_core.proofs.Lists.{all_from}
 use Rattle.mc_ring.specs.Lane.{Far, Near}
 use Rattle.mc_ring.specs.Ends.{Ends}
 use Rattle.mc_ring.specs.Made.{AreLanes}
-use Rattle.mc_threads.specs.Serving.{HasLanes}
 use Rattle.mc_threads.specs.Workers.{AreFresh}
 
 pub all_fresh : (seats shards capacity : ℕ) (near : List (Ends Near)) (far : List (Ends Far)) → AreLanes seats shards capacity near far → AllByRecursion (AreFresh shards) far
@@ -24,12 +23,3 @@ first_fresh shards all ends rest is fresh = (subst (λ (xs : List (Ends Far)). A
 
 pub rest_fresh : (shards : ℕ) (all : List (Ends Far)) (ends : Ends Far) (rest : List (Ends Far)) → all ≡ ends ∷ rest → AllByRecursion (AreFresh shards) all → AllByRecursion (AreFresh shards) rest
 rest_fresh shards all ends rest is fresh = (subst (λ (xs : List (Ends Far)). AllByRecursion (AreFresh shards) xs) is fresh).1
-
-pub all_wide : (seats shards capacity : ℕ) (near : List (Ends Near)) (far : List (Ends Far)) → AreLanes seats shards capacity near far → AllByRecursion (HasLanes shards) near
-all_wide seats shards capacity near far lanes = all_from (HasLanes shards) near (λ i ends here. (lanes.each_seat i ends here).counted)
-
-pub first_wide : (shards : ℕ) (all : List (Ends Near)) (ends : Ends Near) (rest : List (Ends Near)) → all ≡ ends ∷ rest → AllByRecursion (HasLanes shards) all → HasLanes shards ends
-first_wide shards all ends rest is wide = (subst (λ (xs : List (Ends Near)). AllByRecursion (HasLanes shards) xs) is wide).0
-
-pub rest_wide : (shards : ℕ) (all : List (Ends Near)) (ends : Ends Near) (rest : List (Ends Near)) → all ≡ ends ∷ rest → AllByRecursion (HasLanes shards) all → AllByRecursion (HasLanes shards) rest
-rest_wide shards all ends rest is wide = (subst (λ (xs : List (Ends Near)). AllByRecursion (HasLanes shards) xs) is wide).1

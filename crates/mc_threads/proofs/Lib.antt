@@ -1,11 +1,5 @@
 pub mod Fresh
-pub mod Tying
-pub mod Joined
-pub mod Line
-pub mod Lanes
 pub mod Orders
-pub mod Served
-pub mod Whole
 pub mod Carrying
 pub mod Ending
 pub mod Serving

@@ -17,7 +17,7 @@ use Rattle.mc_conn.specs.Conn.{IsConn, Opens, TakeSays}
 use Rattle.mc_conn.specs.Due.{due, lane, pieces_from}
 use Rattle.mc_conn.specs.Fits.{KeysFit, Serves}
 use Rattle.mc_conn.specs.History.{Taken}
-use Rattle.mc_conn.specs.Told.{Told, all_pieces, all_texts, commands_of, told_nothing}
+use Rattle.mc_conn.specs.Told.{IsAllTaken, IsAtRest, Told, all_pieces, all_texts, commands_of, told_nothing}
 use Rattle.mc_conn.proofs.Counting.{count_from_come, due_beyond}
 use Rattle.mc_conn.proofs.Fitting.{due-append, pieces_from-append}
 use Rattle.mc_conn.proofs.Gets.{all_at, all_push, get_below, get_front}
@@ -268,6 +268,11 @@ turns_go shards limit may_answer begin now after before ends ways left unread co
   counted = turns.counted;
 }
 
+-- nothing is under way once all pieces have left, and every command has its reply
+at_rest : (told : Told) (broke : Bool) (handed : ℕ) → told.out ≡ length (all_pieces told) → (broke ≡ false → IsAllTaken told × (handed ≡ length (all_texts told))) → length (all_texts told) ≡ length told.taken → IsAtRest (record told { broken = broke; handed = handed })
+at_rest told true handed sent rest whole = record { sent = sent; done = whole }
+at_rest told false handed sent rest whole = record { sent = sent; done = ((rest refl).0, (rest refl).1 ∙ whole) }
+
 -- the line was served
 pub turn_ends : (shards limit : ℕ) (may_answer : ℕ → Type 0) (begin now after : Sight) (before ends : Ends Near) (ways unread : List ℕ) (conn last : Conn) (commands : ℕ) (stop : Took) (broke : Bool) → (settled : Settled shards limit may_answer begin now before ends ways unread conn commands stop) → IsServed settled.stopped.turns.received begin after settled.stopped.turns.told broke last → LineServed shards limit may_answer begin after before ends last commands broke
 turn_ends shards limit may_answer begin now after before ends ways unread conn last commands stop broke settled served =
@@ -295,4 +300,5 @@ turn_ends shards limit may_answer begin now after before ends ways unread conn l
       counted = turns.counted;
       reads = served.reads;
       complete = complete_all told turns.received conn turns.conn_is carries.serves many;
+      rest = λ fit. at_rest told broke served.handed settled.all served.rest (complete_all told turns.received conn turns.conn_is carries.serves many fit);
     }

@@ -18,10 +18,6 @@ IsNewConn shards conn = (limit window : ℕ) × IsConn conn (told_nothing shards
 abbrev pub IsIdle : List ℕ → Type 0
 IsIdle under_way = AllByRecursion (λ count. count ≡ 0) under_way
 
--- The ends are those of a seat with so many lanes.
-abbrev pub HasLanes : ℕ → Ends Near → Type 0
-HasLanes shards ends = length ends.lanes ≡ shards
-
 -- The courier may serve a line by the connection.
 pub record IsReady (courier : Courier) (conn : Conn) : Type 0 where
   pub fresh : IsNewConn (length courier.ends.lanes) conn
@@ -32,14 +28,3 @@ pub record EndsAll (before after : Ends Near) : Type 0 where
   pub same : AreSameEnds before after
   pub sent : (shard : ℕ) → shard < length before.lanes → sent_on after shard ≡ sent_on before shard ++ parcel.End ∷ []
   pub received : (shard : ℕ) → received_on after shard ≡ received_on before shard
-
--- On each lane some pieces were sent, and nothing else.
-pub record SendsPieces (before after : Ends Near) : Type 0 where
-  pub same : AreSameEnds before after
-  pub sent : (shard : ℕ) → shard < length before.lanes → (sent : List Piece) × (sent_on after shard ≡ sent_on before shard ++ map parcel.Piece sent)
-
--- On each lane some pieces were sent, and then End, for the last time.
-pub record ServesAndEnds (before after : Ends Near) : Type 0 where
-  pub served : Ends Near
-  pub pieces : SendsPieces before served
-  pub closed : EndsAll served after

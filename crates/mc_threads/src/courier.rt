@@ -259,6 +259,14 @@ impl Courier {
         true
     }
 
+    /// The seat's ends of its lanes, once it serves no more.
+    pub fn into_ends(self) -> SeatEnds
+        ensures { result ≡ self.ends }
+    {
+        let Courier { ends, .. } = self;
+        ends
+    }
+
     /// Tells the shards that nothing more comes.
     pub fn close<R: Wait>(&mut self, rt: &R)
         ensures { EndsAll self.old.ends self.new.ends }

@@ -1,50 +1,72 @@
-//! A gate at which two shards wait for each other.
+//! Gates at which shards wait for each other, round after round.
 use mc_core::Gate;
 use mc_split::Ticket;
 use std::alloc::{AllocError, Global};
 use std::sync::Arc;
-use std::sync::atomic::{AtomicBool, AtomicUsize, Ordering};
+use std::sync::atomic::{AtomicU64, Ordering};
 use std::thread;
 
-/// A shard waits so many turns at most for the other one.
-const TURNS: usize = 1_000_000;
+/// A shard that waits looks so often at most whether the other one has come.
+pub const LOOKS: u64 = 1_000_000;
 
-/// How many shards saw the other one at the gate.
-pub type Met = Arc<AtomicUsize, Global>;
+/// How often a shard saw the other one at the gate.
+pub type Met = Arc<AtomicU64, Global>;
 
-/// Each of two shards says at the gate that it is there, and waits until the other one is.
+/// How many lines are at their first read and pieces at the gate, or were.
+pub type Come = Arc<AtomicU64, Global>;
+
+/// Two shards wait at the gate for each other: of each piece a shard says that it has come so often, and waits until the other one
+/// has come as often. One that has waited in vain says so, and from then on none waits or meets.
 #[derive(Drop)]
 pub struct Meeting {
-    first: AtomicBool,
-    second: AtomicBool,
+    /// How often the first shard has come, and the second.
+    come: [AtomicU64; 2],
+    /// How often a shard has waited in vain.
+    missed: AtomicU64,
     met: Met,
+    arrived: Come,
 }
 
 impl Meeting {
-    /// A gate at which nobody is yet. It counts in `met` who saw the other one.
-    pub fn new(met: &Met) -> Result<Meeting, AllocError> {
+    /// A gate to which nobody has come yet. It counts in `met` who saw the other one, and in `arrived` each piece that comes.
+    pub fn new(met: &Met, arrived: &Come) -> Result<Meeting, AllocError> {
         Ok(Meeting {
-            first: AtomicBool::new(false),
-            second: AtomicBool::new(false),
+            come: [AtomicU64::new(0), AtomicU64::new(0)],
+            missed: AtomicU64::new(0),
             met: Arc::try_clone(met)?,
+            arrived: Arc::try_clone(arrived)?,
         })
+    }
+
+    /// Whether the other shard has come so often, after as many looks as are made.
+    fn sees(&self, other: &AtomicU64, often: u64) -> bool {
+        for _ in 0..LOOKS {
+            if self.missed.load(Ordering::SeqCst) > 0 {
+                return false;
+            }
+            if other.load(Ordering::SeqCst) >= often {
+                return true;
+            }
+            thread::yield_now();
+        }
+        false
     }
 }
 
 impl Gate for Meeting {
     fn before(&self, shard: usize, _ticket: Ticket) {
+        let [first, second] = &self.come;
         let (mine, other) = if shard == 0 {
-            (&self.first, &self.second)
+            (first, second)
         } else {
-            (&self.second, &self.first)
+            (second, first)
         };
-        mine.store(true, Ordering::SeqCst);
-        for _ in 0..TURNS {
-            if other.load(Ordering::SeqCst) {
-                self.met.fetch_add(1, Ordering::SeqCst);
-                return;
-            }
-            thread::yield_now();
+        let often = mine.fetch_add(1, Ordering::SeqCst).saturating_add(1);
+        self.arrived.fetch_add(1, Ordering::SeqCst);
+        if self.sees(other, often) {
+            self.met.fetch_add(1, Ordering::SeqCst);
+        } else {
+            self.missed.store(1, Ordering::SeqCst);
         }
     }
 }

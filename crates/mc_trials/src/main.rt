@@ -10,6 +10,7 @@
 #![tactic(auto)]
 
 mod gates;
+mod gathered;
 mod line;
 mod load;
 mod measured;

@@ -2,7 +2,7 @@
 use crate::line::MemoryLine;
 use crate::load::{Loads, wrong_among};
 use crate::server::Server;
-use mc_threads::{ServedLine, Sizes};
+use mc_serve::{ServedLine, Sizes};
 use mc_wire::number_u64;
 use std::alloc::Global;
 use std::fs::Files;

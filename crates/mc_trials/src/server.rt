@@ -6,9 +6,9 @@ use crate::line::MemoryLine;
 use mc_core::{
     Gate, LEAST, LEAST_BYTES, MOST_BYTES, MOST_RING, MOST_SEATS, MOST_SHARDS, MOST_VALUE, OpenGate,
 };
-use mc_seat::{Clock, Served};
+use mc_seat::{Clock, Line, Served};
+use mc_serve::{ServedLine, Sizes, serve_over};
 use mc_server::{StillClock, serve_one};
-use mc_threads::{ServedLine, Sizes, serve_over};
 use std::alloc::Global;
 use std::random::RandomSource;
 use std::sync::Wait;
@@ -35,17 +35,12 @@ impl<R: Threads + Wait + RandomSource + Copy + Send + Drop + 'static> Server<R> 
         self.serve_by(lines, sizes, OpenGate, StillClock(MOMENT))
     }
 
-    /// The same, with another gate and clock.
+    /// The same, with other lines, and another gate and clock.
     pub fn serve_by<
+        L: Line + Send + Drop + 'static,
         G: Gate + Send + Sync + Drop + 'static,
         K: Clock + Copy + Send + Drop + 'static,
-    >(
-        &self,
-        lines: Vec<MemoryLine>,
-        sizes: Sizes,
-        gate: G,
-        clock: K,
-    ) -> Option<Vec<ServedLine<MemoryLine>>> {
+    >(&self, lines: Vec<L>, sizes: Sizes, gate: G, clock: K) -> Option<Vec<ServedLine<L>>> {
         if lines.len() < LEAST || lines.len() > MOST_SEATS || !may_serve(sizes) {
             return None;
         }

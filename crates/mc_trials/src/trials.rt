@@ -1,17 +1,18 @@
 //! The trials: what lines must have taken once real threads served them.
-use crate::gates::{Meeting, Met};
+use crate::gates::{Come, Meeting, Met};
+use crate::gathered::Gathered;
 use crate::line::{Cutting, Fault, MemoryLine};
 use crate::load::{Loads, wrong_among};
 use crate::rising::Rising;
 use crate::server::{MOMENT, Server};
 use crate::text::split_line;
 use mc_core::OpenGate;
+use mc_serve::{ServedLine, Sizes};
 use mc_server::StillClock;
-use mc_threads::{ServedLine, Sizes};
 use mc_wire::number_u64;
 use std::alloc::AllocError;
 use std::random::RandomSource;
-use std::sync::atomic::{AtomicUsize, Ordering};
+use std::sync::atomic::{AtomicU64, Ordering};
 use std::sync::{Arc, Wait};
 use std::thread::Threads;
 
@@ -107,6 +108,12 @@ const MOST_CALLS: usize = 200;
 /// So often each of two lines counts up.
 const COUNTS: u64 = 1_000;
 
+/// So often the shards must meet at the gate.
+const MEETINGS: u64 = 100;
+
+/// A line that sends behind another one's piece waits until both lines and the piece at the gate have come.
+const BOTH_LINES_AND_A_PIECE: u64 = 3;
+
 /// The longest line has so many keys of one letter.
 const MOST_KEYS: usize = 32_766;
 
@@ -124,13 +131,16 @@ fn sizes(shards: usize, ring: usize, window: usize) -> Sizes {
 impl<R: Threads + Wait + RandomSource + Copy + Send + Drop + 'static> Server<R> {
     /// The name of each trial, and whether it came out right.
     pub fn trials(&self) -> Result<Vec<(&'static str, bool)>, AllocError> {
-        let mut trials = Vec::with_capacity(self.alloc, 8)?;
+        let mut trials = Vec::with_capacity(self.alloc, 12)?;
         trials.push(("lines side by side", self.lines_side_by_side()?))?;
         trials.push(("two lines count together", self.two_lines_count()?))?;
+        trials.push(("as many lines at once as there are", self.lines_at_once()?))?;
         let for_two = self.shards_meet(&[b"get a\r\n", b"get b\r\n"])?;
         trials.push(("two shards meet for two lines", for_two))?;
         let for_one = self.shards_meet(&[b"get a b\r\n"])?;
         trials.push(("two shards meet for one line", for_one))?;
+        trials.push(("a ring holds what it says", self.rings_hold()?))?;
+        trials.push(("a window is as wide as it says", self.windows_are_wide()?))?;
         trials.push(("a line fails beside another", self.a_line_fails()?))?;
         trials.push(("the longest line over rings of 1", self.longest_line()?))?;
         trials.push(("each command has a moment of its own", self.moments_rise()?))?;
@@ -150,7 +160,7 @@ impl<R: Threads + Wait + RandomSource + Copy + Send + Drop + 'static> Server<R> 
     /// Whether each line has what is its own, however many there are and over whatever shards, rings and windows.
     fn lines_side_by_side(&self) -> Result<bool, AllocError> {
         let mut is_right = true;
-        for shards in [1, 2, 16] {
+        for shards in [1, 2, 3, 16] {
             is_right = self.lines_over(shards)? && is_right;
         }
         Ok(is_right)
@@ -197,26 +207,136 @@ impl<R: Threads + Wait + RandomSource + Copy + Send + Drop + 'static> Server<R> 
         Ok(is_right)
     }
 
-    /// Whether both shards were at the gate at once, and each line has its reply.
-    fn shards_meet(&self, inputs: &[&[u8]]) -> Result<bool, AllocError> {
-        let met: Met = Arc::new(self.alloc, AtomicUsize::new(0))?;
-        let lines = self.lines_of(inputs, Cutting::NONE)?;
-        let gate = Meeting::new(&met)?;
-        let Some(served) = self.serve_by(lines, sizes(2, 64, 256), gate, StillClock(MOMENT)) else {
+    /// Whether so many lines are all served at once: each waits at its first read until the others are at theirs.
+    fn lines_at_once(&self) -> Result<bool, AllocError> {
+        let mut is_right = true;
+        for count in [2, 3, 64] {
+            is_right = self.gather(count)? && is_right;
+        }
+        Ok(is_right)
+    }
+
+    /// Whether it is so of this many.
+    fn gather(&self, count: usize) -> Result<bool, AllocError> {
+        let come: Come = Arc::new(self.alloc, AtomicU64::new(0))?;
+        let all = u64::try_from(count).unwrap_or(u64::MAX);
+        let mut lines = Vec::with_capacity(self.alloc, count)?;
+        for number in 0..count {
+            let input = conversation_of(number).input;
+            let line = MemoryLine::of(self.alloc, input, Cutting::NONE)?;
+            lines.push(Gathered::new(line, &come, all)?)?;
+        }
+        let clock = StillClock(MOMENT);
+        let Some(served) = self.serve_by(lines, sizes(2, 64, 256), OpenGate, clock) else {
             return Ok(false);
         };
-        let all_end = served
+        let mut is_right = served.len() == count;
+        for (number, one) in served.iter().enumerate() {
+            let wanted = conversation_of(number).output;
+            is_right = one.line.saw_all && one.line.line.output.as_slice() == wanted && is_right;
+        }
+        Ok(is_right)
+    }
+
+    /// Whether both shards were at the gate at once, for each of many pieces, and each line has its replies.
+    fn shards_meet(&self, commands: &[&[u8]]) -> Result<bool, AllocError> {
+        let mut lines = Vec::with_capacity(self.alloc, commands.len())?;
+        for command in commands {
+            let mut input = Vec::new(self.alloc);
+            add_times(&mut input, command, MEETINGS)?;
+            lines.push(MemoryLine::of(self.alloc, input.as_slice(), Cutting::NONE)?)?;
+        }
+        Ok(self.meetings(lines, sizes(2, 64, 256), MEETINGS)? == Some(2 * MEETINGS))
+    }
+
+    /// Whether a ring holds so many pieces and no more: where a shard is held up, a piece for the other shard is sent behind as
+    /// many as the ring holds, and not behind one more.
+    fn rings_hold(&self) -> Result<bool, AllocError> {
+        let mut is_right = true;
+        for ring in [1, 2, 64] {
+            let places = u64::try_from(ring).unwrap_or(u64::MAX);
+            let sizes = sizes(2, ring, 256);
+            let held = self.meets_behind(places, sizes)?;
+            let full = self.meets_behind(places.saturating_add(1), sizes)?;
+            is_right = held == Some(true) && full == Some(false) && is_right;
+        }
+        Ok(is_right)
+    }
+
+    /// Whether so many commands of a line are under way at once and no more: where a shard is held up, a piece for the other
+    /// shard is sent where its command is the last that the window has room for, and not where it is the next.
+    fn windows_are_wide(&self) -> Result<bool, AllocError> {
+        let mut is_right = true;
+        for window in [2, 3, 256] {
+            let commands = u64::try_from(window).unwrap_or(u64::MAX);
+            let sizes = sizes(2, 1_024, window);
+            let within = self.meets_behind(commands.saturating_sub(1), sizes)?;
+            let behind = self.meets_behind(commands, sizes)?;
+            is_right = within == Some(true) && behind == Some(false) && is_right;
+        }
+        Ok(is_right)
+    }
+
+    /// Whether the shards meet at the gate where a line asks one of them so often, and then the other, while the first is held up
+    /// by what another line asked it before; none where the replies aren't what they must be.
+    fn meets_behind(&self, before: u64, sizes: Sizes) -> Result<Option<bool>, AllocError> {
+        let arrived: Come = Arc::new(self.alloc, AtomicU64::new(0))?;
+        let met: Met = Arc::new(self.alloc, AtomicU64::new(0))?;
+        let gate = Meeting::new(&met, &arrived)?;
+        let mut input = Vec::new(self.alloc);
+        add_times(&mut input, b"get a\r\n", before)?;
+        add_times(&mut input, b"get b\r\n", 1)?;
+        let holding = MemoryLine::of(self.alloc, b"get a\r\n", Cutting::NONE)?;
+        let behind = MemoryLine::of(self.alloc, input.as_slice(), Cutting::NONE)?;
+        let mut lines = Vec::with_capacity(self.alloc, 2)?;
+        lines.push(Gathered::new(holding, &arrived, 1)?)?;
+        lines.push(Gathered::new(behind, &arrived, BOTH_LINES_AND_A_PIECE)?)?;
+        let mut wanted = Vec::new(self.alloc);
+        add_times(&mut wanted, NONE_STORED, before.saturating_add(1))?;
+        let Some(served) = self.serve_by(lines, sizes, gate, StillClock(MOMENT)) else {
+            return Ok(None);
+        };
+        let [first, second] = served.as_slice() else {
+            return Ok(None);
+        };
+        let is_right = second.line.saw_all
+            && first.line.line.output.as_slice() == NONE_STORED
+            && second.line.line.output.as_slice() == wanted.as_slice();
+        Ok(is_right.then_some(met.load(Ordering::SeqCst) > 0))
+    }
+
+    /// How often a shard saw the other one at the gate; none where a line hasn't so many replies that nothing is stored.
+    fn meetings(
+        &self,
+        lines: Vec<MemoryLine>,
+        sizes: Sizes,
+        replies: u64,
+    ) -> Result<Option<u64>, AllocError> {
+        let arrived: Come = Arc::new(self.alloc, AtomicU64::new(0))?;
+        let met: Met = Arc::new(self.alloc, AtomicU64::new(0))?;
+        let gate = Meeting::new(&met, &arrived)?;
+        let mut wanted = Vec::new(self.alloc);
+        add_times(&mut wanted, NONE_STORED, replies)?;
+        let Some(served) = self.serve_by(lines, sizes, gate, StillClock(MOMENT)) else {
+            return Ok(None);
+        };
+        let is_right = served
             .iter()
-            .all(|one| one.line.output.as_slice() == NONE_STORED);
-        Ok(all_end && met.load(Ordering::SeqCst) == 2)
+            .all(|one| one.line.output.as_slice() == wanted.as_slice());
+        Ok(if is_right {
+            Some(met.load(Ordering::SeqCst))
+        } else {
+            None
+        })
     }
 
     /// Whether a line that fails at whatever read or write leaves the other one whole.
     fn a_line_fails(&self) -> Result<bool, AllocError> {
         let mut is_right = true;
-        for ring in [1, 64] {
-            let reading = self.fails_at_each(ring, Fault::Reading)?;
-            let writing = self.fails_at_each(ring, Fault::Writing)?;
+        for (ring, window) in [(1, 1), (1, 256), (64, 1), (64, 256)] {
+            let sizes = sizes(2, ring, window);
+            let reading = self.fails_at_each(sizes, Fault::Reading)?;
+            let writing = self.fails_at_each(sizes, Fault::Writing)?;
             is_right = is_right && reading && writing;
         }
         Ok(is_right)
@@ -225,13 +345,13 @@ impl<R: Threads + Wait + RandomSource + Copy + Send + Drop + 'static> Server<R> 
     /// Whether it is so at each of the reads, or at each of the writes, up to the last.
     fn fails_at_each<F: Fn(usize) -> Fault>(
         &self,
-        ring: usize,
+        sizes: Sizes,
         fault: F,
     ) -> Result<bool, AllocError>
         requires { F.IsAlwaysCallable fault }
     {
         for number in 0..MOST_CALLS {
-            match self.fails_at(ring, fault(number))? {
+            match self.fails_at(sizes, fault(number))? {
                 Some(true) => {}
                 Some(false) => return Ok(number > 10),
                 None => return Ok(false),
@@ -241,7 +361,7 @@ impl<R: Threads + Wait + RandomSource + Copy + Send + Drop + 'static> Server<R> 
     }
 
     /// Whether the line failed that was to fail so; none where it is not as it must be, or the one beside it isn't.
-    fn fails_at(&self, ring: usize, fault: Fault) -> Result<Option<bool>, AllocError> {
+    fn fails_at(&self, sizes: Sizes, fault: Fault) -> Result<Option<bool>, AllocError> {
         let cutting = Cutting {
             piece: 5,
             portion: 3,
@@ -250,7 +370,7 @@ impl<R: Threads + Wait + RandomSource + Copy + Send + Drop + 'static> Server<R> 
         let other = CONVERSATIONS[0];
         let mut lines = self.lines_of(&[FAILING.input], cutting)?;
         lines.push(MemoryLine::of(self.alloc, other.input, Cutting::NONE)?)?;
-        let Some(served) = self.serve(lines, sizes(2, ring, 256)) else {
+        let Some(served) = self.serve(lines, sizes) else {
             return Ok(None);
         };
         let [first, second] = served.as_slice() else {
@@ -326,6 +446,14 @@ impl<R: Threads + Wait + RandomSource + Copy + Send + Drop + 'static> Server<R> 
         }
         Ok(is_right)
     }
+}
+
+/// Adds the text to the others, so often.
+fn add_times(texts: &mut Vec<u8>, text: &[u8], times: u64) -> Result<(), AllocError> {
+    for _ in 0..times {
+        texts.extend_from_slice(text)?;
+    }
+    Ok(())
 }
 
 /// What the line of this number sends: the lines take turns.

@@ -1,9 +1,13 @@
 //! Serves one line, as the command line says.
+ghost use Rattle.std.specs.Prelude.{IfOk};
 ghost use Rattle.mc_options.specs.Numbers.{AreWithin};
+ghost use Rattle.mc_server.specs.Explains.{IsExplained};
+ghost use Rattle.mc_server.specs.Sizes.{line_sizes};
+ghost use Rattle.mcd.specs.Served.{MayBe, sizes_by};
 
 use crate::sizes::sizes_of;
 use mc_options::Limits;
-use mc_seat::{Line, Served};
+use mc_seat::{Clock, Line, Served};
 use mc_server::{MachineClock, ServeRefusal, StillClock, serve_one};
 use std::alloc::Global;
 use std::random::RandomSource;
@@ -18,10 +22,26 @@ pub fn serve_line<R: Wait + RandomSource + time::Clock + Alloc<A = Global>, L: L
     limits: Limits,
 ) -> Result<Served, ServeRefusal>
     requires { AreWithin limits }
+    // A server of these limits explains what was read and written, at such moments.
+    ensures explained { IfOk result (λ served. IsExplained (line_sizes (sizes_by limits)) (MayBe at)
+        (record { begin = L.sight line.old; now = L.sight line.new; commands = served.commands; broke = served.broke })) }
 {
-    let sizes = sizes_of(limits);
     match at {
-        Some(moment) => serve_one(rt, rt.alloc(), line, sizes, &StillClock(moment)),
-        None => serve_one(rt, rt.alloc(), line, sizes, &MachineClock(rt)),
+        Some(moment) => serve_by(rt, line, limits, &StillClock(moment)),
+        None => serve_by(rt, line, limits, &MachineClock(rt)),
     }
+}
+
+/// Serves one line until it ends, by this clock.
+fn serve_by<R: Wait + RandomSource + Alloc<A = Global>, L: Line, K: Clock>(
+    rt: &R,
+    line: &mut L,
+    limits: Limits,
+    clock: &K,
+) -> Result<Served, ServeRefusal>
+    requires { AreWithin limits }
+    ensures explained { IfOk result (λ served. IsExplained (line_sizes (sizes_by limits)) (K.may_answer clock.now)
+        (record { begin = L.sight line.old; now = L.sight line.new; commands = served.commands; broke = served.broke })) }
+{
+    serve_one(rt, rt.alloc(), line, sizes_of(limits), clock)
 }

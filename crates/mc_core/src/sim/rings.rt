@@ -72,6 +72,13 @@ impl Rings {
         })
     }
 
+    /// How many shards there are.
+    pub(crate) fn shards(&self) -> usize
+        ensures { (sizes : Sizes) (wires : Wires) → AreWired sizes self.now wires → result ≡ sizes.shards }
+    {
+        self.workers.len()
+    }
+
     /// Sends a piece of a seat to a shard, or hands it back where the ring is full.
     pub(crate) fn send(&mut self, seat: usize, shard: usize, piece: Piece) -> Result<(), Piece>
         ensures sent { IfOk result (λ _. (sizes : Sizes) (wires : Wires) → AreWired sizes self.old wires →

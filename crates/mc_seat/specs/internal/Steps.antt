@@ -37,6 +37,8 @@ pub record IsServed (received : ℕ → List Shown) (begin now : Sight) (told : 
   pub handed : ℕ
   pub conn_is : IsConn conn (record told { broken = broke; handed = handed })
   pub over : IsOver (record told { broken = broke; handed = handed })
+  -- Of one that didn't fail every command was taken, and every reply handed out.
+  pub rest : broke ≡ false → IsAllTaken told × (handed ≡ length (all_texts told))
   pub story : Story told.limit begin now broke told.taken (all_texts told)
   pub reads : KeysFit told.shards told.taken received → ReadsOwingNothing told.limit begin now (commands_of told.taken) (all_texts told)
 

@@ -10,7 +10,7 @@ ghost use Rattle.mc_store.specs.Step.{counted};
 use crate::items::is_other;
 use crate::shard::{Shard, fresh_item};
 use mc_command::Direction;
-use mc_item::{Answer, Item, Kind, MetaCount, MetaDone, Value, Vivify, expiry};
+use mc_item::{Answer, Item, Kind, MetaCount, MetaDone, PackedExpiry, Value, Vivify};
 use mc_wire::Key;
 use std::alloc::Global;
 
@@ -145,7 +145,8 @@ impl Shard {
             self.remove_dead(&key);
             return Err(Answer::NoMemory);
         };
-        let item = fresh_item(value, 0, expiry(made.exptime, self.time));
+        let expiry = PackedExpiry::from_exptime(made.exptime, self.time);
+        let item = fresh_item(value, 0, expiry);
         self.write_done(key, item, token, made.initial)
     }
 }

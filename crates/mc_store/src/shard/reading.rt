@@ -7,7 +7,7 @@ ghost use Rattle.mc_store.specs.Rows.{is_won, has_fewer_left, marks_of};
 
 use crate::items::Use;
 use crate::shard::Shard;
-use mc_item::{Answer, Expiry, Item, Kind, Marks, MetaGet, MetaHit, Value, expiry};
+use mc_item::{Answer, Item, Kind, Marks, MetaGet, MetaHit, PackedExpiry, Value};
 use mc_wire::Key;
 
 /// Whether fewer seconds are left than the token of `R`; an item that never dies has none left.
@@ -46,7 +46,7 @@ fn is_sent_after(marks: Marks) -> bool
 }
 
 /// What is shown of the item, before the command, and of the expiry that it has now.
-fn hit_of(found: &Item, value: Value, expiry: Expiry, marks: Marks, time: u64) -> MetaHit
+fn hit_of(found: &Item, value: Value, expiry: PackedExpiry, marks: Marks, time: u64) -> MetaHit
     ensures { result ≡ record { value = value; flags = found.now.flags; unique = found.now.unique; fetched = found.now.fetched; idle = time - found.now.last_access; left = seconds_left expiry time; marks = marks } }
 {
     MetaHit {
@@ -61,7 +61,7 @@ fn hit_of(found: &Item, value: Value, expiry: Expiry, marks: Marks, time: u64) -
 }
 
 /// An empty item that a client is told to fill. It has no unique yet.
-fn empty_item(expiry: Expiry) -> Item
+fn empty_item(expiry: PackedExpiry) -> Item
     ensures { result ≡ record { value = []; flags = 0; expiry = expiry; unique = 0; last_access = 0; fetched = false; stale = false; sent = true } }
 {
     Item {
@@ -142,7 +142,7 @@ impl Shard {
         };
         let new = Use {
             time: self.time,
-            expiry: expiry(exptime, self.time),
+            expiry: PackedExpiry::from_exptime(exptime, self.time),
             fetched: item.fetched,
             sent: item.sent,
         };
@@ -185,7 +185,7 @@ impl Shard {
             self.remove_dead(&key);
             return Answer::Miss;
         };
-        let item = empty_item(expiry(exptime, self.time));
+        let item = empty_item(PackedExpiry::from_exptime(exptime, self.time));
         let left = item.expiry.seconds_left(self.time);
         match self.write(key, item, None) {
             Ok(unique) => Answer::MetaHit(made_hit(unique, left)),

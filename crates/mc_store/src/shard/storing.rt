@@ -11,7 +11,7 @@ ghost use Rattle.mc_store.specs.Step.{mode_of, compare_of};
 use crate::items::{Use, is_other};
 use crate::shard::{Shard, fresh_item};
 use mc_command::{MetaMode, StoreMode};
-use mc_item::{Answer, Item, Kind, MetaDone, MetaStore, Value, expiry};
+use mc_item::{Answer, Item, Kind, MetaDone, MetaStore, PackedExpiry, Value};
 use mc_wire::Key;
 use std::alloc::Global;
 
@@ -117,7 +117,7 @@ impl Shard {
             self.remove_dead(&key);
             return Answer::TooLarge;
         }
-        let item = fresh_item(value, flags, expiry(exptime, self.time));
+        let item = fresh_item(value, flags, PackedExpiry::from_exptime(exptime, self.time));
         match self.write(key, item, None) {
             Ok(_) => Answer::Stored,
             Err(answer) => answer,
@@ -190,7 +190,8 @@ impl Shard {
         ensures refused { IfErr result (λ answer. is_lawful Kind.Store answer ≡ true) }
         ensures meta_refused { IfErr result (λ answer. is_lawful Kind.MetaStore answer ≡ true) }
     {
-        let item = fresh_item(asked.value, asked.flags, expiry(asked.exptime, self.time));
+        let expiry = PackedExpiry::from_exptime(asked.exptime, self.time);
+        let item = fresh_item(asked.value, asked.flags, expiry);
         self.write_value(key, item, asked.unique)
     }
 

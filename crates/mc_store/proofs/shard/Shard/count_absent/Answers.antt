@@ -25,7 +25,7 @@ unfolding IsShard
 returns-clause-does c = λ reply state h.
     let settled = without_dead state (Some c.args.key) in
     let made = c.in-Some.made in
-    let expiry : c.expiry.result ≡ expiry_of made.exptime c.args.self.now.time = rw (to_z-of_z w64 made.exptime (search rules)) at c.expiry.ensures in
+    let expiry : c.from_exptime-expiry.result ≡ expiry_of made.exptime c.args.self.now.time = rw (to_z-of_z w64 made.exptime (search rules)) at c.from_exptime-expiry.ensures in
     let is : c.fresh_item-item.result ≡ fresh_of (number_text made.initial) 0 (expiry_of made.exptime c.args.self.now.time) =
     rw (← expiry, ← c.in-Ok.ensures.text) c.fresh_item-item.ensures in
     vivified_as settled c.args.key c.args.token c.args.vivify made reply (answered reply c.write_done.result) (held_of c.write_done.new.self) c.in-Some.is

@@ -25,7 +25,7 @@ write-requires c =
 pub returns-in-Ok-clause-does : goal.returns-in-Ok-clause-does
 unfolding IsShard
 returns-in-Ok-clause-does c = λ state h.
-    let expiry : c.expiry.result ≡ expiry_of c.args.exptime c.args.self.now.time = rw (to_z-of_z w64 c.args.exptime c.ranges.exptime) at c.expiry.ensures in
+    let expiry : c.from_exptime.result ≡ expiry_of c.args.exptime c.args.self.now.time = rw (to_z-of_z w64 c.args.exptime c.ranges.exptime) at c.from_exptime.ensures in
     let made : c.fresh_item-item.result ≡ fresh_of c.args.value c.args.flags (expiry_of c.args.exptime c.args.self.now.time) = rw (← expiry) c.fresh_item-item.ensures in
     let small = large_there (held_of c.args.self.now) state c.args.key c.args.value c.len.result false h (sym c.len.ensures.value) (sym c.is_too_large.ensures ∙ c.if-is_too_large.false) in
     set_stored (held_of c.args.self.now) state c.args.key c.args.value c.args.flags c.args.exptime c.fresh_item-item.result Stored (held_of c.write.new.self) h made small (c.in-Ok.ensures.does (λ _. Stored) state h)
@@ -33,7 +33,7 @@ returns-in-Ok-clause-does c = λ state h.
 pub returns-in-Err-clause-does : goal.returns-in-Err-clause-does
 unfolding IsShard
 returns-in-Err-clause-does c = λ state h.
-    let expiry : c.expiry.result ≡ expiry_of c.args.exptime c.args.self.now.time = rw (to_z-of_z w64 c.args.exptime c.ranges.exptime) at c.expiry.ensures in
+    let expiry : c.from_exptime.result ≡ expiry_of c.args.exptime c.args.self.now.time = rw (to_z-of_z w64 c.args.exptime c.ranges.exptime) at c.from_exptime.ensures in
     let made : c.fresh_item-item.result ≡ fresh_of c.args.value c.args.flags (expiry_of c.args.exptime c.args.self.now.time) = rw (← expiry) c.fresh_item-item.ensures in
     let small = large_there (held_of c.args.self.now) state c.args.key c.args.value c.len.result false h (sym c.len.ensures.value) (sym c.is_too_large.ensures ∙ c.if-is_too_large.false) in
     set_stored (held_of c.args.self.now) state c.args.key c.args.value c.args.flags c.args.exptime c.fresh_item-item.result c.in-Err.answer (held_of c.write.new.self) h made small (c.in-Err.ensures.does (λ _. Stored) state h)

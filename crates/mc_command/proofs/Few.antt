@@ -1,0 +1,152 @@
+-- How many keys a line asks for at most: as many as it has words.
+use Rattle.std.proofs.Common.{ℕ, ◌+◌, ◌^◌, ◌≤◌, Bool, true, false, List, [], ◌∷◌, length, Option, Some, None, Result, Ok, Err, arith, ℤ, codes, pos, nat_lt, if◌then◌else◌}
+use Rattle.std.specs.List.{list_all}
+use Rattle.std.specs.Str.{bytes_eq}
+use Rattle.std.proofs.lemmas.Bool.{cond_both}
+use Rattle.mc_wire.specs.Number.{number_of}
+use Rattle.mc_command.specs.declared.command.Command.{Command}
+use Rattle.mc_command.specs.declared.command.Command.TheVariants as command
+use Rattle.mc_command.specs.declared.command.StoreMode.{StoreMode}
+use Rattle.mc_command.specs.declared.command.Direction.{Direction}
+use Rattle.mc_command.specs.declared.meta.MetaKind.{MetaKind}
+use Rattle.mc_command.specs.declared.meta.MetaKind.TheVariants as meta
+use Rattle.mc_command.specs.declared.meta_flags.Asked.{Asked}
+use Rattle.mc_command.specs.declared.name.CommandName.{CommandName}
+use Rattle.mc_command.specs.declared.name.CommandName.TheVariants as name
+use Rattle.mc_command.specs.declared.refusal.Refusal.{Refusal}
+use Rattle.mc_command.specs.declared.refusal.Refusal.TheVariants.{BadKey, TooLarge}
+use Rattle.mc_command.specs.declared.line.Line.{Line}
+use Rattle.mc_command.specs.declared.line.Line.TheVariants.{Whole, Data, Refused, Skip}
+use Rattle.mc_command.specs.Field.{is_key, signed_of, then_of}
+use Rattle.mc_command.specs.Blocks.{block_line, whole_line}
+use Rattle.mc_command.specs.Classic.{cas_words, count_in, count_words, delete_words, flush_of, flush_words, gat_words, get_words, keys_of, retrieval_of, storage_words, touch_words, verbosity_words}
+use Rattle.mc_command.specs.Meta.{asked_of, command_by, compare_refusal, flags_refusal, has_flag, meta_command_of, meta_key_of, meta_line_of, set_by, unless}
+use Rattle.mc_command.specs.Name.{name_of}
+use Rattle.mc_command.specs.Table.{line_if_named, line_named, line_of}
+
+-- It gets at most so many keys.
+abbrev pub AsksFew : ℕ → Command → Type 0
+AsksFew most (command.Get retrieval) = length retrieval.keys ≤ most
+AsksFew most other = Unit {0}
+
+abbrev pub FewAsked : ℕ → Result Command Refusal → Type 0
+FewAsked most (Ok asked) = AsksFew most asked
+FewAsked most (Err refusal) = Unit {0}
+
+abbrev pub FewLine : ℕ → Line → Type 0
+FewLine most (Whole asked) = AsksFew most asked
+FewLine most (Data asked count) = AsksFew most asked
+FewLine most other = Unit {0}
+
+few_then : {A : Type 0} (most : ℕ) (read : Result A Refusal) (rest : A → Result Command Refusal) → ((value : A) → FewAsked most (rest value)) → FewAsked most (then_of read rest)
+few_then most (Ok value) rest each = each value
+few_then most (Err refusal) rest each = tt
+
+few_cond : (most : ℕ) (test : Bool) (one other : Result Command Refusal) → FewAsked most one → FewAsked most other → FewAsked most (if test then one else other)
+few_cond most true one other first second = first
+few_cond most false one other first second = second
+
+few_unless : (most : ℕ) (refusal : Option Refusal) (asked : Result Command Refusal) → FewAsked most asked → FewAsked most (unless refusal asked)
+few_unless most None asked few = few
+few_unless most (Some refusal) asked few = tt
+
+few_whole : (most : ℕ) (asked : Result Command Refusal) → FewAsked most asked → FewLine most (whole_line asked)
+few_whole most (Ok asked) few = few
+few_whole most (Err refusal) few = tt
+
+few_block : (most limit : ℕ) (count : Option ℕ) (asked : Result Command Refusal) → FewAsked most asked → FewLine most (block_line limit count asked)
+few_block most limit (Some count) (Ok asked) few = cond_both (nat_lt limit count) (Skip TooLarge (count + 2)) (Data asked count) (FewLine most) (λ large. tt) (λ small. few)
+few_block most limit (Some count) (Err refusal) few = tt
+few_block most limit None (Ok asked) few = tt
+few_block most limit None (Err refusal) few = tt
+
+few_retrieval : (most : ℕ) (with_unique : Bool) (touch : Option ℤ) (words : List (List ℕ)) → length words ≤ most → FewAsked most (retrieval_of with_unique touch words)
+unfolding keys_of
+few_retrieval most with_unique touch words few =
+    cond_both (list_all is_key words) (Ok words) (Err BadKey) (λ (read : Result (List (List ℕ)) Refusal). FewAsked most (then_of read (λ keys. Ok (command.Get (record { keys = keys; touch = touch; with_unique = with_unique }))))) (λ good. few) (λ bad. tt)
+
+few_get : (most : ℕ) (with_unique : Bool) (words : List (List ℕ)) → length words ≤ most → FewAsked most (get_words with_unique words)
+few_get most with_unique [] few = tt
+few_get most with_unique (key ∷ keys) few = few_retrieval most with_unique None (key ∷ keys) few
+
+few_gat : (most : ℕ) (with_unique : Bool) (words : List (List ℕ)) → length words ≤ most → FewAsked most (gat_words with_unique words)
+few_gat most with_unique (exptime ∷ key ∷ keys) few = few_then most (signed_of exptime) (λ touch. retrieval_of with_unique (Some touch) (key ∷ keys)) (λ touch. few_retrieval most with_unique (Some touch) (key ∷ keys) (omega (arith, few)))
+few_gat most with_unique words few = tt
+
+ruleset fews = (few_then)
+
+few_storage : (most : ℕ) (mode : StoreMode) (words : List (List ℕ)) → FewAsked most (storage_words mode words)
+few_storage most mode (key ∷ flags ∷ exptime ∷ count ∷ []) = search fews
+few_storage most mode (key ∷ flags ∷ exptime ∷ count ∷ noreply ∷ []) = search fews
+few_storage most mode words = tt
+
+few_cas : (most : ℕ) (words : List (List ℕ)) → FewAsked most (cas_words words)
+few_cas most (key ∷ flags ∷ exptime ∷ count ∷ unique ∷ []) = search fews depth 8
+few_cas most (key ∷ flags ∷ exptime ∷ count ∷ unique ∷ noreply ∷ []) = search fews depth 8
+few_cas most words = tt
+
+few_delete : (most : ℕ) (words : List (List ℕ)) → FewAsked most (delete_words words)
+few_delete most (key ∷ []) = search fews
+few_delete most (key ∷ word ∷ []) = search fews
+few_delete most (key ∷ word ∷ noreply ∷ []) = search fews
+few_delete most words = tt
+
+few_count : (most : ℕ) (direction : Direction) (words : List (List ℕ)) → FewAsked most (count_words direction words)
+few_count most direction (key ∷ amount ∷ []) = search fews
+few_count most direction (key ∷ amount ∷ noreply ∷ []) = search fews
+few_count most direction words = tt
+
+few_touch : (most : ℕ) (words : List (List ℕ)) → FewAsked most (touch_words words)
+few_touch most (key ∷ exptime ∷ []) = search fews
+few_touch most (key ∷ exptime ∷ noreply ∷ []) = search fews
+few_touch most words = tt
+
+few_flush : (most : ℕ) (words : List (List ℕ)) → FewAsked most (flush_words words)
+few_flush most [] = tt
+few_flush most (word ∷ []) = few_cond most (bytes_eq word (codes "noreply")) (Ok (command.FlushAll (pos 0) true)) (flush_of word None) tt (search fews)
+few_flush most (delay ∷ noreply ∷ []) = search fews
+few_flush most words = tt
+
+few_verbosity : (most : ℕ) (words : List (List ℕ)) → FewAsked most (verbosity_words words)
+few_verbosity most (level ∷ []) = search fews
+few_verbosity most (level ∷ noreply ∷ []) = search fews
+few_verbosity most words = tt
+
+few_meta_by : (most : ℕ) (name : MetaKind) (key : List ℕ) (asked : Asked) → FewAsked most (command_by name key asked)
+few_meta_by most meta.Get key asked = tt
+few_meta_by most meta.Set key asked = few_unless most (compare_refusal (set_by key asked)) (Ok (command.MetaSet (set_by key asked))) tt
+few_meta_by most meta.Delete key asked = tt
+few_meta_by most meta.Arithmetic key asked = tt
+
+few_meta : (most : ℕ) (name : MetaKind) (word : List ℕ) (words : List (List ℕ)) → FewAsked most (meta_command_of name word words)
+few_meta most name word words = few_unless most (flags_refusal name [] words) (then_of (meta_key_of (has_flag 98 words) word) (λ key. command_by name key (asked_of name words))) (few_then most (meta_key_of (has_flag 98 words) word) (λ key. command_by name key (asked_of name words)) (λ key. few_meta_by most name key (asked_of name words)))
+
+few_meta_line : (most limit : ℕ) (name : MetaKind) (words : List (List ℕ)) → FewLine most (meta_line_of limit name words)
+unfolding meta_line_of
+few_meta_line most limit meta.Set (word ∷ count ∷ words) = few_block most limit (number_of (2 ^ 32) count) (meta_command_of meta.Set word words) (few_meta most meta.Set word words)
+few_meta_line most limit meta.Set words = tt
+few_meta_line most limit name [] = tt
+few_meta_line most limit name (word ∷ words) = few_whole most (meta_command_of name word words) (few_meta most name word words)
+
+few_named : (most limit : ℕ) (name : CommandName) (words : List (List ℕ)) → length words ≤ most → FewLine most (line_named limit name words)
+few_named most limit (name.Store mode) words few = few_block most limit (count_in words) (storage_words mode words) (few_storage most mode words)
+few_named most limit name.CompareAndSwap words few = few_block most limit (count_in words) (cas_words words) (few_cas most words)
+few_named most limit (name.Get with_unique) words few = few_whole most (get_words with_unique words) (few_get most with_unique words few)
+few_named most limit (name.GetAndTouch with_unique) words few = few_whole most (gat_words with_unique words) (few_gat most with_unique words few)
+few_named most limit name.Delete words few = few_whole most (delete_words words) (few_delete most words)
+few_named most limit (name.Count direction) words few = few_whole most (count_words direction words) (few_count most direction words)
+few_named most limit name.Touch words few = few_whole most (touch_words words) (few_touch most words)
+few_named most limit name.FlushAll words few = few_whole most (flush_words words) (few_flush most words)
+few_named most limit name.Verbosity words few = few_whole most (verbosity_words words) (few_verbosity most words)
+few_named most limit (name.Meta kind) words few = few_meta_line most limit kind words
+few_named most limit other words few = tt
+
+few_if_named : (most limit : ℕ) (name : Option CommandName) (words : List (List ℕ)) → length words ≤ most → FewLine most (line_if_named limit name words)
+few_if_named most limit None words few = tt
+few_if_named most limit (Some named) words few = few_named most limit named words few
+
+-- A line asks for no more keys than it has words.
+pub few_line : (most limit : ℕ) (words : List (List ℕ)) → length words ≤ most → FewLine most (line_of limit words)
+unfolding line_of
+few_line most limit [] few = tt
+few_line most limit (first ∷ words) few = few_if_named most limit (name_of first) words (omega (arith, few))

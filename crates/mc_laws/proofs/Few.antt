@@ -1,0 +1,121 @@
+-- How much the bytes of a connection ask for at most: so many commands, and so many pieces each.
+use Rattle.std.proofs.Common.{◌≡◌, ◌==◌, ◌||◌, ℕ, zero, suc, ◌+◌, ◌-◌, ◌*◌, ◌<◌, ◌≤◌, Bool, true, false, List, [], ◌∷◌, length, map, take, sym, ap, ◌∙◌, subst, arith, inl, inr, length-append, slice_index}
+use Rattle.std.specs.List.{slice_split}
+use Rattle.std.proofs.lemmas.Bool.{cases_Bool, cases_lt}
+use Rattle.std.proofs.lemmas.Bool.Decides.{eqb_tells}
+use Rattle.std.proofs.lemmas.List.{length-map}
+use Rattle.std.proofs.lemmas.List.FromFn.{length-map-range_with_len}
+use Rattle.std.proofs.lemmas.List.Splits.{length-slice_split}
+use Rattle.std.proofs.lemmas.List.Sums.{count_by-le-length, length-filter}
+use Rattle.mc_wire.specs.Words.{is_filled, is_space, words_of}
+use Rattle.mc_command.specs.declared.command.Command.{Command}
+use Rattle.mc_command.specs.declared.command.Command.TheVariants as command
+use Rattle.mc_command.specs.Command.{with_block}
+use Rattle.mc_command.proofs.Few.{AsksFew, FewLine, few_line}
+use Rattle.mc_reader.specs.Spelling.{IsLine, Spells, SpellsFront, closes, is_last, line_says, most_commands, without_return}
+use Rattle.mc_reader.specs.Spelling.Spells.{line as of_line, refused as of_refused, block as of_block, bad_block as of_bad_block, skipped as of_skipped, long as of_long}
+use Rattle.mc_reader.proofs.Fronts.{every_input}
+use Rattle.mc_split.specs.Pieces.{pieces_of}
+use Rattle.mc_core.specs.Sizes.{Sizes}
+use Rattle.mc_core.specs.World.{Link}
+use Rattle.mc_laws.specs.Progress.{steps_of, steps_of_all}
+use Rattle.mc_laws.proofs.Measure.{spelled_by}
+
+-- Each word of a line has a byte of its own, but for one.
+words_few : (text : List ℕ) → length (words_of text) ≤ length text + 1
+unfolding words_of
+words_few text =
+    let filled = length-filter is_filled (slice_split is_space text) in
+    let some = count_by-le-length is_filled (slice_split is_space text) in
+    let parts = length-slice_split is_space text in
+    let spaces = count_by-le-length is_space text in
+    omega (arith, filled, some, parts, spaces)
+
+take_length : (n : ℕ) (xs : List ℕ) → length (take n xs) ≤ length xs
+take_length zero xs = omega arith
+take_length (suc n) [] = omega arith
+take_length (suc n) (x ∷ xs) = let rest = take_length n xs in omega (arith, rest)
+
+shorter : (line : List ℕ) → length (without_return line) ≤ length line
+shorter line = elim (cases_Bool (slice_index line (length line - 1) == 13)) [
+  | inl ends ↦ rw ends (let cut = take_length (length line - 1) line in cut)
+  | inr other ↦ rw other (omega arith)
+]
+
+-- what a line says asks for few keys
+says_few : (limit : ℕ) (text line : List ℕ) → IsLine text line → FewLine 65536 (line_says limit line)
+says_few limit text line is =
+    let words = words_few (without_return line) in
+    let cut = shorter line in
+    let long = ap length is.text_is ∙ length-append line (10 ∷ []) in
+    let short : length text ≤ 65536 = is.short in
+    few_line 65536 limit (words_of (without_return line)) (omega (arith, words, cut, long, short))
+
+with_few : (asked : Command) (data_block : List ℕ) → AsksFew 65536 asked → AsksFew 65536 (with_block asked data_block)
+with_few (command.Store storage) data_block few = tt
+with_few (command.MetaSet set) data_block few = tt
+with_few (command.Get retrieval) data_block few = few
+with_few other data_block few = tt
+
+-- What is spelled asks for few keys.
+spells_few : (limit : ℕ) (text : List ℕ) (entry : Command) → Spells limit text entry → AsksFew 65536 entry
+spells_few limit text entry (of_line line is said) = subst (FewLine 65536) said (says_few limit text line is)
+spells_few limit text entry (of_refused line refusal is said entry_is) = subst (AsksFew 65536) (sym entry_is) tt
+spells_few limit text entry (of_block head line data_block asked is text_is said entry_is) =
+    subst (AsksFew 65536) (sym entry_is) (with_few asked data_block (subst (FewLine 65536) said (says_few limit head line is)))
+spells_few limit text entry (of_bad_block head line chunk ends asked is text_is two bad said entry_is) = subst (AsksFew 65536) (sym entry_is) tt
+spells_few limit text entry (of_skipped head line skipped refusal is text_is said entry_is) = subst (AsksFew 65536) (sym entry_is) tt
+spells_few limit text entry (of_long is no_end entry_is) = subst (AsksFew 65536) (sym entry_is) tt
+
+-- So it has few pieces: one a key, or one a shard.
+pieces_few : (shards : ℕ) (asked : Command) → shards ≤ 16 → AsksFew 65536 asked → length (pieces_of shards asked) ≤ 65536
+unfolding pieces_of
+pieces_few shards (command.Get retrieval) small few = let long : length (pieces_of shards (command.Get retrieval)) ≡ length retrieval.keys = length-map retrieval.keys _ in omega (arith, long, few)
+pieces_few shards (command.FlushAll delay noreply) small few =
+    let long : length (pieces_of shards (command.FlushAll delay noreply)) ≡ shards = length-map-range_with_len _ 0 shards in
+    omega (arith, long, small)
+pieces_few shards other small few = omega arith
+
+or_second : (a b : Bool) → (a || b) ≡ false → b ≡ false
+or_second true b h = absurd cc
+or_second false b h = h
+
+-- Behind a command that isn't a last one there is room for another.
+not_yet : (before : ℕ) (entry : Command) → before < most_commands → is_last before entry ≡ false → before + 1 < most_commands
+not_yet before entry room goes = elim (eqb_tells (before + 1) most_commands) [
+  | inl here ↦ let never = or_second (closes entry) (before + 1 == most_commands) goes in absurd (let e : true ≡ false = sym here.0 ∙ never in cc)
+  | inr other ↦ elim (cases_lt (before + 1) most_commands) [
+    | inl less ↦ less
+    | inr past ↦ absurd (other.1 (omega (arith, room, past)))
+  ]
+]
+
+-- The commands of a stream have few steps, and they are not more than a connection takes.
+pub front_few : (limit shards before : ℕ) (input : List ℕ) (commands : List Command) (rest : List ℕ) → shards ≤ 16 → before < most_commands → SpellsFront limit before input commands rest →
+    (steps_of shards commands ≤ length commands * 262146) × (before + length commands ≤ most_commands)
+front_few limit shards before input [] rest small room front = (omega arith, omega (arith, room))
+front_few limit shards before input (entry ∷ commands) rest small room front =
+    let pieces = pieces_few shards entry small (spells_few limit front.0 entry front.3) in
+    elim (cases_Bool (is_last before entry)) [
+      | inl last ↦
+          let none = (rw last at front.4).0 in
+          rw none (omega (arith, pieces), omega (arith, room))
+      | inr goes ↦
+          let more = rw goes at front.4 in
+          let next : before + 1 < most_commands = not_yet before entry room goes in
+          let later = front_few limit shards (before + 1) front.1 commands rest small next more in
+          let steps = later.0 in
+          let count = later.1 in
+          (omega (arith, pieces, steps), omega (arith, count))
+    ]
+
+-- The connections have so many steps at most: each has no more than 2 ^ 63 commands, of no more than 65,536 pieces.
+pub all_few : (sizes : Sizes) (links : List Link) → sizes.shards ≤ 16 → steps_of_all sizes.shards (map (spelled_by sizes) links) ≤ length links * 2417870085973332058963970
+all_few sizes [] small = omega arith
+all_few sizes (link ∷ links) small =
+    let all = every_input sizes.value link.fed in
+    let own = front_few sizes.value sizes.shards 0 link.fed all.0 all.1.0 small (omega arith) all.1.1 in
+    let steps = own.0 in
+    let count = own.1 in
+    let rest = all_few sizes links small in
+    omega (arith, steps, count, rest)

@@ -1,0 +1,62 @@
+-- Settling: the server's own events are tried in a fixed order, again and again, until none of them is enabled.
+use Rattle.std.specs.Prelude.{ℕ, zero, suc, List, [], ◌∷◌, ◌++◌}
+use Rattle.std.specs.List.{AllByRecursion}
+use Rattle.mc_core.specs.declared.sim.Sim.{Sim}
+use Rattle.mc_core.specs.Sizes.{Sizes}
+use Rattle.mc_core.specs.World.{World}
+use Rattle.mc_core.specs.Events.{Event}
+use Rattle.mc_core.specs.Events.Event.{Take, Send, Pop, Give, Receive, Hand}
+use Rattle.mc_core.specs.Schedule.{Leads}
+use Rattle.mc_core.specs.Runs.{FoundMemory}
+use Rattle.mc_core.specs.Stands.{Stands}
+use Rattle.mc_laws.specs.Progress.{AllAtRest, AllReplied, IsWork}
+
+-- what a seat and a shard do for one another
+abbrev pub lane_round : ℕ → ℕ → List Event
+lane_round seat shard = Pop shard seat ∷ Give shard ∷ Receive seat shard ∷ []
+
+-- and a seat and each of so many shards
+abbrev pub lanes_round : ℕ → ℕ → List Event
+lanes_round seat zero = []
+lanes_round seat (suc shard) = lanes_round seat shard ++ lane_round seat shard
+
+-- what there is to do for a seat
+abbrev pub seat_round : ℕ → ℕ → ℕ → List Event
+seat_round shards moment seat = (Take seat moment ∷ Send seat ∷ []) ++ lanes_round seat shards ++ Hand seat ∷ []
+
+-- all that so many seats and shards can do by themselves, each event once
+abbrev pub round : ℕ → ℕ → ℕ → List Event
+round zero shards moment = []
+round (suc seat) shards moment = round seat shards moment ++ seat_round shards moment seat
+
+-- the events, so many times over
+abbrev pub repeated : ℕ → List Event → List Event
+repeated zero events = []
+repeated (suc times) events = repeated times events ++ events
+
+-- The core tried the round so many times. Now all connections are at rest, and each that isn't broken was handed the replies to
+-- all its commands.
+pub record IsSettled (sizes : Sizes) (w : World) (moment : ℕ) (new : Sim) : Type 0 where
+  pub times : ℕ
+  pub later : World
+  pub led : Leads sizes w (repeated times (round sizes.seats sizes.shards moment)) later
+  pub memory : FoundMemory sizes w (repeated times (round sizes.seats sizes.shards moment)) later led
+  pub stands : Stands sizes new later
+  pub rest : AllAtRest sizes later
+  pub replied : AllReplied sizes later
+
+-- From whatever world the core stood in, it was settled.
+abbrev pub Settles : Sim → ℕ → Sim → Type 0
+Settles old moment new = (sizes : Sizes) (w : World) → Stands sizes old w → IsSettled sizes w moment new
+
+-- From whatever world the core stood in, it did some work, and each step found its memory.
+pub record HasWorked (sizes : Sizes) (w : World) (new : Sim) : Type 0 where
+  pub events : List Event
+  pub work : AllByRecursion IsWork events
+  pub later : World
+  pub led : Leads sizes w events later
+  pub memory : FoundMemory sizes w events later led
+  pub stands : Stands sizes new later
+
+abbrev pub Works : Sim → Sim → Type 0
+Works old new = (sizes : Sizes) (w : World) → Stands sizes old w → HasWorked sizes w new

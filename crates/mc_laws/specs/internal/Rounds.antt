@@ -1,0 +1,35 @@
+-- What the steps of settling say of one another.
+use Rattle.std.specs.Prelude.{ℕ, ◌≡◌, ◌≤◌, ◌^◌, ◌-◌, Bool, List, MatchBool}
+use Rattle.mc_core.specs.declared.sim.Sim.{Sim}
+use Rattle.mc_core.specs.Sizes.{Sizes}
+use Rattle.mc_core.specs.World.{World}
+use Rattle.mc_core.specs.Events.{Event}
+use Rattle.mc_core.specs.Schedule.{Leads}
+use Rattle.mc_core.specs.Runs.{FoundMemory, done_in}
+use Rattle.mc_core.specs.Stands.{Stands}
+use Rattle.mc_laws.specs.Settling.{repeated}
+
+-- The events were tried once more, and none was done.
+pub record IsQuiet (sizes : Sizes) (w : World) (events : List Event) : Type 0 where
+  pub led : Leads sizes w events w
+  pub memory : FoundMemory sizes w events w led
+  pub none : done_in sizes w events w led ≡ 0
+
+-- The events were tried so many times, and at least so many were done.
+pub record HasRepeated (sizes : Sizes) (w : World) (events : List Event) (least : ℕ) (new : Sim) : Type 0 where
+  pub times : ℕ
+  pub later : World
+  pub led : Leads sizes w (repeated times events) later
+  pub memory : FoundMemory sizes w (repeated times events) later led
+  pub enough : least ≤ done_in sizes w (repeated times events) later led
+  pub stands : Stands sizes new later
+
+-- From whatever world the core stood in, the events were tried, and at least so many were done.
+abbrev pub Tried : Sim → List Event → ℕ → Sim → Type 0
+Tried old events least new = (sizes : Sizes) (w : World) → Stands sizes old w → HasRepeated sizes w events least new
+
+-- At last none of them can be done, or as many were done as are counted.
+abbrev pub Repeats : Sim → List Event → Bool → Sim → Type 0
+Repeats old events quiet new =
+    (sizes : Sizes) (w : World) → Stands sizes old w →
+    MatchBool quiet ((done : HasRepeated sizes w events 0 new) × IsQuiet sizes done.later events) (HasRepeated sizes w events (2 ^ 128 - 1) new)

@@ -1,0 +1,127 @@
+-- The lines of a seat, one after another.
+use Rattle.std.proofs.Common.{◌≡◌, ℕ, Bool, true, false, List, [], ◌∷◌, ◌++◌, length, map, Option, Some, None, refl, sym, ap, subst, ◌∙◌, arith, append_assoc, append-nil, length-append}
+use Rattle.std.specs.Prelude.{IsTrue}
+use Rattle.std.proofs.Math.Path.{Singl, contract, subst_refl}
+use Rattle.mc_wire.specs.Outlet.{Sight}
+use Rattle.mc_ring.specs.Lane.{Near}
+use Rattle.mc_ring.specs.Ends.{AreSameEnds, Ends}
+use Rattle.mc_ring.specs.EndsLaws.{same_ends-refl, same_ends-trans}
+use Rattle.mc_conn.specs.declared.conn.Conn.{Conn}
+use Rattle.mc_conn.specs.Conn.{IsConn}
+use Rattle.mc_conn.specs.Told.{told_nothing}
+use Rattle.mc_server.specs.Explains.{LineTold}
+use Rattle.mc_threads.proofs.Orders.{map_one}
+use Rattle.mc_serve.specs.Told.{Comes, DoorTold, IsDone, IsFree, IsNext, Passes, Told, Untold, closed, later, let_in, took_back}
+use Rattle.mc_serve.specs.Seats.{AllFit, LineFits, SeatAt, ServesDoor, ServesLine, ServesLines, ServesNext, Sits, seat_at}
+
+pub passes_none : (door : DoorTold) → Passes door [] door
+passes_none Untold = refl
+passes_none (Told None out back over) = (None, refl, ap (λ lines. Told None out lines over) (sym (append-nil back)))
+passes_none (Told (Some coming) out back over) = (Some coming, (coming, refl, refl), ap (λ lines. Told (Some coming) out lines over) (sym (append-nil back)))
+
+pub free_after : (first : DoorTold) (lines : List LineTold) (now : DoorTold) → Passes first lines now → IsFree first → IsFree now
+free_after Untold lines now passes free = let P : DoorTold → Type 0 = λ door. IsFree door in subst P (sym passes) tt
+free_after (Told coming out back over) lines now passes free = let P : DoorTold → Type 0 = λ door. IsFree door in subst P (sym passes.2) free
+
+pub free_back : (now : Sight) (commands : ℕ) (broke : Bool) (door : DoorTold) → IsFree (took_back now commands broke door)
+free_back now commands broke Untold = tt
+free_back now commands broke (Told coming None back over) = refl
+free_back now commands broke (Told coming (Some begin) back over) = refl
+
+come_left : (line : LineTold) (lines : List LineTold) (before left : List Sight) (out : Option Sight) (back : List LineTold) (over : Bool) → before ≡ map (λ (l : LineTold). l.begin) lines ++ left → IsNext line.begin (Told (Some left) out back over) → Comes (Some before) (map (λ (l : LineTold). l.begin) (lines ++ line ∷ [])) (later (Some left))
+come_left line lines before [] out back over is next = absurd next
+come_left line lines before (x ∷ left) out back over is next =
+    let begins = map (λ (l : LineTold). l.begin) lines in (
+      left,
+      is ∙ (ap (λ y. begins ++ y ∷ left) next ∙ (sym (append_assoc begins (line.begin ∷ []) left) ∙ ap (λ ys. ys ++ left) (sym (map_one (λ (l : LineTold). l.begin) lines line)))),
+      refl,
+    )
+
+come_more : (line : LineTold) (lines : List LineTold) (coming rest : Option (List Sight)) (out : Option Sight) (back : List LineTold) (over : Bool) → Comes coming (map (λ (l : LineTold). l.begin) lines) rest → IsNext line.begin (Told rest out back over) → Comes coming (map (λ (l : LineTold). l.begin) (lines ++ line ∷ [])) (later rest)
+come_more line lines None rest out back over comes next = ap later comes
+come_more line lines (Some before) rest out back over comes next =
+    let P : Option (List Sight) → Type 0 = λ xs. IsNext line.begin (Told xs out back over) in
+    let Q : Option (List Sight) → Type 0 = λ xs. Comes (Some before) (map (λ (l : LineTold). l.begin) (lines ++ line ∷ [])) (later xs) in
+    subst Q (sym comes.2) (come_left line lines before comes.0 out back over comes.1 (subst P comes.2 next))
+
+-- One line more came in, and went back.
+pub passes_more : (first now accepted last : DoorTold) (lines : List LineTold) (line : LineTold) → IsFree first → Passes first lines now → IsNext line.begin now → accepted ≡ let_in line.begin now → last ≡ took_back line.now line.commands line.broke accepted → Passes first (lines ++ line ∷ []) last
+passes_more Untold now accepted last lines line free passes next came back =
+    back ∙ (ap (λ door. took_back line.now line.commands line.broke door) came ∙ ap (λ door. took_back line.now line.commands line.broke (let_in line.begin door)) passes)
+passes_more (Told coming out told over) now accepted last lines line free passes next came back =
+    let P : DoorTold → Type 0 = λ door. IsNext line.begin door in
+    let rest = passes.0 in
+    let took : last ≡ Told (later rest) None ((told ++ lines) ++ line ∷ []) over =
+    back ∙ (ap (λ door. took_back line.now line.commands line.broke door) came ∙ ap (λ door. took_back line.now line.commands line.broke (let_in line.begin door)) passes.2) in (
+      later rest,
+      come_more line lines coming rest out (told ++ lines) over passes.1 (subst P passes.2 next),
+      took ∙ (ap (λ one. Told (later rest) one ((told ++ lines) ++ line ∷ []) over) (sym free) ∙ ap (λ all. Told (later rest) out all over) (append_assoc told lines (line ∷ []))),
+    )
+
+module _ (shards limit : ℕ) (may_answer : ℕ → Type 0) where
+  pub lines_same : (lines : List LineTold) (before after : Ends Near) → ServesLines shards limit may_answer lines before after → AreSameEnds before after
+  lines_same [] before after are = let P : Ends Near → Type 0 = λ ends. AreSameEnds before ends in subst P (sym are) (same_ends-refl before)
+  lines_same (line ∷ lines) before after are = same_ends-trans before are.0 after are.1.served.exchanges.same (lines_same lines are.0 after are.2)
+
+  pub lines_more : (lines : List LineTold) (line : LineTold) (first now last : Ends Near) → ServesLines shards limit may_answer lines first now → ServesLine shards limit may_answer line now last → ServesLines shards limit may_answer (lines ++ line ∷ []) first last
+  lines_more [] line first now last are this = let P : Ends Near → Type 0 = λ ends. ServesLine shards limit may_answer line ends last in (last, subst P are this, refl)
+  lines_more (l ∷ lines) line first now last are this = (are.0, are.1, lines_more lines line are.0 now last are.2 this)
+
+  -- the ends of a line that was served, by another name
+  fits_moved : (line : LineTold) (now first last : Ends Near) (are : now ≡ first) (this : ServesLine shards limit may_answer line now last) → (let P : Ends Near → Type 0 = λ ends. ServesLine shards limit may_answer line ends last in LineFits shards limit may_answer line first last (subst P are this)) → LineFits shards limit may_answer line now last this
+  fits_moved line now first last are this =
+      let P : Ends Near → Type 0 = λ ends. ServesLine shards limit may_answer line ends last in
+      let S : Singl now → Type 0 = λ z. LineFits shards limit may_answer line z.0 last (subst P z.1 this) → LineFits shards limit may_answer line now last this in
+      let F : ServesLine shards limit may_answer line now last → Type 0 = λ s. LineFits shards limit may_answer line now last s in
+      subst S (contract are) (λ fits. subst F (subst_refl P this) fits)
+
+  -- where the keys of all fit, those of the last do
+  fits_last : (lines : List LineTold) (line : LineTold) (first now last : Ends Near) (are : ServesLines shards limit may_answer lines first now) (this : ServesLine shards limit may_answer line now last) → AllFit shards limit may_answer (lines ++ line ∷ []) first last (lines_more lines line first now last are this) → LineFits shards limit may_answer line now last this
+  unfolding lines_more
+  fits_last [] line first now last are this fits = fits_moved line now first last are this fits.0
+  fits_last (l ∷ lines) line first now last are this fits = fits_last lines line are.0 now last are.2 this fits.1
+
+  -- One line more was served.
+  pub record OneMore (sat rose : SeatAt) (conn : Conn) (another : Bool) : Type 0 where
+    pub lines : List LineTold
+    pub door : Passes sat.door lines rose.door
+    pub lines_are : ServesLines shards limit may_answer lines sat.ends rose.ends
+    pub stops : another ≡ false → AllFit shards limit may_answer lines sat.ends rose.ends lines_are → ⊥
+    pub again : IsTrue another → (window : ℕ) × IsConn conn (told_nothing shards limit window)
+
+  one_more : (sat now rose : SeatAt) (accepted : DoorTold) (begin : Sight) (old new : Conn) (another : Bool) → IsFree sat.door → IsNext begin now.door → accepted ≡ let_in begin now.door → (sits : Sits shards limit may_answer sat now old)
+      → ServesNext shards limit may_answer begin (seat_at accepted now.ends) rose new another → OneMore sat rose new another
+  one_more sat now rose accepted begin old new another free next came sits says =
+      let line : LineTold = record { begin = begin; now = says.now; commands = says.commands; broke = says.broke } in
+      record {
+        lines = sits.lines ++ line ∷ [];
+        door = passes_more sat.door now.door accepted rose.door sits.lines line free sits.door next came says.door;
+        lines_are = lines_more sits.lines line sat.ends now.ends rose.ends sits.lines_are says.line;
+        stops = λ stopped fits. says.stops stopped (fits_last sits.lines line sat.ends now.ends rose.ends sits.lines_are says.line fits);
+        again = says.again;
+      }
+
+  pub sits_first : (sat : SeatAt) (conn : Conn) (window : ℕ) → IsConn conn (told_nothing shards limit window) → Sits shards limit may_answer sat sat conn
+  sits_first sat conn window is = record { lines = []; door = passes_none sat.door; lines_are = refl; window = window; conn_is = is }
+
+  pub sits_on : (sat rose : SeatAt) (conn : Conn) → OneMore sat rose conn true → Sits shards limit may_answer sat rose conn
+  sits_on sat rose conn more = record { lines = more.lines; door = more.door; lines_are = more.lines_are; window = (more.again refl).0; conn_is = (more.again refl).1 }
+
+  pub sits_last : (sat rose : SeatAt) (conn : Conn) → OneMore sat rose conn false → ServesDoor shards limit may_answer sat rose
+  sits_last sat rose conn more = record { lines = more.lines; passed = rose.door; door = more.door; lines_are = more.lines_are; over = λ fits. absurd (more.stops refl fits) }
+
+  -- Nothing came.
+  pub sits_still : (sat now : SeatAt) (door : DoorTold) (conn : Conn) → door ≡ now.door → Sits shards limit may_answer sat now conn → Sits shards limit may_answer sat (seat_at door now.ends) conn
+  sits_still sat now door conn same sits = let P : DoorTold → Type 0 = λ d. Passes sat.door sits.lines d in record { lines = sits.lines; door = subst P (sym same) sits.door; lines_are = sits.lines_are; window = sits.window; conn_is = sits.conn_is }
+
+  pub sits_over : (sat now : SeatAt) (door : DoorTold) (conn : Conn) → IsDone now.door → door ≡ closed now.door → Sits shards limit may_answer sat now conn → ServesDoor shards limit may_answer sat (seat_at door now.ends)
+  sits_over sat now door conn done is sits = record { lines = sits.lines; passed = now.door; door = sits.door; lines_are = sits.lines_are; over = λ fits. record { done = done; now = is } }
+
+-- One line more, served over the ends as they are.
+pub sits_more : (limit : ℕ) (may_answer : ℕ → Type 0) (sat now rose : SeatAt) (accepted : DoorTold) (begin : Sight) (old new : Conn) (another : Bool) → IsFree sat.door → IsNext begin now.door → accepted ≡ let_in begin now.door → Sits (length sat.ends.lanes) limit may_answer sat now old
+    → ((limit window : ℕ) → IsConn old (told_nothing (length now.ends.lanes) limit window) → ServesNext (length now.ends.lanes) limit may_answer begin (seat_at accepted now.ends) rose new another) → OneMore (length sat.ends.lanes) limit may_answer sat rose new another
+sits_more limit may_answer sat now rose accepted begin old new another free next came sits says =
+    let shards = length sat.ends.lanes in
+    let same = lines_same shards limit may_answer sits.lines sat.ends now.ends sits.lines_are in
+    let P : ℕ → Type 0 = λ n. (limit window : ℕ) → IsConn old (told_nothing n limit window) → ServesNext n limit may_answer begin (seat_at accepted now.ends) rose new another in
+    one_more shards limit may_answer sat now rose accepted begin old new another free next came sits (subst P same.count says limit sits.window sits.conn_is)

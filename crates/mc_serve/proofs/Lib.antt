@@ -1,0 +1,14 @@
+pub mod Zipped
+pub mod Tying
+pub mod Joined
+pub mod Line
+pub mod Lanes
+pub mod Served
+pub mod WorkerLogs
+pub mod Chain
+pub mod Segments
+pub mod AtDoors
+pub mod Sent
+pub mod TcpSent
+pub mod One
+pub mod Connections

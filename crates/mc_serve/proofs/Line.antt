@@ -1,0 +1,100 @@
+-- One line, once all workers are joined and its seat is tied to each of them.
+use Rattle.std.proofs.Common.{◌≡◌, ℕ, ◌<◌, ◌≤◌, ◌+◌, ◌==◌, ◌⊎◌, inl, inr, Bool, true, false, cond, List, [], ◌∷◌, ◌++◌, length, map, refl, sym, ap, ◌∙◌, arith, append-nil, Some, None}
+use Rattle.std.specs.List.{AllByRecursion, slice_get}
+use Rattle.std.specs.Prelude.{filter, take}
+use Rattle.std.proofs.lemmas.Bool.{cases_lt}
+use Rattle.std.proofs.lemmas.Bool.Decides.{eqb_tells}
+use Rattle.mc_conn.specs.History.{Taken, Done}
+use Rattle.mc_conn.specs.Due as due
+use Rattle.mc_conn.specs.Due.{Ran}
+use Rattle.mc_conn.specs.Fits.{CameFrom, KeysFit, reply_of}
+use Rattle.mc_conn.proofs.Serving.{keys_came}
+use Rattle.mc_conn.proofs.Telling.{ran_on-same}
+use Rattle.mc_core.specs.Sizes.{Sizes}
+use Rattle.mc_core.specs.Log.{Entry, of_asker, on_shard, pieces_in, replies_in}
+use Rattle.mc_core.specs.Desk.{Desk}
+use Rattle.mc_ring.specs.Lane.{Near}
+use Rattle.mc_ring.specs.Ends.{Ends}
+use Rattle.mc_ring.specs.Reply.{Shown}
+use Rattle.mc_serve.specs.Asking.{AreTied, HasAsked, IsTied}
+use Rattle.mc_serve.specs.Logs.{AreLogsFrom, IsLogOf, together}
+use Rattle.mc_serve.proofs.Tying.{Agrees, lane_agrees, lane_came, none_came, pieces_ran, ran_of, replies_ran}
+use Rattle.mc_serve.proofs.Joined.{worker_at}
+
+-- What one shard ran for the line.
+pub shard_agrees : (sizes : Sizes) (shard : ℕ) (ends : Ends Near) (desks : List Desk) (logs : List (List Entry)) (taken : List Taken) (got : ℕ → List Shown)
+    → shard < sizes.shards → ends.number < sizes.seats → length desks ≡ sizes.shards → AreLogsFrom sizes 0 desks logs → AreTied ends desks → HasAsked sizes.shards ends taken got
+    → Agrees sizes.shards shard ends.number taken (got shard) (on_shard shard (together logs))
+shard_agrees sizes shard ends desks logs taken got below seat count are tied asked =
+    let worker = worker_at sizes 0 shard desks logs are (omega arith) in
+    let at : 0 + shard ≡ shard = omega arith in
+    let is : IsLogOf sizes shard worker.desk worker.log = rw at at worker.is in
+    let its : on_shard shard (together logs) ≡ worker.log = rw at at worker.its in
+    rw its (lane_agrees sizes shard ends worker.desk taken got worker.log below seat asked is (tied shard worker.desk worker.here))
+
+-- Each reply came from the shard whose piece it answers.
+pub keys_fit : (sizes : Sizes) (ends : Ends Near) (desks : List Desk) (logs : List (List Entry)) (taken : List Taken) (got : ℕ → List Shown)
+    → 0 < sizes.shards → ends.number < sizes.seats → length desks ≡ sizes.shards → AreLogsFrom sizes 0 desks logs → AreTied ends desks → HasAsked sizes.shards ends taken got
+    → KeysFit sizes.shards taken got
+keys_fit sizes ends desks logs taken got some seat count are tied asked =
+    keys_came sizes.shards taken got (λ shard. elim (cases_lt shard sizes.shards) [
+      | inl below ↦ lane_came sizes.shards shard ends.number taken (got shard) (on_shard shard (together logs)) (shard_agrees sizes shard ends desks logs taken got below seat count are tied asked)
+      | inr beyond ↦ none_came sizes.shards shard taken (got shard) some beyond (asked.as_many shard)
+    ])
+
+-- what was run, for a line
+abbrev pub entry_for : ℕ → Ran → Entry
+entry_for asker ran = record { shard = ran.shard; asker = asker; piece = ran.piece; answer = ran.answer }
+
+pub same_asker : (asker : ℕ) (log : List Entry) → AllByRecursion (λ entry. entry.asker ≡ asker) log → map (entry_for asker) (map ran_of log) ≡ log
+same_asker asker [] all = refl
+same_asker asker (entry ∷ log) all =
+    let this : entry_for asker (ran_of entry) ≡ entry = λ i. record { shard = entry.shard; asker = sym all.0 i; piece = entry.piece; answer = entry.answer } in
+    ap (λ e. e ∷ map (entry_for asker) (map ran_of log)) this ∙ ap (λ es. entry ∷ es) (same_asker asker log all.1)
+
+pub asked_by : (asker : ℕ) (log : List Entry) → AllByRecursion (λ entry. entry.asker ≡ asker) (of_asker asker log)
+asked_by asker [] = tt
+asked_by asker (entry ∷ log) = elim (eqb_tells entry.asker asker) [
+  | inl same ↦ rw same.0 (same.1, asked_by asker log)
+  | inr other ↦ rw other.0 (asked_by asker log)
+]
+
+pub shard_of : (shard : ℕ) (log : List Entry) → AllByRecursion (λ entry. entry.shard ≡ shard) (on_shard shard log)
+shard_of shard [] = tt
+shard_of shard (entry ∷ log) = elim (eqb_tells entry.shard shard) [
+  | inl same ↦ rw same.0 (same.1, shard_of shard log)
+  | inr other ↦ rw other.0 (shard_of shard log)
+]
+
+pub filter_keeps : (P : Entry → Type 0) (p : Entry → Bool) (log : List Entry) → AllByRecursion P log → AllByRecursion P (filter p log)
+filter_keeps P p [] all = tt
+filter_keeps P p (entry ∷ log) all =
+    elim (p entry) as (λ b. AllByRecursion P (cond b (entry ∷ filter p log) (filter p log))) [
+      | true ↦ (all.0, filter_keeps P p log all.1)
+      | false ↦ filter_keeps P p log all.1
+    ]
+
+pub map_on_shard : (shard asker : ℕ) (ran : List Ran) → on_shard shard (map (entry_for asker) ran) ≡ map (entry_for asker) (due.on_shard shard ran)
+map_on_shard shard asker [] = refl
+map_on_shard shard asker (one ∷ ran) =
+    elim (one.shard == shard) as (λ b. cond b (entry_for asker one ∷ on_shard shard (map (entry_for asker) ran)) (on_shard shard (map (entry_for asker) ran)) ≡ map (entry_for asker) (cond b (one ∷ due.on_shard shard ran) (due.on_shard shard ran))) [
+      | true ↦ ap (λ es. entry_for asker one ∷ es) (map_on_shard shard asker ran)
+      | false ↦ map_on_shard shard asker ran
+    ]
+
+pub ran_shards : (shard : ℕ) (log : List Entry) → AllByRecursion (λ entry. entry.shard ≡ shard) log → AllByRecursion (λ (ran : Ran). ran.shard ≡ shard) (map ran_of log)
+ran_shards shard [] all = tt
+ran_shards shard (entry ∷ log) all = (all.0, ran_shards shard log all.1)
+
+-- What a shard ran for the line is what the line's history tells.
+pub ran_for_line : (shards shard seat : ℕ) (taken : List Taken) (got : List Shown) (all : List Entry) (history : List Done)
+    → Agrees shards shard seat taken got (on_shard shard all)
+    → due.on_shard shard (due.log_of shards history) ≡ due.ran_on shard (due.due shards shard taken) got
+    → of_asker seat (on_shard shard all) ≡ on_shard shard (map (entry_for seat) (due.log_of shards history))
+ran_for_line shards shard seat taken got all history agrees told =
+    let mine = of_asker seat (on_shard shard all) in
+    let these : due.ran_on shard (due.due shards shard taken) got ≡ map ran_of mine =
+    ap (λ ps. due.ran_on shard ps got) (agrees.pieces ∙ sym (pieces_ran mine))
+    ∙ (ap (λ rs. due.ran_on shard (map (λ (ran : Ran). ran.piece) (map ran_of mine)) rs) (agrees.replies ∙ sym (replies_ran mine))
+    ∙ ran_on-same shard (map ran_of mine) (ran_shards shard mine (filter_keeps (λ entry. entry.shard ≡ shard) (λ entry. entry.asker == seat) (on_shard shard all) (shard_of shard all)))) in
+    sym (map_on_shard shard seat (due.log_of shards history) ∙ (ap (λ rs. map (entry_for seat) rs) (told ∙ these) ∙ same_asker seat mine (asked_by seat (on_shard shard all))))

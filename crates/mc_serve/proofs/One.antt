@@ -1,0 +1,127 @@
+-- Lines that came in by a door each.
+use Rattle.std.proofs.Common.{◌≡◌, ℕ, suc, ◌<◌, Bool, true, List, [], ◌∷◌, ◌++◌, length, map, Option, Some, None, refl, sym, ap, subst, ◌∙◌, append-nil, arith}
+use Rattle.std.specs.List.{AllByRecursion, flat_map, slice_get}
+use Rattle.std.specs.Prelude.{IfOk, Result, Ok, Err}
+use Rattle.std.proofs.lemmas.List.{length-map}
+use Rattle.mc_wire.specs.Outlet.{Sight}
+use Rattle.mc_conn.specs.History.{Done}
+use Rattle.mc_core.specs.Sizes.{Sizes}
+use Rattle.mc_core.specs.Log.{Entry, of_asker, on_shard}
+use Rattle.mc_crew.specs.Zips.{Zips}
+use Rattle.mc_server.specs.Explains.{Explains, ExplainsLine, IsLogOf, LineTold, log_of}
+use Rattle.mc_serve.specs.Over.{CameBack, ServesAll, lines_told}
+use Rattle.mc_serve.proofs.Lanes.{map_map}
+use Rattle.mc_serve.proofs.Zipped.{get_map, zips_seen}
+use Rattle.mc_serve.specs.Told.{DoorTold, IsFree, Passes, Told, closed}
+use Rattle.mc_serve.specs.Served.{ExplainsHistory, ExplainsSeat, PassEach, PassesAll, ServesDoors}
+use Rattle.mc_serve.specs.One.{IsBack, served, waits}
+
+-- the one line of a door that waited and was served
+one_line : (line : Sight) (lines : List LineTold) (door : DoorTold) (back : CameBack) → PassesAll (waits line) lines door → IsBack door back.line back.commands back.broke → lines ≡ record { begin = line; now = back.line; commands = back.commands; broke = back.broke } ∷ []
+one_line line lines door back passes is =
+    let told = passes.passes in
+    let rest = told.0 in
+    let one : LineTold = record { begin = is.0; now = back.line; commands = back.commands; broke = back.broke } in
+    let same : Told rest None lines true ≡ Told (Some []) None (one ∷ []) is.1 = sym (passes.over ∙ ap closed told.2) ∙ is.2 in
+    let lines_are : lines ≡ one ∷ [] = cc in
+    let comes : line ∷ [] ≡ map (λ (l : LineTold). l.begin) lines ++ told.1.0 = told.1.1 in
+    let first : line ∷ [] ≡ is.0 ∷ told.1.0 = comes ∙ ap (λ ls. map (λ (l : LineTold). l.begin) ls ++ told.1.0) lines_are in
+    let begin : line ≡ is.0 = cc in
+    lines_are ∙ ap (λ b. record { begin = b; now = back.line; commands = back.commands; broke = back.broke } ∷ []) (sym begin)
+
+-- the line of each door
+record EachHasOne (lines : List Sight) (seats : List (List LineTold)) (backs : List CameBack) : Type 0 where
+  seats_are : map (λ line. line ∷ []) (lines_told lines backs) ≡ seats
+  count : length backs ≡ length lines
+
+each_one : (lines : List Sight) (seats : List (List LineTold)) (doors : List DoorTold) (backs : List CameBack) → PassEach (map waits lines) seats doors → Zips (λ door back. IsBack door back.line back.commands back.broke) doors backs → EachHasOne lines seats backs
+each_one [] [] [] [] each zips = record { seats_are = refl; count = refl }
+each_one [] [] [] (back ∷ backs) each zips = absurd zips
+each_one [] [] (door ∷ doors) backs each zips = absurd each
+each_one [] (s ∷ seats) doors backs each zips = absurd each
+each_one (line ∷ lines) [] doors backs each zips = absurd each
+each_one (line ∷ lines) (s ∷ seats) [] backs each zips = absurd each
+each_one (line ∷ lines) (s ∷ seats) (door ∷ doors) [] each zips = absurd zips
+each_one (line ∷ lines) (s ∷ seats) (door ∷ doors) (back ∷ backs) each zips =
+    let rest = each_one lines seats doors backs each.1 zips.1 in
+    let this = one_line line s door back each.0 zips.0 in
+    record {
+      seats_are = ap (λ x. x ∷ map (λ line. line ∷ []) (lines_told lines backs)) (sym this) ∙ ap (λ xs. s ∷ xs) rest.seats_are;
+      count = ap suc rest.count;
+    }
+
+one_history : (sizes : Sizes) (may_answer : ℕ → Type 0) (log : List Entry) (seat : ℕ) (line : LineTold) (histories : List (List Done)) → Zips (ExplainsHistory sizes may_answer) (line ∷ []) histories
+    → ((shard : ℕ) → shard < sizes.shards → of_asker seat (on_shard shard log) ≡ flat_map (λ history. on_shard shard (log_of sizes.shards seat history)) histories) → ExplainsLine sizes may_answer log seat line
+one_history sizes may_answer log seat line [] each ran = absurd each
+one_history sizes may_answer log seat line (history ∷ h ∷ histories) each ran = absurd each.1
+one_history sizes may_answer log seat line (history ∷ []) each ran =
+    let this = each.0 in
+    record {
+      history = history;
+      story = this.story;
+      reads = this.reads;
+      answered = this.answered;
+      moments = this.moments;
+      counted = this.counted;
+      ran = λ shard below. ran shard below ∙ append-nil (on_shard shard (log_of sizes.shards seat history));
+    }
+
+-- One log explains all lines, since it explains the line of each door.
+pub serves_one : (sizes : Sizes) (may_answer : ℕ → Type 0) (lines : List Sight) (doors : List DoorTold) (backs : List CameBack) → ServesDoors sizes may_answer (map waits lines) doors → Zips (λ door back. IsBack door back.line back.commands back.broke) doors backs → ServesAll sizes may_answer lines backs
+serves_one sizes may_answer lines doors backs serves zips =
+    let ones = each_one lines serves.seats doors backs serves.back zips in
+    let told = lines_told lines backs in
+    let count : length serves.seats ≡ length told = ap length (sym ones.seats_are) ∙ length-map told (λ line. line ∷ []) in
+    let L : ℕ → Type 0 = λ n. IsLogOf sizes n serves.log in
+    record {
+      as_many = ones.count;
+      explained = record {
+        log = serves.log;
+        log_is = subst L count serves.log_is;
+        each = λ number line here.
+            let there : slice_get serves.seats number ≡ Some (line ∷ []) = ap (λ seats. slice_get seats number) (sym ones.seats_are) ∙ get_map (λ (line : LineTold). line ∷ []) told number line here in
+            let seat = serves.each number (line ∷ []) there in
+            one_history sizes may_answer serves.log number line seat.histories seat.each seat.ran;
+      };
+    }
+
+-- The same, of whatever holds the lines.
+pub over_all : {A B C : Type 0} (sizes_at : ℕ → Sizes) (may_answer : ℕ → Type 0) (told : A → DoorTold) (came : B → CameBack) (sight : C → Sight) (lines : List C) (doors back : List A) (report : List B) → map told doors ≡ map (λ line. waits (sight line)) lines
+    → ServesDoors (sizes_at (length doors)) may_answer (map told doors) (map told back) → Zips (λ door one. IsBack (told door) (came one).line (came one).commands (came one).broke) back report → ServesAll (sizes_at (length lines)) may_answer (map sight lines) (map came report)
+over_all sizes_at may_answer told came sight lines doors back report same serves zips =
+    let count : length doors ≡ length lines = sym (length-map doors told) ∙ (ap length same ∙ length-map lines (λ line. waits (sight line))) in
+    let before : map told doors ≡ map waits (map sight lines) = same ∙ map_map sight waits lines in
+    let P : ℕ → List DoorTold → Type 0 = λ n ds. ServesDoors (sizes_at n) may_answer ds (map told back) in
+    serves_one (sizes_at (length lines)) may_answer (map sight lines) (map told back) (map came report)
+    (subst (λ ds. P (length lines) ds) before (subst (λ n. P n (map told doors)) count serves))
+    (zips_seen back report (λ (door : DoorTold) (one : CameBack). IsBack door one.line one.commands one.broke) told came zips)
+
+-- Where every line waits, no line is out.
+pub all_free : {A C : Type 0} (told : A → DoorTold) (sight : C → Sight) (doors : List A) (lines : List C) → map told doors ≡ map (λ line. waits (sight line)) lines → AllByRecursion (λ door. IsFree (told door)) doors
+all_free told sight [] lines same = tt
+all_free told sight (door ∷ doors) [] same = absurd (cc)
+all_free told sight (door ∷ doors) (line ∷ lines) same =
+    let head : told door ≡ waits (sight line) = cc in
+    let tail : map told doors ≡ map (λ line. waits (sight line)) lines = cc in
+    let P : DoorTold → Type 0 = λ d. IsFree d in
+    (subst P (sym head) refl, all_free told sight doors lines tail)
+
+zips_last : {A B : Type 0} (R : A → B → Type 0) (xs : List A) (ys : List B) (x : A) (y : B) → Zips R xs ys → R x y → Zips R (xs ++ x ∷ []) (ys ++ y ∷ [])
+zips_last R [] [] x y zips this = (this, tt)
+zips_last R [] (z ∷ ys) x y zips this = absurd zips
+zips_last R (w ∷ xs) [] x y zips this = absurd zips
+zips_last R (w ∷ xs) (z ∷ ys) x y zips this = (zips.0, zips_last R xs ys x y zips.1 this)
+
+pub zips_push : {A B : Type 0} (R : A → B → Type 0) (xs : List A) (ys ys' : List B) (x : A) (y : B) → ys' ≡ ys ++ y ∷ [] → Zips R xs ys → R x y → Zips R (xs ++ x ∷ []) ys'
+zips_push R xs ys ys' x y grown zips this = let P : List _ → Type 0 = λ zs. Zips R (xs ++ x ∷ []) zs in subst P (sym grown) (zips_last R xs ys x y zips this)
+
+pub if_ok : {T E : Type 0} (r : Result T E) (P Q : T → Type 0) → ((x : T) → P x → Q x) → IfOk r P → IfOk r Q
+if_ok (Ok x) P Q follows p = follows x p
+if_ok (Err e) P Q follows p = tt
+
+pub empty_when : {A : Type 0} (xs : List A) → length xs ≡ 0 → xs ≡ []
+empty_when [] none = refl
+empty_when (x ∷ xs) none = absurd (omega arith)
+
+pub zips_are : {A B : Type 0} (R : A → B → Type 0) (xs ys : List A) (zs : List B) → xs ≡ ys → Zips R xs zs → Zips R ys zs
+zips_are R xs ys zs same zips = let P : List _ → Type 0 = λ ws. Zips R ws zs in subst P same zips

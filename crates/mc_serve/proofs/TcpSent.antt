@@ -1,0 +1,8 @@
+-- A door over TCP may go to another thread.
+use denote.RattleType.{RattleType}
+use denote.Param.Send.{IsSend, sendable}
+use Rattle.std.proofs.Crossing.{crosses}
+use Rattle.mc_serve.specs.contracts.tcp_door.TcpDoor as door
+
+pub tcp_send : (R : RattleType) → IsSend R → IsSend (door.the_row R)
+tcp_send R sent = search (sendable, crosses) depth 20

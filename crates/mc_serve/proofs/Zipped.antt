@@ -1,0 +1,58 @@
+-- Two lists, element by element, and what stands at a place.
+use Rattle.std.proofs.Common.{◌≡◌, ℕ, zero, suc, List, [], ◌∷◌, length, map, Some, refl, ap, subst}
+use Rattle.std.specs.List.{AllByRecursion, slice_get}
+use Rattle.std.proofs.lemmas.Option.{same_Some}
+use Rattle.mc_crew.specs.Zips.{Zips}
+
+pub zips_length : {A B : Type 0} (R : A → B → Type 0) (xs : List A) (ys : List B) → Zips R xs ys → length ys ≡ length xs
+zips_length R [] [] zips = refl
+zips_length R [] (y ∷ ys) zips = absurd zips
+zips_length R (x ∷ xs) [] zips = absurd zips
+zips_length R (x ∷ xs) (y ∷ ys) zips = ap suc (zips_length R xs ys zips.1)
+
+-- Two lists that are seen by functions are in the relation that follows.
+pub zips_map : {A B C D : Type 0} (xs : List A) (ys : List B) (P : A → Type 0) (R : A → B → Type 0) (S : C → D → Type 0) (f : A → C) (g : B → D) → ((x : A) (y : B) → P x → R x y → S (f x) (g y)) → AllByRecursion P xs → Zips R xs ys → Zips S (map f xs) (map g ys)
+zips_map [] [] P R S f g follows all zips = tt
+zips_map [] (y ∷ ys) P R S f g follows all zips = absurd zips
+zips_map (x ∷ xs) [] P R S f g follows all zips = absurd zips
+zips_map (x ∷ xs) (y ∷ ys) P R S f g follows all zips = (follows x y all.0 zips.0, zips_map xs ys P R S f g follows all.1 zips.1)
+
+pub zips_seen : {A B C D : Type 0} (xs : List A) (ys : List B) (S : C → D → Type 0) (f : A → C) (g : B → D) → Zips (λ x y. S (f x) (g y)) xs ys → Zips S (map f xs) (map g ys)
+zips_seen [] [] S f g zips = tt
+zips_seen [] (y ∷ ys) S f g zips = absurd zips
+zips_seen (x ∷ xs) [] S f g zips = absurd zips
+zips_seen (x ∷ xs) (y ∷ ys) S f g zips = (zips.0, zips_seen xs ys S f g zips.1)
+
+-- What follows at each place holds of all.
+pub zips_each : {A B : Type 0} (R S : A → B → Type 0) (xs : List A) (ys : List B) → Zips R xs ys → ((i : ℕ) (x : A) (y : B) → slice_get xs i ≡ Some x → slice_get ys i ≡ Some y → R x y → S x y) → Zips S xs ys
+zips_each R S [] [] zips follows = tt
+zips_each R S [] (y ∷ ys) zips follows = absurd zips
+zips_each R S (x ∷ xs) [] zips follows = absurd zips
+zips_each R S (x ∷ xs) (y ∷ ys) zips follows = (follows 0 x y refl refl zips.0, zips_each R S xs ys zips.1 (λ i a b here there. follows (suc i) a b here there))
+
+-- The elements of the other list at a place, by those of the one.
+pub record IsMet {A B : Type 0} (R : A → B → Type 0) (xs : List A) (ys : List B) (i : ℕ) (y : B) : Type 0 where
+  pub one : A
+  pub here : slice_get xs i ≡ Some one
+  pub met : R one y
+
+pub met_at : {A B : Type 0} (R : A → B → Type 0) (xs : List A) (ys : List B) (i : ℕ) (y : B) → Zips R xs ys → slice_get ys i ≡ Some y → IsMet R xs ys i y
+met_at R [] [] i y zips here = absurd (cc)
+met_at R [] (z ∷ ys) i y zips here = absurd zips
+met_at R (x ∷ xs) [] i y zips here = absurd zips
+met_at R (x ∷ xs) (z ∷ ys) zero y zips here = record { one = x; here = refl; met = let P : _ → Type 0 = λ w. R x w in subst P (same_Some z y here) zips.0 }
+met_at R (x ∷ xs) (z ∷ ys) (suc i) y zips here = let rest = met_at R xs ys i y zips.1 here in record { one = rest.one; here = rest.here; met = rest.met }
+
+pub all_at : {X : Type 0} (P : X → Type 0) (xs : List X) (i : ℕ) (x : X) → AllByRecursion P xs → slice_get xs i ≡ Some x → P x
+all_at P [] i x all here = absurd (cc)
+all_at P (y ∷ xs) zero x all here = subst P (same_Some y x here) all.0
+all_at P (y ∷ xs) (suc i) x all here = all_at P xs i x all.1 here
+
+pub get_map : {A B : Type 0} (f : A → B) (xs : List A) (i : ℕ) (x : A) → slice_get xs i ≡ Some x → slice_get (map f xs) i ≡ Some (f x)
+get_map f [] i x here = absurd (cc)
+get_map f (y ∷ xs) zero x here = ap (λ z. Some (f z)) (same_Some y x here)
+get_map f (y ∷ xs) (suc i) x here = get_map f xs i x here
+
+pub all_map : {A B : Type 0} (P : B → Type 0) (f : A → B) (xs : List A) → AllByRecursion (λ x. P (f x)) xs → AllByRecursion P (map f xs)
+all_map P f [] all = tt
+all_map P f (x ∷ xs) all = (all.0, all_map P f xs all.1)

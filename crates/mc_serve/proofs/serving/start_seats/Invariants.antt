@@ -1,0 +1,16 @@
+-- The seats started so far, then the ends and the doors that are left: as many of each.
+use Rattle.std.proofs.Common.{◌≡◌, ◌++◌, length, map}
+use Rattle.std.specs.List.{AllByRecursion}
+use Rattle.std.specs.Vec.Iter.{into_iter_items}
+use Rattle.mc_serve.specs.Told.{IsFree}
+use Rattle.mc_serve.proofs.serving.start_seats.Given as goal
+
+abbrev pub invariant-loop-ends : goal.invariant-loop-ends
+invariant-loop-ends g l = record {
+  width : AllByRecursion (λ seat. length seat.lanes ≡ l.fn.sizes.shards) (into_iter_items l.ends-iterator);
+  as_many : length (into_iter_items l.doors) ≡ length (into_iter_items l.ends-iterator);
+  free : AllByRecursion (λ door. IsFree (g.D.Door.told door)) (into_iter_items l.doors);
+  ends : map (λ one. one.courier.ends) l.crew ++ into_iter_items l.ends-iterator ≡ l.fn.ends.items;
+  doors : map (λ one. one.door) l.crew ++ into_iter_items l.doors ≡ l.fn.doors.items;
+  same : AllByRecursion (λ one. (one.clock ≡ l.fn.clock) × (one.sizes ≡ l.fn.sizes)) l.crew;
+}

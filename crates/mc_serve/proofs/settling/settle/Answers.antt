@@ -1,0 +1,37 @@
+-- The lanes of one seat more are tied.
+use Rattle.std.proofs.Common.{◌≡◌, List, [], ◌∷◌, ◌++◌, map, ap, subst, sym, ◌∙◌, append_assoc}
+use Rattle.mc_ring.specs.Lane.{Near}
+use Rattle.mc_ring.specs.Ends.{Ends}
+use Rattle.mc_core.specs.Desk.{Desk}
+use Rattle.mc_serve.specs.Asking.{AreTied, HasLanes}
+use Rattle.mc_serve.proofs.Lanes.{all_lanes, all_tied}
+use Rattle.mc_threads.proofs.Orders.{all_first, all_join, all_rest}
+use Rattle.mc_serve.proofs.settling.settle.Goals as goal
+
+-- one more is done
+one_more : {A : Type 0} (done done' : List A) (x y : A) (left all : List A) → done' ≡ done ++ x ∷ [] → x ≡ y → done ++ y ∷ left ≡ all → done' ++ left ≡ all
+one_more done done' x y left all grown same order = ap (λ xs. xs ++ left) grown ∙ (append_assoc done (x ∷ []) left ∙ (ap (λ z. done ++ z ∷ left) same ∙ order))
+
+pub tie-requires : goal.tie-requires
+tie-requires g c =
+    let was = c.loop-sitting.invariant in
+    let begun : List Desk = map (λ one. one.worker) c.args.workers.now.items in
+    let now : List Desk = map (λ one. one.worker) c.loop-sitting.workers.items in
+    let lanes = all_first (λ sitting. HasLanes sitting.courier.ends begun) _ c.in-Some.sitting _ c.in-Some.ensures.steps.0 was.lanes in
+    let P : Ends Near → Type 0 = λ ends. HasLanes ends now in
+    subst P (sym c.rise-ends.ensures.ends) (all_lanes c.in-Some.sitting.courier.ends begun now was.same lanes)
+
+pub loop-sitting-preserved : goal.loop-sitting-preserved
+loop-sitting-preserved g c =
+    let was = c.loop-sitting.invariant in
+    let step = c.in-Some.ensures.steps in
+    let begun : List Desk = map (λ one. one.worker) c.args.workers.now.items in
+    let now : List Desk = map (λ one. one.worker) c.loop-sitting.workers.items in
+    let P : Ends Near → Type 0 = λ ends. AreTied ends now in
+    let this : AreTied c.in-Some.sitting.courier.ends begun = all_tied c.in-Some.sitting.courier.ends begun now was.same (subst P c.rise-ends.ensures.ends c.tie.ensures.tied) in
+    record {
+      lanes = all_rest (λ sitting. HasLanes sitting.courier.ends begun) _ c.in-Some.sitting _ step.0 was.lanes;
+      same = c.tie.ensures.same ∙ was.same;
+      tied = λ others. was.tied (all_join (λ sitting. AreTied sitting.courier.ends begun) _ c.in-Some.sitting _ step.0 this others);
+      doors = one_more c.loop-sitting.doors.items _ c.rise-ends.result.1 c.in-Some.sitting.door _ _ c.in-Ok.ensures.items c.rise-ends.ensures.door (rw step.0 at was.doors);
+    }

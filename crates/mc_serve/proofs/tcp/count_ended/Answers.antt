@@ -1,0 +1,25 @@
+-- The connections of one door more are counted.
+use Rattle.std.proofs.Common.{◌≡◌, ◌∙◌, ◌-◌, ◌^◌, ℕ, [], ap, length, map, arith, rules}
+use Rattle.std.specs.Vec.Iter.{into_iter_items}
+use Rattle.mc_serve.specs.Tcp.{gone_count, told_tcp}
+use Rattle.mc_serve.proofs.Connections.{count_all, count_more, gone_one}
+use Rattle.mc_serve.proofs.One.{empty_when}
+use Rattle.mc_serve.proofs.tcp.count_ended.Goals as goal
+
+pub loop-door-preserved : goal.loop-door-preserved
+loop-door-preserved g c =
+    let was = c.loop-door.invariant in
+    let door = c.in-Some.door in
+    let next = c.saturating_add-ended.ensures in
+    let left : ℕ = gone_count (map (λ door. told_tcp door.is_out door.gone.items door.is_over) (into_iter_items c.loop-door.door-iterator)) in
+    record {
+      within = omega (arith, next);
+      counted = count_more c.loop-door.ended _ door.ended (length door.gone.items) _ left _ next door.counted
+          (ap (λ doors. gone_count (map (λ door. told_tcp door.is_out door.gone.items door.is_over) doors)) c.in-Some.ensures.steps.0 ∙ gone_one door.is_out door.gone.items door.is_over _) was.counted;
+    }
+
+pub returns : goal.returns
+returns g c =
+    let was = c.loop-door.invariant in
+    let none : into_iter_items c.loop-door.door-iterator ≡ [] = empty_when _ (search rules) in
+    count_all c.loop-door.ended _ _ was.within (ap (λ doors. gone_count (map (λ door. told_tcp door.is_out door.gone.items door.is_over) doors)) none) was.counted

@@ -1,0 +1,9 @@
+pub mod Sizes
+pub mod Told
+pub mod Asking
+pub mod Logs
+pub mod Seats
+pub mod Served
+pub mod Over
+pub mod One
+pub mod Tcp

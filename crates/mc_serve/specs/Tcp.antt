@@ -1,0 +1,55 @@
+-- What is told of connections over TCP.
+use Rattle.std.specs.Prelude.{ℕ, ◌≡◌, ◌+◌, ◌-◌, ◌^◌, min, Bool, true, false, List, [], ◌∷◌, Option, Some, None, length, map}
+use Rattle.std.specs.List.{AllByRecursion, slice_get}
+use Rattle.mc_wire.specs.Outlet.{Listed, Read, Sight}
+use Rattle.mc_core.specs.Sizes.{Sizes}
+use Rattle.mc_core.specs.Log.{Entry}
+use Rattle.mc_server.specs.Explains.{IsLogOf, LineTold}
+use Rattle.mc_serve.specs.Told.{DoorTold, Told, Untold}
+use Rattle.mc_serve.specs.Served.{ExplainsSeat}
+use Rattle.mc_serve.specs.declared.tcp_door.Gone.{Gone}
+
+-- a read, by the bytes given and taken before it
+abbrev pub read_of : List ℕ × List ℕ → Read
+read_of one = record { given = Listed one.0; taken = Listed one.1 }
+
+-- a connection that has just come in: nothing was read of it, nor written to it
+abbrev pub new_line : Sight
+new_line = record { given = Listed []; ended = false; reads = Some []; taken = Listed []; failed = false }
+
+-- one that is gone: what its reads gave and its writes took
+abbrev pub gone_line : Gone → LineTold
+gone_line gone = record {
+  begin = new_line;
+  now = record { given = Listed gone.line.value.given; ended = gone.line.value.ended; reads = Some (map read_of gone.line.value.reads.items); taken = Listed gone.line.value.taken; failed = gone.line.value.failed };
+  commands = gone.commands;
+  broke = gone.broke;
+}
+
+-- what is told of the door of a seat: whether a connection is out, those that are gone, and whether it said that no more come
+abbrev pub told_tcp : Bool → List (Gone × Unit {0}) → Bool → DoorTold
+told_tcp true gone over = Told None (Some new_line) (map (λ one. gone_line one.0) gone) over
+told_tcp false gone over = Told None None (map (λ one. gone_line one.0) gone) over
+
+-- how many lines went back to the doors, all of them together
+abbrev pub gone_count : List DoorTold → ℕ
+gone_count [] = 0
+gone_count (Untold ∷ doors) = gone_count doors
+gone_count (Told coming out back over ∷ doors) = length back + gone_count doors
+
+-- how many connections all seats have served
+abbrev pub how_many : List (List LineTold) → ℕ
+how_many [] = 0
+how_many (lines ∷ seats) = length lines + how_many seats
+
+-- So many connections have ended, each served by one of the seats from its first byte on, and one log explains what was read of
+-- them, what was written to them and what the shards did. The count stays at its greatest value.
+pub record ServesConnections (sizes : Sizes) (may_answer : ℕ → Type 0) (ended : ℕ) : Type 0 where
+  -- of each seat its connections, one after another
+  pub seats : List (List LineTold)
+  pub as_many : length seats ≡ sizes.seats
+  pub counted : ended ≡ min (how_many seats) (2 ^ 64 - 1)
+  pub begins : AllByRecursion (λ lines. AllByRecursion (λ line. line.begin ≡ new_line) lines) seats
+  pub log : List Entry
+  pub log_is : IsLogOf sizes (length seats) log
+  pub each : (seat : ℕ) (lines : List LineTold) → slice_get seats seat ≡ Some lines → ExplainsSeat sizes may_answer log seat lines

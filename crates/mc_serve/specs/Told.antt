@@ -1,0 +1,68 @@
+-- What is told of a door: the lines that it lets in and takes back.
+use Rattle.std.specs.Prelude.{ℕ, ◌≡◌, Bool, true, List, [], ◌∷◌, ◌++◌, Option, Some, None, map}
+use Rattle.mc_wire.specs.Outlet.{Sight}
+use Rattle.mc_server.specs.Explains.{LineTold}
+use Rattle.mc_serve.specs.declared.door.Arrival.{Arrival}
+use Rattle.mc_serve.specs.declared.door.Arrival.TheVariants as arrival
+
+-- what is told of a door: nothing; or the lines that will come, where they are known, the one that is out, those that went back,
+-- in their order, and whether it has said that no more come
+pub data DoorTold : Type 0 where
+  Untold : DoorTold
+  Told : Option (List Sight) → Option Sight → List LineTold → Bool → DoorTold
+
+-- those that come later
+abbrev pub later : Option (List Sight) → Option (List Sight)
+later None = None
+later (Some []) = Some []
+later (Some (line ∷ lines)) = Some lines
+
+-- This line is the next to come, where that is known.
+abbrev pub IsNext : Sight → DoorTold → Type 0
+IsNext line Untold = Unit {0}
+IsNext line (Told None out back over) = Unit {0}
+IsNext line (Told (Some []) out back over) = ⊥
+IsNext line (Told (Some (next ∷ lines)) out back over) = next ≡ line
+
+-- a line came in
+abbrev pub let_in : Sight → DoorTold → DoorTold
+let_in line Untold = Untold
+let_in line (Told coming out back over) = Told (later coming) (Some line) back over
+
+-- the line that was out went back
+abbrev pub took_back : Sight → ℕ → Bool → DoorTold → DoorTold
+took_back now commands broke Untold = Untold
+took_back now commands broke (Told coming None back over) = Told coming None back over
+took_back now commands broke (Told coming (Some begin) back over) = Told coming None (back ++ record { begin = begin; now = now; commands = commands; broke = broke } ∷ []) over
+
+-- it said that no more come
+abbrev pub closed : DoorTold → DoorTold
+closed Untold = Untold
+closed (Told coming out back over) = Told coming out back true
+
+-- No line is out.
+abbrev pub IsFree : DoorTold → Type 0
+IsFree Untold = Unit {0}
+IsFree (Told coming out back over) = out ≡ None
+
+-- No further line comes, where that is known.
+abbrev pub IsDone : DoorTold → Type 0
+IsDone Untold = Unit {0}
+IsDone (Told None out back over) = Unit {0}
+IsDone (Told (Some lines) out back over) = lines ≡ []
+
+-- What accepting answers, and what is told of the door then.
+abbrev pub Arrives : {L : Type 0} → (L → Sight) → Arrival L → DoorTold → DoorTold → Type 0
+Arrives sight (arrival.Came line) old new = IsNext (sight line) old × (new ≡ let_in (sight line) old)
+Arrives sight arrival.NotYet old new = new ≡ old
+Arrives sight arrival.Over old new = (new ≡ closed old) × IsDone old
+
+-- These lines came, of those that were to come, where they are known.
+abbrev pub Comes : Option (List Sight) → List Sight → Option (List Sight) → Type 0
+Comes None lines after = after ≡ None
+Comes (Some before) lines after = (left : List Sight) × (before ≡ lines ++ left) × (after ≡ Some left)
+
+-- Just these lines came in and went back.
+abbrev pub Passes : DoorTold → List LineTold → DoorTold → Type 0
+Passes Untold lines after = after ≡ Untold
+Passes (Told coming out back over) lines after = (rest : Option (List Sight)) × Comes coming (map (λ line. line.begin) lines) rest × (after ≡ Told rest out (back ++ lines) over)

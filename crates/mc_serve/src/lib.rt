@@ -1,0 +1,29 @@
+//! The server: each seat serves the lines of a door of its own, one after another, over shards in threads of their own. Lines
+//! in memory and connections over TCP come in by doors alike.
+#![tactic(auto)]
+
+mod door;
+mod entrance;
+mod one_door;
+mod over;
+mod refusal;
+mod serving;
+mod settling;
+mod sitting;
+mod tcp;
+mod tcp_door;
+mod tcp_line;
+mod trail;
+
+pub use door::{Arrival, Door};
+pub use entrance::Entrance;
+pub use mc_server::Sizes;
+pub use one_door::{OneDoor, Returned, ServedLine};
+pub use over::{Report, serve_over};
+pub use refusal::ServeRefusal;
+pub use serving::serve;
+pub use sitting::{Sitting, serve_door};
+pub use tcp::serve_tcp;
+pub use tcp_door::{Gone, TcpDoor};
+pub use tcp_line::TcpLine;
+pub use trail::Trail;

@@ -1,0 +1,62 @@
+//! Lines that give nothing before the others, or pieces at the gate, have come.
+use crate::gates::{Come, LOOKS};
+use mc_seat::{Line, LineFault};
+use mc_wire::{OutFault, Outlet};
+use std::alloc::{AllocError, Global};
+use std::sync::Arc;
+use std::sync::atomic::{AtomicU64, Ordering};
+use std::thread;
+
+/// A line whose first read waits until so many have come, itself among them.
+#[derive(Drop)]
+pub struct Gathered<L> {
+    pub line: L,
+    come: Come,
+    all: u64,
+    has_waited: bool,
+    /// As many as it waited for have come.
+    pub saw_all: bool,
+}
+
+impl<L: Drop> Gathered<L> {
+    /// A line that waits for so many, itself among them.
+    pub fn new(line: L, come: &Come, all: u64) -> Result<Gathered<L>, AllocError> {
+        Ok(Gathered {
+            line,
+            come: Arc::try_clone(come)?,
+            all,
+            has_waited: false,
+            saw_all: false,
+        })
+    }
+}
+
+impl<L: Outlet> Outlet for Gathered<L> {
+    ghost sight = { λ gathered. L.sight gathered.line };
+
+    fn write(&mut self, bytes: &[u8]) -> Result<usize, OutFault> {
+        self.line.write(bytes)
+    }
+}
+
+impl<L: Line> Line for Gathered<L> {
+    fn read(&mut self, room: &mut [u8]) -> Result<usize, LineFault> {
+        if !self.has_waited {
+            self.has_waited = true;
+            self.come.fetch_add(1, Ordering::SeqCst);
+            self.saw_all = have_come(&self.come, self.all);
+        }
+        self.line.read(room)
+    }
+}
+
+/// Whether so many have come, after as many looks as are made.
+fn have_come(come: &AtomicU64, all: u64) -> bool {
+    for _ in 0..LOOKS {
+        if come.load(Ordering::SeqCst) >= all {
+            return true;
+        }
+        thread::yield_now();
+    }
+    false
+}

@@ -1,0 +1,118 @@
+"""What the system does to the server: files run out, the listener is lost, clients say nothing; and what the server takes of it."""
+import ctypes
+import os
+import resource
+import socket
+import time
+
+from served import Line, Server, equal
+
+# The number of pidfd_getfd on x86-64 (pidfd_getfd(2)).
+PIDFD_GETFD = 438
+
+ASKED, ANSWERED = b"mn\r\n", b"MN\r\n"
+
+
+def sockets_of(server):
+    """The sockets of a running server, as this process shares them."""
+    known = os.pidfd_open(server.process.pid)
+    try:
+        for name in os.listdir(f"/proc/{server.process.pid}/fd"):
+            if os.readlink(f"/proc/{server.process.pid}/fd/{name}").startswith("socket:"):
+                found = ctypes.CDLL(None, use_errno=True).syscall(PIDFD_GETFD, known, int(name), 0)
+                if found < 0:
+                    raise OSError(ctypes.get_errno(), "pidfd_getfd")
+                with socket.socket(fileno=found) as shared:
+                    yield shared
+    finally:
+        os.close(known)
+
+
+def is_listening(shared):
+    return shared.getsockopt(socket.SOL_SOCKET, socket.SO_ACCEPTCONN) == 1
+
+
+def idle_seconds(server, seconds=3):
+    """The processor time that the server takes in so many seconds."""
+    before = server.cpu_seconds()
+    time.sleep(seconds)
+    return server.cpu_seconds() - before
+
+
+def an_idle_server_takes_no_processor_time():
+    """Each thread sleeps: those of free seats, of connections that say nothing, and of shards that nobody asks."""
+    with Server("--seats", 16, "--shards", 4) as server:
+        lines = [Line(server.port) for _ in range(8)]
+        for line in lines:
+            line.ask(b"get a b c d\r\n", b"END\r\n")
+        time.sleep(0.5)
+        took = idle_seconds(server)
+        for line in lines:
+            line.ask(ASKED, ANSWERED)
+            line.close()
+    equal(took <= 0.05, True)
+    return f"{took:.2f} s of processor time in 3 s"
+
+
+def connections_wait_for_open_files():
+    """Where no more files may be open, connections wait until one is closed; the seats that could serve them look now and then."""
+    with Server("--seats", 16) as server:
+        used = len(os.listdir(f"/proc/{server.process.pid}/fd"))
+        resource.prlimit(server.process.pid, resource.RLIMIT_NOFILE, (used + 2, used + 2))
+        first, second = Line(server.port), Line(server.port)
+        for line in (first, second):
+            line.ask(ASKED, ANSWERED)
+        third = Line(server.port, timeout=0.5)
+        third.send(ASKED)
+        try:
+            raise AssertionError(f"a connection is served without a file: {third.read(4)!r}")
+        except TimeoutError:
+            pass
+        took = idle_seconds(server)
+        first.close()
+        third.socket.settimeout(30)
+        equal(third.read(len(ANSWERED)), ANSWERED)
+        second.ask(ASKED, ANSWERED)
+        second.close()
+        third.close()
+    equal(took <= 0.5, True)
+    return f"{took:.2f} s of processor time in 3 s"
+
+
+def a_lost_listener_ends_the_program():
+    """No more connections can come: those that are served are served to their end, and then the program says so."""
+    with Server("--seats", 4) as server:
+        line = Line(server.port)
+        line.ask(ASKED, ANSWERED)
+        for shared in sockets_of(server):
+            if is_listening(shared):
+                shared.shutdown(socket.SHUT_RDWR)
+        time.sleep(0.3)
+        equal(server.is_running(), True)
+        line.ask(ASKED, ANSWERED)
+        line.close()
+        equal((server.process.wait(timeout=30), server.process.stderr.read()), (1, b"mcd: cannot listen\n"))
+
+
+def replies_are_not_gathered_by_the_system():
+    """Each connection has TCP_NODELAY set."""
+    with Server() as server, Line(server.port) as first, Line(server.port) as second:
+        for line in (first, second):
+            line.ask(ASKED, ANSWERED)
+        told = [it.getsockopt(socket.IPPROTO_TCP, socket.TCP_NODELAY) != 0 for it in sockets_of(server) if not is_listening(it)]
+        equal(told, [True, True])
+
+
+def one_that_quits_and_stays_leaves_its_seat():
+    """Its replies are read to their end, but it doesn't close: the next client is served soon, and not only after it."""
+    with Server("--seats", 1) as server, Line(server.port) as first:
+        first.ask(ASKED + b"quit\r\n", ANSWERED)
+        equal(first.rest(), b"")
+        with Line(server.port, timeout=10) as second:
+            second.ask(ASKED, ANSWERED)
+
+
+CHECKS = [
+    an_idle_server_takes_no_processor_time, connections_wait_for_open_files, a_lost_listener_ends_the_program,
+    replies_are_not_gathered_by_the_system, one_that_quits_and_stays_leaves_its_seat,
+]
