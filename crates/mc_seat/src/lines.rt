@@ -1,6 +1,7 @@
 //! Where commands come from and replies go, and what tells the time.
-ghost use Rattle.std.specs.Prelude.{◌<◌, ◌≤◌, ℕ, IfOk, length};
+ghost use Rattle.std.specs.Prelude.{◌<◌, ◌≤◌, ℕ, IfOk, IfSome, length};
 ghost use Rattle.mc_wire.specs.Outlet.{Reads};
+ghost use Rattle.mc_seat.specs.Lines.{ReadsIfReady};
 
 use mc_wire::Outlet;
 
@@ -17,6 +18,17 @@ pub trait Line: Outlet {
         requires { 0 < length room.old }
         ensures within { IfOk result (λ count. count ≤ length room.old) }
         ensures read { Reads room.new result (Self.sight self.old) (Self.sight self.new) };
+
+    /// The same, of a line that may have nothing to give yet: then it gives `None`, and is as it was. Where it isn't told how else,
+    /// a line waits until there is something.
+    fn read_if_ready(&mut self, room: &mut [u8]) -> Result<Option<usize>, LineFault>
+        requires { 0 < length room.old }
+        ensures within { IfOk result (λ given. IfSome given (λ count. count ≤ length room.old)) }
+        ensures read { ReadsIfReady room.new result (Self.sight self.old) (Self.sight self.new) }
+    {
+        let count = self.read(room)?;
+        Ok(Some(count))
+    }
 }
 
 /// Tells the time in seconds since 1970.

@@ -20,6 +20,8 @@ pub struct Served {
 pub enum Turn {
     /// Another turn.
     Goes,
+    /// Another turn, once the line has more to give.
+    Waits,
     /// Nothing: the line has ended, or was closed.
     Ends,
     /// Nothing: the line has failed.
@@ -75,9 +77,13 @@ impl Seat {
             self.feed(conn);
             return Turn::Goes;
         }
-        if let Err(_fault) = self.unread.refill(line) {
-            conn.broken();
-            return Turn::Broke;
+        match self.unread.refill(line) {
+            Err(_fault) => {
+                conn.broken();
+                return Turn::Broke;
+            }
+            Ok(false) => return Turn::Waits,
+            Ok(true) => {}
         }
         if self.unread.is_empty() {
             conn.end();

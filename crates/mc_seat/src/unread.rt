@@ -1,5 +1,5 @@
 //! The bytes that were read of a line and not fed to its connection yet.
-ghost use Rattle.std.specs.Prelude.{◌≡◌, ◌==◌, ◌≤◌, [], OnOk, OnErr, IfOk, length, drop};
+ghost use Rattle.std.specs.Prelude.{◌≡◌, ◌==◌, ◌≤◌, [], OnErr, IfOk, IsTrue, false, length, drop};
 ghost use Rattle.mc_wire.specs.Outlet.{asked, broke, gave};
 
 use crate::lines::{Line, LineFault};
@@ -70,14 +70,20 @@ impl Unread {
         self.start = self.end;
     }
 
-    /// Reads more bytes in place of those that are there: none only at the end of the line.
-    pub(crate) fn refill<L: Line>(&mut self, line: &mut L) -> Result<(), LineFault>
-        ensures ok { OnOk result (L.sight line.new ≡ gave self.new (asked (L.sight line.old))) }
+    /// Reads more bytes in place of those that are there: none only at the end of the line. Tells whether the line had
+    /// something to give; else none are there.
+    pub(crate) fn refill<L: Line>(&mut self, line: &mut L) -> Result<bool, LineFault>
+        ensures ok { IfOk result (λ ready. IsTrue ready → L.sight line.new ≡ gave self.new (asked (L.sight line.old))) }
+        ensures waits { IfOk result (λ ready. ready ≡ false → L.sight line.new ≡ L.sight line.old) }
+        ensures none { IfOk result (λ ready. ready ≡ false → self.new ≡ []) }
         ensures err { OnErr result (L.sight line.new ≡ broke (asked (L.sight line.old))) }
     {
         self.start = 0;
         self.end = 0;
-        self.end = line.read(&mut self.room)?;
-        Ok(())
+        let Some(count) = line.read_if_ready(&mut self.room)? else {
+            return Ok(false);
+        };
+        self.end = count;
+        Ok(true)
     }
 }

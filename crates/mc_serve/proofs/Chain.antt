@@ -10,9 +10,16 @@ use Rattle.mc_conn.specs.declared.conn.Conn.{Conn}
 use Rattle.mc_conn.specs.Conn.{IsConn}
 use Rattle.mc_conn.specs.Told.{told_nothing}
 use Rattle.mc_server.specs.Explains.{LineTold}
+use Rattle.mc_threads.specs.declared.session.Session.{Session}
+use Rattle.mc_threads.specs.Session.{IsVacant, MayBegin}
 use Rattle.mc_threads.proofs.Orders.{map_one}
 use Rattle.mc_serve.specs.Told.{Comes, DoorTold, IsDone, IsFree, IsNext, Passes, Told, Untold, closed, later, let_in, took_back}
 use Rattle.mc_serve.specs.Seats.{AllFit, LineFits, SeatAt, ServesDoor, ServesLine, ServesLines, ServesNext, Sits, seat_at}
+
+-- A seat that may begin a line is vacant, for whatever limit and window its connection is new.
+pub serves_vacant : {X : ℕ → Type 0} (session : Session) → MayBegin session → ((limit window : ℕ) → IsVacant limit window session → X limit)
+    → (limit window : ℕ) → IsConn session.conn (told_nothing (length session.courier.ends.lanes) limit window) → X limit
+serves_vacant session may says limit window is = says limit window (record { conn_is = is; idle = may.2.idle; none_read = may.2.none_read })
 
 pub passes_none : (door : DoorTold) → Passes door [] door
 passes_none Untold = refl

@@ -9,16 +9,16 @@ use Rattle.mc_conn.specs.Fits.{KeysFit}
 use Rattle.mc_conn.specs.Told.{told_nothing}
 use Rattle.mc_seat.specs.LineServed.{LineServed}
 use Rattle.mc_server.specs.Explains.{LineTold}
-use Rattle.mc_threads.specs.Serving.{EndsAll, IsIdle}
+use Rattle.mc_threads.specs.Serving.{EndsAll}
+use Rattle.mc_threads.specs.Session.{IsVacant}
+use Rattle.mc_threads.specs.declared.session.Session.{Session}
 use Rattle.mc_server.specs.declared.serve as serve
 use Rattle.mc_serve.specs.Told.{DoorTold, IsDone, Passes, closed, took_back}
 
--- A line may be served over these ends, by this connection.
-pub record CanServe (sizes : serve.Sizes.Sizes) (conn : Conn) (unread : List ℕ) (ends : Ends Near) (under_way : List ℕ) : Type 0 where
-  pub conn_is : IsConn conn (told_nothing sizes.shards sizes.value sizes.window)
-  pub none_read : unread ≡ []
-  pub width : length ends.lanes ≡ sizes.shards
-  pub idle : IsIdle under_way
+-- The seat may serve a line, under these sizes.
+pub record CanServe (sizes : serve.Sizes.Sizes) (session : Session) : Type 0 where
+  pub vacant : IsVacant sizes.value sizes.window session
+  pub width : length session.courier.ends.lanes ≡ sizes.shards
 
 -- The line was served between these ends.
 pub record ServesLine (shards limit : ℕ) (may_answer : ℕ → Type 0) (line : LineTold) (before after : Ends Near) : Type 0 where

@@ -129,7 +129,7 @@ where
     requires working { working.old ≡ [] }
     requires sitting { sitting.old ≡ [] }
     ensures lanes { OnOk result (AreLanes (length doors.items) sizes.shards sizes.ring
-        (map (λ one. one.courier.ends) sitting.new) (map ends_of (map (λ one. one.worker) working.new))) }
+        (map (λ one. one.session.courier.ends) sitting.new) (map ends_of (map (λ one. one.worker) working.new))) }
     ensures fresh { OnOk result (AllByRecursion (IsFresh (sizes_of (length doors.items) sizes)) (map (λ one. one.worker) working.new)) }
     ensures doors { OnOk result (map (λ one. one.door) sitting.new ≡ doors.items) }
     ensures same { OnOk result (AllByRecursion (λ one. (one.clock ≡ clock) × (one.sizes ≡ sizes)) sitting.new) }
@@ -185,7 +185,7 @@ where
     requires as_many { length doors.items ≡ length ends.items }
     requires free { AllByRecursion (λ door. IsFree (D.told door)) doors.items }
     requires none { crew.old ≡ [] }
-    ensures ends { OnOk result (map (λ one. one.courier.ends) crew.new ≡ ends.items) }
+    ensures ends { OnOk result (map (λ one. one.session.courier.ends) crew.new ≡ ends.items) }
     ensures doors { OnOk result (map (λ one. one.door) crew.new ≡ doors.items) }
     ensures same { OnOk result (AllByRecursion (λ one. (one.clock ≡ clock) × (one.sizes ≡ sizes)) crew.new) }
 {

@@ -19,8 +19,8 @@ pub(crate) fn settle<D: Door + Drop, G: Gate + Drop, K: Clock + Drop>(
     room: Vec<D>,
 ) -> Result<Vec<D>, CrewRefusal>
     requires none { room.items ≡ [] }
-    requires lanes { AllByRecursion (λ sitting. HasLanes sitting.courier.ends (map (λ one. one.worker) workers.old.items)) seats.items }
-    ensures tied { IfOk result (λ _. AllByRecursion (λ sitting. AreTied sitting.courier.ends (map (λ one. one.worker) workers.old.items)) seats.items) }
+    requires lanes { AllByRecursion (λ sitting. HasLanes sitting.session.courier.ends (map (λ one. one.worker) workers.old.items)) seats.items }
+    ensures tied { IfOk result (λ _. AllByRecursion (λ sitting. AreTied sitting.session.courier.ends (map (λ one. one.worker) workers.old.items)) seats.items) }
     ensures doors { IfOk result (λ doors. doors.items ≡ map (λ sitting. sitting.door) seats.items) }
 {
     let mut doors = room;

@@ -13,6 +13,7 @@ use std::alloc::{AllocError, Global};
 use std::hash::RandomState;
 use std::random::RandomSource;
 use std::sync::Wait;
+use std::thread;
 
 /// So many pieces, or replies, a ring of the program holds.
 pub const DEFAULT_RING: usize = 64;
@@ -123,6 +124,7 @@ pub fn serve_one<R: Wait + RandomSource, L: Line, K: Clock>(
         answer(alloc, &mut conn, &mut shards);
         match seat.go_on(&mut conn, line, stop) {
             Turn::Goes => {}
+            Turn::Waits => thread::yield_now(),
             Turn::Ends => return Ok(Served {
                 commands,
                 broke: false,

@@ -26,13 +26,13 @@ use Rattle.mc_conn.proofs.Staying.{is_sound, keeps_take}
 use Rattle.mc_seat.specs.LineServed.{LineServed}
 use Rattle.mc_seat.specs.declared.seat.Turn.{Turn}
 use Rattle.mc_seat.specs.internal.Stands.{Serving, Stands, handed_texts}
-use Rattle.mc_seat.specs.internal.Steps.{GoOnSays, GoesOn, IsServed, StopsAt, TurnSays}
+use Rattle.mc_seat.specs.internal.Steps.{GoOnSays, GoesOn, IsServed, Rests, StopsAt, TurnSays}
 use Rattle.mc_seat.proofs.Along.{serving_along, stops_along}
 use Rattle.mc_seat.proofs.Fronts.{begins_length}
 use Rattle.mc_seat.proofs.Standing.{stands_first, stands_take}
 use Rattle.mc_threads.specs.Serving.{IsIdle}
-use Rattle.mc_threads.specs.internal.Carrying.{AllOut, Carries, IsKept, MayCarry, MovesOn, carried, sent_to}
-use Rattle.mc_threads.specs.internal.Turns.{Turns}
+use Rattle.mc_threads.specs.internal.Carrying.{AllOut, Carries, CarriesOn, IsKept, MayCarry, MovesOn, carried, sent_to}
+use Rattle.mc_threads.specs.internal.Turns.{Stops, Turns}
 use Rattle.mc_threads.proofs.Carrying.{some_shards}
 
 -- all counts are 0
@@ -134,11 +134,6 @@ turns_take shards limit may_answer begin now before ends ways unread conn new co
       counted = omega (arith, later_is, number, short, length-map taken (λ (x : Taken). x.entry), length-append told.taken (opens.one ∷ []));
     }
 
--- no further command was taken
-pub record Stops (shards limit : ℕ) (may_answer : ℕ → Type 0) (begin now : Sight) (before ends : Ends Near) (ways unread : List ℕ) (conn : Conn) (commands : ℕ) (stop : Took) : Type 0 where
-  pub turns : Turns shards limit may_answer begin now before ends ways unread conn commands
-  pub stops : StopsAt stop turns.told
-
 -- the same, of the connection as it is now
 turns_now : (shards limit : ℕ) (may_answer : ℕ → Type 0) (begin now : Sight) (before ends : Ends Near) (ways unread : List ℕ) (conn new : Conn) (commands : ℕ) → (turns : Turns shards limit may_answer begin now before ends ways unread conn commands) → IsConn new turns.told → Turns shards limit may_answer begin now before ends ways unread new commands
 turns_now shards limit may_answer begin now before ends ways unread conn new commands turns is = record {
@@ -179,33 +174,41 @@ pub record Settled (shards limit : ℕ) (may_answer : ℕ → Type 0) (begin now
   pub all : stopped.turns.told.out ≡ length (all_pieces stopped.turns.told)
   pub idle : IsIdle ways
 
-pub settles : (shards limit : ℕ) (may_answer : ℕ → Type 0) (begin now : Sight) (before ends ends' : Ends Near) (ways ways' unread : List ℕ) (conn new : Conn) (commands : ℕ) (stop : Took) → MovesOn AllOut ends ways conn ends' ways' new → IsIdle ways' → Stops shards limit may_answer begin now before ends ways unread conn commands stop → Settled shards limit may_answer begin now before ends' ways' unread new commands stop
-settles shards limit may_answer begin now before ends ends' ways ways' unread conn new commands stop moves idle stops =
+-- pieces and replies were carried
+stops_on : (shards limit : ℕ) (may_answer : ℕ → Type 0) (begin now : Sight) (before ends ends' : Ends Near) (ways ways' unread : List ℕ) (conn new : Conn) (commands : ℕ) (stop : Took) → (stops : Stops shards limit may_answer begin now before ends ways unread conn commands stop)
+    → CarriesOn before stops.turns.told stops.turns.received ends' ways' new → Stops shards limit may_answer begin now before ends' ways' unread new commands stop
+stops_on shards limit may_answer begin now before ends ends' ways ways' unread conn new commands stop stops on =
     let turns = stops.turns in
     let told = turns.told in
-    let said = moves.moves before told turns.received turns.conn_is turns.carries in
-    let on = said.0 in
     let later : Told = carried told on.out on.lent on.accepted in
     let stands = stands_where told.limit (KeysFit told.shards told.taken turns.received) (KeysFit told.shards told.taken on.later) begin now unread told.fed told.ended told.taken (handed_texts told) (keys_kept told.shards told.taken turns.received on.later on.kept) turns.serving in
     record {
-      stopped = record {
-        turns = record {
-          told = later;
-          received = on.later;
-          shards_is = turns.shards_is;
-          limit_is = turns.limit_is;
-          conn_is = on.conn_is;
-          carries = on.carries;
-          serving = serving_along told.limit on.later begin now unread told.fed told.ended told.shards told.taken (handed_texts told) (handed_texts later) (sym on.handed.same) stands;
-          moments = turns.moments;
-          unbroken = turns.unbroken;
-          counted = turns.counted;
-        };
-        stops = stops_along stop told on.out on.lent on.accepted stops.stops;
+      turns = record {
+        told = later;
+        received = on.later;
+        shards_is = turns.shards_is;
+        limit_is = turns.limit_is;
+        conn_is = on.conn_is;
+        carries = on.carries;
+        serving = serving_along told.limit on.later begin now unread told.fed told.ended told.shards told.taken (handed_texts told) (handed_texts later) (sym on.handed.same) stands;
+        moments = turns.moments;
+        unbroken = turns.unbroken;
+        counted = turns.counted;
       };
-      all = said.1;
-      idle = idle;
+      stops = stops_along stop told on.out on.lent on.accepted stops.stops;
     }
+
+-- the same, of whatever was carried
+pub stops_move : (says : Told → ℕ → Type 0) (shards limit : ℕ) (may_answer : ℕ → Type 0) (begin now : Sight) (before ends ends' : Ends Near) (ways ways' unread : List ℕ) (conn new : Conn) (commands : ℕ) (stop : Took) → MovesOn says ends ways conn ends' ways' new → Stops shards limit may_answer begin now before ends ways unread conn commands stop → Stops shards limit may_answer begin now before ends' ways' unread new commands stop
+stops_move says shards limit may_answer begin now before ends ends' ways ways' unread conn new commands stop moves stops =
+    let said = moves.moves before stops.turns.told stops.turns.received stops.turns.conn_is stops.turns.carries in
+    stops_on shards limit may_answer begin now before ends ends' ways ways' unread conn new commands stop stops said.0
+
+pub settles : (shards limit : ℕ) (may_answer : ℕ → Type 0) (begin now : Sight) (before ends ends' : Ends Near) (ways ways' unread : List ℕ) (conn new : Conn) (commands : ℕ) (stop : Took) → MovesOn AllOut ends ways conn ends' ways' new → IsIdle ways' → Stops shards limit may_answer begin now before ends ways unread conn commands stop → Settled shards limit may_answer begin now before ends' ways' unread new commands stop
+unfolding stops_on
+settles shards limit may_answer begin now before ends ends' ways ways' unread conn new commands stop moves idle stops =
+    let said = moves.moves before stops.turns.told stops.turns.received stops.turns.conn_is stops.turns.carries in
+    record { stopped = stops_on shards limit may_answer begin now before ends ends' ways ways' unread conn new commands stop stops said.0; all = said.1; idle = idle }
 
 -- where all pieces have left, those sent to a shard are all that is due there
 sent_all : (told : Told) (shard : ℕ) → told.out ≡ length (all_pieces told) → sent_to told shard ≡ due told.shards shard told.taken
@@ -267,6 +270,24 @@ turns_go shards limit may_answer begin now after before ends ways left unread co
   unbroken = turns.unbroken;
   counted = turns.counted;
 }
+
+-- the reason is the same where more replies were handed out
+stops_handed : (stop : Took) (told : Told) (handed : ℕ) → StopsAt stop told → StopsAt stop (record told { handed = handed })
+stops_handed (took.Opened ticket) told handed stops = stops
+stops_handed stop told handed stops = stops
+
+-- the replies were handed out, and the line had nothing to give yet
+pub stops_rest : (shards limit : ℕ) (may_answer : ℕ → Type 0) (begin now after : Sight) (before ends : Ends Near) (ways left unread : List ℕ) (conn new : Conn) (commands : ℕ) (stop : Took) → (settled : Settled shards limit may_answer begin now before ends ways left conn commands stop)
+    → Rests settled.stopped.turns.received begin after settled.stopped.turns.told new unread → Stops shards limit may_answer begin after before ends ways unread new commands stop
+unfolding turns_go
+stops_rest shards limit may_answer begin now after before ends ways left unread conn new commands stop settled rests =
+    let turns = settled.stopped.turns in
+    let told = turns.told in
+    let goes : GoesOn turns.received begin after told new unread = record { fed = told.fed; ended = told.ended; conn_is = rests.conn_is; serving = rests.serving } in
+    record {
+      turns = turns_go shards limit may_answer begin now after before ends ways left unread conn new commands turns goes;
+      stops = stops_handed stop told (length (all_texts told)) settled.stopped.stops;
+    }
 
 -- nothing is under way once all pieces have left, and every command has its reply
 at_rest : (told : Told) (broke : Bool) (handed : ℕ) → told.out ≡ length (all_pieces told) → (broke ≡ false → IsAllTaken told × (handed ≡ length (all_texts told))) → length (all_texts told) ≡ length told.taken → IsAtRest (record told { broken = broke; handed = handed })

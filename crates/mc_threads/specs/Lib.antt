@@ -1,4 +1,5 @@
 pub mod Workers
 pub mod Working
 pub mod Serving
+pub mod Session
 pub mod internal

@@ -10,18 +10,9 @@ use Rattle.mc_ring.specs.declared.parcel.Parcel.TheVariants as parcel
 use Rattle.mc_ring.specs.Lane.{Near}
 use Rattle.mc_ring.specs.Ends.{AreSameEnds, Ends, received_on, sent_on}
 
--- The connection is a new one over so many shards.
-abbrev pub IsNewConn : ℕ → Conn → Type 0
-IsNewConn shards conn = (limit window : ℕ) × IsConn conn (told_nothing shards limit window)
-
 -- Nothing is under way: of no shard are replies awaited.
 abbrev pub IsIdle : List ℕ → Type 0
 IsIdle under_way = AllByRecursion (λ count. count ≡ 0) under_way
-
--- The courier may serve a line by the connection.
-pub record IsReady (courier : Courier) (conn : Conn) : Type 0 where
-  pub fresh : IsNewConn (length courier.ends.lanes) conn
-  pub idle : IsIdle courier.under_way.items
 
 -- End was sent on each lane, and nothing else happened there.
 pub record EndsAll (before after : Ends Near) : Type 0 where

@@ -1,11 +1,10 @@
 //! Carries the pieces of a connection to the shards, and their replies back.
-ghost use Rattle.std.specs.Prelude.{◌≡◌, ◌<◌, ◌==◌, ℕ, [], false, true, IfOk, IsTrue, length};
+ghost use Rattle.std.specs.Prelude.{◌≡◌, ◌<◌, ◌==◌, false, true, IfOk, IsTrue, length};
 ghost use Rattle.std.specs.List.{list_all};
 
-use mc_conn::{Conn, Taken};
+use mc_conn::Conn;
 use mc_ring::{Parcel, SeatEnds};
-use mc_seat::{Clock, Line, Seat, Served, Turn};
-use mc_wake::{Sleeper, Wakers};
+use mc_wake::Wakers;
 use std::alloc::{AllocError, Global};
 use std::sync::Wait;
 use std::thread;
@@ -18,24 +17,19 @@ pub struct Courier {
     under_way: Vec<usize>,
     /// A piece could not be sent yet.
     blocked: bool,
-    sleeper: Sleeper,
     shards: Wakers,
     ghost each_shard: { length under_way.items ≡ length ends.lanes },
 }
 
 impl Courier {
-    ghost use Rattle.mc_conn.specs.Conn.{IsConn};
-    ghost use Rattle.mc_conn.specs.Told.{told_nothing};
-    ghost use Rattle.mc_seat.specs.LineServed.{LineServed};
-    ghost use Rattle.mc_threads.specs.Serving.{EndsAll, IsIdle, IsNewConn};
-    ghost use Rattle.mc_threads.specs.internal.Carrying.{AllOut, AllOutWhere, AnyOut, CanCarry, Goes, NoneOut};
+    ghost use Rattle.mc_threads.specs.Serving.{EndsAll, IsIdle};
+    ghost use Rattle.mc_threads.specs.internal.Carrying.{AllOutWhere, AnyOut, CanCarry, Goes, NoneOut};
     ghost use Rattle.mc_threads.specs.internal.Ending.{EndsOne};
 
-    /// The sleeper is that of the seat's own thread, the wakers are those of the shards.
-    pub fn new(
+    /// Nothing is under way on the ends. The wakers are those of the shards.
+    pub(crate) fn new(
         alloc: Global,
         ends: SeatEnds,
-        sleeper: Sleeper,
         shards: Wakers,
     ) -> Result<Courier, AllocError>
         ensures ends { IfOk result (λ courier. courier.ends ≡ ends) }
@@ -46,74 +40,12 @@ impl Courier {
             ends,
             under_way,
             blocked: false,
-            sleeper,
             shards,
         })
     }
 
-    /// Serves a line until its input ends, it quits or it fails. All pieces of the commands taken are sent and answered then,
-    /// of a line that failed too.
-    pub fn serve_line<R: Wait, L: Line, K: Clock>(
-        &mut self,
-        rt: &R,
-        alloc: Global,
-        conn: &mut Conn,
-        seat: &mut Seat,
-        line: &mut L,
-        clock: &K,
-    ) -> Served
-        requires fresh { IsNewConn (length self.old.ends.lanes) conn.old }
-        requires idle { IsIdle self.old.under_way.items }
-        requires unread { seat.old.unread ≡ [] }
-        ensures served { (limit window : ℕ) → IsConn conn.old (told_nothing (length self.old.ends.lanes) limit window) →
-            LineServed (length self.old.ends.lanes) limit (K.may_answer clock.now) (L.sight line.old) (L.sight line.new)
-            self.old.ends self.new.ends conn.new result.commands result.broke }
-        ensures idle { IsIdle self.new.under_way.items }
-    {
-        let mut commands = 0;
-        for _ in rt.forever() {
-            let stop = conn.take(alloc, clock.now());
-            if let Taken::Opened(ticket) = stop {
-                commands = ticket.0.saturating_add(1);
-                continue;
-            }
-            self.settle(rt, conn);
-            match seat.go_on(conn, line, stop) {
-                Turn::Goes => {}
-                Turn::Ends => return Served {
-                    commands,
-                    broke: false,
-                },
-                Turn::Broke => return Served {
-                    commands,
-                    broke: true,
-                },
-            }
-        }
-        unreachable!()
-    }
-
-    /// Sends all pieces that have not left, and takes in all replies. It receives while it sends, so that the rings never
-    /// stand still.
-    fn settle<R: Wait>(&mut self, rt: &R, conn: &mut Conn)
-        requires { CanCarry self.old conn.old }
-        ensures goes { Goes AllOut self.old conn.old self.new conn.new }
-        ensures idle { IsIdle self.new.under_way.items }
-    {
-        for _ in rt.forever() {
-            if self.carry(conn) {
-                self.sleeper.found();
-            } else if self.is_settled() {
-                return;
-            } else {
-                self.sleeper.wait(rt);
-            }
-        }
-        unreachable!()
-    }
-
     /// Whether every piece was sent, and its reply received.
-    fn is_settled(&self) -> bool
+    pub(crate) fn is_settled(&self) -> bool
         ensures sent { IsTrue result → self.now.blocked ≡ false }
         ensures idle { IsTrue result → IsIdle self.now.under_way.items }
     {
@@ -131,7 +63,7 @@ impl Courier {
     }
 
     /// Sends what there is room for and takes in what has come, and tells whether there was something.
-    fn carry(&mut self, conn: &mut Conn) -> bool
+    pub(crate) fn carry(&mut self, conn: &mut Conn) -> bool
         requires { CanCarry self.old conn.old }
         ensures { Goes (AllOutWhere ((result ≡ false) × (self.new.blocked ≡ false))) self.old conn.old self.new conn.new }
     {
@@ -260,7 +192,7 @@ impl Courier {
     }
 
     /// The seat's ends of its lanes, once it serves no more.
-    pub fn into_ends(self) -> SeatEnds
+    pub(crate) fn into_ends(self) -> SeatEnds
         ensures { result ≡ self.ends }
     {
         let Courier { ends, .. } = self;
@@ -268,7 +200,7 @@ impl Courier {
     }
 
     /// Tells the shards that nothing more comes.
-    pub fn close<R: Wait>(&mut self, rt: &R)
+    pub(crate) fn close<R: Wait>(&mut self, rt: &R)
         ensures { EndsAll self.old.ends self.new.ends }
     {
         for shard in 0..self.ends.shards() {

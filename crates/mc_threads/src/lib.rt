@@ -2,9 +2,11 @@
 #![tactic(auto)]
 
 mod courier;
+mod session;
 mod workers;
 mod working;
 
 pub use courier::Courier;
+pub use session::{Session, Stepped};
 pub use workers::{make_sleepers, make_workers, start_workers};
 pub use working::Working;

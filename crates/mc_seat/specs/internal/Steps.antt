@@ -8,7 +8,7 @@ use Rattle.mc_ring.specs.Reply.{Shown}
 use Rattle.mc_conn.specs.Fits.{KeysFit}
 use Rattle.mc_conn.specs.Told.{Told, IsAllTaken, IsOver, all_texts, commands_of}
 use Rattle.mc_seat.specs.declared.seat.Turn.{Turn}
-use Rattle.mc_seat.specs.declared.seat.Turn.TheVariants.{Goes, Ends, Broke}
+use Rattle.mc_seat.specs.declared.seat.Turn.TheVariants.{Goes, Waits, Ends, Broke}
 use Rattle.mc_wire.specs.Outlet.{Sight}
 use Rattle.mc_seat.specs.internal.Stands.{Serving}
 use Rattle.mc_seat.specs.Reads.{ReadsOwingNothing}
@@ -32,6 +32,11 @@ pub record GoesOn (received : ℕ → List Shown) (begin now : Sight) (told : To
   pub conn_is : IsConn conn (record (all_handed told) { fed = fed; ended = ended })
   pub serving : Serving received begin now unread (record (all_handed told) { fed = fed; ended = ended })
 
+-- The replies were handed out, and nothing was read: the connection was told nothing more.
+pub record Rests (received : ℕ → List Shown) (begin now : Sight) (told : Told) (conn : Conn) (unread : List ℕ) : Type 0 where
+  pub conn_is : IsConn conn (all_handed told)
+  pub serving : Serving received begin now unread (all_handed told)
+
 -- The line was served: what became of it, and what its connection was told.
 pub record IsServed (received : ℕ → List Shown) (begin now : Sight) (told : Told) (broke : Bool) (conn : Conn) : Type 0 where
   pub handed : ℕ
@@ -44,6 +49,7 @@ pub record IsServed (received : ℕ → List Shown) (begin now : Sight) (told : 
 
 abbrev pub TurnSays : Turn → (ℕ → List Shown) → Sight → Sight → Told → Conn → List ℕ → Type 0
 TurnSays Goes received begin now told conn unread = GoesOn received begin now told conn unread
+TurnSays Waits received begin now told conn unread = Rests received begin now told conn unread
 TurnSays Ends received begin now told conn unread = IsServed received begin now told false conn
 TurnSays Broke received begin now told conn unread = IsServed received begin now told true conn
 

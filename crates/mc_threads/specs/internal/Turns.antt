@@ -6,9 +6,11 @@ use Rattle.mc_ring.specs.Reply.{Shown}
 use Rattle.mc_ring.specs.Lane.{Near}
 use Rattle.mc_ring.specs.Ends.{Ends}
 use Rattle.mc_conn.specs.declared.conn.Conn.{Conn}
+use Rattle.mc_conn.specs.declared.conn.Taken.{Taken as Took}
 use Rattle.mc_conn.specs.Conn.{IsConn}
 use Rattle.mc_conn.specs.Told.{Told}
 use Rattle.mc_seat.specs.internal.Stands.{Serving}
+use Rattle.mc_seat.specs.internal.Steps.{StopsAt}
 use Rattle.mc_threads.specs.internal.Carrying.{Carries}
 
 pub record Turns (shards limit : ℕ) (may_answer : ℕ → Type 0) (begin now : Sight) (before ends : Ends Near) (under_way unread : List ℕ) (conn : Conn) (commands : ℕ) : Type 0 where
@@ -22,3 +24,8 @@ pub record Turns (shards limit : ℕ) (may_answer : ℕ → Type 0) (begin now :
   pub moments : AllByRecursion (λ one. may_answer one.moment) told.taken
   pub unbroken : told.broken ≡ false
   pub counted : commands ≡ length told.taken
+
+-- No further command was taken, for this reason.
+pub record Stops (shards limit : ℕ) (may_answer : ℕ → Type 0) (begin now : Sight) (before ends : Ends Near) (under_way unread : List ℕ) (conn : Conn) (commands : ℕ) (stop : Took) : Type 0 where
+  pub turns : Turns shards limit may_answer begin now before ends under_way unread conn commands
+  pub stops : StopsAt stop turns.told

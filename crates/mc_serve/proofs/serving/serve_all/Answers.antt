@@ -20,7 +20,7 @@ settle-requires g c =
     record {
       none = c.in_ok-room.ensures.items;
       lanes = lanes_are sizes may sitting seats working workers c.args.doors.items []
-          (λ one. seat_at (g.D.Door.told one.door) one.courier.ends)
+          (λ one. seat_at (g.D.Door.told one.door) one.session.courier.ends)
           (λ one. one.door) (λ one. one.worker) (λ door. g.D.Door.told door)
           (record {
             seen = λ seat. refl;
@@ -43,7 +43,7 @@ returns g c =
     let workers = c.in_ok-workers.workers.items in
     let some : 0 < c.args.sizes.shards = (let shard = c.requires.sizes.size.some_shard in omega (arith, shard)) in
     both c.settle.result _ _ _ (λ back tied doors. all_doors sizes may sitting seats working workers c.args.doors.items back.items
-    (λ one. seat_at (g.D.Door.told one.door) one.courier.ends)
+    (λ one. seat_at (g.D.Door.told one.door) one.session.courier.ends)
     (λ one. one.door) (λ one. one.worker) (λ door. g.D.Door.told door)
     some
     (record {

@@ -19,7 +19,7 @@ loop-ends-preserved g c =
       width = all_rest (λ seat. length seat.lanes ≡ c.args.sizes.shards) _ c.in-Some.ends _ step.0 was.width;
       as_many = omega (arith, fewer, fewer', many);
       free = all_rest (λ door. IsFree (g.D.Door.told door)) _ c.in-Some-next.door _ door.0 was.free;
-      ends = order_more (λ one. one.courier.ends) c.loop-ends.crew _ c.in_ok-sitting.sitting c.in-Some.ends _ _ grown made.ends (rw step.0 at was.ends);
+      ends = order_more (λ one. one.session.courier.ends) c.loop-ends.crew _ c.in_ok-sitting.sitting c.in-Some.ends _ _ grown made.ends (rw step.0 at was.ends);
       doors = order_more (λ one. one.door) c.loop-ends.crew _ c.in_ok-sitting.sitting c.in-Some-next.door _ _ grown made.door (rw door.0 at was.doors);
       same = all_more (λ one. (one.clock ≡ c.args.clock) × (one.sizes ≡ c.args.sizes)) c.loop-ends.crew _ c.in_ok-sitting.sitting grown was.same (made.clock, made.sizes);
     }

@@ -10,7 +10,7 @@ invariant-loop-ends g l = record {
   width : AllByRecursion (λ seat. length seat.lanes ≡ l.fn.sizes.shards) (into_iter_items l.ends-iterator);
   as_many : length (into_iter_items l.doors) ≡ length (into_iter_items l.ends-iterator);
   free : AllByRecursion (λ door. IsFree (g.D.Door.told door)) (into_iter_items l.doors);
-  ends : map (λ one. one.courier.ends) l.crew ++ into_iter_items l.ends-iterator ≡ l.fn.ends.items;
+  ends : map (λ one. one.session.courier.ends) l.crew ++ into_iter_items l.ends-iterator ≡ l.fn.ends.items;
   doors : map (λ one. one.door) l.crew ++ into_iter_items l.doors ≡ l.fn.doors.items;
   same : AllByRecursion (λ one. (one.clock ≡ l.fn.clock) × (one.sizes ≡ l.fn.sizes)) l.crew;
 }

@@ -1,7 +1,8 @@
 -- Each turn takes a command, or answers all that were taken and goes on.
 use Rattle.std.proofs.Common.{false, true}
 use Rattle.mc_server.specs.Sizes.{line_sizes}
-use Rattle.mc_seat.specs.declared.seat.Turn.TheVariants.{Goes, Ends, Broke}
+use Rattle.mc_seat.specs.declared.seat.Turn.TheVariants.{Goes, Waits, Ends, Broke}
+use Rattle.mc_seat.proofs.Turns.{rests_go}
 use Rattle.mc_server.proofs.Turning.{answers_stop, stops_take, turn_ends, turn_said, turns_first, turns_go, turns_take}
 use Rattle.mc_server.proofs.serve.serve_one.Goals as goal
 
@@ -25,13 +26,23 @@ answer-requires g c =
     let stops = stops_take _ _ _ _ _ _ _ _ _ c.now.result c.take-stop.result c.take-stop.ensures.says c.in_default-stop.not-Opened c.loop.invariant.2 in
     record { sizes = line_sizes c.args.sizes; told = stops.turns.told; log = stops.turns.log; conn_is = stops.turns.conn_is; answers = stops.turns.answers }
 
-pub loop-preserved : goal.loop-preserved
-loop-preserved g c =
+pub loop-preserved-in-Goes : goal.loop-preserved-in-Goes
+loop-preserved-in-Goes g c =
     let stops = stops_take _ _ _ _ _ _ _ _ _ c.now.result c.take-stop.result c.take-stop.ensures.says c.in_default-stop.not-Opened c.loop.invariant.2 in
     let answered = answers_stop _ _ _ _ _ _ _ _ _ _ _ c.answer.ensures stops in (
       tt,
       tt,
       turns_go _ _ _ _ _ _ _ _ _ answered.turns _ _ (turn_said _ _ _ _ _ _ c.go_on.new.self.unread _ _ _ _ _ Goes answered c.in-Goes.ensures),
+    )
+
+pub loop-preserved : goal.loop-preserved
+loop-preserved g c =
+    let stops = stops_take _ _ _ _ _ _ _ _ _ c.now.result c.take-stop.result c.take-stop.ensures.says c.in_default-stop.not-Opened c.loop.invariant.2 in
+    let answered = answers_stop _ _ _ _ _ _ _ _ _ _ _ c.answer.ensures stops in
+    let rests = turn_said _ _ _ _ _ _ c.go_on.new.self.unread _ _ _ _ _ Waits answered c.in-Waits.ensures in (
+      tt,
+      tt,
+      turns_go _ _ _ _ _ _ _ _ _ answered.turns _ _ (rests_go _ _ _ _ _ _ rests),
     )
 
 pub returns-in-Ends : goal.returns-in-Ends

@@ -1,0 +1,13 @@
+-- Commands of the line were taken.
+use Rattle.std.proofs.Common.{ℕ, ◌≡◌}
+use Rattle.mc_wire.specs.Outlet.{Sight}
+use Rattle.mc_ring.specs.Lane.{Near}
+use Rattle.mc_ring.specs.Ends.{Ends}
+use Rattle.mc_threads.specs.Session.{MayTake}
+use Rattle.mc_threads.proofs.session.Session.take_all.Given as goal
+
+abbrev pub invariant-loop : goal.invariant-loop
+invariant-loop g l = record {
+  takes : (shards limit : ℕ) (begin now : Sight) (before : Ends Near) → MayTake shards limit (g.K.Clock.may_answer l.fn.clock) begin now before l.fn.self → MayTake shards limit (g.K.Clock.may_answer l.fn.clock) begin now before l.self;
+  ends : l.self.courier.ends ≡ l.fn.self.courier.ends;
+}

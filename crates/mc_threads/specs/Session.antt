@@ -1,0 +1,53 @@
+-- A seat that serves lines step by step, one after another.
+use Rattle.std.specs.Prelude.{ℕ, ◌≡◌, Bool, List, [], length}
+use Rattle.mc_wire.specs.Outlet.{Sight}
+use Rattle.mc_ring.specs.Lane.{Near}
+use Rattle.mc_ring.specs.Ends.{Ends}
+use Rattle.mc_conn.specs.Conn.{IsConn}
+use Rattle.mc_conn.specs.Told.{told_nothing}
+use Rattle.mc_seat.specs.LineServed.{LineServed}
+use Rattle.mc_threads.specs.declared.session.Session.{Session}
+use Rattle.mc_threads.specs.declared.session.Stepped.{Stepped}
+use Rattle.mc_threads.specs.declared.session.Stepped.TheVariants as stepped
+use Rattle.mc_threads.specs.Serving.{IsIdle}
+use Rattle.mc_threads.specs.internal.Carrying.{MayCarry}
+use Rattle.mc_threads.specs.internal.Turns.{Stops, Turns}
+
+-- It serves no line, and may begin to serve one, for values up to the limit and with this window.
+pub record IsVacant (limit window : ℕ) (session : Session) : Type 0 where
+  pub conn_is : IsConn session.conn (told_nothing (length session.courier.ends.lanes) limit window)
+  pub idle : IsIdle session.courier.under_way.items
+  pub none_read : session.seat.unread ≡ []
+
+abbrev pub MayBegin : Session → Type 0
+MayBegin session = (limit window : ℕ) × IsVacant limit window session
+
+-- It serves a line, which began so and is so now, since its ends were as before.
+abbrev pub IsServing : ℕ → ℕ → (ℕ → Type 0) → Sight → Sight → Ends Near → Session → Type 0
+IsServing shards limit may_answer begin now before session =
+    Stops shards limit may_answer begin now before session.courier.ends session.courier.under_way.items session.seat.unread session.conn session.commands session.stop
+
+-- It has served the line, and nothing is under way.
+pub record HasServed (shards limit : ℕ) (may_answer : ℕ → Type 0) (begin now : Sight) (before : Ends Near) (session : Session) (commands : ℕ) (broke : Bool) : Type 0 where
+  pub served : LineServed shards limit may_answer begin now before session.courier.ends session.conn commands broke
+  pub idle : IsIdle session.courier.under_way.items
+
+-- What a step says of the line.
+abbrev pub StepSays : Stepped → ℕ → ℕ → (ℕ → Type 0) → Sight → Sight → Ends Near → Session → Type 0
+StepSays stepped.Did shards limit may_answer begin now before session = IsServing shards limit may_answer begin now before session
+StepSays stepped.Waits shards limit may_answer begin now before session = IsServing shards limit may_answer begin now before session
+StepSays (stepped.Ended served) shards limit may_answer begin now before session = HasServed shards limit may_answer begin now before session served.commands served.broke
+
+-- It serves some line.
+abbrev pub MayStep : Session → Type 0
+MayStep session = MayCarry session.courier.ends session.courier.under_way.items session.conn
+
+-- It serves a line of which commands may be taken.
+abbrev pub MayTake : ℕ → ℕ → (ℕ → Type 0) → Sight → Sight → Ends Near → Session → Type 0
+MayTake shards limit may_answer begin now before session =
+    Turns shards limit may_answer begin now before session.courier.ends session.courier.under_way.items session.seat.unread session.conn session.commands
+
+-- The commands of the line were taken, as far as there are any.
+abbrev pub TakesFor : (ℕ → Type 0) → Session → Session → Type 0
+TakesFor may_answer old new =
+    (shards limit : ℕ) (begin now : Sight) (before : Ends Near) → MayTake shards limit may_answer begin now before old → IsServing shards limit may_answer begin now before new

@@ -1,0 +1,188 @@
+//! A seat serves a line step by step. No step waits for a shard.
+ghost use Rattle.std.specs.Prelude.{◌≡◌, ◌<◌, ◌≤◌, ◌↔◌, ℕ, [], false, IfOk, IsTrue, length};
+
+use crate::courier::Courier;
+use mc_conn::{Conn, Taken};
+use mc_ring::SeatEnds;
+use mc_seat::{Clock, Line, Seat, Served, Turn};
+use mc_wake::{Sleeper, Wakers};
+use mc_wire::GREATEST_VALUE_LIMIT;
+use std::alloc::{AllocError, Global};
+use std::sync::Wait;
+
+/// What a step did.
+#[derive(Clone, Copy, Debug, PartialEq, Eq)]
+pub enum Stepped {
+    /// Something: the next step may follow at once.
+    Did,
+    /// Nothing: replies of a shard, or bytes of the line, have to come first.
+    Waits,
+    /// The line was served.
+    Ended(Served),
+}
+
+/// What a seat needs to serve lines, one after another, and how far it is with the one that it serves.
+#[derive(Drop)]
+pub struct Session {
+    alloc: Global,
+    pub(crate) courier: Courier,
+    conn: Conn,
+    seat: Seat,
+    /// How many commands of the line were taken.
+    commands: u64,
+    /// Why no further command was.
+    stop: Taken,
+}
+
+impl Session {
+    ghost use Rattle.mc_wire.specs.Outlet.{Sight};
+    ghost use Rattle.mc_ring.specs.Lane.{Near};
+    ghost use Rattle.mc_ring.specs.Ends.{Ends};
+    ghost use Rattle.mc_conn.specs.Conn.{IsConn};
+    ghost use Rattle.mc_conn.specs.Told.{Told, IsAtRest, IsOver, told_nothing};
+    ghost use Rattle.mc_threads.specs.Serving.{EndsAll, IsIdle};
+    ghost use Rattle.mc_threads.specs.Session.{HasServed, IsVacant, IsServing, MayBegin, MayStep, StepSays, TakesFor};
+
+    /// A seat that serves no line yet, over new ends of its lanes. The wakers are those of the shards.
+    pub fn new(
+        alloc: Global,
+        ends: SeatEnds,
+        shards: Wakers,
+        limit: usize,
+        window: usize,
+    ) -> Result<Session, AllocError>
+        requires some { 0 < length ends.lanes }
+        requires value { limit ≤ GREATEST_VALUE_LIMIT }
+        requires window { 0 < window }
+        ensures vacant { IfOk result (λ session. IsVacant limit window session) }
+        ensures ends { IfOk result (λ session. session.courier.ends ≡ ends) }
+    {
+        let Ok(conn) = Conn::new(alloc, ends.shards(), limit, window) else {
+            return Err(AllocError);
+        };
+        let seat = Seat::new(alloc)?;
+        let courier = Courier::new(alloc, ends, shards)?;
+        Ok(Session {
+            alloc,
+            courier,
+            conn,
+            seat,
+            commands: 0,
+            stop: Taken::NeedMore,
+        })
+    }
+
+    /// Begins to serve a line.
+    pub fn begin<K: Clock>(&mut self, clock: &K)
+        ensures serving { (limit window : ℕ) (line : Sight) → IsVacant limit window self.old →
+            IsServing (length self.old.courier.ends.lanes) limit (K.may_answer clock.now) line line self.old.courier.ends self.new }
+        ensures ends { self.new.courier.ends ≡ self.old.courier.ends }
+    {
+        self.commands = 0;
+        self.take_all(clock);
+    }
+
+    /// Takes commands of the line as long as there are any, and the window has room for them.
+    fn take_all<K: Clock>(&mut self, clock: &K)
+        ensures takes { TakesFor (K.may_answer clock.now) self.old self.new }
+        ensures ends { self.new.courier.ends ≡ self.old.courier.ends }
+    {
+        for _ in 0..u64::MAX {
+            match self.conn.take(self.alloc, clock.now()) {
+                Taken::Opened(ticket) => self.commands = ticket.0.saturating_add(1),
+                stop => {
+                    self.stop = stop;
+                    return;
+                }
+            }
+        }
+        self.stop = Taken::Full;
+    }
+
+    /// Serves a line until its input ends, it quits or it fails. All pieces of the commands taken are sent and answered then,
+    /// of a line that failed too. The sleeper is that of the seat's own thread, which sleeps while it waits.
+    pub fn serve_line<R: Wait, L: Line, K: Clock>(
+        &mut self,
+        rt: &R,
+        sleeper: &Sleeper,
+        line: &mut L,
+        clock: &K,
+    ) -> Served
+        requires { MayBegin self.old }
+        ensures { (limit window : ℕ) → IsVacant limit window self.old →
+            HasServed (length self.old.courier.ends.lanes) limit (K.may_answer clock.now) (L.sight line.old) (L.sight line.new) self.old.courier.ends self.new result.commands result.broke }
+    {
+        self.begin(clock);
+        for _ in rt.forever() {
+            match self.step(line, clock) {
+                Stepped::Did => sleeper.found(),
+                Stepped::Waits => sleeper.wait(rt),
+                Stepped::Ended(served) => return served,
+            }
+        }
+        unreachable!()
+    }
+
+    /// Serves the line a step further: sends what there is room for and takes in what has come; and where every reply has come,
+    /// hands them out and reads on.
+    pub fn step<L: Line, K: Clock>(&mut self, line: &mut L, clock: &K) -> Stepped
+        requires { MayStep self.old }
+        ensures { (shards limit : ℕ) (begin : Sight) (before : Ends Near) →
+            IsServing shards limit (K.may_answer clock.now) begin (L.sight line.old) before self.old →
+            StepSays result shards limit (K.may_answer clock.now) begin (L.sight line.new) before self.new }
+    {
+        if self.courier.carry(&mut self.conn) {
+            return Stepped::Did;
+        }
+        if !self.courier.is_settled() {
+            return Stepped::Waits;
+        }
+        match self.seat.go_on(&mut self.conn, line, self.stop) {
+            Turn::Goes => {
+                self.take_all(clock);
+                Stepped::Did
+            }
+            Turn::Waits => Stepped::Waits,
+            Turn::Ends => self.ended(false),
+            Turn::Broke => self.ended(true),
+        }
+    }
+
+    /// What became of the line.
+    fn ended(&self, broke: bool) -> Stepped
+        ensures { result ≡ Stepped.Ended (record { commands = self.now.commands; broke = broke }) }
+    {
+        Stepped::Ended(Served {
+            commands: self.commands,
+            broke,
+        })
+    }
+
+    /// Makes it ready for the next line, in the same room, where the last one has ended and nothing is under way; tells whether
+    /// it did.
+    pub fn renew(&mut self) -> bool
+        ensures when { (told : Told) → IsConn self.old.conn told → IsTrue result ↔ (IsAtRest told × IsOver told) }
+        ensures new { IsTrue result → (told : Told) → IsConn self.old.conn told → IsConn self.new.conn (told_nothing told.shards told.limit told.window) }
+        ensures vacant { IsTrue result → (told : Told) → IsConn self.old.conn told → told.shards ≡ length self.old.courier.ends.lanes →
+            IsIdle self.old.courier.under_way.items → IsVacant told.limit told.window self.new }
+        ensures ends { self.new.courier.ends ≡ self.old.courier.ends }
+    {
+        self.seat.renew();
+        self.conn.renew()
+    }
+
+    /// Tells the shards that nothing more comes.
+    pub fn close<R: Wait>(&mut self, rt: &R)
+        ensures { EndsAll self.old.courier.ends self.new.courier.ends }
+    {
+        self.courier.close(rt);
+    }
+
+    /// The seat's ends of its lanes, once it serves no more.
+    pub fn into_ends(self) -> SeatEnds
+        ensures { result ≡ self.courier.ends }
+    {
+        let Session { courier, .. } = self;
+        courier.into_ends()
+    }
+}
