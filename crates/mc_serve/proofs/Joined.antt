@@ -1,10 +1,9 @@
 -- All logs as one.
-use Rattle.std.proofs.Common.{◌≡◌, ◌≢◌, ℕ, zero, suc, ◌<◌, ◌≤◌, ◌+◌, ◌==◌, Bool, true, false, cond, List, [], ◌∷◌, ◌++◌, length, map, refl, sym, ap, ◌∙◌, arith, append-nil, Some, None, eq-eqb, ne_eqb}
+use Rattle.std.proofs.Common.{◌≡◌, ◌≢◌, ℕ, zero, suc, ◌<◌, ◌≤◌, ◌+◌, ◌==◌, cond, List, [], ◌∷◌, ◌++◌, length, refl, ap, ◌∙◌, arith, append-nil, Some, eq-eqb, ne_eqb}
 use Rattle.std.specs.List.{AllByRecursion, slice_get}
-use Rattle.std.specs.Prelude.{filter}
 use Rattle.std.proofs.lemmas.List.Elements.{filter-append}
 use Rattle.mc_core.specs.Sizes.{Sizes}
-use Rattle.mc_core.specs.Log.{Entry, IsLawful, on_shard, of_asker}
+use Rattle.mc_core.specs.Log.{Entry, IsLawful, on_shard}
 use Rattle.mc_core.specs.Desk.{Desk}
 use Rattle.mc_threads.proofs.Orders.{all_append}
 use Rattle.mc_serve.specs.Logs.{AreLogsFrom, IsLogOf, together}

@@ -1,22 +1,22 @@
 -- One line, once all workers are joined and its seat is tied to each of them.
-use Rattle.std.proofs.Common.{◌≡◌, ℕ, ◌<◌, ◌≤◌, ◌+◌, ◌==◌, ◌⊎◌, inl, inr, Bool, true, false, cond, List, [], ◌∷◌, ◌++◌, length, map, refl, sym, ap, ◌∙◌, arith, append-nil, Some, None}
-use Rattle.std.specs.List.{AllByRecursion, slice_get}
-use Rattle.std.specs.Prelude.{filter, take}
+use Rattle.std.proofs.Common.{◌≡◌, ℕ, ◌<◌, ◌+◌, ◌==◌, inl, inr, Bool, true, false, cond, List, [], ◌∷◌, length, map, refl, sym, ap, ◌∙◌, arith}
+use Rattle.std.specs.List.{AllByRecursion}
+use Rattle.std.specs.Prelude.{filter}
 use Rattle.std.proofs.lemmas.Bool.{cases_lt}
 use Rattle.std.proofs.lemmas.Bool.Decides.{eqb_tells}
 use Rattle.mc_conn.specs.History.{Taken, Done}
 use Rattle.mc_conn.specs.Due as due
 use Rattle.mc_conn.specs.Due.{Ran}
-use Rattle.mc_conn.specs.Fits.{CameFrom, KeysFit, reply_of}
+use Rattle.mc_conn.specs.Fits.{KeysFit}
 use Rattle.mc_conn.proofs.Serving.{keys_came}
 use Rattle.mc_conn.proofs.Telling.{ran_on-same}
 use Rattle.mc_core.specs.Sizes.{Sizes}
-use Rattle.mc_core.specs.Log.{Entry, of_asker, on_shard, pieces_in, replies_in}
+use Rattle.mc_core.specs.Log.{Entry, of_asker, on_shard}
 use Rattle.mc_core.specs.Desk.{Desk}
 use Rattle.mc_ring.specs.Lane.{Near}
 use Rattle.mc_ring.specs.Ends.{Ends}
 use Rattle.mc_ring.specs.Reply.{Shown}
-use Rattle.mc_serve.specs.Asking.{AreTied, HasAsked, IsTied}
+use Rattle.mc_serve.specs.Asking.{AreTied, HasAsked}
 use Rattle.mc_serve.specs.Logs.{AreLogsFrom, IsLogOf, together}
 use Rattle.mc_serve.proofs.Tying.{Agrees, lane_agrees, lane_came, none_came, pieces_ran, ran_of, replies_ran}
 use Rattle.mc_serve.proofs.Joined.{worker_at}

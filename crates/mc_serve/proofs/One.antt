@@ -1,5 +1,5 @@
 -- Lines that came in by a door each.
-use Rattle.std.proofs.Common.{◌≡◌, ℕ, suc, ◌<◌, Bool, true, List, [], ◌∷◌, ◌++◌, length, map, Option, Some, None, refl, sym, ap, subst, ◌∙◌, append-nil, arith}
+use Rattle.std.proofs.Common.{◌≡◌, ℕ, suc, ◌<◌, true, List, [], ◌∷◌, ◌++◌, length, map, Some, None, refl, sym, ap, subst, ◌∙◌, append-nil, arith}
 use Rattle.std.specs.List.{AllByRecursion, flat_map, slice_get}
 use Rattle.std.specs.Prelude.{IfOk, Result, Ok, Err}
 use Rattle.std.proofs.lemmas.List.{length-map}
@@ -8,13 +8,13 @@ use Rattle.mc_conn.specs.History.{Done}
 use Rattle.mc_core.specs.Sizes.{Sizes}
 use Rattle.mc_core.specs.Log.{Entry, of_asker, on_shard}
 use Rattle.mc_crew.specs.Zips.{Zips}
-use Rattle.mc_server.specs.Explains.{Explains, ExplainsLine, IsLogOf, LineTold, log_of}
+use Rattle.mc_server.specs.Explains.{ExplainsLine, IsLogOf, LineTold, log_of}
 use Rattle.mc_serve.specs.Over.{CameBack, ServesAll, lines_told}
 use Rattle.mc_serve.proofs.Lanes.{map_map}
 use Rattle.mc_serve.proofs.Zipped.{get_map, zips_seen}
-use Rattle.mc_serve.specs.Told.{DoorTold, IsFree, Passes, Told, closed}
-use Rattle.mc_serve.specs.Served.{ExplainsHistory, ExplainsSeat, PassEach, PassesAll, ServesDoors}
-use Rattle.mc_serve.specs.One.{IsBack, served, waits}
+use Rattle.mc_serve.specs.Told.{DoorTold, IsFree, Told, closed}
+use Rattle.mc_serve.specs.Served.{ExplainsHistory, PassEach, PassesAll, ServesDoors}
+use Rattle.mc_serve.specs.One.{IsBack, waits}
 
 -- the one line of a door that waited and was served
 one_line : (line : Sight) (lines : List LineTold) (door : DoorTold) (back : CameBack) → PassesAll (waits line) lines door → IsBack door back.line back.commands back.broke → lines ≡ record { begin = line; now = back.line; commands = back.commands; broke = back.broke } ∷ []

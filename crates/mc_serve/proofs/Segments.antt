@@ -1,9 +1,8 @@
 -- What a worker ran for a seat is cut into the lines of the seat, one after another.
-use Rattle.std.proofs.Common.{◌≡◌, ℕ, zero, suc, ◌<◌, ◌≤◌, ◌+◌, ◌==◌, inl, inr, Bool, List, [], ◌∷◌, ◌++◌, length, map, take, drop, refl, sym, ap, subst, ◌∙◌, arith, append_assoc, append-nil, length-append}
-use Rattle.std.specs.List.{AllByRecursion, flat_map, slice_get}
+use Rattle.std.proofs.Common.{◌≡◌, ℕ, zero, suc, ◌<◌, ◌+◌, ◌==◌, inl, inr, List, [], ◌∷◌, ◌++◌, length, map, take, drop, refl, sym, ap, subst, ◌∙◌, arith, append_assoc, append-nil, length-append}
+use Rattle.std.specs.List.{AllByRecursion, flat_map}
 use Rattle.std.proofs.lemmas.Bool.{cases_lt}
 use Rattle.std.proofs.lemmas.List.{length-map, map-append, take_all, take-append-drop}
-use Rattle.mc_ring.specs.declared.parcel.Parcel.{Parcel}
 use Rattle.mc_ring.specs.declared.parcel.Parcel.TheVariants as parcel
 use Rattle.mc_ring.specs.Lane.{Near}
 use Rattle.mc_ring.specs.Ends.{AreSameEnds, Ends, received_on, sent_on}
@@ -29,7 +28,6 @@ use Rattle.mc_seat.specs.Story.{Story}
 use Rattle.mc_server.specs.Explains.{LineTold, log_of}
 use Rattle.mc_serve.specs.Asking.{IsTied}
 use Rattle.mc_serve.specs.Logs.{IsLogOf, together}
-use Rattle.mc_threads.specs.Serving.{EndsAll}
 use Rattle.mc_serve.proofs.Joined.{worker_at}
 use Rattle.mc_serve.proofs.Line.{asked_by, entry_for, filter_keeps, map_on_shard, ran_shards, same_asker, shard_of}
 use Rattle.mc_serve.proofs.Served.{IsJoined, all_come, entries_same, moments_of, none_read}

@@ -1,8 +1,7 @@
 -- One lane, once both its ends are joined.
-use Rattle.std.proofs.Common.{◌≡◌, ℕ, suc, ◌<◌, ◌≤◌, ◌+◌, ◌⊎◌, inl, inr, Bool, true, false, List, [], ◌∷◌, ◌++◌, length, map, refl, sym, ap, ◌∙◌, arith, append-nil, Some, None}
-use Rattle.std.specs.List.{AllByRecursion, slice_get}
+use Rattle.std.proofs.Common.{◌≡◌, ℕ, suc, ◌<◌, ◌≤◌, List, [], ◌∷◌, ◌++◌, length, map, refl, sym, ap, ◌∙◌, arith, append-nil}
 use Rattle.mc_conn.specs.History.{Taken}
-use Rattle.mc_conn.specs.Due.{Ran, due, ran_on}
+use Rattle.mc_conn.specs.Due.{Ran, due}
 use Rattle.mc_conn.specs.Fits.{CameFrom, reply_of}
 use Rattle.mc_conn.proofs.Counting.{due_beyond}
 use Rattle.mc_core.specs.Sizes.{Sizes}
@@ -10,7 +9,7 @@ use Rattle.mc_core.specs.Log.{Entry, of_asker, pieces_in, replies_in}
 use Rattle.mc_core.specs.Desk.{Desk, end_come}
 use Rattle.mc_ring.specs.declared.parcel.Parcel.{Parcel}
 use Rattle.mc_ring.specs.declared.parcel.Parcel.TheVariants as parcel
-use Rattle.mc_ring.specs.Lane.{Far, Near}
+use Rattle.mc_ring.specs.Lane.{Near}
 use Rattle.mc_ring.specs.Ends.{Ends, received_on, sent_on}
 use Rattle.mc_ring.specs.Reply.{Shown}
 use Rattle.mc_split.specs.declared.plan.Piece.{Piece}

@@ -1,5 +1,5 @@
 -- What is told of a door for one line.
-use Rattle.std.specs.Prelude.{ℕ, ◌≡◌, Bool, false, List, [], ◌∷◌, Option, Some, None}
+use Rattle.std.specs.Prelude.{ℕ, ◌≡◌, Bool, false, [], ◌∷◌, Option, Some, None}
 use Rattle.mc_wire.specs.Outlet.{Sight}
 use Rattle.mc_server.specs.Explains.{LineTold}
 use Rattle.mc_serve.specs.declared.one_door.Returned.{Returned}

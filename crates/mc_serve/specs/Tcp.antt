@@ -1,5 +1,5 @@
 -- What is told of connections over TCP.
-use Rattle.std.specs.Prelude.{ℕ, ◌≡◌, ◌+◌, ◌-◌, ◌^◌, min, Bool, true, false, List, [], ◌∷◌, Option, Some, None, length, map}
+use Rattle.std.specs.Prelude.{ℕ, ◌≡◌, ◌+◌, ◌-◌, ◌^◌, min, Bool, true, false, List, [], ◌∷◌, Some, None, length, map}
 use Rattle.std.specs.List.{AllByRecursion, slice_get}
 use Rattle.mc_wire.specs.Outlet.{Listed, Read, Sight}
 use Rattle.mc_core.specs.Sizes.{Sizes}

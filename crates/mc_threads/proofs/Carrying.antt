@@ -19,7 +19,7 @@ use Rattle.mc_conn.specs.declared.conn.Conn.{Conn}
 use Rattle.mc_conn.specs.Conn.{IsConn}
 use Rattle.mc_conn.specs.Due.{due, lane}
 use Rattle.mc_conn.specs.Fits.{Receives, Serves}
-use Rattle.mc_conn.specs.Told.{KeepsHanded, Told, all_forms, all_pieces, all_texts}
+use Rattle.mc_conn.specs.Told.{KeepsHanded, Told, all_forms, all_pieces}
 use Rattle.mc_conn.proofs.Counting.{due_beyond}
 use Rattle.mc_conn.proofs.Gets.{get_front}
 use Rattle.mc_conn.proofs.Places.{lane-append, lane-no, lane-yes, lane_there}

@@ -1,16 +1,12 @@
 -- End is sent on one lane after another.
-use Rattle.std.proofs.Common.{◌≡◌, ℕ, ◌+◌, ◌<◌, ◌≤◌, inl, inr, List, [], ◌∷◌, ◌++◌, length, map, Ok, refl, sym, ap, ◌∙◌, arith, append-nil}
+use Rattle.std.proofs.Common.{ℕ, ◌+◌, ◌≤◌, inl, inr, [], ◌∷◌, ◌++◌, length, Ok, refl, ap, ◌∙◌, arith}
 use Rattle.std.proofs.lemmas.Bool.{cases_eq}
-use Rattle.std.proofs.lemmas.List.{append_assoc, map-append}
 use Rattle.mc_ring.specs.declared.parcel.Parcel.{Parcel}
 use Rattle.mc_ring.specs.declared.parcel.Parcel.TheVariants as parcel
 use Rattle.mc_ring.specs.Reply.{Shown}
 use Rattle.mc_ring.specs.Lane.{Near}
-use Rattle.mc_ring.specs.Ends.{AreSameEnds, AtLane, Ends, Sends, sent_on}
+use Rattle.mc_ring.specs.Ends.{AreSameEnds, AtLane, Ends, Sends}
 use Rattle.mc_ring.specs.EndsLaws.{at_lane-kept, at_lane-longer, at_lane-other, same_ends-refl, same_ends-trans}
-use Rattle.mc_conn.specs.Due.{due}
-use Rattle.mc_conn.specs.Told.{Told}
-use Rattle.mc_seat.specs.LineServed.{Exchanges}
 use Rattle.mc_threads.specs.Serving.{EndsAll}
 use Rattle.mc_threads.specs.internal.Ending.{EndsFirst, EndsOne, StandsStill}
 

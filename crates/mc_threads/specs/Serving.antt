@@ -1,11 +1,6 @@
 -- When a courier may serve a line, and what it does once it serves no more.
-use Rattle.std.specs.Prelude.{ℕ, ◌≡◌, ◌<◌, List, [], ◌∷◌, ◌++◌, length, map}
+use Rattle.std.specs.Prelude.{ℕ, ◌≡◌, ◌<◌, List, [], ◌∷◌, ◌++◌, length}
 use Rattle.std.specs.List.{AllByRecursion}
-use Rattle.mc_conn.specs.declared.conn.Conn.{Conn}
-use Rattle.mc_conn.specs.Conn.{IsConn}
-use Rattle.mc_conn.specs.Told.{told_nothing}
-use Rattle.mc_threads.specs.declared.courier.Courier.{Courier}
-use Rattle.mc_split.specs.declared.plan.Piece.{Piece}
 use Rattle.mc_ring.specs.declared.parcel.Parcel.TheVariants as parcel
 use Rattle.mc_ring.specs.Lane.{Near}
 use Rattle.mc_ring.specs.Ends.{AreSameEnds, Ends, received_on, sent_on}

@@ -1,5 +1,5 @@
 -- A seat that serves lines step by step, one after another.
-use Rattle.std.specs.Prelude.{ℕ, ◌≡◌, Bool, List, [], length}
+use Rattle.std.specs.Prelude.{ℕ, ◌≡◌, Bool, [], length}
 use Rattle.mc_wire.specs.Outlet.{Sight}
 use Rattle.mc_ring.specs.Lane.{Near}
 use Rattle.mc_ring.specs.Ends.{Ends}

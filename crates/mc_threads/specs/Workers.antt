@@ -1,5 +1,5 @@
 -- Workers before their threads start.
-use Rattle.std.specs.Prelude.{ℕ, ◌≡◌, ◌<◌, []}
+use Rattle.std.specs.Prelude.{ℕ, ◌<◌, []}
 use Rattle.std.specs.List.{AllByRecursion}
 use Rattle.mc_core.specs.Sizes.{Sizes}
 use Rattle.mc_core.specs.Sized.{empty_shard}

@@ -1,5 +1,5 @@
 -- What is told of the doors is what is told of the lines.
-use Rattle.std.proofs.Common.{◌≡◌, ◌∙◌, ℕ, ap, length, map, subst, sym}
+use Rattle.std.proofs.Common.{◌≡◌, ◌∙◌, ℕ, ap, length, subst, sym}
 use Rattle.std.proofs.lemmas.List.{length-map}
 use Rattle.mc_server.specs.Sizes.{sizes_of}
 use Rattle.mc_serve.specs.Over.{came_back}

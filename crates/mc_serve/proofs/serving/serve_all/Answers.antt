@@ -1,5 +1,5 @@
 -- All doors, once all threads are joined.
-use Rattle.std.proofs.Common.{◌≡◌, ◌<◌, [], length, map, refl, arith}
+use Rattle.std.proofs.Common.{◌≡◌, ◌<◌, [], length, refl, arith}
 use Rattle.mc_server.specs.Sizes.{sizes_of}
 use Rattle.mc_threads.specs.Working.{Finishes}
 use Rattle.mc_threads.proofs.Orders.{both}

@@ -1,13 +1,11 @@
 -- The threads start over new lanes.
-use Rattle.std.proofs.Common.{◌≡◌, ℕ, List, ◌++◌, length, map, ap, sym, subst, ◌∙◌, refl, rules}
-use Rattle.std.specs.List.{AllByRecursion}
+use Rattle.std.proofs.Common.{◌≡◌, ℕ, List, ◌++◌, length, map, ap, sym, subst, ◌∙◌, rules}
 use Rattle.std.proofs.lemmas.Result.{on_ok_weaker}
 use Rattle.mc_core.proofs.Lists.{all_from}
 use Rattle.mc_ring.specs.Ends.{Ends}
 use Rattle.mc_ring.specs.Lane.{Far, Near}
 use Rattle.mc_ring.specs.Made.{AreLanes}
-use Rattle.mc_server.specs.Sizes.{sizes_of}
-use Rattle.mc_threads.specs.Workers.{IsFresh, ends_of}
+use Rattle.mc_threads.specs.Workers.{ends_of}
 use Rattle.mc_threads.proofs.Fresh.{all_fresh}
 use Rattle.mc_serve.proofs.serving.start.Goals as goal
 

@@ -1,7 +1,7 @@
 -- The thread of one seat more.
 use Rattle.std.proofs.Common.{◌≡◌, length, arith, ap, rules}
 use Rattle.std.specs.Vec.Iter.{into_iter_items}
-use Rattle.mc_threads.proofs.Orders.{all_first, all_more, all_rest, order_all, order_more}
+use Rattle.mc_threads.proofs.Orders.{all_more, all_rest, order_all, order_more}
 use Rattle.mc_serve.specs.Told.{IsFree}
 use Rattle.mc_serve.proofs.serving.start_seats.Goals as goal
 

@@ -1,5 +1,5 @@
 -- The lane to one worker more is looked at.
-use Rattle.std.proofs.Common.{◌≡◌, ◌<◌, ◌+◌, ℕ, suc, List, length, map, refl, ap, subst, ◌∙◌, sym, arith, Some, slice_set}
+use Rattle.std.proofs.Common.{◌≡◌, ◌<◌, ◌+◌, ℕ, suc, List, length, map, refl, subst, ◌∙◌, sym, arith, slice_set}
 use Rattle.std.proofs.lemmas.Option.{slice_get_read}
 use Rattle.mc_core.specs.Desk.{Desk}
 use Rattle.mc_ring.specs.EndsLaws.{length-slice_set}

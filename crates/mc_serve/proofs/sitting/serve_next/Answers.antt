@@ -1,8 +1,8 @@
 -- One line was served and went back; the session is renewed in the same room.
-use Rattle.std.proofs.Common.{◌≡◌, ◌∙◌, length, refl, sym, subst, ℕ}
+use Rattle.std.proofs.Common.{◌≡◌, ◌∙◌, length, sym, subst, ℕ}
+use Rattle.std.specs.Prelude.{IsTrue}
 use Rattle.mc_conn.specs.Conn.{IsConn}
 use Rattle.mc_conn.specs.Told.{told_nothing}
-use Rattle.mc_threads.specs.Session.{IsVacant}
 use Rattle.mc_serve.proofs.sitting.serve_next.Goals as goal
 
 pub returns-clause-ready : goal.returns-clause-ready
@@ -24,8 +24,28 @@ returns-clause-served g c limit window is =
       now = _;
       commands = _;
       broke = _;
-      line = record { conn = c.serve_line-served.new.self.conn; served = rw c.renew.ensures.ends served };
+      line = record {
+        conn = c.serve_line-served.new.self.conn;
+        -- The ends are as they were before the session was renewed.
+        served = record {
+          told = told;
+          shards_is = served.shards_is;
+          limit_is = served.limit_is;
+          conn_is = served.conn_is;
+          over = served.over;
+          out = served.out;
+          received = served.received;
+          exchanges = rw c.renew.ensures.ends served.exchanges;
+          serves = served.serves;
+          story = served.story;
+          moments = served.moments;
+          counted = served.counted;
+          reads = served.reads;
+          complete = served.complete;
+          rest = served.rest;
+        };
+      };
       door = c.give_back.ensures;
-      stops = λ stopped fits. (let renewed = (c.renew.ensures.when told served.conn_is).1 (served.rest fits, served.over) in absurd cc);
+      stops = λ stopped fits. (let renewed : IsTrue c.renew.result = (c.renew.ensures.when told served.conn_is).1 (served.rest fits, served.over) in absurd cc);
       again = λ renewed. (told.window, subst (λ n. P n limit) served.shards_is (subst (λ n. P told.shards n) served.limit_is (c.renew.ensures.new renewed told served.conn_is)));
     }

@@ -1,5 +1,5 @@
 -- What is told of the doors is what is told of the connections.
-use Rattle.std.proofs.Common.{◌≡◌, ℕ, List, length, map, subst, sym}
+use Rattle.std.proofs.Common.{ℕ, map, subst, sym}
 use Rattle.mc_server.specs.Sizes.{sizes_of}
 use Rattle.mc_serve.specs.Served.{ServesDoors}
 use Rattle.mc_serve.specs.Sizes.{MayServe}

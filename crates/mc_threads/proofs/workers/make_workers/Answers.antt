@@ -1,8 +1,7 @@
 -- One worker more, over the first of the ends that are left.
-use Rattle.std.proofs.Common.{refl, ap}
 use Rattle.mc_server.specs.Sizes.{sizes_of}
 use Rattle.mc_threads.specs.Workers.{AreFresh, IsFresh, ends_of}
-use Rattle.mc_threads.proofs.Orders.{all_more, all_rest, order_all, order_more}
+use Rattle.mc_threads.proofs.Orders.{all_more, all_rest, order_more}
 use Rattle.mc_threads.proofs.workers.make_workers.Goals as goal
 
 pub loop-ends-preserved : goal.loop-ends-preserved
