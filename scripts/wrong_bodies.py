@@ -48,7 +48,8 @@ FAULTS = ["safety", "elsewhere", "other call", "name", "unread", "proved"]
 OPEN_GOAL = re.compile(r"note: (?:\./)?src/(\S+?)\.rt:(\d+):\d+: it is not proved that .*?(?:\(`([^`]+)`\)|$)")
 REFUSED_LINE = re.compile(r"(?:\./)?proofs/(\S+?)\.antt:\d+:\d+: error: (?:`([^`]*)`)?(.*)")
 NO_NAME = re.compile(r"has no field|is not in scope|has no `|was not admitted|which was rejected")
-ENDED = re.compile(r"^(logic=not-proved|only=\d+ proved=0)", re.M)
+# Of the one function that a check is told to look at, closures are counted beside it.
+ENDED = re.compile(r"^(logic=not-proved|only=(\d+) proved=(?!\2\b)\d+)", re.M)
 PROVED = re.compile(r"^(logic=proved|only=(\d+) proved=\2)\b", re.M)
 UNREAD = re.compile(r"^(?:\./)?(?:src|specs)/\S+:\d+:\d+: error", re.M)
 TOLD = re.compile(r"must-fail (\w+)/(\w[\w.-]*)\.edit: (refused, as it must be|NOT REFUSED|BAD EDIT)(.*)")
