@@ -168,7 +168,9 @@ def reasons(words, source, changes):
         if found := OPEN_GOAL.match(line):
             file, place = f"src/{found[1]}.rt", int(found[2])
             of = [it["name"] for it in source.at(file, place)]
-            goal = found[3] or ("returns" if "what the function ensures" in line else "loop" if "loop" in line else "")
+            # a line that was cut has no name of the goal
+            kinds = {"what the function ensures": "returns", "`invariant` of the struct": "invariant_of", "loop": "loop"}
+            goal = found[3] or next((kinds[it] for it in kinds if it in line), "")
             yield kind_of_goal(goal, changes, (file, place) in changed), of[-1] if of else ""
         elif found := REFUSED_LINE.match(line):
             of = found[1].split("/")[-2] if re.search(r"/(Answers|Proof|Invariants)$", found[1]) else ""
