@@ -48,7 +48,8 @@ FAULTS = ["safety", "elsewhere", "other call", "name", "unread", "proved"]
 OPEN_GOAL = re.compile(r"note: (?:\./)?src/(\S+?)\.rt:(\d+):\d+: it is not proved that .*?(?:\(`([^`]+)`\)|$)")
 REFUSED_LINE = re.compile(r"(?:\./)?proofs/(\S+?)\.antt:\d+:\d+: error: (?:`([^`]*)`)?(.*)")
 NO_NAME = re.compile(r"has no field|is not in scope|has no `|was not admitted|which was rejected")
-ENDED = re.compile(r"^(logic=not-proved|only=\d+ proved=0)", re.M)
+# Of the one function that a check is told to look at, closures are counted beside it.
+ENDED = re.compile(r"^(logic=not-proved|only=(\d+) proved=(?!\2\b)\d+)", re.M)
 PROVED = re.compile(r"^(logic=proved|only=(\d+) proved=\2)\b", re.M)
 UNREAD = re.compile(r"^(?:\./)?(?:src|specs)/\S+:\d+:\d+: error", re.M)
 TOLD = re.compile(r"must-fail (\w+)/(\w[\w.-]*)\.edit: (refused, as it must be|NOT REFUSED|BAD EDIT)(.*)")
@@ -167,7 +168,9 @@ def reasons(words, source, changes):
         if found := OPEN_GOAL.match(line):
             file, place = f"src/{found[1]}.rt", int(found[2])
             of = [it["name"] for it in source.at(file, place)]
-            goal = found[3] or ("returns" if "what the function ensures" in line else "loop" if "loop" in line else "")
+            # a line that was cut has no name of the goal
+            kinds = {"what the function ensures": "returns", "`invariant` of the struct": "invariant_of", "loop": "loop"}
+            goal = found[3] or next((kinds[it] for it in kinds if it in line), "")
             yield kind_of_goal(goal, changes, (file, place) in changed), of[-1] if of else ""
         elif found := REFUSED_LINE.match(line):
             of = found[1].split("/")[-2] if re.search(r"/(Answers|Proof|Invariants)$", found[1]) else ""

@@ -9,13 +9,16 @@ use std::marker::Model;
 use std::snapshot::Snapshot;
 use std::sync::Wait;
 use std::thread::{Builder, PromisedHandle, Threads};
+use thiserror::Error;
 
 /// Why not all threads began.
-#[derive(Clone, Copy, Debug, PartialEq, Eq)]
+#[derive(Clone, Copy, Debug, Error, PartialEq, Eq)]
 pub enum CrewRefusal {
     /// Memory ran out.
+    #[error("out of memory for the threads")]
     Memory,
     /// A thread could not be started, or left before it began.
+    #[error("not all threads began: ask for fewer, or raise the system's limit of threads")]
     Thread,
 }
 

@@ -16,6 +16,8 @@ use mc_ring::Reply;
 use mc_split::{Form, Ticket};
 use mc_wire::Outlet;
 use std::alloc::{AllocError, Global};
+use std::fmt;
+use std::fmt::{Debug, Formatter};
 use std::marker::Model;
 use thiserror::Error;
 
@@ -30,9 +32,17 @@ pub struct Full;
 pub struct Gone;
 
 /// A reply that isn't awaited, handed back.
-#[derive(Drop)]
+#[derive(Drop, Error)]
+#[error("no open command awaits a reply to part {part} of command {ticket}", part = .reply.part, ticket = .reply.ticket.0)]
 pub struct Stranger {
+    /// The reply, as it came.
     pub reply: Reply,
+}
+
+impl Debug for Stranger {
+    fn fmt<W: fmt::Write>(&self, f: &mut Formatter<W>) -> fmt::Result {
+        f.write_str("Stranger(..)")
+    }
 }
 
 /// The replies of one connection, in the order of its commands, whenever their answers come.

@@ -20,6 +20,8 @@ mod sim;
 #[cfg(test)]
 mod start;
 #[cfg(test)]
+mod streams;
+#[cfg(test)]
 mod tcp;
 #[cfg(test)]
 mod wake;

@@ -1,15 +1,14 @@
-//! What no clause says: a whole file is read, and each kind of bad line is told, where memory is ample.
+//! What no clause says: a whole file is read and replayed, and each kind of bad line is told, where memory is ample.
 use crate::asserting::{equal, holds};
+use crate::memory_line::MemoryLine;
 use mc_core::Event;
-use mc_replay::{ScheduleFault, read_schedule};
+use mc_replay::{ReplayFault, Schedule, ScheduleFault, read_schedule, replay};
 use std::test::Fail;
 
 #[test]
 fn a_file_is_read(rt: HostRuntime) -> Result<(), Fail> {
     let file = b"sim 2 3 1024 4\nopen 1\nfeed 1 6D6e0d0a\ntake 01 1000\npop 2 1\ngive 2\n";
-    let Ok(plan) = read_schedule(rt.alloc(), file) else {
-        return Ok(());
-    };
+    let plan = read_schedule(rt.alloc(), file)?;
     equal(&rt, plan.seats, 2);
     equal(&rt, plan.shards, 3);
     equal(&rt, plan.bytes, 1024);
@@ -68,13 +67,35 @@ fn bad_lines_are_told(rt: HostRuntime) {
         (b"sim 1 1 1024 1\ncall 0\n".as_slice(), 2),
     ];
     for (file, line) in files {
-        if let Err(ScheduleFault::Bad(number)) = read_schedule(rt.alloc(), file) {
-            equal(&rt, (file, number), (file, line));
-        } else {
-            assert!(rt;
-                matches!(read_schedule(rt.alloc(), file), Err(ScheduleFault::Memory)),
-                "of {file:?}"
-            );
+        match read_schedule(rt.alloc(), file) {
+            Err(ScheduleFault::Bad(number)) => equal(&rt, (file, number), (file, line)),
+            _ => assert!(rt; false, "{file:?}"),
         }
     }
+}
+
+/// One command, and then the end of the input. A second take, hand and end are idle, and so is a feed after the end.
+const ENDS: &[u8] =
+    b"sim 1 1 1024 1\nopen 0\nfeed 0 6d6e0d0a\ntake 0 7\ntake 0 8\nhand 0\nhand 0\nend 0\nend 0\nfeed 0 6d6e0d0a\n";
+
+/// The events that are done are counted, and those that aren't.
+#[test]
+fn what_was_done_is_told(rt: HostRuntime) -> Result<(), Fail> {
+    let plan = read_schedule(rt.alloc(), ENDS)?;
+    let mut told = MemoryLine::new(rt.alloc(), b"")?;
+    replay(&rt, rt.alloc(), &plan, &mut told)?;
+    let wanted = b"conn 0 seat 0 4d4e0d0a\ndone 5 idle 4\n";
+    equal(&rt, told.output.as_slice(), wanted.as_slice());
+    Ok(())
+}
+
+#[test]
+fn a_size_out_of_its_limits_is_refused(rt: HostRuntime) -> Result<(), Fail> {
+    let plan = read_schedule(rt.alloc(), ENDS)?;
+    let plan = Schedule { seats: 65, ..plan };
+    let mut told = MemoryLine::new(rt.alloc(), b"")?;
+    let refused = replay(&rt, rt.alloc(), &plan, &mut told);
+    equal(&rt, refused, Err(ReplayFault::Size));
+    equal(&rt, told.output.len(), 0);
+    Ok(())
 }

@@ -77,7 +77,18 @@ fn a_call_is_told_once(rt: HostRuntime) -> Result<(), Fail> {
     holds(&rt, !sleeper.was_called_by(0));
     holds(&rt, sleeper.was_called_by(1));
     holds(&rt, !sleeper.was_called_by(1));
+    Ok(())
+}
+
+/// One that the sleeper wasn't made for is heard whenever it is asked for: too few callers hang nobody.
+#[test]
+fn a_caller_too_many_is_heard(rt: HostRuntime) -> Result<(), Fail> {
+    let alloc = rt.alloc();
+    let sleeper = Sleeper::new(alloc, Patience::among(&rt, 2), 2)?;
+    let waker = sleeper.waker()?;
     waker.call(2);
-    holds(&rt, !sleeper.was_called_by(2));
+    holds(&rt, sleeper.was_called_by(2));
+    holds(&rt, sleeper.was_called_by(2));
+    holds(&rt, !sleeper.was_called_by(1));
     Ok(())
 }

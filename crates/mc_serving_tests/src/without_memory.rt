@@ -47,6 +47,18 @@ fn item_of(alloc: Global) -> Result<Item, AllocError> {
     })
 }
 
+/// Where memory is ample all that these tests need is made: none of them ends before its calls.
+#[test]
+fn what_is_needed_is_made(rt: HostRuntime) {
+    let alloc = rt.alloc();
+    holds(&rt, key_of(alloc).is_ok() && item_of(alloc).is_ok());
+    holds(&rt, set(alloc).is_ok() && invalidation(alloc).is_ok());
+    holds(&rt, Reader::new(alloc, DEFAULT_VALUE_LIMIT).is_ok());
+    holds(&rt, holding(&rt, alloc).is_ok());
+    holds(&rt, lanes(alloc, 1, 1, 3).is_ok());
+    holds(&rt, Conn::new(alloc, 2, DEFAULT_VALUE_LIMIT, 4).is_ok());
+}
+
 #[test]
 fn words_numbers_and_items(rt: HostRuntime) {
     let alloc = rt.alloc();

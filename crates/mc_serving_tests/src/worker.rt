@@ -60,26 +60,28 @@ fn serve(alloc: Global, worker: &mut Worker, seat: usize, given: &mut [bool]) ->
     }
 }
 
-/// Sends a parcel to the first shard, and tells whether it went out.
+/// Sends a parcel to the last shard, and tells whether it went out.
 fn sends(seat: &mut SeatEnds, parcel: Parcel) -> bool
     ensures { AreSameEnds seat.old seat.new }
 {
-    0 < seat.shards() && seat.send(0, parcel).is_ok()
+    let shards = seat.shards();
+    0 < shards && seat.send(shards - 1, parcel).is_ok()
 }
 
-/// The number of the command that the first shard's next reply is of.
+/// The number of the command that the last shard's next reply is of.
 fn receives(seat: &mut SeatEnds) -> Option<u64> {
-    if seat.shards() == 0 {
+    let shards = seat.shards();
+    if shards == 0 {
         return None;
     }
-    seat.receive(0).map(|reply| reply.ticket.0)
+    seat.receive(shards - 1).map(|reply| reply.ticket.0)
 }
 
-/// Both seats, and the worker of one shard.
+/// Both seats, and the worker of the second of two shards.
 fn two_seats(alloc: Global, hasher: RandomState) -> Result<(SeatEnds, SeatEnds, Worker), Fail> {
-    let (mut seats, mut shards) = lanes(alloc, 2, 1, 1)?;
-    let shard = Shard::new(alloc, hasher, 0, 1, BUDGET, 0, VALUE_LIMIT)?;
-    let worker = Worker::new(alloc, shard, shards.remove(0))?;
+    let (mut seats, mut shards) = lanes(alloc, 2, 2, 1)?;
+    let shard = Shard::new(alloc, hasher, 1, 2, BUDGET, 0, VALUE_LIMIT)?;
+    let worker = Worker::new(alloc, shard, shards.remove(1))?;
     let second = seats.remove(1);
     let first = seats.remove(0);
     Ok((first, second, worker))
@@ -191,12 +193,12 @@ fn the_gate_is_asked_before_each_piece(rt: HostRuntime) -> Result<(), Fail> {
     holds(&rt, sends(&mut second, piece(5)));
     holds(&rt, sends(&mut first, piece(6)));
     equal(&rt, turn_by(alloc, &mut worker, 1, &gate), ran(5));
-    equal(&rt, gate.0.get(), 70_005);
+    equal(&rt, gate.0.get(), 7_0105);
     // Its reply is given, and the gate isn't asked for that.
     equal(&rt, turn_by(alloc, &mut worker, 0, &gate), Some(Turn::Gave));
-    equal(&rt, gate.0.get(), 70_005);
+    equal(&rt, gate.0.get(), 7_0105);
     equal(&rt, turn_by(alloc, &mut worker, 0, &gate), ran(6));
-    equal(&rt, gate.0.get(), 700_050_006);
+    equal(&rt, gate.0.get(), 7_0105_0106);
     holds(&rt, sends(&mut second, Parcel::End));
     equal(&rt, turn_by(alloc, &mut worker, 1, &gate), Some(Turn::Gave));
     equal(
@@ -204,6 +206,6 @@ fn the_gate_is_asked_before_each_piece(rt: HostRuntime) -> Result<(), Fail> {
         turn_by(alloc, &mut worker, 1, &gate),
         Some(Turn::Ended),
     );
-    equal(&rt, gate.0.get(), 700_050_006);
+    equal(&rt, gate.0.get(), 7_0105_0106);
     Ok(())
 }

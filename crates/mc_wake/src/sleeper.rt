@@ -1,13 +1,16 @@
 //! A thread's sleep, and who ends it.
+ghost use Rattle.std.specs.Prelude.{◌≡◌, ◌≤◌, true, IfOk};
+
 use crate::patience::Patience;
 use crossbeam_utils::sync::{Parker, Unparker};
 use std::alloc::{AllocError, Global};
 use std::cell::Cell;
+use std::marker::Model;
 use std::sync::atomic::{AtomicBool, Ordering};
 use std::sync::{Arc, Wait};
 use std::{hint, thread};
 
-/// Waits for one thread while its rings are empty.
+/// Waits for one thread while its rings are empty. Contracts see the number of its callers.
 #[derive(Drop)]
 pub struct Sleeper {
     parker: Parker,
@@ -29,9 +32,20 @@ pub struct Waker {
     called: Arc<Vec<AtomicBool>, Global>,
 }
 
+impl Model for Sleeper {
+    ghost use Rattle.std.specs.Prelude.{ℕ, length};
+    ghost use Rattle.std.specs.Arc.{arc_value};
+
+    ghost Value = { ℕ };
+
+    ghost view = { λ sleeper. length (arc_value sleeper.called).items };
+}
+
 impl Sleeper {
     /// The sleep of one thread that has this patience, and so many callers, who are numbered from 0.
-    pub fn new(alloc: Global, patience: Patience, callers: usize) -> Result<Sleeper, AllocError> {
+    pub fn new(alloc: Global, patience: Patience, callers: usize) -> Result<Sleeper, AllocError>
+        ensures { IfOk result (λ sleeper. sleeper ≡ callers) }
+    {
         let mut called = Vec::with_capacity(alloc, callers)?;
         for _ in 0..callers {
             called.push(AtomicBool::new(false))?;
@@ -54,10 +68,13 @@ impl Sleeper {
         })
     }
 
-    /// Whether the caller has called since this was last asked. What it pushed before it called is found from now on.
-    pub fn was_called_by(&self, caller: usize) -> bool {
+    /// Whether the caller has called since this was last asked. What it pushed before it called is found from now on. Of one
+    /// that this thread doesn't know it says so whenever it is asked: nobody waits in vain for having too high a number.
+    pub fn was_called_by(&self, caller: usize) -> bool
+        ensures unknown { self.now ≤ caller → result ≡ true }
+    {
         let Some(called) = self.called.get(caller) else {
-            return false;
+            return true;
         };
         if !called.load(Ordering::SeqCst) {
             return false;
