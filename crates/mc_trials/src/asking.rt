@@ -1,6 +1,4 @@
 //! A line that awaits the reply to each command before it sends the next, and notes when each began and ended.
-ghost use Rattle.std.specs.Prelude.{◌≤◌, length};
-
 use crate::chooser::Chooser;
 use crate::gates::Come;
 use mc_seat::{Line, LineFault};
@@ -9,9 +7,9 @@ use std::alloc::{AllocError, Global};
 use std::sync::Arc;
 use std::sync::atomic::Ordering;
 
-/// A line that sends commands by chance. It tells nothing of the bytes that it gave and took.
+/// What a line asked and was answered so far.
 #[derive(Drop)]
-pub struct Asking {
+struct Talk {
     alloc: Global,
     chooser: Chooser,
     /// How many commands of all lines have begun, and how many have ended: the one clock of all lines.
@@ -27,34 +25,10 @@ pub struct Asking {
     /// Its reply has not come as a whole.
     awaits: bool,
     /// Each command that has ended: when it began and ended, its words, and those of its reply.
-    pub history: Vec<u8>,
-    failed: bool,
-    ended: bool,
+    history: Vec<u8>,
 }
 
-impl Asking {
-    /// A line that sends so many commands, as they are chosen.
-    pub fn new(
-        alloc: Global,
-        chooser: Chooser,
-        moments: &Come,
-        left: u64,
-    ) -> Result<Asking, AllocError> {
-        Ok(Asking {
-            alloc,
-            chooser,
-            moments: Arc::try_clone(moments)?,
-            left,
-            command: String::new(alloc),
-            began: 0,
-            reply: Vec::new(alloc),
-            awaits: false,
-            history: Vec::new(alloc),
-            failed: false,
-            ended: false,
-        })
-    }
-
+impl Talk {
     /// Chooses the next command. It begins before its first byte leaves.
     fn begin(&mut self) -> Result<(), AllocError> {
         self.command = self.chooser.next()?;
@@ -83,9 +57,8 @@ impl Asking {
         Ok(())
     }
 
-    /// The bytes that the next read gives: a command, where the one before it has its reply; none where all were sent. A line that
-    /// is read where it is owed a reply, or finds no memory, gives none any more.
-    fn given(&mut self) -> Option<&[u8]> {
+    /// What is sent next: a command, or nothing where all were sent. None where a reply is still awaited, or memory ran out.
+    fn next(&mut self) -> Option<&[u8]> {
         if self.awaits {
             return None;
         }
@@ -97,6 +70,47 @@ impl Asking {
     }
 }
 
+/// A line that sends commands by chance. It tells nothing of the bytes that it gave and took. One that is read where it is owed a
+/// reply has failed.
+#[derive(Drop)]
+pub struct Asking {
+    talk: Talk,
+    failed: bool,
+    ended: bool,
+}
+
+impl Asking {
+    /// A line that sends so many commands, as they are chosen.
+    pub fn new(
+        alloc: Global,
+        chooser: Chooser,
+        moments: &Come,
+        left: u64,
+    ) -> Result<Asking, AllocError> {
+        let talk = Talk {
+            alloc,
+            chooser,
+            moments: Arc::try_clone(moments)?,
+            left,
+            command: String::new(alloc),
+            began: 0,
+            reply: Vec::new(alloc),
+            awaits: false,
+            history: Vec::new(alloc),
+        };
+        Ok(Asking {
+            talk,
+            failed: false,
+            ended: false,
+        })
+    }
+
+    /// Each command that has ended, in a row of its own: when it began and ended, its words, a bar and those of its reply.
+    pub fn into_history(self) -> Vec<u8> {
+        self.talk.history
+    }
+}
+
 impl Outlet for Asking {
     ghost use Rattle.std.specs.Prelude.{None};
     ghost use Rattle.mc_wire.specs.Outlet.{Untold};
@@ -104,7 +118,7 @@ impl Outlet for Asking {
     ghost sight = { λ line. record { given = Untold; ended = line.ended; reads = None; taken = Untold; failed = line.failed } };
 
     fn write(&mut self, bytes: &[u8]) -> Result<usize, OutFault> {
-        if self.failed || self.hear(bytes).is_err() {
+        if self.failed || self.talk.hear(bytes).is_err() {
             self.failed = true;
             return Err(OutFault);
         }
@@ -114,9 +128,11 @@ impl Outlet for Asking {
 
 impl Line for Asking {
     fn read(&mut self, room: &mut [u8]) -> Result<usize, LineFault> {
-        let failed = self.failed;
-        match self.given() {
-            Some(bytes) if !failed && bytes.len() <= room.len() => {
+        if self.failed {
+            return Err(LineFault);
+        }
+        match self.talk.next() {
+            Some(bytes) if bytes.len() <= room.len() => {
                 let count = bytes.len();
                 let (place, _) = room.split_at_mut(count);
                 place.copy_from_slice(bytes);
