@@ -8,7 +8,7 @@ Both ask the same shard, so that its worker has a full lane beside one with a si
 percentile is taken alone and beside the load; the median of the rounds beside the load is at most ten times the median of those
 alone, and each of its replies comes and is its own. The load must be one: it has at least so many replies a second. The last
 line is `fairness: N passed, M failed`. It is run by hand, on cores that are free: on two cores of a busy machine one run of
-five failed, where the system's time slices of some milliseconds came between.
+five failed, probably where the system's time slices came between.
 """
 import argparse
 import multiprocessing

@@ -166,8 +166,8 @@ def told_in_memory(commands, seed):
     """The history of each key, of lines over memory."""
     words = ["history", CONNECTIONS, SHARDS, commands // CONNECTIONS, seed]
     ran = subprocess.run([*WITH_US, TRIALS, *map(str, words)], capture_output=True, text=True, timeout=LIMIT_SECONDS)
-    if ran.returncode != 0:
-        raise AssertionError(f"mc_trials ends with {ran.returncode}: {ran.stderr[:200]}")
+    if ran.returncode != 0 or not ran.stdout.startswith("line 0\n"):
+        raise AssertionError(f"mc_trials ends with {ran.returncode}: {ran.stdout[:80]}{ran.stderr[:200]}")
     return by_key(calls_told(ran.stdout.splitlines()))
 
 

@@ -54,7 +54,9 @@ impl<
             return println!(rt; "refused");
         };
         for (number, one) in served.into_iter().enumerate() {
-            let history = String::from_utf8(one.line.into_history()).unwrap_or(String::new(self.alloc));
+            let history = String::from_utf8(one.line.into_history()).unwrap_or(String::new(
+                self.alloc,
+            ));
             print!(rt; "line {number}\n{history}")?;
         }
         Ok(())
