@@ -7,7 +7,8 @@ sends commands without end.
 Both ask the same shard, so that its worker has a full lane beside one with a single piece. In each round the client's 99th
 percentile is taken alone and beside the load; the median of the rounds beside the load is at most ten times the median of those
 alone, and each of its replies comes and is its own. The load must be one: it has at least so many replies a second. The last
-line is `fairness: N passed, M failed`.
+line is `fairness: N passed, M failed`. It is run by hand, on cores that are free: on two cores of a busy machine one run of
+five failed, probably where the system's time slices came between.
 """
 import argparse
 import multiprocessing

@@ -1,13 +1,14 @@
 #!/usr/bin/env python3
 """Checks that what clients see of a key is linearizable: one order in time explains all replies (docs/PROTOCOL.md).
 
-    bench/linearizable.py [--commands N] [--seed N] [--port PORT]     300000 commands where nothing else is said
+    bench/linearizable.py [--commands N] [--seed N] [--port PORT | --memory]     300000 commands where nothing else is said
 
 Sixty connections write and read few keys, each awaiting its reply, and note by one clock when each command began and ended.
 Some keys are registers (set, add, gets, cas, delete), some are counters (set, incr, add, delete). `linearizable_checker.py`
 then decides for each key whether some order explains what was seen. Then faults are put into the recorded histories, and the
 checker must refuse each. With --port a server that already runs there is asked, in place of one that is started; its keys must
-be absent. The last line is `linearizable: N passed, M failed`.
+be absent. With --memory the connections are lines over memory that the threads of `mc_trials history` serve, and their clock
+is one counter. The last line is `linearizable: N passed, M failed`.
 """
 import argparse
 import multiprocessing
@@ -16,18 +17,23 @@ import random
 import select
 import signal
 import socket
+import subprocess
 import sys
 import time
 
 sys.path.insert(0, str(pathlib.Path(__file__).resolve().parent.parent / "scripts"))
 
 from linearizable_checker import Call, Refused, check, rule_of, values_of_uniques  # noqa: E402
-from served import Server, Tally, bounded, needs_program  # noqa: E402
+from served import TOP, WITH_US, Server, Tally, bounded, needs_program  # noqa: E402
 
 LIMIT_SECONDS = 300
 CONNECTIONS = 60
 PROCESSES = 2
 REGISTERS, COUNTERS = 10, 6
+SHARDS = 2
+
+# The program that serves lines over memory.
+TRIALS = TOP / "crates/mc_trials/out/mc_trials"
 
 # How often each command is chosen, of a register and of a counter.
 OF_REGISTER = ("get",) * 6 + ("gets",) * 4 + ("set",) * 4 + ("cas",) * 4 + ("add",) * 2 + ("delete",) * 2
@@ -145,11 +151,38 @@ def recorded(port, commands, seed):
     share, each = CONNECTIONS // PROCESSES, commands // PROCESSES
     with multiprocessing.Pool(PROCESSES, as_worker) as pool:
         parts = pool.starmap(drive, [(port, number * share, share, each, seed) for number in range(PROCESSES)])
+    return by_key(call for part in parts for call in part)
+
+
+def by_key(calls):
+    """The history of each key, of calls with their keys."""
     histories = [[] for _ in range(REGISTERS + COUNTERS)]
-    for part in parts:
-        for place, call in part:
-            histories[place].append(call)
+    for place, call in calls:
+        histories[place].append(call)
     return histories
+
+
+def told_in_memory(commands, seed):
+    """The history of each key, of lines over memory."""
+    words = ["history", CONNECTIONS, SHARDS, commands // CONNECTIONS, seed]
+    ran = subprocess.run([*WITH_US, TRIALS, *map(str, words)], capture_output=True, text=True, timeout=LIMIT_SECONDS)
+    if ran.returncode != 0 or not ran.stdout.startswith("line 0\n"):
+        raise AssertionError(f"mc_trials ends with {ran.returncode}: {ran.stdout[:80]}{ran.stderr[:200]}")
+    return by_key(calls_told(ran.stdout.splitlines()))
+
+
+def calls_told(rows):
+    """The calls, with their keys, of which the rows tell: `line NUMBER`, then each call of that line."""
+    for row in rows:
+        asked, bar, reply = row.partition("|")
+        began, *words = asked.split()
+        if not bar:
+            client = int(words[0])
+            continue
+        ended, kind, key, *words = words
+        given = {"set": words[-1:], "add": words[-1:], "incr": map(int, words), "cas": [tuple(words[-2:])]}.get(kind, [None])
+        call = Call(int(began), int(ended), client, kind, *given, reply_of(kind, reply.encode()))
+        yield int(key.removeprefix("linear-")), call
 
 
 # Faults, put into a history that was recorded. Each gives a history that no order explains, or None where there is no place
@@ -234,9 +267,9 @@ def tell_faults(tally, histories):
         tally.tell(bool(why), f"the fault '{fault.__name__.replace('_', ' ')}' is refused: {why or ('not refused' if altered else 'no place for it')}")
 
 
-def run(tally, port, given):
+def run(tally, given, record, *where):
     began = time.monotonic()
-    histories = recorded(port, given.commands, given.seed)
+    histories = record(*where, given.commands, given.seed)
     took = time.monotonic() - began
     with multiprocessing.Pool(initializer=as_worker) as pool:
         found = pool.map(refusal, histories)
@@ -245,7 +278,7 @@ def run(tally, port, given):
     for place, why in enumerate(found):
         name = f"{'counter' if place >= REGISTERS else 'register'} {place}: {len(histories[place])} commands"
         tally.tell(not why, f"{name} are linearizable" if not why else f"{name}: {why}")
-    tally.tell(total >= given.commands - PROCESSES, f"{total} commands are answered")
+    tally.tell(total >= given.commands - CONNECTIONS, f"{total} commands are answered")
     tell_faults(tally, [history for history, why in zip(histories, found) if not why])
 
 
@@ -254,15 +287,18 @@ def main():
     parser.add_argument("--commands", type=int, default=300_000)
     parser.add_argument("--seed", type=int, default=1)
     parser.add_argument("--port", type=int)
+    parser.add_argument("--memory", action="store_true")
     given = parser.parse_args()
     bounded(LIMIT_SECONDS)
     tally = Tally("linearizable")
-    if given.port:
-        run(tally, given.port, given)
+    if given.memory:
+        run(tally, given, told_in_memory)
+    elif given.port:
+        run(tally, given, recorded, given.port)
     else:
         needs_program()
-        with Server("--seats", CONNECTIONS, "--shards", 2) as server:
-            run(tally, server.port, given)
+        with Server("--seats", CONNECTIONS, "--shards", SHARDS) as server:
+            run(tally, given, recorded, server.port)
     return tally.done()
 
 

@@ -34,6 +34,7 @@ TESTS = [
     ("mc_connection_tests", "conn::a_refused_allocation_gives_up_one_command", 4),
     ("mc_serving_tests", "sim::a_refused_allocation_gives_up_one_command", 40),
     ("mc_serving_tests", "sim::a_worker_takes_no_memory", 8),
+    ("mc_serving_tests", "settle::a_refused_allocation_stops_it", 40),
     ("mc_serving_tests", "line::a_refused_allocation", 40),
     ("mc_serving_tests", "start::a_refused_start", 20),
 ]

@@ -1,1 +1,2 @@
+-- Definitions that only private contracts name.
 pub mod Rounds

@@ -16,6 +16,8 @@ mod options;
 #[cfg(test)]
 mod replay;
 #[cfg(test)]
+mod settle;
+#[cfg(test)]
 mod sim;
 #[cfg(test)]
 mod start;

@@ -11,7 +11,7 @@ use std::random::RandomSource;
 use std::test::Fail;
 
 /// The moment of all commands.
-const MOMENT: u64 = 1000;
+pub(crate) const MOMENT: u64 = 1000;
 
 /// What a shard's items may cost together, in bytes.
 const BUDGET: usize = 1_024;
@@ -26,18 +26,22 @@ const VALUE_LIMIT: usize = 1_024;
 const WINDOW: usize = 64;
 
 /// A core of so many seats, and two shards.
-fn core_of<R: RandomSource>(rt: &R, alloc: Global, seats: usize) -> Result<Sim, SimRefusal> {
+pub(crate) fn core_of<R: RandomSource>(
+    rt: &R,
+    alloc: Global,
+    seats: usize,
+) -> Result<Sim, SimRefusal> {
     Sim::new(rt, alloc, seats, 2, BUDGET, RING, VALUE_LIMIT, WINDOW)
 }
 
 /// These bytes come in at the seat.
-fn feed(alloc: Global, seat: usize, text: &[u8]) -> Result<Event, AllocError> {
+pub(crate) fn feed(alloc: Global, seat: usize, text: &[u8]) -> Result<Event, AllocError> {
     let bytes = Vec::from_slice(alloc, text)?;
     Ok(Event::Feed { seat, bytes })
 }
 
 /// The seat's next command is taken.
-fn take(seat: usize) -> Event {
+pub(crate) fn take(seat: usize) -> Event {
     Event::Take {
         seat,
         moment: MOMENT,
@@ -56,7 +60,7 @@ fn entry(shard: usize, connection: usize, ticket: u64) -> LogEntry {
 }
 
 /// The bytes that the connection of this number was handed.
-fn handed_to(sim: &Sim, number: usize) -> &[u8] {
+pub(crate) fn handed_to(sim: &Sim, number: usize) -> &[u8] {
     sim.handed(number).unwrap_or(b"")
 }
 
@@ -72,12 +76,12 @@ fn moved(alloc: Global, sim: &mut Sim, event: &Event) -> (StepReply, usize, usiz
 }
 
 /// Whether the two connections were handed these bytes.
-fn handed_both(sim: &Sim, first: &[u8], second: &[u8]) -> bool {
+pub(crate) fn handed_both(sim: &Sim, first: &[u8], second: &[u8]) -> bool {
     handed_to(sim, 0) == first && handed_to(sim, 1) == second
 }
 
 /// Whether the shards ran just these pieces, in this order.
-fn ran(sim: &Sim, entries: &[LogEntry]) -> bool {
+pub(crate) fn ran(sim: &Sim, entries: &[LogEntry]) -> bool {
     sim.log() == entries
 }
 

@@ -4,13 +4,18 @@
 //!     mc_trials threads LINES SHARDS COMMANDS BATCH   serves a load by threads: each line sends so many commands, of which one
 //!                                                     read gives a batch
 //!     mc_trials alone SHARDS COMMANDS BATCH           serves the load of one line by a single thread, without rings
+//!     mc_trials history LINES SHARDS COMMANDS SEED    lines that await each reply send so many commands each, on few keys, and
+//!                                                     what each asked and was answered is printed, with when
 //!
 //! Of a load it prints how many commands were taken, how many lines went wrong, how long it took, and what the system told of
 //! the processor time before and after (proc_pid_stat(5)). `bench/lines.py` makes figures of that.
 #![tactic(auto)]
 
+mod asking;
+mod chooser;
 mod gates;
 mod gathered;
+mod history;
 mod line;
 mod load;
 mod measured;
@@ -19,6 +24,7 @@ mod server;
 mod text;
 mod trials;
 
+use history::Asked;
 use server::Server;
 use std::{env, io};
 
@@ -28,6 +34,12 @@ fn main(rt: HostRuntime) -> io::Result<()> {
         rt,
         alloc: rt.alloc(),
     };
+    if let [_, mode, rest @ ..] = words.as_slice()
+        && mode.as_str() == "history"
+        && let Some(asked) = Asked::read(rest)
+    {
+        return server.tell_history(asked);
+    }
     if words.len() > 1 {
         return server.measure(words.as_slice());
     }

@@ -17,7 +17,7 @@ use std::{fs, io, time};
 const TOLD: &str = "/proc/self/stat";
 
 /// How large the server of a measured load is, but for its shards.
-const SIZES: Sizes = Sizes {
+pub const SIZES: Sizes = Sizes {
     shards: 1,
     bytes: 67_108_864,
     ring: 64,
@@ -59,7 +59,7 @@ impl Asked {
 }
 
 /// The number that the word spells.
-fn number(word: &String) -> Option<u64> {
+pub fn number(word: &String) -> Option<u64> {
     number_u64(word.as_bytes()).ok()
 }
 
@@ -81,7 +81,7 @@ impl<
         let rt = &self.rt;
         let Some(asked) = Asked::read(words) else {
             return println!(rt;
-                "mc_trials threads LINES SHARDS COMMANDS BATCH | mc_trials alone SHARDS COMMANDS BATCH"
+                "mc_trials threads LINES SHARDS COMMANDS BATCH | mc_trials alone SHARDS COMMANDS BATCH | mc_trials history LINES SHARDS COMMANDS SEED"
             );
         };
         let loads = Loads::new(self.alloc, asked.lines, asked.commands, asked.batch)?;

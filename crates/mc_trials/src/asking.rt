@@ -1,0 +1,160 @@
+//! A line that awaits the reply to each command before it sends the next, and notes when each began and ended.
+use crate::chooser::Chooser;
+use crate::gates::Come;
+use mc_seat::{Line, LineFault};
+use mc_wire::{OutFault, Outlet};
+use std::alloc::{AllocError, Global};
+use std::sync::Arc;
+use std::sync::atomic::Ordering;
+
+/// What a line asked and was answered so far.
+#[derive(Drop)]
+struct Talk {
+    alloc: Global,
+    chooser: Chooser,
+    /// How many commands of all lines have begun, and how many have ended: the one clock of all lines.
+    moments: Come,
+    /// So many commands are still to be sent.
+    left: u64,
+    /// The command that was sent last.
+    command: String,
+    /// When it began.
+    began: u64,
+    /// What came of its reply.
+    reply: Vec<u8>,
+    /// Its reply has not come as a whole.
+    awaits: bool,
+    /// Each command that has ended: when it began and ended, its words, and those of its reply.
+    history: Vec<u8>,
+}
+
+impl Talk {
+    /// Chooses the next command. It begins before its first byte leaves.
+    fn begin(&mut self) -> Result<(), AllocError> {
+        self.command = self.chooser.next()?;
+        self.left = self.left.saturating_sub(1);
+        self.awaits = true;
+        self.began = self.moments.fetch_add(1, Ordering::SeqCst);
+        Ok(())
+    }
+
+    /// Takes what comes of a reply. Its command has ended after the last byte came.
+    fn hear(&mut self, bytes: &[u8]) -> Result<(), AllocError> {
+        self.reply.extend_from_slice(bytes)?;
+        if !self.awaits || !self.chooser.is_whole(&self.reply) {
+            return Ok(());
+        }
+        let (began, ended) = (self.began, self.moments.fetch_add(1, Ordering::SeqCst));
+        self.awaits = false;
+        self.chooser.hears(&self.reply);
+        let times = format!(in self.alloc; "{began} {ended} ")?;
+        self.history.extend_from_slice(times.as_bytes())?;
+        add_words(&mut self.history, self.command.as_bytes())?;
+        self.history.extend_from_slice(b"| ")?;
+        add_words(&mut self.history, &self.reply)?;
+        self.history.push(b'\n')?;
+        self.reply.clear();
+        Ok(())
+    }
+
+    /// What is sent next: a command, or nothing where all were sent. None where a reply is still awaited, or memory ran out.
+    fn next(&mut self) -> Option<&[u8]> {
+        if self.awaits {
+            return None;
+        }
+        if self.left == 0 {
+            return Some(&[]);
+        }
+        self.begin().ok()?;
+        Some(self.command.as_bytes())
+    }
+}
+
+/// A line that sends commands by chance. It tells nothing of the bytes that it gave and took. One that is read where it is owed a
+/// reply has failed.
+#[derive(Drop)]
+pub struct Asking {
+    talk: Talk,
+    failed: bool,
+    ended: bool,
+}
+
+impl Asking {
+    /// A line that sends so many commands, as they are chosen.
+    pub fn new(
+        alloc: Global,
+        chooser: Chooser,
+        moments: &Come,
+        left: u64,
+    ) -> Result<Asking, AllocError> {
+        let talk = Talk {
+            alloc,
+            chooser,
+            moments: Arc::try_clone(moments)?,
+            left,
+            command: String::new(alloc),
+            began: 0,
+            reply: Vec::new(alloc),
+            awaits: false,
+            history: Vec::new(alloc),
+        };
+        Ok(Asking {
+            talk,
+            failed: false,
+            ended: false,
+        })
+    }
+
+    /// Each command that has ended, in a row of its own: when it began and ended, its words, a bar and those of its reply.
+    pub fn into_history(self) -> Vec<u8> {
+        self.talk.history
+    }
+}
+
+impl Outlet for Asking {
+    ghost use Rattle.std.specs.Prelude.{None};
+    ghost use Rattle.mc_wire.specs.Outlet.{Untold};
+
+    ghost sight = { λ line. record { given = Untold; ended = line.ended; reads = None; taken = Untold; failed = line.failed } };
+
+    fn write(&mut self, bytes: &[u8]) -> Result<usize, OutFault> {
+        if self.failed || self.talk.hear(bytes).is_err() {
+            self.failed = true;
+            return Err(OutFault);
+        }
+        Ok(bytes.len())
+    }
+}
+
+impl Line for Asking {
+    fn read(&mut self, room: &mut [u8]) -> Result<usize, LineFault> {
+        if self.failed {
+            return Err(LineFault);
+        }
+        match self.talk.next() {
+            Some(bytes) if bytes.len() <= room.len() => {
+                let count = bytes.len();
+                let (place, _) = room.split_at_mut(count);
+                place.copy_from_slice(bytes);
+                self.ended = count == 0;
+                Ok(count)
+            }
+            _ => {
+                self.failed = true;
+                Err(LineFault)
+            }
+        }
+    }
+}
+
+/// Adds the words of a text, each with a space behind it.
+fn add_words(words: &mut Vec<u8>, text: &[u8]) -> Result<(), AllocError> {
+    for byte in text {
+        match byte {
+            b'\r' => {}
+            b'\n' => words.push(b' ')?,
+            other => words.push(*other)?,
+        }
+    }
+    Ok(())
+}

@@ -1,0 +1,170 @@
+//! Which command a line sends next: by chance, on few keys that all lines share.
+use crate::text::split_line;
+use mc_wire::{number_u64, words};
+use std::alloc::{AllocError, Global};
+
+/// So many keys are registers, and as many are counters as there are behind them.
+const REGISTERS: usize = 10;
+
+/// So many keys there are.
+const KEYS: usize = 16;
+
+/// What is asked of a key.
+#[derive(Clone, Copy, Debug, PartialEq, Eq)]
+enum Kind {
+    Get,
+    Gets,
+    Set,
+    Cas,
+    Add,
+    Delete,
+    Incr,
+}
+
+/// Chooses the commands of a line.
+#[derive(Drop)]
+pub struct Chooser {
+    alloc: Global,
+    /// The line's number. No line stores a value that another one stores.
+    line: u64,
+    /// How many values it has made.
+    values: u64,
+    /// The state of the generator of chances.
+    state: u64,
+    /// The cas unique that the line saw last, of each key.
+    uniques: [Option<u64>; KEYS],
+    /// What was chosen last, and its key.
+    kind: Kind,
+    key: usize,
+}
+
+impl Chooser {
+    /// What chooses for the line of this number. Another seed is another list of commands.
+    pub fn new(alloc: Global, line: u64, seed: u64) -> Chooser {
+        let mut chooser = Chooser {
+            alloc,
+            line,
+            values: 0,
+            state: seed.wrapping_mul(1_000_003).wrapping_add(line),
+            uniques: [None; KEYS],
+            kind: Kind::Get,
+            key: 0,
+        };
+        for _ in 0..10 {
+            chooser.chance(1);
+        }
+        chooser
+    }
+
+    /// A number below this one, by a linear congruential generator (that of Knuth's MMIX), whose upper bits are taken.
+    fn chance(&mut self, below: u64) -> u64 {
+        self.state = self
+            .state
+            .wrapping_mul(6_364_136_223_846_793_005)
+            .wrapping_add(1_442_695_040_888_963_407);
+        (self.state >> 33) % below.max(1)
+    }
+
+    /// A value that no line stores twice. Those of counters lie far apart.
+    fn fresh(&mut self) -> Result<String, AllocError> {
+        self.values = self.values.wrapping_add(1);
+        let stamp = self.line.wrapping_mul(1_000_000).wrapping_add(self.values);
+        if self.key < REGISTERS {
+            format!(in self.alloc; "v{stamp}")
+        } else {
+            format!(in self.alloc; "{stamp}000000")
+        }
+    }
+
+    /// The next command, as it is sent.
+    pub fn next(&mut self) -> Result<String, AllocError> {
+        self.key = usize::try_from(self.chance(16)).unwrap_or(0);
+        let chance = self.chance(22);
+        self.kind = if self.key < REGISTERS {
+            of_register(chance)
+        } else {
+            of_counter(chance)
+        };
+        self.spell()
+    }
+
+    /// The command that was chosen, as it is sent. A cas of which no unique was seen is a gets.
+    fn spell(&mut self) -> Result<String, AllocError> {
+        let key = self.key;
+        match self.kind {
+            Kind::Get => format!(in self.alloc; "get linear-{key}\r\n"),
+            Kind::Gets => format!(in self.alloc; "gets linear-{key}\r\n"),
+            Kind::Set => self.storage("set", ""),
+            Kind::Add => self.storage("add", ""),
+            Kind::Delete => format!(in self.alloc; "delete linear-{key}\r\n"),
+            Kind::Incr => {
+                let by = self.chance(999).wrapping_add(1);
+                format!(in self.alloc; "incr linear-{key} {by}\r\n")
+            }
+            Kind::Cas => match self.uniques.get(key) {
+                Some(Some(unique)) => {
+                    let unique = format!(in self.alloc; " {unique}")?;
+                    self.storage("cas", unique.as_str())
+                }
+                _ => {
+                    self.kind = Kind::Gets;
+                    format!(in self.alloc; "gets linear-{key}\r\n")
+                }
+            },
+        }
+    }
+
+    /// A command that stores a new value.
+    fn storage(&mut self, name: &str, unique: &str) -> Result<String, AllocError> {
+        let value = self.fresh()?;
+        let (key, count) = (self.key, value.len());
+        format!(in self.alloc; "{name} linear-{key} 0 0 {count}{unique}\r\n{value}\r\n")
+    }
+
+    /// Whether the reply to the command that was chosen last has come as a whole.
+    pub fn is_whole(&self, reply: &[u8]) -> bool {
+        match self.kind {
+            Kind::Get | Kind::Gets => reply.ends_with(b"END\r\n"),
+            _ => reply.ends_with(b"\r\n"),
+        }
+    }
+
+    /// Keeps the unique that the reply to the command that was chosen last tells.
+    pub fn hears(&mut self, reply: &[u8]) {
+        if self.kind != Kind::Gets {
+            return;
+        }
+        if let (Some(unique), Some(kept)) = (unique_of(reply), self.uniques.get_mut(self.key)) {
+            *kept = Some(unique);
+        }
+    }
+}
+
+/// Which of 22 chances is which command on a register.
+fn of_register(chance: u64) -> Kind {
+    match chance {
+        0..=5 => Kind::Get,
+        6..=9 => Kind::Gets,
+        10..=13 => Kind::Set,
+        14..=17 => Kind::Cas,
+        18..=19 => Kind::Add,
+        _ => Kind::Delete,
+    }
+}
+
+/// Which of 22 chances is which command on a counter.
+fn of_counter(chance: u64) -> Kind {
+    match chance {
+        0..=6 => Kind::Get,
+        7..=15 => Kind::Incr,
+        16..=17 => Kind::Set,
+        18..=20 => Kind::Add,
+        _ => Kind::Delete,
+    }
+}
+
+/// The unique that the reply to a gets of one key tells: the last word of the line VALUE KEY FLAGS BYTES UNIQUE.
+fn unique_of(reply: &[u8]) -> Option<u64> {
+    let (line, _) = split_line(reply);
+    number_u64(words(line).nth(4)?).ok()
+}
