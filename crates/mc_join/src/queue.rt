@@ -30,7 +30,14 @@ pub(crate) fn add(forms: &mut HeapCircularBuffer<Form>, form: Form) -> bool
         let_go(form);
         return false;
     }
-    forms.try_push_back(form).is_ok()
+    match forms.try_push_back(form) {
+        Ok(()) => true,
+        // There is a place for it, so this is never reached; were the form dropped here, it would be moved field by field.
+        Err(form) => {
+            let_go(form);
+            false
+        }
+    }
 }
 
 /// Lets a form go. It is kept out of line, so that a form that is added is moved whole and not field by field.
