@@ -1,5 +1,6 @@
 //! The thread of a shard's worker.
-ghost use Rattle.std.specs.Prelude.{◌≡◌, ◌<◌, IfOk, length};
+ghost use Rattle.std.specs.Prelude.{◌≡◌, ◌<◌, Some, IfOk, length};
+ghost use Rattle.std.specs.List.{slice_get};
 ghost use Rattle.mc_ring.specs.Ends.{AreSameEnds};
 ghost use Rattle.mc_ring.specs.Made.{IsLane, LooksAtBoth};
 ghost use Rattle.mc_core.specs.Desk.{Goes};
@@ -92,6 +93,8 @@ impl<G: Gate + Drop> Working<G> {
         requires { seat < length self.old.waiting.items }
         ensures goes { Goes self.old.worker self.new.worker }
         ensures as_many { length self.new.waiting.items ≡ length self.old.waiting.items }
+        // What it notes of the seat is what its turn answered.
+        ensures noted { slice_get self.new.waiting.items seat ≡ Some result }
     {
         if !self.sleeper.was_called_by(seat) && !self.waiting[seat] {
             return false;
