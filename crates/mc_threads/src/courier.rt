@@ -27,11 +27,7 @@ impl Courier {
     ghost use Rattle.mc_threads.specs.internal.Ending.{EndsOne};
 
     /// Nothing is under way on the ends. The wakers are those of the shards.
-    pub(crate) fn new(
-        alloc: Global,
-        ends: SeatEnds,
-        shards: Wakers,
-    ) -> Result<Courier, AllocError>
+    pub(crate) fn new(alloc: Global, ends: SeatEnds, shards: Wakers) -> Result<Courier, AllocError>
         ensures ends { IfOk result (λ courier. courier.ends ≡ ends) }
         ensures idle { IfOk result (λ courier. IsIdle courier.under_way.items) }
     {
