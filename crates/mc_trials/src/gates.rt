@@ -12,7 +12,7 @@ pub const LOOKS: u64 = 1_000_000;
 /// How often a shard saw the other one at the gate.
 pub type Met = Arc<AtomicU64, Global>;
 
-/// How many lines are at their first read and pieces at the gate, or were.
+/// What lines and gates count together: how many have come to their first read or to the gate, or the moments of a history.
 pub type Come = Arc<AtomicU64, Global>;
 
 /// Two shards wait at the gate for each other: of each piece a shard says that it has come so often, and waits until the other one
