@@ -1,7 +1,7 @@
 #!/usr/bin/env python3
 """Measures mcd and memcached side by side over TCP on loopback, and writes a table and a plot.
 
-    bench/side_by_side.py [--rounds 5] [--seconds 3] [--seats 64] [--only WORD] [--folder docs/benchmarks] [PROGRAM]
+    bench/side_by_side.py [--rounds 5] [--seconds 3] [--seats 1024] [--only WORD] [--folder docs/benchmarks] [PROGRAM]
 
 Each round starts both servers anew, fills them with all keys, and runs every workload on the one and then on the
 other; the next round begins with the other. bench/load.c sends the requests and checks every reply. Printed are
@@ -97,7 +97,7 @@ def workloads(given):
 def measure(given, load):
     servers = {
         "mcd": [given.program, "--listen", "127.0.0.1:{port}", "--shards", "2", "--seats", str(given.seats), "--bytes", "536870912"],
-        "memcached": [shutil.which("memcached"), "-l", "127.0.0.1", "-p", "{port}", "-t", "2", "-m", "1024", "-u", "root"],
+        "memcached": [shutil.which("memcached"), "-l", "127.0.0.1", "-p", "{port}", "-t", "2", "-m", "1024", "-c", "8192", "-u", "root"],
     }
     found = {}
     for number in range(given.rounds):
@@ -163,7 +163,7 @@ def main():
     parser = argparse.ArgumentParser(description=__doc__.splitlines()[0])
     parser.add_argument("--rounds", type=int, default=5)
     parser.add_argument("--seconds", type=float, default=3)
-    parser.add_argument("--seats", type=int, default=64)
+    parser.add_argument("--seats", type=int, default=1024)
     parser.add_argument("--only", default="")
     parser.add_argument("--folder", type=pathlib.Path, default=TOP / "docs/benchmarks")
     parser.add_argument("program", nargs="?", default=str(TOP / "crates/mcd/out/mcd"))

@@ -9,7 +9,7 @@ from served import MCD, TOP, Line, Server, equal, started
 NO_ADDRESSES = ["nonsense", "", "256.0.0.1:1", "127.0.0.1", "127.0.0.1:99999", "127.0.0.1:-1", "192.0.2.1:1"]
 
 FAULTY_CALLS = [
-    "--seats 0", "--seats 65", "--seats 1 --seats 2", "--seats 1x", "--shards 0", "--shards 17", "--bytes 1023",
+    "--seats 0", "--seats 4097", "--seats 1 --seats 2", "--seats 1x", "--shards 0", "--shards 17", "--bytes 1023",
     "--bytes 1073741825", "--value-limit 1023", "--value-limit 8388609", "--window 0", "--window 4097",
     "--connections 0", "--connections 4294967296", "--listen", "--nope", "nope", "--at 3", "--stdio --seats 2",
     "--stdio --listen 127.0.0.1:0", "--stdio --connections 1", "--stdio --at x",

@@ -77,7 +77,7 @@ def lines_of_32766_keys_are_bounded():
     with served() as server:
         with Line(server.port) as line:
             line.ask(set_of(b"k", b"x" * 1000), b"STORED\r\n")
-        return within(grown(server, lambda _: b"get" + b" k" * 32_766 + b"\n"), SEATS * (term("line") + term("commands")) * MIB)
+        return within(grown(server, lambda _: b"get" + b" k" * 32_766 + b"\n"), SEATS * (term("line") + term("commands") + term("text")) * MIB)
 
 
 def fill(line, budget):
@@ -88,7 +88,7 @@ def fill(line, budget):
 
 
 def small_items_take_few_times_their_cost():
-    with Server("--shards", SHARDS, "--bytes", BUDGET) as server, Line(server.port) as line:
+    with Server("--seats", 16, "--shards", SHARDS, "--bytes", BUDGET) as server, Line(server.port) as line:
         before = server.resident()
         fill(line, SHARDS * BUDGET)
         return within(server.most_resident() - before, term("items") * SHARDS * BUDGET)
@@ -116,7 +116,7 @@ def unread_replies_hold_what_they_show():
             equal(line.read(len(wanted)), wanted)
             line.close()
         wait_until_still(server)
-        within(server.resident() - before, 2 * SHARDS * BUDGET)
+        within(server.resident() - before, 4 * SHARDS * BUDGET)
         return told
 
 
@@ -136,7 +136,7 @@ def the_sum_holds_for_all_together():
 
 def bound_of(seats, budgets):
     """The sum of docs/SECURITY.md."""
-    seat = (term("line") + term("commands")) * MIB + term("value") * VALUE_LIMIT + budgets
+    seat = (term("line") + term("commands") + term("text")) * MIB + term("value") * VALUE_LIMIT + budgets
     return term("program") * MIB + term("items") * budgets + seats * seat
 
 

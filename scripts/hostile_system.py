@@ -55,13 +55,14 @@ def an_idle_server_takes_no_processor_time():
 
 
 def connections_wait_for_open_files():
-    """Where no more files may be open, connections wait until one is closed; the seats that could serve them look now and then."""
+    """Where no more files may be open, connections wait until one is closed; the thread that accepts looks now and then."""
     with Server("--seats", 16) as server:
+        first = Line(server.port)
+        first.ask(ASKED, ANSWERED)
         used = len(os.listdir(f"/proc/{server.process.pid}/fd"))
-        resource.prlimit(server.process.pid, resource.RLIMIT_NOFILE, (used + 2, used + 2))
-        first, second = Line(server.port), Line(server.port)
-        for line in (first, second):
-            line.ask(ASKED, ANSWERED)
+        resource.prlimit(server.process.pid, resource.RLIMIT_NOFILE, (used + 1, used + 1))
+        second = Line(server.port)
+        second.ask(ASKED, ANSWERED)
         third = Line(server.port, timeout=0.5)
         third.send(ASKED)
         try:

@@ -109,6 +109,19 @@ gives_front None old new reader joiner shards broken none before left = tt
 gives_front (Some piece) old new reader joiner shards broken none before left =
     gives old new piece reader joiner shards broken none (rw before left)
 
+-- The same where one may have been put back.
+pub gives_back : (result : Option (ℕ × Piece)) (old new : Conn) →
+    new.reader ≡ old.reader → new.dispatcher.joiner ≡ old.dispatcher.joiner → new.dispatcher.shards ≡ old.dispatcher.shards → new.broken ≡ old.broken → new.put_back ≡ None → result ≡ old.put_back → new.dispatcher.unsent ≡ old.dispatcher.unsent →
+    IfSome result (λ piece. (told : Told) → HasBeenTold old told → (slice_get (all_pieces told) told.out ≡ Some piece) × HasBeenTold new (record told { out = told.out + 1; lent = true }))
+gives_back None old new reader joiner shards broken none taken unsent = tt
+gives_back (Some piece) old new reader joiner shards broken none taken unsent =
+    gives old new piece reader joiner shards broken none (rw (← taken, unsent) refl)
+
+-- None was put back.
+pub none_back : (back : Option (ℕ × Piece)) (found : Bool) → found ≡ is_some back → found ≡ false → back ≡ None
+none_back None found is not_found = refl
+none_back (Some piece) found is not_found = absurd (false≢true (sym not_found ∙ is))
+
 -- The piece that was taken out last is put back.
 pub takes_back : (old new : Conn) (piece : ℕ × Piece) →
     new.reader ≡ old.reader → new.dispatcher.joiner ≡ old.dispatcher.joiner → new.dispatcher.shards ≡ old.dispatcher.shards → new.broken ≡ old.broken → new.put_back ≡ Some piece → new.dispatcher.unsent ≡ old.dispatcher.unsent →

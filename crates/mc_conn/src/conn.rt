@@ -150,10 +150,10 @@ impl Conn {
         ensures none { IfNone result ((told : Told) → IsConn self.old told →
             (told.out ≡ length (all_pieces told)) × IsConn self.new told) }
     {
-        match self.put_back.take() {
-            Some(piece) => Some(piece),
-            None => self.dispatcher.unsent.pop_front(),
+        if self.put_back.is_some() {
+            return self.put_back.take();
         }
+        self.dispatcher.unsent.pop_front()
     }
 
     /// Puts the piece that was taken out last back in front, with its shard. It takes no memory.

@@ -1,10 +1,8 @@
 //! Where commands are planned and opened: the joiner, and the pieces that have not left.
-ghost use Rattle.std.specs.Prelude.{◌≡◌, ◌<◌, ◌++◌, ◌∷◌, [], List, ℕ, MatchResult, length};
-ghost use Rattle.mc_command.specs.declared.refusal.Refusal.TheVariants as refusal;
+ghost use Rattle.std.specs.Prelude.{◌≡◌, ◌<◌, ◌++◌, ◌∷◌, [], List, ℕ, IfOk, length};
 ghost use Rattle.mc_command.specs.declared.command.Command.TheVariants as command;
 ghost use Rattle.mc_ring.specs.Reply.{Shown};
 ghost use Rattle.mc_split.specs.declared.form.Form.{Form};
-ghost use Rattle.mc_split.specs.Plan.{form_of};
 ghost use Rattle.mc_join.specs.Held.{opened_count};
 ghost use Rattle.mc_join.specs.Joined.{IsJoiner};
 
@@ -14,8 +12,8 @@ use mc_item::NoMemory;
 use mc_join::Joiner;
 use mc_plain::Commands;
 use mc_split::{
-    Form, Piece, Ticket, split_get, split_get_one, split_meta_get, split_meta_get_value,
-    split_meta_set, split_no_op, split_set,
+    Form, Piece, Ticket, form_of_get_one, form_of_meta_get_value, form_of_set, queue_get_one,
+    queue_meta_get_value, queue_set, split_get, split_meta_get, split_meta_set, split_no_op,
 };
 use std::alloc::Global;
 use std::collections::VecDeque;
@@ -35,6 +33,8 @@ pub(crate) struct Dispatcher {
 }
 
 impl Dispatcher {
+    ghost use Rattle.mc_conn.specs.internal.Dispatcher.{CanOpen, OpensSplit, refusal_of};
+
     /// Opens a form.
     #[inline(always)]
     fn open(&mut self, form: Form)
@@ -51,14 +51,32 @@ impl Dispatcher {
         };
     }
 
-    /// The form of a command that was split, or of the refusal where memory ran out.
+    /// Opens the form of the refusal "out of memory". It is kept out of line, so that the form of a command that was split
+    /// is moved once.
+    #[cold]
+    #[inline(never)]
+    fn open_refusal(&mut self)
+        requires { CanOpen self.old }
+        ensures joiner { self.new.joiner ≡ record self.old.joiner { forms = self.old.joiner.forms ++ refusal_of self.old ∷ [] } }
+        ensures joins { (opened : List Form) (accepted : List Shown) (handed : List (List ℕ)) →
+            IsJoiner self.old.joiner opened accepted handed → IsJoiner self.new.joiner (opened ++ refusal_of self.old ∷ []) accepted handed }
+        ensures unsent { self.new.unsent ≡ self.old.unsent }
+        ensures shards { self.new.shards ≡ self.old.shards }
+    {
+        let form = form_of_refusal(self.alloc, self.ticket, self.moment, self.shards);
+        self.open(form);
+    }
+
+    /// Opens the form of a command that was split, or of the refusal where memory ran out.
     #[inline(always)]
-    fn form_or_refusal(&self, split: Result<Form, NoMemory>) -> Form
-        ensures { MatchResult split (λ form. result ≡ form) (λ _. result ≡ form_of self.now.shards self.now.ticket (command.Refused refusal.Memory)) }
+    fn open_split(&mut self, split: Result<Form, NoMemory>)
+        requires can { CanOpen self.old }
+        requires number { IfOk split (λ form. form.ticket ≡ self.old.ticket) }
+        ensures { OpensSplit self.old split self.new }
     {
         match split {
-            Ok(form) => form,
-            Err(_) => form_of_refusal(self.alloc, self.ticket, self.moment, self.shards),
+            Ok(form) => self.open(form),
+            Err(_) => self.open_refusal(),
         }
     }
 }
@@ -76,17 +94,17 @@ impl Commands for Dispatcher {
     }
 
     fn get_one(&mut self, key: &[u8], with_unique: bool) {
-        let split = split_get_one(
+        match queue_get_one(
             self.alloc,
             key,
-            with_unique,
             self.ticket,
             self.moment,
             self.shards,
             &mut self.unsent,
-        );
-        let form = self.form_or_refusal(split);
-        self.open(form);
+        ) {
+            Ok(shown) => self.open(form_of_get_one(self.alloc, shown, with_unique, self.ticket)),
+            Err(_) => self.open_refusal(),
+        }
     }
 
     fn get(&mut self, first: &[u8], others: &[u8], with_unique: bool) {
@@ -100,21 +118,21 @@ impl Commands for Dispatcher {
             self.shards,
             &mut self.unsent,
         );
-        let form = self.form_or_refusal(split);
-        self.open(form);
+        self.open_split(split);
     }
 
     fn meta_get_value(&mut self, key: &[u8]) {
-        let split = split_meta_get_value(
+        match queue_meta_get_value(
             self.alloc,
             key,
             self.ticket,
             self.moment,
             self.shards,
             &mut self.unsent,
-        );
-        let form = self.form_or_refusal(split);
-        self.open(form);
+        ) {
+            Ok(()) => self.open(form_of_meta_get_value(self.ticket)),
+            Err(_) => self.open_refusal(),
+        }
     }
 
     fn meta_get(&mut self, get: MetaGet) {
@@ -126,8 +144,7 @@ impl Commands for Dispatcher {
             self.shards,
             &mut self.unsent,
         );
-        let form = self.form_or_refusal(split);
-        self.open(form);
+        self.open_split(split);
     }
 
     fn meta_set(&mut self, set: MetaSet, block: &[u8]) {
@@ -140,25 +157,24 @@ impl Commands for Dispatcher {
             self.shards,
             &mut self.unsent,
         );
-        let form = self.form_or_refusal(split);
-        self.open(form);
+        self.open_split(split);
     }
 
     fn set(&mut self, key: &[u8], flags: u32, exptime: i64, noreply: bool, block: &[u8]) {
-        let split = split_set(
+        match queue_set(
             self.alloc,
             key,
             flags,
             exptime,
-            noreply,
             block,
             self.ticket,
             self.moment,
             self.shards,
             &mut self.unsent,
-        );
-        let form = self.form_or_refusal(split);
-        self.open(form);
+        ) {
+            Ok(()) => self.open(form_of_set(self.ticket, noreply)),
+            Err(_) => self.open_refusal(),
+        }
     }
 
     #[inline(never)]

@@ -121,7 +121,7 @@ fn what_waits_is_counted(rt: HostRuntime) -> Result<(), Fail> {
 fn numbers_out_of_range_are_refused(rt: HostRuntime) {
     for (seats, shards, capacity) in [
         (0, 1, 1),
-        (65, 1, 1),
+        (4_097, 1, 1),
         (1, 0, 1),
         (1, 17, 1),
         (1, 1, 0),

@@ -24,7 +24,7 @@ abbrev least : Sizes
 least = record { seats = 1; shards = 1; bytes = 1024; ring = 1; value = 1024; window = 1 }
 
 abbrev most : Sizes
-most = record { seats = 64; shards = 16; bytes = 1073741824; ring = 1024; value = 8388608; window = 4096 }
+most = record { seats = 4096; shards = 16; bytes = 1073741824; ring = 1024; value = 8388608; window = 4096 }
 
 least_is_within : AreWithin least
 least_is_within = record {
@@ -54,7 +54,7 @@ record AreOut : Type 0 where
   no_place : ¬ AreWithin (record least { ring = 0 })
   short_value : ¬ AreWithin (record least { value = 1023 })
   no_window : ¬ AreWithin (record least { window = 0 })
-  many_seats : ¬ AreWithin (record most { seats = 65 })
+  many_seats : ¬ AreWithin (record most { seats = 4097 })
   many_shards : ¬ AreWithin (record most { shards = 17 })
   many_bytes : ¬ AreWithin (record most { bytes = 1073741825 })
   many_places : ¬ AreWithin (record most { ring = 1025 })
@@ -69,7 +69,7 @@ are_out = record {
   no_place = λ all. let bad : 1 ≤ 0 = all.ring.0 in absurd (omega (arith, bad));
   short_value = λ all. let bad : 1024 ≤ 1023 = all.value.0 in absurd (omega (arith, bad));
   no_window = λ all. let bad : 1 ≤ 0 = all.window.0 in absurd (omega (arith, bad));
-  many_seats = λ all. let bad : 65 ≤ 64 = all.seats.1 in absurd (omega (arith, bad));
+  many_seats = λ all. let bad : 4097 ≤ 4096 = all.seats.1 in absurd (omega (arith, bad));
   many_shards = λ all. let bad : 17 ≤ 16 = all.shards.1 in absurd (omega (arith, bad));
   many_bytes = λ all. let bad : 1073741825 ≤ 1073741824 = all.bytes.1 in absurd (omega (arith, bad));
   many_places = λ all. let bad : 1025 ≤ 1024 = all.ring.1 in absurd (omega (arith, bad));

@@ -2,11 +2,12 @@
 ghost use Rattle.std.specs.Prelude.{◌≡◌, ◌+◌, ◌≤◌, ◌==◌, [], length, IfOk};
 ghost use Rattle.std.specs.List.{list_all, position};
 ghost use Rattle.mc_item.specs.Value.{number_in, number_text, joined};
+ghost use Rattle.mc_wire.specs.Outlet.{Writes};
 ghost use Rattle.mc_wire.specs.Words.{is_space};
 
 use crate::memory::NoMemory;
 use itoa::Buffer;
-use mc_wire::{DIGIT_LIMIT, GREATEST_VALUE_LIMIT, number_u64};
+use mc_wire::{DIGIT_LIMIT, GREATEST_VALUE_LIMIT, OutFault, Outlet, number_u64, put_all};
 use std::alloc::{AllocError, Global};
 use std::marker::Model;
 use std::sync::ArcSlice;
@@ -70,6 +71,16 @@ impl Value {
         match &self.shared {
             Some(bytes) => bytes.as_slice(),
             None => &[],
+        }
+    }
+
+    /// Writes the value. An outlet that keeps what it is given may share it.
+    pub fn put_to<O: Outlet>(&self, out: &mut O) -> Result<(), OutFault>
+        ensures { Writes self.now result (O.sight out.old) (O.sight out.new) }
+    {
+        match &self.shared {
+            Some(block) => out.put_shared(block),
+            None => put_all(out, &[]),
         }
     }
 

@@ -36,7 +36,7 @@ front_of now waits old text same grown =
     ∙ (ap (λ n. take n (old ++ text)) at ∙ take-append-add old text (length text - length waits)))
 
 -- the bytes that the outlet took, where the last ones still wait
-traces : (old now : Trace) (waits text : List ℕ) → with_bytes now waits ≡ with_bytes old text → told old ≤ told now → now ≡ with_bytes old (take (length text - length waits) text)
+pub traces : (old now : Trace) (waits text : List ℕ) → with_bytes now waits ≡ with_bytes old text → told old ≤ told now → now ≡ with_bytes old (take (length text - length waits) text)
 traces Untold Untold waits text same grown = refl
 traces (Counted n) (Counted m) waits text same grown =
     let sums : m + length waits ≡ n + length text = cc in
@@ -83,3 +83,9 @@ put_and_sent {X} {E} text room left waits was is last start old mid new result e
             within = omega arith;
             sight = err ∙ ap broke (whole ∙ ap (λ xs. took xs old) (sym (take_all (length text) text (omega arith))));
           })
+
+-- an outlet that took more bytes has grown
+pub told-grows : (trace : Trace) (bytes : List ℕ) → told trace ≤ told (with_bytes trace bytes)
+told-grows Untold bytes = omega arith
+told-grows (Counted count) bytes = omega arith
+told-grows (Listed before) bytes = omega (arith, length-append before bytes)

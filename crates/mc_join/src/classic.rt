@@ -7,11 +7,12 @@ ghost use Rattle.mc_command.specs.Field.{AreKeys};
 ghost use Rattle.mc_split.specs.Text.{answer_line, item_text, plain_item, unique_item};
 ghost use Rattle.mc_join.specs.internal.Slots.{fixed_line, slot_text, first_text, items_text, lacks_memory};
 
+use crate::block::put_block;
 use crate::fixed::MEMORY_LINE;
 use crate::header::{HEADER_LIMIT, SHORT_VALUE, gathered};
 use itoa::Buffer;
 use mc_command::Keys;
-use mc_item::Answer;
+use mc_item::{Answer, Value};
 use mc_wire::{KEY_LIMIT, OutFault, Outlet, WordWalk, put_all, put_parts};
 
 /// Whether an answer says that memory ran out.
@@ -147,9 +148,9 @@ fn put_item<O: Outlet>(
             value,
         } => {
             if with_unique {
-                put_unique_item(out, key, *flags, *unique, value.bytes())
+                put_unique_item(out, key, *flags, *unique, value)
             } else {
-                put_plain_item(out, key, *flags, value.bytes())
+                put_plain_item(out, key, *flags, value)
             }
         }
         Answer::Stored
@@ -174,7 +175,7 @@ fn put_plain_item<O: Outlet>(
     out: &mut O,
     key: &[u8],
     flags: u32,
-    value: &[u8],
+    value: &Value,
 ) -> Result<(), OutFault>
     requires { length key.now ≤ KEY_LIMIT }
     ensures { Writes (plain_item key.now flags value.now) result (O.sight out.old) (O.sight out.new) }
@@ -188,7 +189,15 @@ fn put_plain_item<O: Outlet>(
         let item = gathered(
             &mut room,
             &[
-                b"VALUE ", key, b" ", flags, b" ", size, b"\r\n", value, b"\r\n",
+                b"VALUE ",
+                key,
+                b" ",
+                flags,
+                b" ",
+                size,
+                b"\r\n",
+                value.bytes(),
+                b"\r\n",
             ],
         );
         return put_all(out, item);
@@ -197,7 +206,7 @@ fn put_plain_item<O: Outlet>(
         &mut room,
         &[b"VALUE ", key, b" ", flags, b" ", size, b"\r\n"],
     );
-    put_parts(out, &[line, value, b"\r\n"])
+    put_block(out, line, value)
 }
 
 fn put_unique_item<O: Outlet>(
@@ -205,7 +214,7 @@ fn put_unique_item<O: Outlet>(
     key: &[u8],
     flags: u32,
     unique: u64,
-    value: &[u8],
+    value: &Value,
 ) -> Result<(), OutFault>
     requires { length key.now ≤ KEY_LIMIT }
     ensures { Writes (unique_item key.now flags unique value.now) result (O.sight out.old) (O.sight out.new) }
@@ -223,5 +232,5 @@ fn put_unique_item<O: Outlet>(
             b"VALUE ", key, b" ", flags, b" ", size, b" ", unique, b"\r\n",
         ],
     );
-    put_parts(out, &[line, value, b"\r\n"])
+    put_block(out, line, value)
 }

@@ -6,6 +6,7 @@ ghost use Rattle.mc_join.specs.internal.Gathered.{over, told};
 use crate::room::Room;
 use mc_wire::{OutFault, Outlet};
 use std::marker::{Brand, PhantomData};
+use std::sync::ArcSlice;
 
 /// What was seen of the outlet below when a gathering began. No code has it: the proof of the call that begins one says it.
 pub(crate) trait Start {
@@ -40,6 +41,16 @@ impl<S: Start, O: Outlet> Outlet for Gathering<'_, '_, S, O> {
             return Ok(bytes.len());
         }
         self.out.write(bytes)
+    }
+
+    /// What waits goes out first.
+    fn put_shared(&mut self, block: &ArcSlice<u8>) -> Result<(), OutFault> {
+        Gathering::send(self)?;
+        self.out.put_shared(block)
+    }
+
+    fn shares(&self) -> bool {
+        self.out.shares()
     }
 }
 

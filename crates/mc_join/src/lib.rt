@@ -1,6 +1,7 @@
 //! Replies in their turn: the texts of replies, and the answers held until their turn comes.
 #![tactic(auto)]
 
+mod block;
 mod classic;
 mod fixed;
 mod gathering;

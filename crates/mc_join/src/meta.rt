@@ -7,11 +7,12 @@ ghost use Rattle.mc_wire.specs.Outlet.{Writes};
 ghost use Rattle.mc_split.specs.Text.{meta_text, coded_text, flags_text, flag_text, item_flag, key_flag, left_flag};
 ghost use Rattle.mc_split.specs.Text as spec;
 
+use crate::block::put_block;
 use crate::classic::put_line;
 use crate::header::gathered;
 use itoa::Buffer;
 use mc_command::{MetaFlags, MetaKind, ReturnFlag};
-use mc_item::{Answer, Marks, MetaDone, MetaHit};
+use mc_item::{Answer, Marks, MetaDone, MetaHit, Value};
 use mc_wire::{BASE64_LIMIT, Key, OutFault, Outlet, put_all, put_parts};
 
 /// Room for `VA` and the size of a value.
@@ -92,7 +93,7 @@ fn put_found<O: Outlet>(
 {
     let end = marks_line(hit.marks);
     if value {
-        put_value(out, hit.value.bytes(), flags, key, answer, end)
+        put_hit(out, &hit.value, flags, key, answer, end)
     } else {
         put_head(out, b"HD", flags, key, answer, end)
     }
@@ -135,7 +136,26 @@ fn put_head<O: Outlet>(
     put_all(out, end)
 }
 
-/// Writes a reply with a value, behind its size, the flags, and what ends the line.
+/// Writes a reply with the value of a hit, behind its size, the flags, and what ends the line.
+fn put_hit<O: Outlet>(
+    out: &mut O,
+    value: &Value,
+    flags: &MetaFlags,
+    key: &Option<Key>,
+    answer: &Answer,
+    end: &[u8],
+) -> Result<(), OutFault>
+    ensures { Writes (codes "VA " ++ (decimal (length value.now) ++ (flags_text flags.now key.now answer.now ++ (end.now ++ (value.now ++ codes "\r\n"))))) result (O.sight out.old) (O.sight out.new) }
+{
+    let mut digits = Buffer::new();
+    let mut room = [0; SIZE_LIMIT];
+    let size = digits.format(value.len()).as_bytes();
+    put_all(out, gathered(&mut room, &[b"VA ", size]))?;
+    put_flags(out, flags, key, answer)?;
+    put_block(out, end, value)
+}
+
+/// Writes a reply with a number as its value, behind its size, the flags, and what ends the line.
 fn put_value<O: Outlet>(
     out: &mut O,
     value: &[u8],

@@ -103,4 +103,4 @@ abbrev pub MayServe : Options → Type 0
 MayServe Version = Unit {0}
 MayServe (Replay file) = Unit {0}
 MayServe (Stdio at limits) = AreWithin limits
-MayServe (Listen address seats connections limits) = (1 ≤ seats) × (seats ≤ 64) × AreWithin limits
+MayServe (Listen address seats connections limits) = (1 ≤ seats) × (seats ≤ 4096) × AreWithin limits

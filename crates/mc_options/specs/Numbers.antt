@@ -74,7 +74,7 @@ limits_by given =
 
 -- how many connections are served at a time
 abbrev pub seats_by : (List ℕ → Option (List ℕ)) → Result ℕ Wrong
-seats_by given = number_given (codes "seats") 1 16 64 (given (codes "seats"))
+seats_by given = number_given (codes "seats") 1 1024 4096 (given (codes "seats"))
 
 -- after how many connections the program ends, if it does
 abbrev pub connections_by : (List ℕ → Option (List ℕ)) → Result (Option ℕ) Wrong

@@ -21,7 +21,7 @@ use std::alloc::Global;
 const DEFAULT_SHARDS: usize = 2;
 
 /// How many connections are served at a time where nothing else is said.
-const DEFAULT_SEATS: usize = 16;
+const DEFAULT_SEATS: usize = 1_024;
 
 /// What the items of a shard may cost together where nothing else is said, in bytes.
 const DEFAULT_BUDGET: usize = 16_777_216;

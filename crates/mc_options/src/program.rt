@@ -39,7 +39,7 @@ fn with_limits<'a>(alloc: Global, command: Command<'a>) -> Result<Command<'a>, A
 {
     let shards = "Threads that own items, 1 to 16 [2]";
     let command = with_value(alloc, command, "shards", "N", shards)?;
-    let seats = "Connections served at a time, 1 to 64 [16]";
+    let seats = "Connections served at a time, 1 to 4096 [1024]";
     let command = with_value(alloc, command, "seats", "N", seats)?;
     let bytes = "Budget of a shard, 1k to 1g bytes [16m]";
     let command = with_value(alloc, command, "bytes", "N", bytes)?;

@@ -17,7 +17,7 @@ pub use seat::SeatEnds;
 pub use shard::ShardEnds;
 
 /// Seats: at most this many.
-pub const SEAT_LIMIT: usize = 64;
+pub const SEAT_LIMIT: usize = 4_096;
 
 /// Shards: at most this many.
 pub const SHARD_LIMIT: usize = 16;

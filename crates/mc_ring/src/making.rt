@@ -31,7 +31,7 @@ impl From<AllocError> for RingRefusal {
     }
 }
 
-/// The ends of a lane between each seat and each shard, with rings of this capacity. There are 1 to 64 seats, 1 to 16
+/// The ends of a lane between each seat and each shard, with rings of this capacity. There are 1 to 4,096 seats, 1 to 16
 /// shards and 1 to 1,024 places in a ring; `Size` where a number is outside these, which is tested first.
 pub fn lanes(
     alloc: Global,

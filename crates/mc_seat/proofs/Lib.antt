@@ -2,3 +2,4 @@ pub mod Fronts
 pub mod Standing
 pub mod Turns
 pub mod Along
+pub mod Later

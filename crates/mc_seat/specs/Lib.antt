@@ -1,4 +1,6 @@
 pub mod Lines
+pub mod Chunks
+pub mod Later
 pub mod Reads
 pub mod Story
 pub mod LineServed

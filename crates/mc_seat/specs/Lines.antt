@@ -1,9 +1,14 @@
 -- What a line is read by.
-use Rattle.std.specs.Prelude.{ℕ, ◌≡◌, List, take, Option, Some, None, Result, Ok, Err}
+use Rattle.std.specs.Prelude.{ℕ, ◌≡◌, ◌≤◌, List, take, Option, Some, None, Result, Ok, Err}
 use Rattle.mc_wire.specs.Outlet.{Sight, asked, broke, gave}
+use Rattle.mc_join.specs.internal.Gathered.{told}
 
 -- It was read where it had something to give: so many bytes stand in the room, or it failed and gave none. Else it is as it was.
 abbrev pub ReadsIfReady : {E : Type 0} → List ℕ → Result (Option ℕ) E → Sight → Sight → Type 0
 ReadsIfReady room (Ok (Some count)) old new = new ≡ gave (take count room) (asked old)
 ReadsIfReady room (Ok None) old new = new ≡ old
 ReadsIfReady room (Err fault) old new = new ≡ broke (asked old)
+
+-- The line has taken all the bytes that it had taken, as far as it tells how many they are.
+abbrev pub HasGrown : Sight → Sight → Type 0
+HasGrown old new = told old.taken ≤ told new.taken

@@ -2,8 +2,12 @@
 #![tactic(auto)]
 
 mod lines;
+mod rooms;
 mod seat;
 mod unread;
+mod unwritten;
 
-pub use lines::{Clock, Line, LineFault};
+pub use lines::{Clock, Line, LineFault, Ready};
+pub use rooms::Rooms;
 pub use seat::{Seat, Served, Turn};
+pub use unwritten::Unwritten;

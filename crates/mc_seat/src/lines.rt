@@ -1,13 +1,22 @@
 //! Where commands come from and replies go, and what tells the time.
-ghost use Rattle.std.specs.Prelude.{◌<◌, ◌≤◌, ℕ, IfOk, IfSome, length};
-ghost use Rattle.mc_wire.specs.Outlet.{Reads};
+ghost use Rattle.std.specs.Prelude.{◌≡◌, ◌<◌, ◌≤◌, ℕ, IfOk, IfSome, OnErr, length, take};
+ghost use Rattle.mc_wire.specs.Outlet.{Reads, broke, took};
 ghost use Rattle.mc_seat.specs.Lines.{ReadsIfReady};
 
-use mc_wire::Outlet;
+use mc_wire::{OutFault, Outlet};
 
 /// A line gives no more bytes: it has failed.
 #[derive(Clone, Copy, Debug, PartialEq, Eq)]
 pub struct LineFault;
+
+/// What came for a line that had nothing to give, or took nothing.
+#[derive(Clone, Copy, Debug, PartialEq, Eq)]
+pub enum Ready {
+    /// It may give bytes, or take some.
+    Open,
+    /// The same, and its input is at its end, or it has failed: from now on there is always something to read.
+    Closing,
+}
 
 /// A line of bytes in both directions, over memory, a stream or a socket. What it gave and took it tells, if it does, by what
 /// is seen of it as an outlet.
@@ -29,6 +38,25 @@ pub trait Line: Outlet {
         let count = self.read(room)?;
         Ok(Some(count))
     }
+
+    /// Takes a beginning of the bytes, as far as it can without waiting, and gives how many bytes it took: none where it takes
+    /// nothing now. At a fault it takes none, and has failed. Where it isn't told how else, a line waits until it takes some.
+    fn write_if_ready(&mut self, bytes: &[u8]) -> Result<usize, OutFault>
+        ensures within { IfOk result (λ count. count ≤ length bytes.now) }
+        ensures ok { IfOk result (λ count. Self.sight self.new ≡ took (take count bytes.now) (Self.sight self.old)) }
+        ensures err { OnErr result (Self.sight self.new ≡ broke (Self.sight self.old)) }
+    {
+        self.write(bytes)
+    }
+
+    /// Gives the line up: it counts as failed from now on.
+    fn give_up(&mut self)
+        ensures { Self.sight self.new ≡ broke (Self.sight self.old) };
+
+    /// Tells the line that it may give bytes or take some again. Nothing that is seen of it changes.
+    fn rouse(&mut self, _ready: Ready)
+        ensures { Self.sight self.new ≡ Self.sight self.old }
+    {}
 }
 
 /// Tells the time in seconds since 1970.

@@ -1,10 +1,11 @@
 //! The steps of a seat: once the commands taken are answered, it hands out their replies and reads on.
-ghost use Rattle.std.specs.Prelude.{◌≡◌, [], IfOk};
+ghost use Rattle.std.specs.Prelude.{◌≡◌, []};
 
 use crate::lines::Line;
-use crate::unread::Unread;
+use crate::rooms::Rooms;
+use crate::unread::{Refilled, Unread};
 use mc_conn::{Conn, Taken};
-use std::alloc::{AllocError, Global};
+use std::alloc::Global;
 
 /// What became of a line.
 #[derive(Clone, Copy, Debug, PartialEq, Eq)]
@@ -35,15 +36,15 @@ pub struct Seat {
 }
 
 impl Seat {
-    ghost use Rattle.mc_seat.specs.internal.Steps.{FeedSays, GoOnSays, ReadOnSays};
+    ghost use Rattle.mc_seat.specs.internal.Steps.{FeedSays, GoOnSays, HandedSays, ReadOnSays};
 
     /// A seat before its first line.
-    pub fn new(alloc: Global) -> Result<Seat, AllocError>
-        ensures { IfOk result (λ seat. seat.unread ≡ []) }
+    pub fn new(alloc: Global) -> Seat
+        ensures { result.unread ≡ [] }
     {
-        Ok(Seat {
-            unread: Unread::new(alloc)?,
-        })
+        Seat {
+            unread: Unread::new(alloc),
+        }
     }
 
     /// The seat before its next line, in the room that it has.
@@ -55,14 +56,34 @@ impl Seat {
 
     /// Hands out the replies to the commands taken, all of which are answered; where no further command was taken because more
     /// bytes are needed, it reads on.
-    pub fn go_on<L: Line>(&mut self, conn: &mut Conn, line: &mut L, stop: Taken) -> Turn
+    pub fn go_on<L: Line>(
+        &mut self,
+        conn: &mut Conn,
+        line: &mut L,
+        stop: Taken,
+        rooms: &mut Rooms,
+    ) -> Turn
         ensures { GoOnSays result stop conn.old self.old.unread (L.sight line.old) conn.new self.new.unread (L.sight line.new) }
     {
         if let Err(_gone) = conn.hand(line) {
             return Turn::Broke;
         }
+        self.go_on_reading(conn, line, stop, rooms)
+    }
+
+    /// Goes on once the line took the replies to all commands taken: it reads, where no further command was taken because more
+    /// bytes are needed.
+    pub fn go_on_reading<L: Line>(
+        &mut self,
+        conn: &mut Conn,
+        line: &mut L,
+        stop: Taken,
+        rooms: &mut Rooms,
+    ) -> Turn
+        ensures { HandedSays result stop conn.old self.old.unread (L.sight line.old) conn.new self.new.unread (L.sight line.new) }
+    {
         match stop {
-            Taken::NeedMore => self.read_on(conn, line),
+            Taken::NeedMore => self.read_on(conn, line, rooms),
             Taken::Closed => Turn::Ends,
             Taken::Opened(_) | Taken::Full => Turn::Goes,
         }
@@ -70,34 +91,37 @@ impl Seat {
 
     /// Reads on, once all replies are handed out: what was read is fed to the connection as far as it takes it, and where all
     /// of it was fed, more is read first.
-    fn read_on<L: Line>(&mut self, conn: &mut Conn, line: &mut L) -> Turn
+    fn read_on<L: Line>(&mut self, conn: &mut Conn, line: &mut L, rooms: &mut Rooms) -> Turn
         ensures { ReadOnSays result conn.old self.old.unread (L.sight line.old) conn.new self.new.unread (L.sight line.new) }
     {
         if !self.unread.is_empty() {
-            self.feed(conn);
+            self.feed(conn, rooms);
             return Turn::Goes;
         }
-        match self.unread.refill(line) {
+        match self.unread.refill(line, rooms) {
             Err(_fault) => {
                 conn.broken();
                 return Turn::Broke;
             }
-            Ok(false) => return Turn::Waits,
-            Ok(true) => {}
+            Ok(Refilled::Nothing) => return Turn::Waits,
+            Ok(Refilled::NoRoom) => return Turn::Goes,
+            Ok(Refilled::Bytes) => {}
         }
         if self.unread.is_empty() {
+            self.unread.give_back(rooms);
             conn.end();
             return Turn::Goes;
         }
-        self.feed(conn);
+        self.feed(conn, rooms);
         Turn::Goes
     }
 
     /// Feeds what was read to the connection, as far as it takes it.
-    fn feed(&mut self, conn: &mut Conn)
+    fn feed(&mut self, conn: &mut Conn, rooms: &mut Rooms)
         ensures { FeedSays conn.old self.old.unread conn.new self.new.unread }
     {
         let count = conn.feed(self.unread.bytes());
         self.unread.advance(count);
+        self.unread.give_back(rooms);
     }
 }

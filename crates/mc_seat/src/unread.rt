@@ -1,43 +1,55 @@
 //! The bytes that were read of a line and not fed to its connection yet.
-ghost use Rattle.std.specs.Prelude.{◌≡◌, ◌==◌, ◌≤◌, [], OnErr, IfOk, IsTrue, false, length, drop};
+ghost use Rattle.std.specs.Prelude.{◌≡◌, ◌≢◌, ◌==◌, ◌≤◌, [], OnErr, IfOk, length, drop};
 ghost use Rattle.mc_wire.specs.Outlet.{asked, broke, gave};
+ghost use Rattle.mc_seat.specs.declared.unread.Refilled.TheVariants.{Bytes};
 
 use crate::lines::{Line, LineFault};
-use std::alloc::{AllocError, Global};
+use crate::rooms::Rooms;
+use std::alloc::Global;
 use std::marker::Model;
+use std::mem;
 
-/// At most this many bytes are read at once.
-const ROOM: usize = 65_536;
-
-/// Bytes that were read and not fed yet, in a room that is taken once.
+/// Bytes that were read and not fed yet. It has a room only while there are some.
 #[derive(Drop)]
 pub(crate) struct Unread {
+    alloc: Global,
     room: Vec<u8>,
     start: usize,
     end: usize,
 }
 
+/// What a line gave.
+#[derive(Clone, Copy, Debug, PartialEq, Eq)]
+pub(crate) enum Refilled {
+    /// Some bytes, or none at the end of its input.
+    Bytes,
+    /// Nothing yet.
+    Nothing,
+    /// It wasn't asked, since there is no memory for a room.
+    NoRoom,
+}
+
 impl Model for Unread {
-    ghost use Rattle.std.specs.Prelude.{ℕ, List, ◌-◌, ◌<◌, ◌≤◌, take, drop, length};
+    ghost use Rattle.std.specs.Prelude.{ℕ, List, ◌-◌, ◌≤◌, take, drop, length};
 
     ghost Value = { List ℕ };
 
     ghost view = { λ unread. take (unread.end - unread.start) (drop unread.start unread.room.items) };
 
-    ghost invariant = { λ unread. (unread.start ≤ unread.end) × (unread.end ≤ length unread.room.items) × (0 < length unread.room.items) };
+    ghost invariant = { λ unread. (unread.start ≤ unread.end) × (unread.end ≤ length unread.room.items) };
 }
 
 impl Unread {
-    /// No bytes, and the room for those that will be read.
-    pub(crate) fn new(alloc: Global) -> Result<Unread, AllocError>
-        ensures { IfOk result (λ unread. unread ≡ []) }
+    /// No bytes. It takes no memory.
+    pub(crate) fn new(alloc: Global) -> Unread
+        ensures { result ≡ [] }
     {
-        let room = vec![in alloc; 0; ROOM]?;
-        Ok(Unread {
-            room,
+        Unread {
+            alloc,
+            room: Vec::new(alloc),
             start: 0,
             end: 0,
-        })
+        }
     }
 
     /// Whether there are none.
@@ -63,27 +75,56 @@ impl Unread {
         self.start += count;
     }
 
-    /// Lets go of those that are there.
+    /// Lets go of those that are there, and of the room.
     pub(crate) fn clear(&mut self)
         ensures { self.new ≡ [] }
     {
-        self.start = self.end;
+        self.room = Vec::new(self.alloc);
+        self.start = 0;
+        self.end = 0;
     }
 
-    /// Reads more bytes in place of those that are there: none only at the end of the line. Tells whether the line had
-    /// something to give; else none are there.
-    pub(crate) fn refill<L: Line>(&mut self, line: &mut L) -> Result<bool, LineFault>
-        ensures ok { IfOk result (λ ready. IsTrue ready → L.sight line.new ≡ gave self.new (asked (L.sight line.old))) }
-        ensures waits { IfOk result (λ ready. ready ≡ false → L.sight line.new ≡ L.sight line.old) }
-        ensures none { IfOk result (λ ready. ready ≡ false → self.new ≡ []) }
+    /// Gives the room back, where no bytes stand in it.
+    pub(crate) fn give_back(&mut self, rooms: &mut Rooms)
+        ensures { self.new ≡ self.old }
+    {
+        if self.start == self.end {
+            self.start = 0;
+            self.end = 0;
+            rooms.keep(mem::replace(&mut self.room, Vec::new(self.alloc)));
+        }
+    }
+
+    /// Reads more bytes in place of those that are there: none only at the end of the line.
+    pub(crate) fn refill<L: Line>(
+        &mut self,
+        line: &mut L,
+        rooms: &mut Rooms,
+    ) -> Result<Refilled, LineFault>
+        ensures bytes { IfOk result (λ got. got ≡ Bytes → L.sight line.new ≡ gave self.new (asked (L.sight line.old))) }
+        ensures same { IfOk result (λ got. got ≢ Bytes → L.sight line.new ≡ L.sight line.old) }
+        ensures none { IfOk result (λ got. got ≢ Bytes → self.new ≡ []) }
         ensures err { OnErr result (L.sight line.new ≡ broke (asked (L.sight line.old))) }
     {
         self.start = 0;
         self.end = 0;
-        let Some(count) = line.read_if_ready(&mut self.room)? else {
-            return Ok(false);
+        let Ok(mut room) = rooms.take() else {
+            return Ok(Refilled::NoRoom);
         };
-        self.end = count;
-        Ok(true)
+        match line.read_if_ready(room.as_mut_slice()) {
+            Ok(Some(count)) => {
+                self.room = room;
+                self.end = count;
+                Ok(Refilled::Bytes)
+            }
+            Ok(None) => {
+                rooms.keep(room);
+                Ok(Refilled::Nothing)
+            }
+            Err(fault) => {
+                rooms.keep(room);
+                Err(fault)
+            }
+        }
     }
 }

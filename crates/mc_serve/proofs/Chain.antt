@@ -1,25 +1,14 @@
 -- The lines of a seat, one after another.
 use Rattle.std.proofs.Common.{◌≡◌, ℕ, Bool, true, false, List, [], ◌∷◌, ◌++◌, length, map, Option, Some, None, refl, sym, ap, subst, ◌∙◌, append_assoc, append-nil}
-use Rattle.std.specs.Prelude.{IsTrue}
 use Rattle.std.proofs.Math.Path.{Singl, contract, subst_refl}
 use Rattle.mc_wire.specs.Outlet.{Sight}
 use Rattle.mc_ring.specs.Lane.{Near}
 use Rattle.mc_ring.specs.Ends.{AreSameEnds, Ends}
 use Rattle.mc_ring.specs.EndsLaws.{same_ends-refl, same_ends-trans}
-use Rattle.mc_conn.specs.declared.conn.Conn.{Conn}
-use Rattle.mc_conn.specs.Conn.{IsConn}
-use Rattle.mc_conn.specs.Told.{told_nothing}
 use Rattle.mc_server.specs.Explains.{LineTold}
-use Rattle.mc_threads.specs.declared.session.Session.{Session}
-use Rattle.mc_threads.specs.Session.{IsVacant, MayBegin}
 use Rattle.mc_threads.proofs.Orders.{map_one}
-use Rattle.mc_serve.specs.Told.{Comes, DoorTold, IsDone, IsFree, IsNext, Passes, Told, Untold, closed, later, let_in, took_back}
-use Rattle.mc_serve.specs.Seats.{AllFit, LineFits, SeatAt, ServesDoor, ServesLine, ServesLines, ServesNext, Sits, seat_at}
-
--- A seat that may begin a line is vacant, for whatever limit and window its connection is new.
-pub serves_vacant : {X : ℕ → Type 0} (session : Session) → MayBegin session → ((limit window : ℕ) → IsVacant limit window session → X limit)
-    → (limit window : ℕ) → IsConn session.conn (told_nothing (length session.courier.ends.lanes) limit window) → X limit
-serves_vacant session may says limit window is = says limit window (record { conn_is = is; idle = may.2.idle; none_read = may.2.none_read })
+use Rattle.mc_serve.specs.Told.{Comes, DoorTold, IsFree, IsNext, Passes, Told, Untold, later, let_in, took_back}
+use Rattle.mc_serve.specs.Seats.{AllFit, LineFits, SeatAt, ServesLine, ServesLines}
 
 pub passes_none : (door : DoorTold) → Passes door [] door
 passes_none Untold = refl
@@ -88,47 +77,19 @@ module _ (shards limit : ℕ) (may_answer : ℕ → Type 0) where
   fits_last [] line first now last are this fits = fits_moved line now first last are this fits.0
   fits_last (l ∷ lines) line first now last are this fits = fits_last lines line are.0 now last are.2 this fits.1
 
-  -- One line more was served.
-  pub record OneMore (sat rose : SeatAt) (conn : Conn) (another : Bool) : Type 0 where
+  -- One line more was served, and why no other is.
+  pub record OneMore (sat rose : SeatAt) (another : Bool) : Type 0 where
     pub lines : List LineTold
     pub door : Passes sat.door lines rose.door
     pub lines_are : ServesLines shards limit may_answer lines sat.ends rose.ends
     pub stops : another ≡ false → AllFit shards limit may_answer lines sat.ends rose.ends lines_are → ⊥
-    pub again : IsTrue another → (window : ℕ) × IsConn conn (told_nothing shards limit window)
 
-  one_more : (sat now rose : SeatAt) (accepted : DoorTold) (begin : Sight) (old new : Conn) (another : Bool) → IsFree sat.door → IsNext begin now.door → accepted ≡ let_in begin now.door → (sits : Sits shards limit may_answer sat now old)
-      → ServesNext shards limit may_answer begin (seat_at accepted now.ends) rose new another → OneMore sat rose new another
-  one_more sat now rose accepted begin old new another free next came sits says =
-      let line : LineTold = record { begin = begin; now = says.now; commands = says.commands; broke = says.broke } in
-      record {
-        lines = sits.lines ++ line ∷ [];
-        door = passes_more sat.door now.door accepted rose.door sits.lines line free sits.door next came says.door;
-        lines_are = lines_more sits.lines line sat.ends now.ends rose.ends sits.lines_are says.line;
-        stops = λ stopped fits. says.stops stopped (fits_last sits.lines line sat.ends now.ends rose.ends sits.lines_are says.line fits);
-        again = says.again;
-      }
-
-  pub sits_first : (sat : SeatAt) (conn : Conn) (window : ℕ) → IsConn conn (told_nothing shards limit window) → Sits shards limit may_answer sat sat conn
-  sits_first sat conn window is = record { lines = []; door = passes_none sat.door; lines_are = refl; window = window; conn_is = is }
-
-  pub sits_on : (sat rose : SeatAt) (conn : Conn) → OneMore sat rose conn true → Sits shards limit may_answer sat rose conn
-  sits_on sat rose conn more = record { lines = more.lines; door = more.door; lines_are = more.lines_are; window = (more.again refl).0; conn_is = (more.again refl).1 }
-
-  pub sits_last : (sat rose : SeatAt) (conn : Conn) → OneMore sat rose conn false → ServesDoor shards limit may_answer sat rose
-  sits_last sat rose conn more = record { lines = more.lines; passed = rose.door; door = more.door; lines_are = more.lines_are; over = λ fits. absurd (more.stops refl fits) }
-
-  -- Nothing came.
-  pub sits_still : (sat now : SeatAt) (door : DoorTold) (conn : Conn) → door ≡ now.door → Sits shards limit may_answer sat now conn → Sits shards limit may_answer sat (seat_at door now.ends) conn
-  sits_still sat now door conn same sits = let P : DoorTold → Type 0 = λ d. Passes sat.door sits.lines d in record { lines = sits.lines; door = subst P (sym same) sits.door; lines_are = sits.lines_are; window = sits.window; conn_is = sits.conn_is }
-
-  pub sits_over : (sat now : SeatAt) (door : DoorTold) (conn : Conn) → IsDone now.door → door ≡ closed now.door → Sits shards limit may_answer sat now conn → ServesDoor shards limit may_answer sat (seat_at door now.ends)
-  sits_over sat now door conn done is sits = record { lines = sits.lines; passed = now.door; door = sits.door; lines_are = sits.lines_are; over = λ fits. record { done = done; now = is } }
-
--- One line more, served over the ends as they are.
-pub sits_more : (limit : ℕ) (may_answer : ℕ → Type 0) (sat now rose : SeatAt) (accepted : DoorTold) (begin : Sight) (old new : Conn) (another : Bool) → IsFree sat.door → IsNext begin now.door → accepted ≡ let_in begin now.door → Sits (length sat.ends.lanes) limit may_answer sat now old
-    → ((limit window : ℕ) → IsConn old (told_nothing (length now.ends.lanes) limit window) → ServesNext (length now.ends.lanes) limit may_answer begin (seat_at accepted now.ends) rose new another) → OneMore (length sat.ends.lanes) limit may_answer sat rose new another
-sits_more limit may_answer sat now rose accepted begin old new another free next came sits says =
-    let shards = length sat.ends.lanes in
-    let same = lines_same shards limit may_answer sits.lines sat.ends now.ends sits.lines_are in
-    let P : ℕ → Type 0 = λ n. (limit window : ℕ) → IsConn old (told_nothing n limit window) → ServesNext n limit may_answer begin (seat_at accepted now.ends) rose new another in
-    one_more shards limit may_answer sat now rose accepted begin old new another free next came sits (subst P same.count says limit sits.window sits.conn_is)
+  pub one_more : (sat rose : SeatAt) (lines : List LineTold) (line : LineTold) (before door : DoorTold) (ends : Ends Near) (another : Bool) → IsFree sat.door → Passes sat.door lines before → IsNext line.begin before → door ≡ let_in line.begin before
+      → rose.door ≡ took_back line.now line.commands line.broke door → ServesLines shards limit may_answer lines sat.ends ends
+      → (this : ServesLine shards limit may_answer line ends rose.ends) → (another ≡ false → LineFits shards limit may_answer line ends rose.ends this → ⊥) → OneMore sat rose another
+  one_more sat rose lines line before door ends another free passed next came back are this stops = record {
+    lines = lines ++ line ∷ [];
+    door = passes_more sat.door before door rose.door lines line free passed next came back;
+    lines_are = lines_more lines line sat.ends ends rose.ends are this;
+    stops = λ stopped fits. stops stopped (fits_last lines line sat.ends ends rose.ends are this fits);
+  }

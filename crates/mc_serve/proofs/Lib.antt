@@ -6,8 +6,10 @@ pub mod Lanes
 pub mod Served
 pub mod WorkerLogs
 pub mod Chain
+pub mod Steps
 pub mod Segments
 pub mod AtDoors
+pub mod Parts
 pub mod Sent
 pub mod TcpSent
 pub mod One

@@ -2,7 +2,9 @@
 use denote.RattleType.{RattleType}
 use denote.Param.Send.{IsSend, sendable}
 use Rattle.std.proofs.Crossing.{crosses}
+use Rattle.mc_serve.proofs.entrance.Way.TheSendSync as way
+use Rattle.mc_serve.proofs.lingering.Lingering.TheSendSync as lingering
 use Rattle.mc_serve.specs.contracts.tcp_door.TcpDoor as door
 
 pub tcp_send : (R : RattleType) → IsSend R → IsSend (door.the_row R)
-tcp_send R sent = search (sendable, crosses) depth 20
+tcp_send R sent = search (way.the_field_send, lingering.the_send, sendable, crosses) depth 20

@@ -1,5 +1,5 @@
 -- Two lists, element by element, and what stands at a place.
-use Rattle.std.proofs.Common.{◌≡◌, ℕ, zero, suc, List, [], ◌∷◌, length, map, Some, refl, ap, subst}
+use Rattle.std.proofs.Common.{◌≡◌, ℕ, zero, suc, List, [], ◌∷◌, ◌++◌, length, map, Some, refl, ap, subst, slice_set}
 use Rattle.std.specs.List.{AllByRecursion, slice_get}
 use Rattle.std.proofs.lemmas.Option.{same_Some}
 use Rattle.mc_crew.specs.Zips.{Zips}
@@ -9,6 +9,13 @@ zips_length R [] [] zips = refl
 zips_length R [] (y ∷ ys) zips = absurd zips
 zips_length R (x ∷ xs) [] zips = absurd zips
 zips_length R (x ∷ xs) (y ∷ ys) zips = ap suc (zips_length R xs ys zips.1)
+
+-- Two lists whose elements are in the relation that follows.
+pub zips_follow : {A B : Type 0} (xs : List A) (ys : List B) (P : A → Type 0) (R S : A → B → Type 0) → ((x : A) (y : B) → P x → R x y → S x y) → AllByRecursion P xs → Zips R xs ys → Zips S xs ys
+zips_follow [] [] P R S follows all zips = tt
+zips_follow [] (y ∷ ys) P R S follows all zips = absurd zips
+zips_follow (x ∷ xs) [] P R S follows all zips = absurd zips
+zips_follow (x ∷ xs) (y ∷ ys) P R S follows all zips = (follows x y all.0 zips.0, zips_follow xs ys P R S follows all.1 zips.1)
 
 -- Two lists that are seen by functions are in the relation that follows.
 pub zips_map : {A B C D : Type 0} (xs : List A) (ys : List B) (P : A → Type 0) (R : A → B → Type 0) (S : C → D → Type 0) (f : A → C) (g : B → D) → ((x : A) (y : B) → P x → R x y → S (f x) (g y)) → AllByRecursion P xs → Zips R xs ys → Zips S (map f xs) (map g ys)
@@ -56,3 +63,18 @@ get_map f (y ∷ xs) (suc i) x here = get_map f xs i x here
 pub all_map : {A B : Type 0} (P : B → Type 0) (f : A → B) (xs : List A) → AllByRecursion (λ x. P (f x)) xs → AllByRecursion P (map f xs)
 all_map P f [] all = tt
 all_map P f (x ∷ xs) all = (all.0, all_map P f xs all.1)
+
+-- One element has changed, and is as before to what stands in its place.
+pub zips_set : {A B : Type 0} (R : A → B → Type 0) (xs : List A) (ys : List B) (i : ℕ) (old new : B) → slice_get ys i ≡ Some old → ((x : A) → R x old → R x new) → Zips R xs ys → Zips R xs (slice_set ys i new)
+zips_set R xs [] i old new here keeps zips = zips
+zips_set R [] (y ∷ ys) i old new here keeps zips = absurd zips
+zips_set {A} {B} R (x ∷ xs) (y ∷ ys) zero old new here keeps zips =
+    let P : B → Type 0 = λ b. R x b in
+    (keeps x (subst P (same_Some y old here) zips.0), zips.1)
+zips_set R (x ∷ xs) (y ∷ ys) (suc i) old new here keeps zips = (zips.0, zips_set R xs ys i old new here keeps zips.1)
+
+pub zips_append : {A B : Type 0} (R : A → B → Type 0) (xs : List A) (ys : List B) (more : List A) (more' : List B) → Zips R xs ys → Zips R more more' → Zips R (xs ++ more) (ys ++ more')
+zips_append R [] [] more more' zips rest = rest
+zips_append R [] (y ∷ ys) more more' zips rest = absurd zips
+zips_append R (x ∷ xs) [] more more' zips rest = absurd zips
+zips_append R (x ∷ xs) (y ∷ ys) more more' zips rest = (zips.0, zips_append R xs ys more more' zips.1 rest)

@@ -1,24 +1,19 @@
 -- What a seat's thread promises of its door.
-use Rattle.std.specs.Prelude.{ℕ, ◌≡◌, Bool, false, List, [], ◌∷◌, length, IsTrue}
+use Rattle.std.specs.Prelude.{ℕ, ◌≡◌, List, [], ◌∷◌, length}
 use Rattle.mc_wire.specs.Outlet.{Sight}
 use Rattle.mc_ring.specs.Lane.{Near}
 use Rattle.mc_ring.specs.Ends.{Ends}
 use Rattle.mc_conn.specs.declared.conn.Conn.{Conn}
-use Rattle.mc_conn.specs.Conn.{IsConn}
 use Rattle.mc_conn.specs.Fits.{KeysFit}
-use Rattle.mc_conn.specs.Told.{told_nothing}
 use Rattle.mc_seat.specs.LineServed.{LineServed}
 use Rattle.mc_server.specs.Explains.{LineTold}
+use Rattle.mc_threads.specs.Ending.{EndsFirst}
 use Rattle.mc_threads.specs.Serving.{EndsAll}
-use Rattle.mc_threads.specs.Session.{IsVacant}
+use Rattle.mc_threads.specs.Session.{IsServing, IsVacant, MayStep}
 use Rattle.mc_threads.specs.declared.session.Session.{Session}
-use Rattle.mc_server.specs.declared.serve as serve
-use Rattle.mc_serve.specs.Told.{DoorTold, IsDone, Passes, closed, took_back}
-
--- The seat may serve a line, under these sizes.
-pub record CanServe (sizes : serve.Sizes.Sizes) (session : Session) : Type 0 where
-  pub vacant : IsVacant sizes.value sizes.window session
-  pub width : length session.courier.ends.lanes ≡ sizes.shards
+use Rattle.mc_serve.specs.Told.{DoorTold, IsDone, IsFree, IsNext, Passes, closed, let_in}
+use Rattle.mc_serve.specs.declared.sitting.Phase.{Phase}
+use Rattle.mc_serve.specs.declared.sitting.Phase.TheVariants as phase
 
 -- The line was served between these ends.
 pub record ServesLine (shards limit : ℕ) (may_answer : ℕ → Type 0) (line : LineTold) (before after : Ends Near) : Type 0 where
@@ -48,24 +43,6 @@ pub record SeatAt : Type 0 where
 abbrev pub seat_at : DoorTold → Ends Near → SeatAt
 seat_at door ends = record { door = door; ends = ends }
 
--- The line that was out was served and went back; and the connection may serve another.
-pub record ServesNext (shards limit : ℕ) (may_answer : ℕ → Type 0) (begin : Sight) (sat rose : SeatAt) (conn : Conn) (another : Bool) : Type 0 where
-  pub now : Sight
-  pub commands : ℕ
-  pub broke : Bool
-  pub line : ServesLine shards limit may_answer (record { begin = begin; now = now; commands = commands; broke = broke }) sat.ends rose.ends
-  pub door : rose.door ≡ took_back now commands broke sat.door
-  pub again : IsTrue another → (window : ℕ) × IsConn conn (told_nothing shards limit window)
-  pub stops : another ≡ false → LineFits shards limit may_answer (record { begin = begin; now = now; commands = commands; broke = broke }) sat.ends rose.ends line → ⊥
-
--- Lines of the door were served, and the connection may serve another.
-pub record Sits (shards limit : ℕ) (may_answer : ℕ → Type 0) (sat now : SeatAt) (conn : Conn) : Type 0 where
-  pub lines : List LineTold
-  pub door : Passes sat.door lines now.door
-  pub lines_are : ServesLines shards limit may_answer lines sat.ends now.ends
-  pub window : ℕ
-  pub conn_is : IsConn conn (told_nothing shards limit window)
-
 -- The door said that no more lines come.
 pub record IsClosed (before after : DoorTold) : Type 0 where
   pub done : IsDone before
@@ -88,3 +65,63 @@ pub record SeatServes (shards limit : ℕ) (may_answer : ℕ → Type 0) (sat ro
   pub lines_are : ServesLines shards limit may_answer lines sat.ends served
   pub over : AllFit shards limit may_answer lines sat.ends served lines_are → IsClosed passed rose.door
   pub closed : EndsAll served rose.ends
+
+-- Lines of the door were served, none is out, and the seat may serve another.
+pub record SitsFree (shards limit : ℕ) (may_answer : ℕ → Type 0) (sat : SeatAt) (door : DoorTold) (session : Session) : Type 0 where
+  pub free : IsFree sat.door
+  pub lines : List LineTold
+  pub passed : Passes sat.door lines door
+  pub lines_are : ServesLines shards limit may_answer lines sat.ends session.courier.ends
+  pub width : length session.courier.ends.lanes ≡ shards
+  pub window : ℕ
+  pub vacant : IsVacant limit window session
+
+-- Lines of the door were served, and the one that is out is being served; it is so now.
+pub record SitsServing (shards limit : ℕ) (may_answer : ℕ → Type 0) (sat : SeatAt) (door : DoorTold) (now : Sight) (session : Session) : Type 0 where
+  pub free : IsFree sat.door
+  pub lines : List LineTold
+  -- the door before the line came in, and the line and the ends as it came in
+  pub before : DoorTold
+  pub begin : Sight
+  pub ends : Ends Near
+  pub passed : Passes sat.door lines before
+  pub next : IsNext begin before
+  pub came : door ≡ let_in begin before
+  pub lines_are : ServesLines shards limit may_answer lines sat.ends ends
+  pub width : length ends.lanes ≡ shards
+  pub serving : IsServing shards limit may_answer begin now ends session
+
+-- Lines of the door were served, and then the first so many lanes were closed.
+pub record SitsClosing (shards limit : ℕ) (may_answer : ℕ → Type 0) (count : ℕ) (sat : SeatAt) (door : DoorTold) (ends : Ends Near) : Type 0 where
+  pub served : Ends Near
+  pub serves : ServesDoor shards limit may_answer sat (seat_at door served)
+  pub closed : EndsFirst count served ends
+
+-- How a seat stands between two steps, since it began like this.
+abbrev pub SeatStands : {L : Type 0} → (L → Sight) → ℕ → ℕ → (ℕ → Type 0) → SeatAt → DoorTold → Session → Phase L → Type 0
+SeatStands sight shards limit may_answer sat door session phase.Free = SitsFree shards limit may_answer sat door session
+SeatStands sight shards limit may_answer sat door session (phase.Serving line) = SitsServing shards limit may_answer sat door (sight line) session
+SeatStands sight shards limit may_answer sat door session (phase.Closing count) = SitsClosing shards limit may_answer count sat door session.courier.ends
+SeatStands sight shards limit may_answer sat door session phase.Over = SeatServes shards limit may_answer sat (seat_at door session.courier.ends)
+
+-- A seat before its first step.
+pub record HasSatDown {L : Type 0} (shards limit : ℕ) (door : DoorTold) (session : Session) (now : Phase L) : Type 0 where
+  pub none : now ≡ phase.Free
+  pub free : IsFree door
+  pub width : length session.courier.ends.lanes ≡ shards
+  pub window : ℕ
+  pub vacant : IsVacant limit window session
+
+-- Where a line is out, the session serves it.
+abbrev pub CanStep : {L : Type 0} → Phase L → Session → Type 0
+CanStep phase.Free session = Unit {0}
+CanStep (phase.Serving line) session = MayStep session
+CanStep (phase.Closing count) session = Unit {0}
+CanStep phase.Over session = Unit {0}
+
+-- One lane more was closed, or none; or all of them were closed before.
+abbrev pub ClosesOn : {L : Type 0} → Ends Near → Phase L → Ends Near → Type 0
+ClosesOn served phase.Free ends = ⊥
+ClosesOn served (phase.Serving line) ends = ⊥
+ClosesOn served (phase.Closing count) ends = EndsFirst count served ends
+ClosesOn served phase.Over ends = EndsAll served ends

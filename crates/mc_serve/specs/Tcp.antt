@@ -1,5 +1,5 @@
 -- What is told of connections over TCP.
-use Rattle.std.specs.Prelude.{ℕ, ◌≡◌, ◌+◌, ◌-◌, ◌^◌, min, Bool, true, false, List, [], ◌∷◌, Some, None, length, map}
+use Rattle.std.specs.Prelude.{ℕ, ◌≡◌, ◌+◌, ◌-◌, ◌^◌, min, Bool, true, false, List, [], ◌∷◌, Option, Some, None, Result, Ok, Err, length, map, take}
 use Rattle.std.specs.List.{AllByRecursion, slice_get}
 use Rattle.mc_wire.specs.Outlet.{Listed, Read, Sight}
 use Rattle.mc_core.specs.Sizes.{Sizes}
@@ -8,6 +8,8 @@ use Rattle.mc_server.specs.Explains.{IsLogOf, LineTold}
 use Rattle.mc_serve.specs.Told.{DoorTold, Told, Untold}
 use Rattle.mc_serve.specs.Served.{ExplainsSeat}
 use Rattle.mc_serve.specs.declared.tcp_door.Gone.{Gone}
+use Rattle.mc_serve.specs.declared.tcp_line.TcpLine.{TcpLine}
+use Rattle.std.specs.Io.KnownBytes.{Appends, Consumes, Keeps}
 
 -- a read, by the bytes given and taken before it
 abbrev pub read_of : List ℕ × List ℕ → Read
@@ -17,11 +19,26 @@ read_of one = record { given = Listed one.0; taken = Listed one.1 }
 abbrev pub new_line : Sight
 new_line = record { given = Listed []; ended = false; reads = Some []; taken = Listed []; failed = false }
 
+-- what is seen of one
+abbrev pub sight_of : {S : Type 0} → TcpLine S → Sight
+sight_of line = record { given = Listed line.given; ended = line.ended; reads = Some (map read_of line.reads.items); taken = Listed line.taken; failed = line.failed }
+
+-- Just the bytes that a read says it gave came from the stream, whose bytes are known or not.
+abbrev pub ReadsStream : {E : Type 0} → List ℕ → Result (Option ℕ) E → Option (List ℕ) → Option (List ℕ) → Type 0
+ReadsStream room (Ok (Some count)) old new = Consumes old new (take count room)
+ReadsStream room (Ok None) old new = Keeps old new
+ReadsStream room (Err fault) old new = Keeps old new
+
+-- Just the bytes that a write says it took went to the stream, whose bytes are known or not.
+abbrev pub WritesStream : {E : Type 0} → List ℕ → Result ℕ E → Option (List ℕ) → Option (List ℕ) → Type 0
+WritesStream bytes (Ok count) old new = Appends old new (take count bytes)
+WritesStream bytes (Err fault) old new = Keeps old new
+
 -- one that is gone: what its reads gave and its writes took
 abbrev pub gone_line : Gone → LineTold
 gone_line gone = record {
   begin = new_line;
-  now = record { given = Listed gone.line.value.given; ended = gone.line.value.ended; reads = Some (map read_of gone.line.value.reads.items); taken = Listed gone.line.value.taken; failed = gone.line.value.failed };
+  now = sight_of gone.line.value;
   commands = gone.commands;
   broke = gone.broke;
 }

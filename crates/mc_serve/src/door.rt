@@ -18,12 +18,12 @@ pub enum Arrival<L> {
 /// Lets in the lines of a seat, one at a time, and takes them back.
 pub trait Door {
     /// What comes in.
-    type Line: Line;
+    type Line: Line + Drop;
 
     /// What is told of it.
     ghost told: { Self → DoorTold };
 
-    /// The next line, if one has come. It may wait for one.
+    /// The next line, if one has come. It doesn't wait for one.
     fn accept(&mut self) -> Arrival<Self::Line>
         ensures { Arrives (λ line. Self.Line.sight line) result (told self.old) (told self.new) };
 

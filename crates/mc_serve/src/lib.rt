@@ -4,9 +4,13 @@
 
 mod door;
 mod entrance;
+mod free_seats;
+mod lingering;
 mod one_door;
 mod over;
+mod part;
 mod refusal;
+mod seats;
 mod serving;
 mod settling;
 mod sitting;
@@ -16,13 +20,11 @@ mod tcp_line;
 mod trail;
 
 pub use door::{Arrival, Door};
-pub use entrance::Entrance;
 pub use mc_server::Sizes;
 pub use one_door::{OneDoor, Returned, ServedLine};
 pub use over::{Report, serve_over};
 pub use refusal::ServeRefusal;
 pub use serving::serve;
-pub use sitting::{Sitting, serve_door};
 pub use tcp::serve_tcp;
 pub use tcp_door::{Gone, TcpDoor};
 pub use tcp_line::TcpLine;

@@ -13,6 +13,7 @@ use crate::serving::serve;
 use mc_core::Gate;
 use mc_seat::{Clock, Line};
 use mc_server::Sizes;
+use mc_wake::{Patience, Sleeper};
 use std::alloc::{AllocError, Global};
 use std::random::RandomSource;
 use std::sync::Wait;
@@ -50,8 +51,28 @@ pub fn serve_over<
     // The room for the report comes first: the lines are not lost once they were served.
     let room = Vec::with_capacity(alloc, lines.len())?;
     let doors = doors_for(alloc, lines)?;
-    let back = serve(rt, alloc, doors, sizes, gate, clock)?;
+    let sleepers = sleepers_for(rt, alloc, doors.len(), sizes.shards)?;
+    let back = serve(rt, alloc, doors, sleepers, sizes, gate, clock)?;
     gather(back, room)
+}
+
+/// A thread for each of so many seats, and one for each of so many shards.
+pub(crate) fn sleepers_for<R: Threads>(
+    rt: &R,
+    alloc: Global,
+    seats: usize,
+    shards: usize,
+) -> Result<Vec<Sleeper>, AllocError> {
+    let threads = seats.saturating_add(shards);
+    let patience = Patience::among(rt, threads);
+    let mut sleepers = Vec::with_capacity(alloc, threads)?;
+    for _ in 0..seats {
+        sleepers.push(Sleeper::new(alloc, patience, 0, 1, 0)?)?;
+    }
+    for _ in 0..shards {
+        sleepers.push(Sleeper::new(alloc, patience, seats, 0, 1)?)?;
+    }
+    Ok(sleepers)
 }
 
 /// A door for each line.

@@ -1,33 +1,39 @@
-//! Serves the lines of doors, those of each in a thread of its own, over shards in threads of their own.
-ghost use Rattle.std.specs.Prelude.{◌≡◌, ◌≢◌, ◌<◌, ◌≤◌, [], IfErr, IfOk, OnOk, length, map};
-ghost use Rattle.std.specs.List.{AllByRecursion};
+//! Serves the lines of doors, over shards, in threads that each serve some of the seats and some of the shards.
+ghost use Rattle.std.specs.Prelude.{◌≡◌, ◌≢◌, ◌<◌, ◌≤◌, [], ◌++◌, IfErr, IfOk, OnOk, length, map};
+ghost use Rattle.std.specs.List.{AllByRecursion, flat_map};
+ghost use Rattle.std.specs.Vec.Iter.{into_iter_items};
 ghost use Rattle.mc_ring.specs.Made.{AreLanes};
 ghost use Rattle.mc_server.specs.Sizes.{sizes_of};
 ghost use Rattle.mc_serve.specs.Sizes.{MayServe};
 ghost use Rattle.mc_threads.specs.Workers.{IsFresh, ends_of};
 ghost use Rattle.mc_serve.specs.declared.refusal.ServeRefusal.TheVariants.{Bind};
 ghost use Rattle.mc_serve.specs.Told.{IsFree};
+ghost use Rattle.mc_serve.specs.Seats.{HasSatDown};
 ghost use Rattle.mc_serve.specs.Served.{ServesDoors};
 
 use crate::door::Door;
+use crate::part::Part;
 use crate::refusal::ServeRefusal;
 use crate::settling::settle;
 use crate::sitting::Sitting;
-use mc_core::Gate;
+use mc_core::{Gate, Worker};
 use mc_crew::{Crew, CrewRefusal};
 use mc_ring::{SeatEnds, lanes};
 use mc_seat::Clock;
 use mc_server::Sizes;
-use mc_threads::{Working, make_sleepers, make_workers, start_workers};
-use mc_wake::{Patience, Sleeper, Wakers};
+use mc_threads::{Working, make_workers};
+use mc_wake::{Sleeper, Wakers};
 use mc_wire::GREATEST_VALUE_LIMIT;
-use std::alloc::Global;
+use std::alloc::{AllocError, Global};
 use std::random::RandomSource;
 use std::sync::{Arc, Wait};
 use std::thread::Threads;
+use std::vec::IntoIter;
 
-/// Serves the lines of the doors until no more come. Each door and each shard has a thread of its own. Every worker passes the
-/// gate before each piece. Where it refuses, no door was asked for a line.
+/// Serves the lines of the doors until no more come. There is a thread for each sleeper, which serves as many of the seats and
+/// of the shards as the sleeper has places and workers: in their order, so that each seat and each shard has its thread. Every
+/// worker passes the gate before each piece. Where it refuses, no door was asked for a line: `Thread` also where the sleepers
+/// have places or workers for more or fewer.
 pub fn serve<
     R: Threads + Wait + RandomSource + Copy + Send + Drop + 'static,
     D: Door + Send + Drop + 'static,
@@ -37,6 +43,7 @@ pub fn serve<
     rt: &R,
     alloc: Global,
     doors: Vec<D>,
+    sleepers: Vec<Sleeper>,
     sizes: Sizes,
     gate: G,
     clock: K,
@@ -50,7 +57,7 @@ where
         (map (λ door. D.told door) doors.items) (map (λ door. D.told door) back.items)) }
     ensures refused { IfErr result (λ refusal. refusal ≢ Bind) }
 {
-    match serve_all(rt, alloc, doors, sizes, gate, clock) {
+    match serve_all(rt, alloc, doors, sleepers, sizes, gate, clock) {
         Ok(back) => Ok(back),
         Err(refusal) => Err(ServeRefusal::from(refusal)),
     }
@@ -66,6 +73,7 @@ fn serve_all<
     rt: &R,
     alloc: Global,
     doors: Vec<D>,
+    sleepers: Vec<Sleeper>,
     sizes: Sizes,
     gate: G,
     clock: K,
@@ -77,36 +85,26 @@ where
     ensures { IfOk result (λ back. ServesDoors (sizes_of (length doors.items) sizes) (K.may_answer clock)
         (map (λ door. D.told door) doors.items) (map (λ door. D.told door) back.items)) }
 {
-    let mut working = Crew::new(alloc, sizes.shards)?;
-    let mut sitting = Crew::new(alloc, doors.len())?;
-    // The room for the doors comes first: they are not lost once their lines were served.
+    let mut crew = Crew::new(alloc, sleepers.len())?;
+    // The room for what comes back comes first: nothing is lost once the lines were served.
     let room = Vec::with_capacity(alloc, doors.len())?;
+    let mut seats = Vec::with_capacity(alloc, doors.len())?;
+    let mut workers = Vec::with_capacity(alloc, sizes.shards)?;
     let Ok(gate) = Arc::new(alloc, gate) else {
         return Err(CrewRefusal::Memory);
     };
-    let started = start(
-        rt,
-        alloc,
-        &mut working,
-        &mut sitting,
-        doors,
-        sizes,
-        &gate,
-        clock,
-    );
+    let started = start(rt, alloc, &mut crew, doors, sleepers, sizes, &gate, clock);
     if let Err(refusal) = started {
-        working.dismiss(rt);
-        sitting.dismiss(rt);
+        crew.dismiss(rt);
         return Err(refusal);
     }
-    working.begin(rt);
-    sitting.begin(rt);
-    let seats = sitting.join(rt);
-    let mut workers = working.join(rt)?;
-    settle(seats?, &mut workers, room)
+    crew.begin(rt);
+    let parts = crew.join(rt)?;
+    take_apart(parts, &mut seats, &mut workers)?;
+    settle(seats, &mut workers, room)
 }
 
-/// Starts the threads of the workers and of the seats, as far as they can be started.
+/// Starts the threads of the parts, as far as they can be started.
 fn start<
     R: Threads + Wait + RandomSource + Copy + Send + 'static,
     D: Door + Send + Drop + 'static,
@@ -115,9 +113,9 @@ fn start<
 >(
     rt: &R,
     alloc: Global,
-    working: &mut Crew<Working<G>>,
-    sitting: &mut Crew<Sitting<D, K>>,
+    crew: &mut Crew<Part<D, G, K>>,
     doors: Vec<D>,
+    sleepers: Vec<Sleeper>,
     sizes: Sizes,
     gate: &Arc<G, Global>,
     clock: K,
@@ -126,81 +124,154 @@ where
     D::Line: Send + 'static,
     requires size { MayServe (length doors.items) sizes }
     requires free { AllByRecursion (λ door. IsFree (D.told door)) doors.items }
-    requires working { working.old ≡ [] }
-    requires sitting { sitting.old ≡ [] }
+    requires none { crew.old ≡ [] }
     ensures lanes { OnOk result (AreLanes (length doors.items) sizes.shards sizes.ring
-        (map (λ one. one.session.courier.ends) sitting.new) (map ends_of (map (λ one. one.worker) working.new))) }
-    ensures fresh { OnOk result (AllByRecursion (IsFresh (sizes_of (length doors.items) sizes)) (map (λ one. one.worker) working.new)) }
-    ensures doors { OnOk result (map (λ one. one.door) sitting.new ≡ doors.items) }
-    ensures same { OnOk result (AllByRecursion (λ one. (one.clock ≡ clock) × (one.sizes ≡ sizes)) sitting.new) }
+        (map (λ one. one.session.courier.ends) (flat_map (λ part. part.seats.all.items) crew.new))
+        (map ends_of (map (λ one. one.worker) (flat_map (λ part. part.workers.items) crew.new)))) }
+    ensures fresh { OnOk result (AllByRecursion (IsFresh (sizes_of (length doors.items) sizes)) (map (λ one. one.worker) (flat_map (λ part. part.workers.items) crew.new))) }
+    ensures doors { OnOk result (map (λ one. one.door) (flat_map (λ part. part.seats.all.items) crew.new) ≡ doors.items) }
+    ensures same { OnOk result (AllByRecursion (λ part. (part.clock ≡ clock) × (part.sizes ≡ sizes)) crew.new) }
 {
     let count = doors.len();
     let Ok((near, far)) = lanes(alloc, count, sizes.shards, sizes.ring) else {
         // The sizes are within the limits.
         return Err(CrewRefusal::Memory);
     };
-    let patience = Patience::among(rt, sizes.shards.saturating_add(count));
-    let worker_sleepers = make_sleepers(alloc, sizes.shards, patience, count)?;
-    let seat_sleepers = make_sleepers(alloc, count, patience, 0)?;
-    let shards = Wakers::of(alloc, &worker_sleepers)?;
-    let seats = Wakers::of(alloc, &seat_sleepers)?;
+    let wakers = Wakers::of(alloc, &sleepers)?;
     let workers = make_workers(rt, alloc, far, sizes)?;
-    start_workers(rt, alloc, working, workers, worker_sleepers, gate, &seats)?;
-    start_seats(
-        rt,
-        alloc,
-        sitting,
-        doors,
-        near,
-        seat_sleepers,
-        &shards,
-        sizes,
-        clock,
+    let workers = set_working(alloc, workers, gate, &wakers)?;
+    let seats = sit_down(alloc, doors, near, &wakers, sizes)?;
+    start_parts(
+        rt, alloc, crew, seats, workers, sleepers, count, sizes, clock,
     )
 }
 
-/// Starts a thread for each door, over the ends in the same place, which sleeps by the sleeper in the same place. The wakers
-/// are those of the shards.
-fn start_seats<
-    R: Threads + Wait + Copy + Send + 'static,
-    D: Door + Send + Drop + 'static,
-    K: Clock + Copy + Send + Drop + 'static,
->(
-    rt: &R,
+/// A seat for each door, over the ends in the same place. The wakers are those of the shards.
+fn sit_down<D: Door + Drop>(
     alloc: Global,
-    crew: &mut Crew<Sitting<D, K>>,
     doors: Vec<D>,
     ends: Vec<SeatEnds>,
-    sleepers: Vec<Sleeper>,
     shards: &Wakers,
     sizes: Sizes,
-    clock: K,
-) -> Result<(), CrewRefusal>
-where
-    D::Line: Send + 'static,
+) -> Result<Vec<Sitting<D>>, AllocError>
     requires shards { 0 < sizes.shards }
     requires value { sizes.value ≤ GREATEST_VALUE_LIMIT }
     requires window { 0 < sizes.window }
     requires width { AllByRecursion (λ seat. length seat.lanes ≡ sizes.shards) ends.items }
     requires as_many { length doors.items ≡ length ends.items }
     requires free { AllByRecursion (λ door. IsFree (D.told door)) doors.items }
-    requires none { crew.old ≡ [] }
-    ensures ends { OnOk result (map (λ one. one.session.courier.ends) crew.new ≡ ends.items) }
-    ensures doors { OnOk result (map (λ one. one.door) crew.new ≡ doors.items) }
-    ensures same { OnOk result (AllByRecursion (λ one. (one.clock ≡ clock) × (one.sizes ≡ sizes)) crew.new) }
+    ensures ends { IfOk result (λ seats. map (λ one. one.session.courier.ends) seats.items ≡ ends.items) }
+    ensures doors { IfOk result (λ seats. map (λ one. one.door) seats.items ≡ doors.items) }
+    ensures begin { IfOk result (λ seats. AllByRecursion (λ one. HasSatDown sizes.shards sizes.value (D.told one.door) one.session one.phase) seats.items) }
 {
+    let mut seats = Vec::with_capacity(alloc, ends.len())?;
     let mut doors = doors.into_iter();
-    let mut sleepers = sleepers.into_iter();
     for ends in ends {
         let Some(door) = doors.next() else {
-            return Err(CrewRefusal::Memory);
-        };
-        let Some(sleeper) = sleepers.next() else {
-            return Err(CrewRefusal::Memory);
+            return Err(AllocError);
         };
         let shards = shards.share()?;
-        let sitting = Sitting::new(alloc, door, ends, sleeper, shards, sizes, clock)?;
-        crew.start(rt, alloc, sitting)?;
+        let sitting = Sitting::new(alloc, door, ends, shards, sizes)?;
+        seats.push(sitting)?;
+    }
+    Ok(seats)
+}
+
+/// The workers with what their turns need: the gate is theirs together, the wakers are those of the seats.
+fn set_working<G: Gate + Drop>(
+    alloc: Global,
+    workers: Vec<Worker>,
+    gate: &Arc<G, Global>,
+    seats: &Wakers,
+) -> Result<Vec<Working<G>>, AllocError>
+    ensures { IfOk result (λ all. map (λ one. one.worker) all.items ≡ workers.items) }
+{
+    let mut all = Vec::with_capacity(alloc, workers.len())?;
+    for worker in workers {
+        let gate = Arc::try_clone(gate)?;
+        let working = Working::new(alloc, worker, gate, seats.share()?)?;
+        all.push(working)?;
+    }
+    Ok(all)
+}
+
+/// Starts a thread for each sleeper, with as many of the seats and of the workers as it has places and workers for. Any of so
+/// many seats may call a worker. `Thread`: some are left.
+fn start_parts<
+    R: Threads + Wait + Copy + Send + 'static,
+    D: Door + Send + Drop + 'static,
+    G: Gate + Send + Sync + Drop + 'static,
+    K: Clock + Copy + Send + Drop + 'static,
+>(
+    rt: &R,
+    alloc: Global,
+    crew: &mut Crew<Part<D, G, K>>,
+    seats: Vec<Sitting<D>>,
+    workers: Vec<Working<G>>,
+    sleepers: Vec<Sleeper>,
+    callers: usize,
+    sizes: Sizes,
+    clock: K,
+) -> Result<(), CrewRefusal>
+where
+    D::Line: Send + 'static,
+    requires none { crew.old ≡ [] }
+    requires begin { AllByRecursion (λ one. HasSatDown sizes.shards sizes.value (D.told one.door) one.session one.phase) seats.items }
+    // Each seat and each worker stands in just one part, in their order.
+    ensures seats { OnOk result (flat_map (λ part. part.seats.all.items) crew.new ≡ seats.items) }
+    ensures workers { OnOk result (flat_map (λ part. part.workers.items) crew.new ≡ workers.items) }
+    ensures same { OnOk result (AllByRecursion (λ part. (part.clock ≡ clock) × (part.sizes ≡ sizes)) crew.new) }
+{
+    let mut seats = seats.into_iter();
+    let mut workers = workers.into_iter();
+    for sleeper in sleepers {
+        let own = take_some(alloc, &mut seats, sleeper.places())?;
+        let working = take_some(alloc, &mut workers, sleeper.workers())?;
+        let part = Part::new(alloc, own, working, callers, sleeper, sizes, clock)?;
+        crew.start(rt, alloc, part)?;
+    }
+    let None = seats.next() else {
+        return Err(CrewRefusal::Thread);
+    };
+    let None = workers.next() else {
+        return Err(CrewRefusal::Thread);
+    };
+    Ok(())
+}
+
+/// The next so many, or all that are left.
+fn take_some<T: Drop>(
+    alloc: Global,
+    left: &mut IntoIter<T>,
+    count: usize,
+) -> Result<Vec<T>, AllocError>
+    ensures { IfOk result (λ some. some.items ++ into_iter_items left.new ≡ into_iter_items left.old) }
+{
+    let mut some = Vec::new(alloc);
+    for _ in 0..count {
+        let Some(one) = left.next() else {
+            return Ok(some);
+        };
+        some.push(one)?;
+    }
+    Ok(some)
+}
+
+/// Hands the seats and the workers of all parts over, in their order.
+fn take_apart<D: Door + Drop, G: Gate + Drop, K: Clock + Drop>(
+    parts: Vec<Part<D, G, K>>,
+    seats: &mut Vec<Sitting<D>>,
+    workers: &mut Vec<Working<G>>,
+) -> Result<(), AllocError>
+    requires no_seats { seats.old.items ≡ [] }
+    requires no_workers { workers.old.items ≡ [] }
+    ensures seats { OnOk result (seats.new.items ≡ flat_map (λ part. part.seats.all.items) parts.items) }
+    ensures workers { OnOk result (workers.new.items ≡ flat_map (λ part. part.workers.items) parts.items) }
+{
+    for part in parts {
+        let (mut own, mut working) = part.apart();
+        seats.append(&mut own)?;
+        workers.append(&mut working)?;
     }
     Ok(())
 }

@@ -8,13 +8,12 @@ use crate::sitting::Sitting;
 use mc_core::Gate;
 use mc_crew::CrewRefusal;
 use mc_ring::SeatEnds;
-use mc_seat::Clock;
 use mc_threads::Working;
 
 /// Looks at the lanes between all seats and all workers from both ends, and hands back the doors. The room for them is for as
 /// many as there are seats.
-pub(crate) fn settle<D: Door + Drop, G: Gate + Drop, K: Clock + Drop>(
-    seats: Vec<Sitting<D, K>>,
+pub(crate) fn settle<D: Door + Drop, G: Gate + Drop>(
+    seats: Vec<Sitting<D>>,
     workers: &mut Vec<Working<G>>,
     room: Vec<D>,
 ) -> Result<Vec<D>, CrewRefusal>

@@ -1,111 +1,178 @@
-//! The thread of a seat that serves the lines of a door, one after another.
+//! A seat that serves the lines of a door, one after another, by steps of which none waits.
 ghost use Rattle.std.specs.Prelude.{◌≡◌, ◌<◌, ◌≤◌, ℕ, IfOk, IsTrue, length};
-ghost use Rattle.mc_threads.specs.Session.{IsVacant, MayBegin};
-ghost use Rattle.mc_serve.specs.Told.{IsFree};
-ghost use Rattle.mc_serve.specs.Seats.{CanServe, SeatServes, ServesDoor, ServesNext, seat_at};
+ghost use Rattle.mc_ring.specs.Ends.{Ends};
+ghost use Rattle.mc_ring.specs.Lane.{Near};
+ghost use Rattle.mc_threads.specs.Ending.{EndsFirst};
+ghost use Rattle.mc_threads.specs.Session.{IsVacant, MayStep};
+ghost use Rattle.mc_serve.specs.Seats.{CanStep, ClosesOn, SeatAt, SeatStands, SitsFree, SitsServing};
+ghost use Rattle.mc_serve.specs.declared.sitting.Phase.TheVariants as phase;
 
 use crate::door::{Arrival, Door};
-use mc_crew::Task;
 use mc_ring::SeatEnds;
-use mc_seat::Clock;
+use mc_seat::{Clock, Line, Ready, Rooms};
 use mc_server::Sizes;
-use mc_threads::Session;
-use mc_wake::{Sleeper, Wakers};
+use mc_threads::{Session, Stepped as LineStep};
+use mc_wake::Wakers;
 use mc_wire::GREATEST_VALUE_LIMIT;
 use std::alloc::{AllocError, Global};
-use std::sync::Wait;
-use std::thread;
+use std::mem;
 
-/// Serves the lines of the door, one after another, until no more come, or until the session can't serve another. The sleeper
-/// is that of the seat's own thread.
-pub fn serve_door<R: Wait, D: Door, K: Clock>(
-    rt: &R,
-    session: &mut Session,
-    sleeper: &Sleeper,
-    door: &mut D,
-    clock: &K,
-)
-    requires ready { MayBegin session.old }
-    requires free { IsFree (D.told door.old) }
-    ensures { (limit window : ℕ) → IsVacant limit window session.old →
-        ServesDoor (length session.old.courier.ends.lanes) limit (K.may_answer clock.now)
-        (seat_at (D.told door.old) session.old.courier.ends) (seat_at (D.told door.new) session.new.courier.ends) }
-{
-    for _ in rt.forever() {
-        match door.accept() {
-            Arrival::Came(line) => {
-                if !serve_next(rt, session, sleeper, door, line, clock) {
-                    return;
-                }
-            }
-            Arrival::NotYet => thread::yield_now(),
-            Arrival::Over => return,
-        }
-    }
-    unreachable!()
+/// What a step of a seat did.
+#[derive(Clone, Copy, Debug, PartialEq, Eq)]
+pub enum Stepped {
+    /// Something: the next step may follow at once.
+    Did,
+    /// Nothing: a line, replies of a shard, bytes of the line or room on a lane have to come first.
+    Waits,
+    /// It found that each lane was closed: nothing follows.
+    Over,
 }
 
-/// Serves the line that came in, and gives it back. Tells whether the session can serve another.
-fn serve_next<R: Wait, D: Door, K: Clock>(
-    rt: &R,
-    session: &mut Session,
-    sleeper: &Sleeper,
-    door: &mut D,
-    line: D::Line,
-    clock: &K,
-) -> bool
-    requires { MayBegin session.old }
-    ensures ready { IsTrue result → MayBegin session.new }
-    ensures served { (limit window : ℕ) → IsVacant limit window session.old →
-        ServesNext (length session.old.courier.ends.lanes) limit (K.may_answer clock.now) (D.Line.sight line)
-        (seat_at (D.told door.old) session.old.courier.ends) (seat_at (D.told door.new) session.new.courier.ends) session.new.conn result }
-{
-    let mut line = line;
-    let served = session.serve_line(rt, sleeper, &mut line, clock);
-    door.give_back(line, served.commands, served.broke);
-    session.renew()
-}
-
-/// A door and its seat, with all that the seat's thread needs.
+/// What a seat does.
 #[derive(Drop)]
-pub struct Sitting<D, K> {
-    sizes: Sizes,
+pub enum Phase<L> {
+    /// No line is out.
+    Free,
+    /// This line is out.
+    Serving(L),
+    /// No line comes any more, and the first so many lanes were closed.
+    Closing(usize),
+    /// All lanes were closed.
+    Over,
+}
+
+/// A door and its seat.
+#[derive(Drop)]
+pub struct Sitting<D: Door> {
     pub(crate) session: Session,
-    sleeper: Sleeper,
-    clock: K,
+    pub(crate) phase: Phase<D::Line>,
     pub door: D,
 }
 
-impl<D: Door + Drop, K: Clock + Drop> Sitting<D, K> {
-    /// The task of the seat's thread: to serve the lines of the door, over new ends. The sleeper is the thread's own, the wakers
-    /// are those of the shards.
+impl<D: Door + Drop> Sitting<D> {
+    /// A seat that serves the lines of the door, over new ends. The wakers are those of the shards.
     pub fn new(
         alloc: Global,
         door: D,
         ends: SeatEnds,
-        sleeper: Sleeper,
         shards: Wakers,
         sizes: Sizes,
-        clock: K,
-    ) -> Result<Sitting<D, K>, AllocError>
+    ) -> Result<Sitting<D>, AllocError>
         requires shards { 0 < sizes.shards }
         requires value { sizes.value ≤ GREATEST_VALUE_LIMIT }
         requires window { 0 < sizes.window }
         requires width { length ends.lanes ≡ sizes.shards }
-        ensures ready { IfOk result (λ sitting. CanServe sitting.sizes sitting.session) }
+        ensures vacant { IfOk result (λ sitting. IsVacant sizes.value sizes.window sitting.session) }
+        ensures free { IfOk result (λ sitting. sitting.phase ≡ phase.Free) }
         ensures door { IfOk result (λ sitting. sitting.door ≡ door) }
         ensures ends { IfOk result (λ sitting. sitting.session.courier.ends ≡ ends) }
-        ensures sizes { IfOk result (λ sitting. sitting.sizes ≡ sizes) }
-        ensures clock { IfOk result (λ sitting. sitting.clock ≡ clock) }
     {
-        let session = Session::new(alloc, ends, shards, sizes.value, sizes.window)?;
+        let session = Session::new(alloc, ends, shards, sizes.ring, sizes.value, sizes.window)?;
         Ok(Sitting {
-            sizes,
             session,
-            sleeper,
-            clock,
+            phase: Phase::Free,
             door,
         })
+    }
+
+    /// Goes a step further: asks the door for a line, serves the line that is out, or closes a lane. The line is told first
+    /// what its socket is ready for, if something is known of that.
+    pub(crate) fn step<K: Clock>(
+        &mut self,
+        ready: Option<Ready>,
+        clock: &K,
+        rooms: &mut Rooms,
+    ) -> Stepped
+        requires { CanStep self.old.phase self.old.session }
+        ensures { (shards limit : ℕ) (sat : SeatAt) →
+            SeatStands (λ line. D.Line.sight line) shards limit (K.may_answer clock.now) sat (D.told self.old.door) self.old.session self.old.phase →
+            SeatStands (λ line. D.Line.sight line) shards limit (K.may_answer clock.now) sat (D.told self.new.door) self.new.session self.new.phase }
+    {
+        match mem::replace(&mut self.phase, Phase::Over) {
+            Phase::Free => self.accept(clock),
+            Phase::Serving(line) => self.serve(roused(line, ready), clock, rooms),
+            Phase::Closing(count) => self.close(count),
+            Phase::Over => Stepped::Waits,
+        }
+    }
+
+    /// Asks the door for a line, and begins to serve it.
+    fn accept<K: Clock>(&mut self, clock: &K) -> Stepped
+        ensures { (shards limit : ℕ) (sat : SeatAt) →
+            SitsFree shards limit (K.may_answer clock.now) sat (D.told self.old.door) self.old.session →
+            SeatStands (λ line. D.Line.sight line) shards limit (K.may_answer clock.now) sat (D.told self.new.door) self.new.session self.new.phase }
+    {
+        match self.door.accept() {
+            Arrival::Came(line) => {
+                self.session.begin(clock);
+                self.phase = Phase::Serving(line);
+                Stepped::Did
+            }
+            Arrival::NotYet => {
+                self.phase = Phase::Free;
+                Stepped::Waits
+            }
+            Arrival::Over => {
+                self.phase = Phase::Closing(0);
+                Stepped::Did
+            }
+        }
+    }
+
+    /// Serves the line that is out a step further, and gives it back once it was served.
+    fn serve<K: Clock>(&mut self, line: D::Line, clock: &K, rooms: &mut Rooms) -> Stepped
+        requires { MayStep self.old.session }
+        ensures { (shards limit : ℕ) (sat : SeatAt) →
+            SitsServing shards limit (K.may_answer clock.now) sat (D.told self.old.door) (D.Line.sight line) self.old.session →
+            SeatStands (λ line. D.Line.sight line) shards limit (K.may_answer clock.now) sat (D.told self.new.door) self.new.session self.new.phase }
+    {
+        let mut line = line;
+        match self.session.step(&mut line, clock, rooms) {
+            LineStep::Did => {
+                self.phase = Phase::Serving(line);
+                Stepped::Did
+            }
+            LineStep::Waits => {
+                self.phase = Phase::Serving(line);
+                Stepped::Waits
+            }
+            LineStep::Ended(served) => {
+                self.door.give_back(line, served.commands, served.broke);
+                if self.session.renew() {
+                    self.phase = Phase::Free;
+                    return Stepped::Did;
+                }
+                self.phase = Phase::Closing(0);
+                Stepped::Did
+            }
+        }
+    }
+
+    /// Closes the next lane, where it has room for End and the first so many are closed.
+    fn close(&mut self, count: usize) -> Stepped
+        ensures closes { (served : Ends Near) → EndsFirst count served self.old.session.courier.ends → ClosesOn served self.new.phase self.new.session.courier.ends }
+        ensures door { self.new.door ≡ self.old.door }
+    {
+        if count >= self.session.shards() {
+            self.phase = Phase::Over;
+            return Stepped::Over;
+        }
+        if self.session.end_lane(count) {
+            self.phase = Phase::Closing(count + 1);
+            return Stepped::Did;
+        }
+        self.phase = Phase::Closing(count);
+        Stepped::Waits
+    }
+
+    /// Whether all its lanes were closed.
+    pub(crate) fn is_over(&self) -> bool
+        ensures { IsTrue result → self.now.phase ≡ phase.Over }
+    {
+        match &self.phase {
+            Phase::Over => true,
+            _ => false,
+        }
     }
 
     /// The seat's ends and the door, once its lines were served.
@@ -118,22 +185,14 @@ impl<D: Door + Drop, K: Clock + Drop> Sitting<D, K> {
     }
 }
 
-impl<D: Door + Drop, K: Clock + Drop> Task for Sitting<D, K> {
-    ghost is_ready = { λ sitting. CanServe sitting.sizes sitting.session × IsFree (D.told sitting.door) };
-
-    ghost does = { λ sat rose. SeatServes sat.sizes.shards sat.sizes.value (K.may_answer sat.clock)
-        (seat_at (D.told sat.door) sat.session.courier.ends) (seat_at (D.told rose.door) rose.session.courier.ends) };
-
-    fn work<R: Wait>(self, rt: &R) -> Sitting<D, K> {
-        let mut sitting = self;
-        serve_door(
-            rt,
-            &mut sitting.session,
-            &sitting.sleeper,
-            &mut sitting.door,
-            &sitting.clock,
-        );
-        sitting.session.close(rt);
-        sitting
-    }
+/// The line, once it was told what its socket is ready for, if something is known of that.
+fn roused<L: Line>(line: L, ready: Option<Ready>) -> L
+    ensures { L.sight result ≡ L.sight line }
+{
+    let mut line = line;
+    let Some(ready) = ready else {
+        return line;
+    };
+    line.rouse(ready);
+    line
 }

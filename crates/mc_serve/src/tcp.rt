@@ -1,5 +1,5 @@
 //! Serves connections over TCP.
-ghost use Rattle.std.specs.Prelude.{◌≡◌, ◌≢◌, ◌^◌, ◌-◌, [], None, false, IfOk, length, map, min};
+ghost use Rattle.std.specs.Prelude.{◌≡◌, ◌<◌, ◌^◌, ◌-◌, [], None, false, IfOk, length, map, min};
 ghost use Rattle.std.specs.List.{AllByRecursion};
 ghost use Rattle.mc_server.specs.Sizes.{sizes_of};
 ghost use Rattle.mc_serve.specs.Sizes.{MayServe};
@@ -13,18 +13,27 @@ use crate::tcp_door::TcpDoor;
 use mc_core::OpenGate;
 use mc_seat::Clock;
 use mc_server::Sizes;
+use mc_wake::{Patience, Sleeper};
 use std::alloc::{AllocError, Global};
-use std::net::TcpListener;
+use std::net::{Net, TcpListener};
 use std::random::RandomSource;
-use std::sync::{Arc, Wait};
+use std::sync::Wait;
 use std::thread::Threads;
-use std::time;
+use std::{io, thread, time};
+
+/// A thread that waits for sockets sleeps at once where it finds nothing: to look again would take more of the processor than
+/// to wake.
+const AT_ONCE: Patience = Patience {
+    looks: 0,
+    yields: 0,
+};
 
 /// Serves the connections that come in by the listener, each by one of so many seats, until so many have ended, or for good.
-/// Each seat and each shard has a thread of its own; connections beyond the seats wait to be accepted. It gives how many
-/// connections have ended, a count that stays at its greatest value. `Bind`: an accept failed for good.
+/// There is a thread for each shard, which serves its share of the seats too, and one that accepts; connections beyond the seats
+/// wait to be accepted. It gives how many connections have ended, a count that stays at its greatest value. `Bind`: an accept
+/// failed for good.
 pub fn serve_tcp<
-    R: Threads + Wait + RandomSource + time::Clock + Copy + Send + Drop + 'static,
+    R: Threads + Wait + RandomSource + time::Clock + Net + Copy + Send + Drop + 'static,
     K: Clock + Copy + Send + Drop + 'static,
 >(
     rt: &R,
@@ -39,19 +48,46 @@ pub fn serve_tcp<
     // One log explains what was read of all connections, what was written to them and what the shards did.
     ensures { IfOk result (ServesConnections (sizes_of seats sizes) (K.may_answer clock)) }
 {
-    let Ok(entrance) = Arc::new(alloc, Entrance::new(listener, connections)) else {
-        return Err(ServeRefusal::Memory);
+    let Ok(sleepers) = polling_sleepers(rt, alloc, seats, sizes.shards) else {
+        return Err(ServeRefusal::Thread);
     };
-    let doors = doors_to(rt, alloc, &entrance, seats)?;
-    let back = serve(rt, alloc, doors, sizes, OpenGate, clock)?;
+    let mut entrance = Entrance::new(alloc, listener, connections, &sleepers)?;
+    let doors = doors_to(rt, alloc, &mut entrance, seats)?;
+    let bell = entrance.bell()?;
+    let own = *rt;
+    let Ok(accepting) = thread::spawn(rt, move || entrance.run(&own)) else {
+        return Err(ServeRefusal::Thread);
+    };
+    let served = serve(rt, alloc, doors, sleepers, sizes, OpenGate, clock);
+    bell.dismiss();
+    accepting.join(rt);
+    let back = served?;
     count_ended(back)
+}
+
+/// The sleep of each of so many threads, which have one shard each, and as many of the seats as another or one more.
+fn polling_sleepers<R: Net>(
+    rt: &R,
+    alloc: Global,
+    seats: usize,
+    threads: usize,
+) -> io::Result<Vec<Sleeper>>
+    requires { 0 < threads }
+{
+    let mut sleepers = Vec::with_capacity(alloc, threads)?;
+    for thread in 0..threads {
+        let one_more = usize::from(thread < seats % threads);
+        let places = (seats / threads).saturating_add(one_more);
+        sleepers.push(Sleeper::polling(rt, alloc, AT_ONCE, seats, places, 1)?)?;
+    }
+    Ok(sleepers)
 }
 
 /// A door for each seat, all to the same entrance.
 fn doors_to<R: time::Clock + Copy + Drop>(
     rt: &R,
     alloc: Global,
-    entrance: &Arc<Entrance, Global>,
+    entrance: &mut Entrance,
     seats: usize,
 ) -> Result<Vec<TcpDoor<R>>, AllocError>
     ensures count { IfOk result (λ doors. length doors.items ≡ seats) }
@@ -59,7 +95,7 @@ fn doors_to<R: time::Clock + Copy + Drop>(
 {
     let mut doors = Vec::with_capacity(alloc, seats)?;
     for _ in 0..seats {
-        doors.push(TcpDoor::new(*rt, Arc::try_clone(entrance)?))?;
+        doors.push(TcpDoor::new(*rt, entrance.next_way(alloc)?))?;
     }
     Ok(doors)
 }

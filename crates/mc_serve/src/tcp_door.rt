@@ -4,13 +4,12 @@ ghost use Rattle.mc_serve.specs.Tcp.{told_tcp};
 ghost use Rattle.mc_serve.specs.Told.{Told};
 
 use crate::door::{Arrival, Door};
-use crate::entrance::Entrance;
+use crate::entrance::Way;
+use crate::lingering::{Lingering, Lingers};
 use crate::tcp_line::TcpLine;
 use http_server::Log;
-use std::alloc::Global;
-use std::net::TcpStream;
+use mio::net::TcpStream;
 use std::snapshot::Snapshot;
-use std::sync::Arc;
 use std::time;
 
 /// A connection that was served and closed, as contracts see it: what it was just before it was closed.
@@ -21,12 +20,16 @@ pub struct Gone {
     broke: bool,
 }
 
-/// Lets in the connections of one seat, by a listener that all seats share, and closes them. It keeps none of them: contracts
-/// alone see the list of those that are gone.
+/// Lets in the connections of one seat, which an entrance hands to it, and closes them. It keeps none of them: contracts alone
+/// see the list of those that are gone.
 #[derive(Drop)]
 pub struct TcpDoor<R> {
     rt: R,
-    entrance: Arc<Entrance, Global>,
+    way: Way,
+    /// It has told the entrance that the seat is free.
+    told_free: bool,
+    /// The last connection, while it waits for the end of its peer's bytes.
+    lingering: Option<Lingering>,
     /// A connection came in and did not go back yet.
     is_out: bool,
     gone: Log<Gone, ()>,
@@ -40,18 +43,59 @@ pub struct TcpDoor<R> {
 }
 
 impl<R: time::Clock> TcpDoor<R> {
-    /// No connection came in yet. The runtime tells how long it pauses after a fault.
-    pub fn new(rt: R, entrance: Arc<Entrance, Global>) -> TcpDoor<R>
+    /// No connection came in yet. The runtime tells how long a connection lingers.
+    pub(crate) fn new(rt: R, way: Way) -> TcpDoor<R>
         ensures { told_tcp result.is_out result.gone.items result.is_over ≡ Told None None [] false }
     {
         TcpDoor {
             rt,
-            entrance,
+            way,
+            told_free: false,
+            lingering: None,
             is_out: false,
             gone: Log::new(),
             is_over: false,
             ended: 0,
             failed: false,
+        }
+    }
+
+    /// Whether the last connection still waits for the end of its peer's bytes.
+    fn lingers(&mut self) -> bool
+        ensures told { told_tcp self.new.is_out self.new.gone.items self.new.is_over ≡ told_tcp self.old.is_out self.old.gone.items self.old.is_over }
+    {
+        let Some(lingering) = &mut self.lingering else {
+            return false;
+        };
+        match lingering.go_on(&self.rt) {
+            Lingers::More => self.way.seats.rouse(self.way.seat),
+            Lingers::Waits => self.way.seats.remind(self.way.seat),
+            Lingers::Over => {
+                self.lingering = None;
+                return false;
+            }
+        }
+        true
+    }
+
+    /// The connection that was handed to the seat, if one was.
+    fn next(&mut self) -> Option<TcpStream>
+        ensures told { told_tcp self.new.is_out self.new.gone.items self.new.is_over ≡ told_tcp self.old.is_out self.old.gone.items self.old.is_over }
+    {
+        let mut stream = self.way.come.pop().ok()?;
+        self.told_free = false;
+        // What can't be registered could never be read from: it is closed at once.
+        self.way.seats.register(self.way.seat, &mut stream).ok()?;
+        Some(stream)
+    }
+
+    /// Tells the entrance that the seat is free, once.
+    fn tell_free(&mut self)
+        ensures told { told_tcp self.new.is_out self.new.gone.items self.new.is_over ≡ told_tcp self.old.is_out self.old.gone.items self.old.is_over }
+    {
+        if !self.told_free {
+            self.told_free = true;
+            self.way.bell.tell_free(self.way.seat);
         }
     }
 }
@@ -62,17 +106,22 @@ impl<R: time::Clock> Door for TcpDoor<R> {
     ghost told = { λ door. told_tcp door.is_out door.gone.items door.is_over };
 
     fn accept(&mut self) -> Arrival<TcpLine<TcpStream>> {
-        if !self.entrance.draw() {
+        if self.lingers() {
+            return Arrival::NotYet;
+        }
+        // Looked at first: a connection that was handed over before the entrance closed is found then.
+        let is_last = self.way.bell.is_over();
+        if let Some(stream) = self.next() {
+            self.is_out = true;
+            return Arrival::Came(TcpLine::polled(stream));
+        }
+        if is_last {
             self.is_over = true;
+            self.failed = self.way.bell.has_failed();
             return Arrival::Over;
         }
-        let Ok(stream) = self.entrance.accept(&self.rt) else {
-            self.is_over = true;
-            self.failed = true;
-            return Arrival::Over;
-        };
-        self.is_out = true;
-        Arrival::Came(TcpLine::new(stream))
+        self.tell_free();
+        Arrival::NotYet
     }
 
     fn give_back(&mut self, line: TcpLine<TcpStream>, commands: u64, broke: bool) {
@@ -86,6 +135,8 @@ impl<R: time::Clock> Door for TcpDoor<R> {
             self.ended = self.ended.saturating_add(1);
             self.is_out = false;
         }
-        line.close();
+        if let Some(stream) = line.into_open() {
+            self.lingering = Lingering::begin(&self.rt, stream);
+        }
     }
 }

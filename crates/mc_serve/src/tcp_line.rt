@@ -1,31 +1,31 @@
 //! A TCP connection as a line.
-ghost use Rattle.std.specs.Prelude.{◌≡◌, [], false};
+ghost use Rattle.std.specs.Prelude.{◌≡◌, ◌<◌, ◌≤◌, [], false, IfOk, IfSome, OnErr, length, take};
 ghost use Rattle.std.specs.Io.{ReadsAtMost, WritesAtMost};
-ghost use Rattle.mc_serve.specs.Tcp.{read_of};
+ghost use Rattle.std.specs.Io.KnownBytes.{Appends, Consumes, Keeps};
+ghost use Rattle.mc_wire.specs.Outlet.{Reads, asked, broke, gave, took};
+ghost use Rattle.mc_seat.specs.Lines.{ReadsIfReady};
+ghost use Rattle.mc_serve.specs.Tcp.{ReadsStream, WritesStream, new_line, sight_of};
 
 use crate::trail::Trail;
 use http_server::Log;
-use mc_seat::{Line, LineFault};
+use mc_seat::{Line, LineFault, Ready};
 use mc_wire::{OutFault, Outlet};
-use std::io;
 use std::io::{ErrorKind, Read, Write};
-use std::net::{Shutdown, TcpStream};
-use std::time::Duration;
-
-/// After its last write a line that is closed waits so long, in milliseconds, for more bytes of its peer.
-const LINGER_MILLIS: u64 = 500;
-
-/// A line that is closed drops at most so many reads of its peer's bytes.
-const LINGER_READS: u32 = 1_024;
-
-/// So many bytes are dropped by one read at most.
-const LINGER_BYTES: usize = 4_096;
+use std::{io, thread};
 
 /// A stream of bytes in both directions, as a TCP connection. It tells each byte that its own reads gave and its own writes
 /// took, to contracts alone.
 #[derive(Drop)]
 pub struct TcpLine<S> {
     stream: S,
+    /// A poll tells when the stream has something new: it is `rouse`d then, and not asked again before.
+    is_polled: bool,
+    /// The stream may have bytes to give.
+    may_read: bool,
+    /// The stream may take bytes.
+    may_write: bool,
+    /// A read that doesn't fill its room doesn't tell that nothing is left.
+    is_closing: bool,
     failed: bool,
     /// The last read found the end of the input.
     ended: bool,
@@ -36,14 +36,17 @@ pub struct TcpLine<S> {
 }
 
 impl<S> TcpLine<S> {
-    /// The stream as a line: nothing was read of it, nor written to it.
+    /// The stream as a line that is asked anew at each call: nothing was read of it, nor written to it.
     pub fn new(stream: S) -> TcpLine<S>
         ensures stream { result.stream ≡ stream }
-        ensures begins { (result.failed ≡ false) × (result.ended ≡ false) }
-        ensures none { (result.given ≡ []) × (result.taken ≡ []) × (result.reads.items ≡ []) }
+        ensures new { sight_of result ≡ new_line }
     {
         TcpLine {
             stream,
+            is_polled: false,
+            may_read: true,
+            may_write: true,
+            is_closing: false,
             failed: false,
             ended: false,
             given: Trail::new(),
@@ -51,40 +54,58 @@ impl<S> TcpLine<S> {
             reads: Log::new(),
         }
     }
+
+    /// The same of a stream that is registered with a poll, which tells at first what the stream is ready for.
+    pub fn polled(stream: S) -> TcpLine<S>
+        ensures stream { result.stream ≡ stream }
+        ensures new { sight_of result ≡ new_line }
+    {
+        let mut line = TcpLine::new(stream);
+        line.is_polled = true;
+        line.may_read = false;
+        line
+    }
+
+    /// It is asked for bytes.
+    fn ask(&mut self)
+        ensures sight { sight_of self.new ≡ asked (sight_of self.old) }
+        ensures stream { self.new.stream ≡ self.old.stream }
+    {
+        self.reads = self.reads.and(&self.given, &self.taken);
+    }
+
+    /// So many bytes were read into the front of the room.
+    fn give(&mut self, room: &[u8], count: usize)
+        requires { count ≤ length room.now }
+        ensures sight { sight_of self.new ≡ gave (take count room.now) (sight_of self.old) }
+        ensures stream { self.new.stream ≡ self.old.stream }
+    {
+        self.given.add(room.split_at(count).0);
+        self.ended = count == 0;
+        // A read that doesn't fill its room leaves nothing, unless the end or urgent bytes come after it.
+        self.may_read = !self.is_polled || self.is_closing || self.ended || count == room.len();
+    }
 }
 
-impl TcpLine<TcpStream> {
-    /// Closes the connection. Where the peer may still be sending, the output is ended first, and what comes is dropped for a
-    /// while: to close with bytes unread would reset the connection, and the peer could lose the last reply
-    /// (RFC 1122, section 4.2.2.13).
-    pub fn close(self) {
+impl<S: Drop> TcpLine<S> {
+    /// The stream, if it can be read from and written to: its input has not ended, and it has not failed.
+    pub(crate) fn into_open(self) -> Option<S> {
         let TcpLine {
             stream,
             failed,
             ended,
             ..
         } = self;
-        if failed || ended || stream.shutdown(Shutdown::Write).is_err() {
-            return;
-        }
-        let limit = Duration::from_millis(LINGER_MILLIS);
-        if stream.set_read_timeout(Some(limit)).is_err() {
-            return;
-        }
-        let mut stream = stream;
-        let mut room = [0; LINGER_BYTES];
-        for _ in 0..LINGER_READS {
-            match read_some(&mut stream, &mut room) {
-                Ok(count) if count > 0 => {}
-                _ => return,
-            }
-        }
+        if failed || ended { None } else { Some(stream) }
     }
 }
 
 /// Reads, again where a signal interrupts it.
-fn read_some<S: Read>(stream: &mut S, room: &mut [u8]) -> io::Result<usize>
+pub(crate) fn read_some<S: Read>(stream: &mut S, room: &mut [u8]) -> io::Result<usize>
     ensures bound { ReadsAtMost result room.new }
+    ensures same { length room.new ≡ length room.old }
+    ensures ok { IfOk result (λ count. Consumes (S.remaining stream.old) (S.remaining stream.new) (take count room.new)) }
+    ensures err { OnErr result (Keeps (S.remaining stream.old) (S.remaining stream.new)) }
 {
     for _ in 0..u64::MAX {
         match stream.read(room) {
@@ -98,6 +119,8 @@ fn read_some<S: Read>(stream: &mut S, room: &mut [u8]) -> io::Result<usize>
 /// Writes, again where a signal interrupts it.
 fn write_some<S: Write>(stream: &mut S, bytes: &[u8]) -> io::Result<usize>
     ensures bound { WritesAtMost result bytes.now }
+    ensures ok { IfOk result (λ count. Appends (S.contents stream.old) (S.contents stream.new) (take count bytes.now)) }
+    ensures err { OnErr result (Keeps (S.contents stream.old) (S.contents stream.new)) }
 {
     for _ in 0..u64::MAX {
         match stream.write(bytes) {
@@ -109,19 +132,101 @@ fn write_some<S: Write>(stream: &mut S, bytes: &[u8]) -> io::Result<usize>
 }
 
 impl<S: Read + Write> Outlet for TcpLine<S> {
-    ghost use Rattle.std.specs.Prelude.{Some, map};
-    ghost use Rattle.mc_wire.specs.Outlet.{Listed};
+    ghost sight = { sight_of };
 
-    ghost sight = { λ line. record { given = Listed line.given; ended = line.ended; reads = Some (map read_of line.reads.items); taken = Listed line.taken; failed = line.failed } };
+    fn write(&mut self, bytes: &[u8]) -> Result<usize, OutFault>
+        ensures within { IfOk result (λ count. count ≤ length bytes.now) }
+        ensures some { IfOk result (λ count. 0 < length bytes.now → 0 < count) }
+        ensures ok { IfOk result (λ count. sight_of self.new ≡ took (take count bytes.now) (sight_of self.old)) }
+        ensures err { OnErr result (sight_of self.new ≡ broke (sight_of self.old)) }
+        // Just the bytes that it says went to the stream.
+        ensures stream { WritesStream bytes.now result (S.contents self.old.stream) (S.contents self.new.stream) }
+    {
+        for _ in 0..u64::MAX {
+            let count = self.write_if_ready(bytes)?;
+            if count > 0 || bytes.is_empty() {
+                return Ok(count);
+            }
+            self.may_write = true;
+            thread::yield_now();
+        }
+        self.failed = true;
+        Err(OutFault)
+    }
+}
 
-    fn write(&mut self, bytes: &[u8]) -> Result<usize, OutFault> {
+impl<S: Read + Write> Line for TcpLine<S> {
+    fn read(&mut self, room: &mut [u8]) -> Result<usize, LineFault>
+        ensures within { IfOk result (λ count. count ≤ length room.old) }
+        ensures read { Reads room.new result (sight_of self.old) (sight_of self.new) }
+        // Just the bytes that it says came from the stream.
+        ensures stream { IfOk result (λ count. Consumes (S.remaining self.old.stream) (S.remaining self.new.stream) (take count room.new)) }
+        ensures fault { OnErr result (Keeps (S.remaining self.old.stream) (S.remaining self.new.stream)) }
+    {
+        for _ in 0..u64::MAX {
+            if let Some(count) = self.read_if_ready(room)? {
+                return Ok(count);
+            }
+            self.may_read = true;
+            thread::yield_now();
+        }
+        self.ask();
+        self.failed = true;
+        Err(LineFault)
+    }
+
+    fn read_if_ready(&mut self, room: &mut [u8]) -> Result<Option<usize>, LineFault>
+        ensures within { IfOk result (λ given. IfSome given (λ count. count ≤ length room.old)) }
+        ensures read { ReadsIfReady room.new result (sight_of self.old) (sight_of self.new) }
+        // Just the bytes that it says came from the stream.
+        ensures stream { ReadsStream room.new result (S.remaining self.old.stream) (S.remaining self.new.stream) }
+    {
+        if self.failed {
+            self.ask();
+            return Err(LineFault);
+        }
+        if !self.may_read {
+            return Ok(None);
+        }
+        match read_some(&mut self.stream, room) {
+            Ok(count) => {
+                self.ask();
+                self.give(room, count);
+                Ok(Some(count))
+            }
+            Err(fault) if fault.kind() == ErrorKind::WouldBlock => {
+                self.may_read = !self.is_polled;
+                Ok(None)
+            }
+            Err(_) => {
+                self.ask();
+                self.failed = true;
+                Err(LineFault)
+            }
+        }
+    }
+
+    fn write_if_ready(&mut self, bytes: &[u8]) -> Result<usize, OutFault>
+        ensures within { IfOk result (λ count. count ≤ length bytes.now) }
+        ensures ok { IfOk result (λ count. sight_of self.new ≡ took (take count bytes.now) (sight_of self.old)) }
+        ensures err { OnErr result (sight_of self.new ≡ broke (sight_of self.old)) }
+        // Just the bytes that it says went to the stream.
+        ensures stream { WritesStream bytes.now result (S.contents self.old.stream) (S.contents self.new.stream) }
+    {
         if self.failed {
             return Err(OutFault);
         }
+        if bytes.is_empty() || !self.may_write {
+            return Ok(0);
+        }
         match write_some(&mut self.stream, bytes) {
-            Ok(count) if count > 0 || bytes.is_empty() => {
+            Ok(count) if count > 0 => {
                 self.taken.add(bytes.split_at(count).0);
                 Ok(count)
+            }
+            Err(fault) if fault.kind() == ErrorKind::WouldBlock => {
+                self.may_write = !self.is_polled;
+                Ok(0)
             }
             _ => {
                 self.failed = true;
@@ -129,24 +234,16 @@ impl<S: Read + Write> Outlet for TcpLine<S> {
             }
         }
     }
-}
 
-impl<S: Read + Write> Line for TcpLine<S> {
-    fn read(&mut self, room: &mut [u8]) -> Result<usize, LineFault> {
-        self.reads = self.reads.and(&self.given, &self.taken);
-        if self.failed {
-            return Err(LineFault);
-        }
-        match read_some(&mut self.stream, room) {
-            Ok(count) => {
-                self.given.add(room.split_at(count).0);
-                self.ended = count == 0;
-                Ok(count)
-            }
-            Err(_) => {
-                self.failed = true;
-                Err(LineFault)
-            }
+    fn give_up(&mut self) {
+        self.failed = true;
+    }
+
+    fn rouse(&mut self, ready: Ready) {
+        self.may_read = true;
+        self.may_write = true;
+        if ready == Ready::Closing {
+            self.is_closing = true;
         }
     }
 }

@@ -6,7 +6,7 @@ ghost use Rattle.mc_server.specs.internal.Answering.{AnswersAll, Backs, CanAnswe
 
 use mc_conn::{Conn, Taken};
 use mc_ring::Reply;
-use mc_seat::{Clock, Line, Seat, Served, Turn};
+use mc_seat::{Clock, Line, Rooms, Seat, Served, Turn};
 use mc_store::{GREATEST_BUDGET, LEAST_BUDGET, Shard};
 use mc_wire::GREATEST_VALUE_LIMIT;
 use std::alloc::{AllocError, Global};
@@ -107,13 +107,14 @@ pub fn serve_one<R: Wait + RandomSource, L: Line, K: Clock>(
         (record { begin = L.sight line.old; now = L.sight line.new; commands = served.commands; broke = served.broke })) }
     ensures refused { OnErr result (L.sight line.new ≡ L.sight line.old) }
 {
-    let (Ok(mut shards), Ok(mut conn), Ok(mut seat)) = (
+    let (Ok(mut shards), Ok(mut conn), Ok(mut rooms)) = (
         make_shards(rt, alloc, sizes),
         Conn::new(alloc, sizes.shards, sizes.value, sizes.window),
-        Seat::new(alloc),
+        Rooms::new(alloc),
     ) else {
         return Err(ServeRefusal::Memory);
     };
+    let mut seat = Seat::new(alloc);
     let mut commands = 0;
     for _ in rt.forever() {
         let stop = conn.take(alloc, clock.now());
@@ -122,7 +123,7 @@ pub fn serve_one<R: Wait + RandomSource, L: Line, K: Clock>(
             continue;
         }
         answer(alloc, &mut conn, &mut shards);
-        match seat.go_on(&mut conn, line, stop) {
+        match seat.go_on(&mut conn, line, stop, &mut rooms) {
             Turn::Goes => {}
             Turn::Waits => thread::yield_now(),
             Turn::Ends => return Ok(Served {

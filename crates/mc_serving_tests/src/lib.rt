@@ -14,6 +14,8 @@ mod memory_line;
 #[cfg(test)]
 mod options;
 #[cfg(test)]
+mod portions;
+#[cfg(test)]
 mod replay;
 #[cfg(test)]
 mod settle;

@@ -48,7 +48,7 @@ fn each_call(rt: HostRuntime) -> Result<(), Fail> {
         options
             == Options::Listen {
                 address: "127.0.0.1:11211",
-                seats: 16,
+                seats: 1_024,
                 connections: None,
                 limits,
             },
@@ -128,7 +128,7 @@ fn faults(rt: HostRuntime) -> Result<(), Fail> {
         ("mcd --stdio --at 1 --at 1", 2),
         ("mcd --items 5", 2),
         ("mcd --at 5", 2),
-        ("mcd --seats 65", 2),
+        ("mcd --seats 4097", 2),
         ("mcd --connections 0", 2),
         ("mcd --replay a --stdio", 2),
         ("mcd --replay a --shards 2", 2),

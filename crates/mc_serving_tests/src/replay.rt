@@ -46,7 +46,7 @@ fn bad_lines_are_told(rt: HostRuntime) {
         (b"\n".as_slice(), 1),
         (b"sim 1 1 1024".as_slice(), 1),
         (b"sim 0 1 1024 1".as_slice(), 1),
-        (b"sim 65 1 1024 1".as_slice(), 1),
+        (b"sim 4097 1 1024 1".as_slice(), 1),
         (b"sim 1 17 1024 1".as_slice(), 1),
         (b"sim 1 1 1023 1".as_slice(), 1),
         (b"sim 1 1 1024 1025".as_slice(), 1),
@@ -92,7 +92,7 @@ fn what_was_done_is_told(rt: HostRuntime) -> Result<(), Fail> {
 #[test]
 fn a_size_out_of_its_limits_is_refused(rt: HostRuntime) -> Result<(), Fail> {
     let plan = read_schedule(rt.alloc(), ENDS)?;
-    let plan = Schedule { seats: 65, ..plan };
+    let plan = Schedule { seats: 4_097, ..plan };
     let mut told = MemoryLine::new(rt.alloc(), b"")?;
     let refused = replay(&rt, rt.alloc(), &plan, &mut told);
     equal(&rt, refused, Err(ReplayFault::Size));

@@ -1,18 +1,38 @@
-//! Two threads wake each other, and none is left asleep.
+//! Threads wake each other, whether they sleep in a parker or in a poll, and none is left asleep.
 use crate::asserting::{equal, holds};
-use mc_wake::{Patience, Sleeper, Waker};
+use mc_wake::{Marked, Patience, Readiness, Sleeper, Wakers};
+use mio::net::TcpStream;
 use std::alloc::{AllocError, Global};
+use std::io::Write;
+use std::net::{Net, TcpListener};
 use std::sync::atomic::{AtomicU64, Ordering};
 use std::sync::{Arc, Wait};
 use std::test::Fail;
-use std::thread;
 use std::thread::Threads;
+use std::{io, net, thread};
 
 /// So often each of the threads waits for the other.
 const ROUNDS: u64 = 20_000;
 
+/// So often a thread rouses a seat before it waits until that was seen.
+const BATCH: u64 = 8;
+
+/// No thread looks again before it sleeps.
+const AT_ONCE: Patience = Patience {
+    looks: 0,
+    yields: 0,
+};
+
 /// Adds to the count whenever it is this thread's turn: even counts are the first thread's, odd ones the second's.
-fn take_turns<R: Wait>(rt: &R, sleeper: &Sleeper, other: &Waker, count: &AtomicU64, mine: u64) {
+fn take_turns<R: Wait>(
+    rt: &R,
+    sleeper: Sleeper,
+    wakers: &Wakers,
+    count: &AtomicU64,
+    mine: u64,
+    other: usize,
+) {
+    let mut sleeper = sleeper;
     for _ in rt.forever() {
         let now = count.load(Ordering::SeqCst);
         if now >= 2 * ROUNDS {
@@ -21,74 +41,283 @@ fn take_turns<R: Wait>(rt: &R, sleeper: &Sleeper, other: &Waker, count: &AtomicU
         if now % 2 == mine {
             sleeper.found();
             count.store(now + 1, Ordering::SeqCst);
-            other.call(0);
+            wakers.rouse(other);
         } else {
             sleeper.wait(rt);
         }
     }
 }
 
-/// Has two threads take turns with this patience, and gives how many turns they took.
+/// Has two threads, of one seat each, take turns, and gives how many turns they took.
 fn turns_of_two<R: Threads + Wait + Copy + Send + 'static>(
     rt: &R,
     alloc: Global,
-    patience: Patience,
+    first: Sleeper,
+    second: Sleeper,
 ) -> Result<u64, AllocError> {
+    let both = vec![in alloc; first, second]?;
+    let wakers = Wakers::of(alloc, both.as_slice())?;
+    let theirs = wakers.share()?;
     let count = Arc::new(alloc, AtomicU64::new(0))?;
     let shared = Arc::try_clone(&count)?;
-    let first = Sleeper::new(alloc, patience, 1)?;
-    let second = Sleeper::new(alloc, patience, 1)?;
-    let wakes_first = first.waker()?;
-    let wakes_second = second.waker()?;
     let own = *rt;
+    let mut both = both.into_iter();
+    let (Some(first), Some(second)) = (both.next(), both.next()) else {
+        return Ok(0);
+    };
     let thread = thread::spawn(rt, move || {
-        take_turns(&own, &second, &wakes_first, &shared, 1)
+        take_turns(&own, second, &theirs, &shared, 1, 0)
     })?;
-    take_turns(rt, &first, &wakes_second, &count, 0);
+    take_turns(rt, first, &wakers, &count, 0, 1);
     thread.join(rt);
     Ok(count.load(Ordering::SeqCst))
 }
 
 #[test]
 fn both_end_where_they_sleep_at_once(rt: HostRuntime) -> Result<(), Fail> {
-    let patience = Patience {
-        looks: 0,
-        yields: 0,
-    };
-    let turns = turns_of_two(&rt, rt.alloc(), patience)?;
-    equal(&rt, turns, 2 * ROUNDS);
+    let alloc = rt.alloc();
+    let first = Sleeper::new(alloc, AT_ONCE, 2, 1, 0)?;
+    let second = Sleeper::new(alloc, AT_ONCE, 2, 1, 0)?;
+    equal(&rt, turns_of_two(&rt, alloc, first, second)?, 2 * ROUNDS);
     Ok(())
 }
 
 #[test]
 fn both_end_where_they_look_again_first(rt: HostRuntime) -> Result<(), Fail> {
-    let turns = turns_of_two(&rt, rt.alloc(), Patience::among(&rt, 2))?;
-    equal(&rt, turns, 2 * ROUNDS);
+    let alloc = rt.alloc();
+    let patience = Patience::among(&rt, 2);
+    let first = Sleeper::new(alloc, patience, 2, 1, 0)?;
+    let second = Sleeper::new(alloc, patience, 2, 1, 0)?;
+    equal(&rt, turns_of_two(&rt, alloc, first, second)?, 2 * ROUNDS);
     Ok(())
 }
 
 #[test]
+fn both_end_where_they_sleep_in_polls(rt: HostRuntime) -> Result<(), Fail> {
+    let alloc = rt.alloc();
+    let first = Sleeper::polling(&rt, alloc, AT_ONCE, 2, 1, 0)?;
+    let second = Sleeper::polling(&rt, alloc, AT_ONCE, 2, 1, 0)?;
+    equal(&rt, turns_of_two(&rt, alloc, first, second)?, 2 * ROUNDS);
+    Ok(())
+}
+
+/// What two threads say, and what a third has seen of it.
+#[derive(Drop)]
+struct Said {
+    said: AtomicU64,
+    seen: AtomicU64,
+}
+
+/// Says one number after another, and waits now and then until the last one was seen.
+fn say_all<R: Wait>(rt: &R, wakers: &Wakers, seat: usize, word: &Said) {
+    for number in 1..=ROUNDS {
+        word.said.store(number, Ordering::SeqCst);
+        wakers.rouse(seat);
+        if number % BATCH == 0 {
+            for _ in rt.forever() {
+                if word.seen.load(Ordering::SeqCst) == number {
+                    break;
+                }
+                thread::yield_now();
+            }
+        }
+    }
+}
+
+/// Looks at what was said at the places that were roused, until all was; how often a place was roused.
+fn see_all<R: Wait>(rt: &R, sleeper: Sleeper, words: &[Said]) -> u64 {
+    let mut sleeper = sleeper;
+    let mut roused = 0;
+    for _ in rt.forever() {
+        let before = roused;
+        for place in Marked::of(0, sleeper.roused_in(0)) {
+            if let Some(word) = words.get(place) {
+                let said = word.said.load(Ordering::SeqCst);
+                word.seen.store(said, Ordering::SeqCst);
+                roused = u64::saturating_add(roused, 1);
+            }
+        }
+        if words
+            .iter()
+            .all(|word| word.seen.load(Ordering::SeqCst) == ROUNDS)
+        {
+            return roused;
+        }
+        if roused == before {
+            sleeper.wait(rt);
+        } else {
+            sleeper.found();
+        }
+    }
+    unreachable!()
+}
+
+/// Two threads rouse seats of a third, which sleeps; how often it found one roused.
+fn two_rouse_a_third<R: Threads + Wait + Copy + Send + 'static>(
+    rt: &R,
+    alloc: Global,
+    sleeper: Sleeper,
+) -> Result<u64, AllocError> {
+    let mut words = Vec::new(alloc);
+    for _ in 0..2 {
+        words.push(Said {
+            said: AtomicU64::new(0),
+            seen: AtomicU64::new(0),
+        })?;
+    }
+    let words = Arc::new(alloc, words)?;
+    let one = vec![in alloc; sleeper]?;
+    let wakers = Wakers::of(alloc, one.as_slice())?;
+    let mut threads = Vec::new(alloc);
+    for seat in 0..2 {
+        let own = *rt;
+        let theirs = wakers.share()?;
+        let shared = Arc::try_clone(&words)?;
+        let thread = thread::spawn(rt, move || {
+            if let Some(word) = shared.get(seat) {
+                say_all(&own, &theirs, seat, word);
+            }
+        })?;
+        threads.push(thread)?;
+    }
+    let Some(sleeper) = one.into_iter().next() else {
+        return Ok(0);
+    };
+    let roused = see_all(rt, sleeper, words.as_slice());
+    for thread in threads {
+        thread.join(rt);
+    }
+    Ok(roused)
+}
+
+#[test]
+fn none_of_many_wakes_is_lost(rt: HostRuntime) -> Result<(), Fail> {
+    let alloc = rt.alloc();
+    let parked = Sleeper::new(alloc, AT_ONCE, 2, 2, 0)?;
+    let roused = two_rouse_a_third(&rt, alloc, parked)?;
+    holds(&rt, roused >= 2 * ROUNDS / BATCH);
+    let polling = Sleeper::polling(&rt, alloc, AT_ONCE, 2, 2, 0)?;
+    let roused = two_rouse_a_third(&rt, alloc, polling)?;
+    holds(&rt, roused >= 2 * ROUNDS / BATCH);
+    Ok(())
+}
+
+/// The second of two threads has the second shard, and the first the seat.
+#[test]
 fn a_call_is_told_once(rt: HostRuntime) -> Result<(), Fail> {
     let alloc = rt.alloc();
-    let sleeper = Sleeper::new(alloc, Patience::among(&rt, 2), 2)?;
-    let waker = sleeper.waker()?;
-    holds(&rt, !sleeper.was_called_by(1));
-    waker.call(1);
-    holds(&rt, !sleeper.was_called_by(0));
-    holds(&rt, sleeper.was_called_by(1));
-    holds(&rt, !sleeper.was_called_by(1));
+    let first = Sleeper::new(alloc, AT_ONCE, 70, 70, 1)?;
+    let second = Sleeper::new(alloc, AT_ONCE, 70, 0, 1)?;
+    let both = vec![in alloc; first, second]?;
+    let wakers = Wakers::of(alloc, both.as_slice())?;
+    let Some(second) = both.get(1) else {
+        return Ok(());
+    };
+    equal(&rt, second.callers_in(0), 0);
+    wakers.call(1, 3);
+    wakers.call(1, 69);
+    wakers.call(1, 69);
+    equal(&rt, second.callers_in(0), 8);
+    equal(&rt, second.callers_in(0), 0);
+    equal(&rt, second.callers_in(1), 32);
+    equal(&rt, second.callers_in(1), 0);
+    Ok(())
+}
+
+/// At first each place is roused.
+#[test]
+fn a_place_is_roused_once(rt: HostRuntime) -> Result<(), Fail> {
+    let alloc = rt.alloc();
+    let first = Sleeper::new(alloc, AT_ONCE, 5, 3, 0)?;
+    let second = Sleeper::new(alloc, AT_ONCE, 5, 2, 1)?;
+    let both = vec![in alloc; first, second]?;
+    let wakers = Wakers::of(alloc, both.as_slice())?;
+    let Some(second) = both.get(1) else {
+        return Ok(());
+    };
+    equal(&rt, second.roused_in(0), 3);
+    equal(&rt, second.roused_in(0), 0);
+    wakers.rouse(4);
+    wakers.rouse(4);
+    equal(&rt, second.roused_in(0), 2);
+    equal(&rt, second.roused_in(0), 0);
     Ok(())
 }
 
 /// One that the sleeper wasn't made for is heard whenever it is asked for: too few callers hang nobody.
 #[test]
 fn a_caller_too_many_is_heard(rt: HostRuntime) -> Result<(), Fail> {
+    let sleeper = Sleeper::new(rt.alloc(), AT_ONCE, 64, 2, 1)?;
+    equal(&rt, sleeper.callers_in(1), u64::MAX);
+    equal(&rt, sleeper.callers_in(1), u64::MAX);
+    equal(&rt, sleeper.callers_in(0), 0);
+    equal(&rt, sleeper.roused_in(1), u64::MAX);
+    Ok(())
+}
+
+#[test]
+fn the_marked_numbers_are_given(rt: HostRuntime) -> Result<(), Fail> {
+    let numbers: Vec<usize> = Marked::of(2, 0x8000_0000_0000_0101).collect(rt.alloc())?;
+    equal(&rt, numbers.as_slice(), [128, 136, 191].as_slice());
+    equal(&rt, Marked::of(0, 0).count(), 0);
+    equal(&rt, Marked::of(0, u64::MAX).count(), 64);
+    Ok(())
+}
+
+/// A connection that doesn't block, and its peer.
+fn pair<R: Net<Listener = TcpListener, Stream = net::TcpStream>>(
+    rt: &R,
+) -> io::Result<(TcpStream, net::TcpStream)> {
+    let listener = TcpListener::bind(rt, "127.0.0.1:0")?;
+    let near = net::TcpStream::connect(rt, listener.local_addr()?)?;
+    let (far, _) = listener.accept()?;
+    near.set_nonblocking(true)?;
+    Ok((TcpStream::from_std(near), far))
+}
+
+#[test]
+fn a_socket_rouses_its_seat(rt: HostRuntime) -> Result<(), Fail> {
     let alloc = rt.alloc();
-    let sleeper = Sleeper::new(alloc, Patience::among(&rt, 2), 2)?;
-    let waker = sleeper.waker()?;
-    waker.call(2);
-    holds(&rt, sleeper.was_called_by(2));
-    holds(&rt, sleeper.was_called_by(2));
-    holds(&rt, !sleeper.was_called_by(1));
+    let (mut near, far) = pair(&rt)?;
+    let mut one = vec![in alloc; Sleeper::polling(&rt, alloc, AT_ONCE, 1, 2, 0)?]?;
+    let wakers = Wakers::of(alloc, one.as_slice())?;
+    wakers.register(1, &mut near)?;
+    let Some(sleeper) = one.get_mut(0) else {
+        return Ok(());
+    };
+    equal(&rt, sleeper.roused_in(0), 3);
+    // It may be written to.
+    sleeper.wait(&rt);
+    sleeper.wait(&rt);
+    equal(&rt, sleeper.roused_in(0), 2);
+    equal(&rt, sleeper.ready(1), Some(Readiness::Ready));
+    equal(&rt, sleeper.ready(1), None);
+    (&far).write_all(b"a")?;
+    sleeper.wait(&rt);
+    sleeper.wait(&rt);
+    equal(&rt, sleeper.roused_in(0), 2);
+    equal(&rt, sleeper.ready(1), Some(Readiness::Ready));
+    far.shutdown(net::Shutdown::Write)?;
+    sleeper.wait(&rt);
+    sleeper.wait(&rt);
+    equal(&rt, sleeper.roused_in(0), 2);
+    equal(&rt, sleeper.ready(1), Some(Readiness::Closing));
+    Ok(())
+}
+
+#[test]
+fn a_seat_is_reminded(rt: HostRuntime) -> Result<(), Fail> {
+    let alloc = rt.alloc();
+    let mut one = vec![in alloc; Sleeper::polling(&rt, alloc, AT_ONCE, 1, 2, 0)?]?;
+    let wakers = Wakers::of(alloc, one.as_slice())?;
+    let Some(sleeper) = one.get_mut(0) else {
+        return Ok(());
+    };
+    equal(&rt, sleeper.roused_in(0), 3);
+    wakers.remind(1);
+    sleeper.wait(&rt);
+    equal(&rt, sleeper.roused_in(0), 0);
+    sleeper.wait(&rt);
+    equal(&rt, sleeper.roused_in(0), 2);
     Ok(())
 }

@@ -1,5 +1,5 @@
 //! The commands that are split without a value of a command: from their words to their piece and the form of their reply.
-ghost use Rattle.std.specs.Prelude.{◌≡◌, ◌<◌, ◌≤◌, ◌∷◌, [], None, length};
+ghost use Rattle.std.specs.Prelude.{◌≡◌, ◌<◌, ◌≤◌, ◌∷◌, [], Bool, IfOk, List, None, ℕ, ℤ, length};
 ghost use Rattle.mc_command.specs.declared.command.Command.{Command};
 ghost use Rattle.mc_command.specs.Command.{with_block};
 ghost use Rattle.mc_command.specs.Field.{AreKeys};
@@ -9,17 +9,17 @@ ghost use Rattle.mc_wire.specs.Words.{words_of};
 ghost use Rattle.mc_wire.specs.declared.TheConstants.{GREATEST_VALUE_LIMIT};
 ghost use Rattle.mc_plain.specs.Plain.{get_of, meta_get_of, set_of};
 ghost use Rattle.mc_split.specs.Pieces.{pieces_of};
-ghost use Rattle.mc_split.specs.Plan.{form_of, SplitsInto};
+ghost use Rattle.mc_split.specs.Plan.{form_of, Queues, SplitsInto};
 ghost use Rattle.mc_split.specs.Shape.{shape_of};
 ghost use Rattle.mc_split.specs.internal.Splits.{Splits};
 
-use crate::form::{Fixed, Form, Shape};
+use crate::form::{Fixed, Form, Shape, Slots};
 use crate::plan::{Piece, Ticket};
 use crate::splitter::Splitter;
 use mc_command::{
     Block, Keys, MetaFlags, MetaGet, MetaKind, MetaSet, Opaque, Retrieval, Returned, StoreMode,
 };
-use mc_item::{NoMemory, Op, Value};
+use mc_item::{Kind, NoMemory, Op, Value};
 use mc_wire::Key;
 use std::alloc::Global;
 use std::collections::VecDeque;
@@ -39,38 +39,52 @@ pub fn split_no_op(alloc: Global, ticket: Ticket, moment: u64, shards: usize) ->
     splitter.fixed(Fixed::MetaNoop)
 }
 
-/// Splits `get KEY`, or `gets KEY`, which shows the unique: puts its piece behind those of the queue, and gives the form of
-/// its reply. Where memory runs out, the queue holds what it held.
+/// Puts the piece of `get KEY`, or `gets KEY`, behind those of the queue, and gives the key that the reply shows. Where memory
+/// runs out, the queue holds what it held.
 #[inline(always)]
-pub fn split_get_one(
+#[tactic(auto, unfolding(crate::specs::Pieces::pieces_of))]
+pub fn queue_get_one(
     alloc: Global,
     key: &[u8],
-    with_unique: bool,
     ticket: Ticket,
     moment: u64,
     shards: usize,
     queue: &mut VecDeque<(usize, Piece)>,
-) -> Result<Form, NoMemory>
+) -> Result<Key, NoMemory>
     requires shards { 0 < shards }
     requires key { key_fault key.now ≡ None }
-    ensures { SplitsInto shards ticket moment (get_of (key.now ∷ []) with_unique) result queue.old.items queue.new.items }
+    ensures shown { IfOk result (λ shown. shown ≡ key.now) }
+    ensures queues { (with_unique : Bool) → Queues shards ticket moment (get_of (key.now ∷ []) with_unique) result queue.old.items queue.new.items }
 {
-    let before = queue.len();
     let splitter = Splitter {
         alloc,
         ticket,
         moment,
         shards,
     };
-    let form = splitter.get_one(queue, key, with_unique);
-    if form.is_err() {
-        queue.truncate(before);
-    }
-    form
+    let shown = Key::from_key_word(alloc, key)?;
+    let key = Key::from_key_word(alloc, key)?;
+    let shard = key.place(shards);
+    splitter.push(queue, shard, 0, Op::Fetch { key, touch: None })?;
+    Ok(shown)
 }
 
-/// Splits `get KEY ..`, or `gets KEY ..`, as `split_get_one` does, by the first key and the text of the others: one piece a
-/// key, in the order of the request.
+/// The form of the reply to `get KEY`, or to `gets KEY`, which shows the unique. It takes no memory.
+#[inline(always)]
+#[tactic(auto, unfolding(crate::specs::Pieces::pieces_of, crate::specs::Shape::shape_of))]
+pub fn form_of_get_one(alloc: Global, key: Key, with_unique: bool, ticket: Ticket) -> Form
+    ensures { (shards : ℕ) → result ≡ form_of shards ticket (get_of (key ∷ []) with_unique) }
+{
+    let shape = Shape::Values {
+        keys: Keys::one(alloc, key),
+        with_unique,
+    };
+    form_of_one(shape, Kind::Fetch, ticket)
+}
+
+/// Splits `get KEY ..`, or `gets KEY ..`, by the first key and the text of the others: puts its pieces behind those of the
+/// queue, one a key, in the order of the request, and gives the form of its reply. Where memory runs out, the queue holds
+/// what it held.
 pub fn split_get(
     alloc: Global,
     first: &[u8],
@@ -100,35 +114,60 @@ pub fn split_get(
     form
 }
 
-/// Splits `mg KEY v`, as `split_get_one` does.
+/// Puts the piece of `mg KEY v` behind those of the queue. Where memory runs out, the queue holds what it held.
 #[inline(always)]
-pub fn split_meta_get_value(
+#[tactic(auto, unfolding(crate::specs::Pieces::pieces_of))]
+pub fn queue_meta_get_value(
     alloc: Global,
     key: &[u8],
     ticket: Ticket,
     moment: u64,
     shards: usize,
     queue: &mut VecDeque<(usize, Piece)>,
-) -> Result<Form, NoMemory>
+) -> Result<(), NoMemory>
     requires shards { 0 < shards }
     requires key { key_fault key.now ≡ None }
-    ensures { SplitsInto shards ticket moment (meta_get_of key.now) result queue.old.items queue.new.items }
+    ensures { Queues shards ticket moment (meta_get_of key.now) result queue.old.items queue.new.items }
 {
-    let before = queue.len();
     let splitter = Splitter {
         alloc,
         ticket,
         moment,
         shards,
     };
-    let form = splitter.meta_get_value(queue, key);
-    if form.is_err() {
-        queue.truncate(before);
-    }
-    form
+    let key = Key::from_key_word(alloc, key)?;
+    let shard = key.place(shards);
+    let op = Op::MetaGet(mc_item::MetaGet {
+        key,
+        touch: None,
+        vivify: None,
+        recache: None,
+    });
+    splitter.push(queue, shard, 0, op)?;
+    Ok(())
 }
 
-/// Splits `mg` with any flags, as `split_get_one` does.
+/// The form of the reply to `mg KEY v`. It takes no memory.
+#[inline(always)]
+#[tactic(auto, unfolding(crate::specs::Pieces::pieces_of, crate::specs::Shape::shape_of))]
+pub fn form_of_meta_get_value(ticket: Ticket) -> Form
+    ensures { (shards : ℕ) (key : List ℕ) → result ≡ form_of shards ticket (meta_get_of key) }
+{
+    let shape = Shape::Meta {
+        kind: MetaKind::Get,
+        flags: MetaFlags {
+            base64: false,
+            quiet: false,
+            returned: Returned::new(),
+            opaque: Opaque::empty(),
+        },
+        value: true,
+        key: None,
+    };
+    form_of_one(shape, Kind::MetaGet, ticket)
+}
+
+/// Splits `mg` with any flags, as `split_get` does.
 pub fn split_meta_get(
     alloc: Global,
     get: MetaGet,
@@ -154,7 +193,7 @@ pub fn split_meta_get(
     form
 }
 
-/// Splits `ms` with this block in place of its own, as `split_get_one` does.
+/// Splits `ms` with this block in place of its own, as `split_get` does.
 pub fn split_meta_set(
     alloc: Global,
     set: MetaSet,
@@ -182,37 +221,67 @@ pub fn split_meta_set(
     form
 }
 
-/// Splits `set KEY FLAGS E N [noreply]` with its block, as `split_get_one` does.
+/// Puts the piece of `set KEY FLAGS E N [noreply]` with its block behind those of the queue. Where memory runs out, the queue
+/// holds what it held.
 #[inline(always)]
-pub fn split_set(
+#[tactic(auto, unfolding(crate::specs::Pieces::pieces_of))]
+pub fn queue_set(
     alloc: Global,
     key: &[u8],
     flags: u32,
     exptime: i64,
-    noreply: bool,
     block: &[u8],
     ticket: Ticket,
     moment: u64,
     shards: usize,
     queue: &mut VecDeque<(usize, Piece)>,
-) -> Result<Form, NoMemory>
+) -> Result<(), NoMemory>
     requires shards { 0 < shards }
     requires key { key_fault key.now ≡ None }
     requires small { length block.now ≤ GREATEST_VALUE_LIMIT }
-    ensures { SplitsInto shards ticket moment (set_of key.now flags exptime noreply block.now) result queue.old.items queue.new.items }
+    ensures { (noreply : Bool) → Queues shards ticket moment (set_of key.now flags exptime noreply block.now) result queue.old.items queue.new.items }
 {
-    let before = queue.len();
     let splitter = Splitter {
         alloc,
         ticket,
         moment,
         shards,
     };
-    let form = splitter.set(queue, key, flags, exptime, noreply, block);
-    if form.is_err() {
-        queue.truncate(before);
+    let key = Key::from_key_word(alloc, key)?;
+    let block = Vec::from_slice(alloc, block)?;
+    let shard = key.place(shards);
+    let op = Op::Store {
+        key,
+        mode: StoreMode::Set,
+        flags,
+        exptime,
+        value: Value::new(block)?,
+    };
+    splitter.push(queue, shard, 0, op)?;
+    Ok(())
+}
+
+/// The form of the reply to `set`, which `noreply` hides. It takes no memory.
+#[inline(always)]
+#[tactic(auto, unfolding(crate::specs::Pieces::pieces_of, crate::specs::Shape::shape_of))]
+pub fn form_of_set(ticket: Ticket, noreply: bool) -> Form
+    ensures { (shards : ℕ) (key : List ℕ) (flags : ℕ) (exptime : ℤ) (block : List ℕ) →
+        result ≡ form_of shards ticket (set_of key flags exptime noreply block) }
+{
+    form_of_one(Shape::Line { noreply }, Kind::Store, ticket)
+}
+
+/// The form of a reply to one piece of this kind. It takes no memory.
+#[inline(always)]
+fn form_of_one(shape: Shape, kind: Kind, ticket: Ticket) -> Form
+    ensures { result ≡ record { ticket = ticket; kind = kind; shape = shape; slots = None ∷ [] } }
+{
+    Form {
+        ticket,
+        kind,
+        shape,
+        slots: Slots::one(),
     }
-    form
 }
 
 impl Splitter {
@@ -242,63 +311,6 @@ impl Splitter {
         )
     }
 
-    /// `get KEY` and `gets KEY`.
-    #[inline(always)]
-    #[tactic(auto, unfolding(crate::specs::Pieces::pieces_of, crate::specs::Shape::shape_of))]
-    fn get_one(
-        self,
-        queue: &mut VecDeque<(usize, Piece)>,
-        key: &[u8],
-        with_unique: bool,
-    ) -> Result<Form, NoMemory>
-        requires shards { 0 < self.shards }
-        requires key { key_fault key.now ≡ None }
-        ensures { Splits result self.ticket self.moment (shape_of (get_of (key.now ∷ []) with_unique)) (pieces_of self.shards (get_of (key.now ∷ []) with_unique)) queue.old.items queue.new.items }
-    {
-        let shown = Key::from_key_word(self.alloc, key)?;
-        let key = Key::from_key_word(self.alloc, key)?;
-        let shape = Shape::Values {
-            keys: Keys::one(self.alloc, shown),
-            with_unique,
-        };
-        let shard = key.place(self.shards);
-        self.one(queue, shape, shard, Op::Fetch { key, touch: None })
-    }
-
-    /// `mg KEY v`.
-    #[inline(always)]
-    #[tactic(auto, unfolding(crate::specs::Pieces::pieces_of, crate::specs::Shape::shape_of))]
-    fn meta_get_value(
-        self,
-        queue: &mut VecDeque<(usize, Piece)>,
-        key: &[u8],
-    ) -> Result<Form, NoMemory>
-        requires shards { 0 < self.shards }
-        requires key { key_fault key.now ≡ None }
-        ensures { Splits result self.ticket self.moment (shape_of (meta_get_of key.now)) (pieces_of self.shards (meta_get_of key.now)) queue.old.items queue.new.items }
-    {
-        let key = Key::from_key_word(self.alloc, key)?;
-        let shape = Shape::Meta {
-            kind: MetaKind::Get,
-            flags: MetaFlags {
-                base64: false,
-                quiet: false,
-                returned: Returned::new(),
-                opaque: Opaque::empty(),
-            },
-            value: true,
-            key: None,
-        };
-        let shard = key.place(self.shards);
-        let op = Op::MetaGet(mc_item::MetaGet {
-            key,
-            touch: None,
-            vivify: None,
-            recache: None,
-        });
-        self.one(queue, shape, shard, op)
-    }
-
     /// `ms` with this block.
     #[tactic(auto, unfolding(crate::specs::Pieces::pieces_of, crate::specs::Shape::shape_of))]
     fn meta_set_with(
@@ -320,35 +332,5 @@ impl Splitter {
                 ..set
             },
         )
-    }
-
-    /// `set KEY FLAGS E N [noreply]`.
-    #[inline(always)]
-    #[tactic(auto, unfolding(crate::specs::Pieces::pieces_of, crate::specs::Shape::shape_of))]
-    fn set(
-        self,
-        queue: &mut VecDeque<(usize, Piece)>,
-        key: &[u8],
-        flags: u32,
-        exptime: i64,
-        noreply: bool,
-        block: &[u8],
-    ) -> Result<Form, NoMemory>
-        requires shards { 0 < self.shards }
-        requires key { key_fault key.now ≡ None }
-        requires small { length block.now ≤ GREATEST_VALUE_LIMIT }
-        ensures { Splits result self.ticket self.moment (shape_of (set_of key.now flags exptime noreply block.now)) (pieces_of self.shards (set_of key.now flags exptime noreply block.now)) queue.old.items queue.new.items }
-    {
-        let key = Key::from_key_word(self.alloc, key)?;
-        let block = Vec::from_slice(self.alloc, block)?;
-        let shard = key.place(self.shards);
-        let op = Op::Store {
-            key,
-            mode: StoreMode::Set,
-            flags,
-            exptime,
-            value: Value::new(block)?,
-        };
-        self.one(queue, Shape::Line { noreply }, shard, op)
     }
 }

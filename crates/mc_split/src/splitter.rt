@@ -1,5 +1,6 @@
 //! The pieces of one command, numbered, and the form of its reply.
-ghost use Rattle.std.specs.Prelude.{◌≡◌, ◌++◌, ◌∷◌, [], IfOk, OnOk, OnErr, None, replicate};
+ghost use Rattle.std.specs.Prelude.{◌≡◌, ◌<◌, ◌++◌, ◌∷◌, [], IfOk, OnOk, OnErr, None, replicate};
+ghost use Rattle.std.specs.VecDeque.{deque_len, deque_capacity};
 ghost use Rattle.mc_split.specs.Pieces.{Asked};
 ghost use Rattle.mc_split.specs.Plan.{form_with};
 ghost use Rattle.mc_split.specs.internal.Splits.{Splits};
@@ -18,6 +19,34 @@ pub struct Splitter {
     pub moment: u64,
     pub shards: usize,
 }
+
+/// Makes room for one piece more.
+#[inline(always)]
+fn make_room(queue: &mut VecDeque<(usize, Piece)>) -> Result<(), AllocError>
+    ensures items { queue.new.items ≡ queue.old.items }
+    ensures room { OnOk result (deque_len queue.new < deque_capacity queue.new) }
+{
+    if queue.len() < queue.capacity() {
+        return Ok(());
+    }
+    grow(queue)
+}
+
+/// Takes more memory for the queue. It is kept out of line, so that a piece is moved whole into a queue with room.
+#[cold]
+#[inline(never)]
+fn grow(queue: &mut VecDeque<(usize, Piece)>) -> Result<(), AllocError>
+    ensures items { queue.new.items ≡ queue.old.items }
+    ensures room { OnOk result (deque_len queue.new < deque_capacity queue.new) }
+{
+    queue.reserve(1)
+}
+
+/// Lets the piece of a command go that found no memory. It is kept out of line, so that one that found some is moved whole
+/// and not field by field.
+#[cold]
+#[inline(never)]
+fn let_go(_op: Op) {}
 
 impl Splitter {
     /// The form of a reply that asks no shard, so that its kind is of no meaning.
@@ -53,6 +82,7 @@ impl Splitter {
     }
 
     /// Puts a piece, which is this part of the command, behind those of the queue.
+    #[inline(always)]
     pub fn push(
         self,
         queue: &mut VecDeque<(usize, Piece)>,
@@ -63,7 +93,10 @@ impl Splitter {
         ensures ok { OnOk result (queue.new.items ≡ queue.old.items ++ (shard, record { ticket = self.ticket; part = part; op = op; moment = self.moment }) ∷ []) }
         ensures err { OnErr result (queue.new.items ≡ queue.old.items) }
     {
-        queue.reserve(1)?;
+        if make_room(queue).is_err() {
+            let_go(op);
+            return Err(AllocError);
+        }
         let piece = Piece {
             ticket: self.ticket,
             part,

@@ -94,7 +94,10 @@ fn read_u64(bytes: &[u8], at: usize) -> u64
     requires { at + 8 ≤ length bytes.now }
     ensures { result ≡ polynomial.read_u64 bytes.now at }
 {
-    read_u32(bytes, at) as u64 + read_u32(bytes, at + 4) as u64 * 4_294_967_296
+    match bytes.split_at(at).1.first_chunk::<8>() {
+        Some(chunk) => u64::from_le_bytes(*chunk),
+        None => unreachable!(),
+    }
 }
 
 /// The last coefficient: what is left of the bytes, and how many they are. Reads overlap, so that there is no loop.

@@ -27,7 +27,7 @@ use Rattle.mc_conn.proofs.Serving.{serves_accept, serves_stranger}
 use Rattle.mc_conn.proofs.Staying.{is_sound, keeps_accept}
 use Rattle.mc_core.proofs.Lists.{take_next}
 use Rattle.mc_threads.specs.internal.Carrying.{AllOut, AllOutWhere, AnyOut, Carries, CarriesOn, IsKept, MayCarry, MovesOn, NoneOut, carried, sent_to}
-use Rattle.mc_threads.specs.internal.Ending.{StandsStill}
+use Rattle.mc_threads.specs.Ending.{StandsStill}
 use Rattle.mc_seat.proofs.Along.{keeps_trans}
 
 -- a connection has some shards

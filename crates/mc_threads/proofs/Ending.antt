@@ -8,7 +8,7 @@ use Rattle.mc_ring.specs.Lane.{Near}
 use Rattle.mc_ring.specs.Ends.{AreSameEnds, AtLane, Ends, Sends}
 use Rattle.mc_ring.specs.EndsLaws.{at_lane-kept, at_lane-longer, at_lane-other, same_ends-refl, same_ends-trans}
 use Rattle.mc_threads.specs.Serving.{EndsAll}
-use Rattle.mc_threads.specs.internal.Ending.{EndsFirst, EndsOne, StandsStill}
+use Rattle.mc_threads.specs.Ending.{EndsFirst, EndsOne, StandsStill}
 
 pub still_refl : (ends : Ends Near) → StandsStill ends ends
 still_refl ends = record { same = same_ends-refl ends; sent = λ s. refl; received = λ s. refl }
@@ -49,4 +49,12 @@ ends_all count before ends whole first = record {
   same = first.same;
   sent = λ s below. first.sent s (omega (arith, below, whole));
   received = first.received;
+}
+
+pub ends_still : (count : ℕ) (before ends ends' : Ends Near) → EndsFirst count before ends → StandsStill ends ends' → EndsFirst count before ends'
+ends_still count before ends ends' first still = record {
+  same = same_ends-trans before ends ends' first.same still.same;
+  sent = λ s below. still.sent s ∙ first.sent s below;
+  others = λ s from. still.sent s ∙ first.others s from;
+  received = λ s. still.received s ∙ first.received s;
 }

@@ -3,3 +3,4 @@ pub mod Orders
 pub mod Carrying
 pub mod Ending
 pub mod Serving
+pub mod Writing

@@ -215,7 +215,7 @@ sent_all : (told : Told) (shard : ℕ) → told.out ≡ length (all_pieces told)
 sent_all told shard all = ap (lane shard) (take_all told.out (all_pieces told) (omega (arith, all)))
 
 -- as many replies were received as pieces were due
-received_all : (before ends : Ends Near) (ways : List ℕ) (told : Told) (received : ℕ → List Shown) (conn : Conn) → IsConn conn told → Carries before ends ways told received → told.out ≡ length (all_pieces told) → IsIdle ways → (shard : ℕ) → length (received shard) ≡ length (due told.shards shard told.taken)
+pub received_all : (before ends : Ends Near) (ways : List ℕ) (told : Told) (received : ℕ → List Shown) (conn : Conn) → IsConn conn told → Carries before ends ways told received → told.out ≡ length (all_pieces told) → IsIdle ways → (shard : ℕ) → length (received shard) ≡ length (due told.shards shard told.taken)
 received_all before ends ways told received conn is carries all idle shard = elim (cases_lt shard told.shards) [
   | inl below ↦
       let each = carries.each in
@@ -231,7 +231,7 @@ received_all before ends ways told received conn is carries all idle shard = eli
 ]
 
 -- so where their keys fit, every command has its reply
-complete_all : (told : Told) (received : ℕ → List Shown) (conn : Conn) → IsConn conn told → Serves told.shards told.taken told.accepted received → ((shard : ℕ) → length (received shard) ≡ length (due told.shards shard told.taken)) → KeysFit told.shards told.taken received → length (all_texts told) ≡ length told.taken
+pub complete_all : (told : Told) (received : ℕ → List Shown) (conn : Conn) → IsConn conn told → Serves told.shards told.taken told.accepted received → ((shard : ℕ) → length (received shard) ≡ length (due told.shards shard told.taken)) → KeysFit told.shards told.taken received → length (all_texts told) ≡ length told.taken
 complete_all told received conn is serves many keys =
     let whole = take_all (length told.taken) told.taken (omega arith) in
     let come = count_from_come told.shards (length told.taken) told.taken told.accepted received (omega arith) (serves.fits keys) (λ s.

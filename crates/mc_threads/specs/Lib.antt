@@ -1,5 +1,6 @@
 pub mod Workers
 pub mod Working
 pub mod Serving
+pub mod Ending
 pub mod Session
 pub mod internal

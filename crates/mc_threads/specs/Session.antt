@@ -1,11 +1,13 @@
 -- A seat that serves lines step by step, one after another.
 use Rattle.std.specs.Prelude.{ℕ, ◌≡◌, Bool, [], length}
-use Rattle.mc_wire.specs.Outlet.{Sight}
+use Rattle.mc_wire.specs.Outlet.{Sight, took}
 use Rattle.mc_ring.specs.Lane.{Near}
 use Rattle.mc_ring.specs.Ends.{Ends}
 use Rattle.mc_conn.specs.Conn.{IsConn}
 use Rattle.mc_conn.specs.Told.{told_nothing}
 use Rattle.mc_seat.specs.LineServed.{LineServed}
+use Rattle.mc_seat.specs.Lines.{HasGrown}
+use Rattle.mc_seat.specs.Later.{text_in}
 use Rattle.mc_threads.specs.declared.session.Session.{Session}
 use Rattle.mc_threads.specs.declared.session.Stepped.{Stepped}
 use Rattle.mc_threads.specs.declared.session.Stepped.TheVariants as stepped
@@ -18,14 +20,20 @@ pub record IsVacant (limit window : ℕ) (session : Session) : Type 0 where
   pub conn_is : IsConn session.conn (told_nothing (length session.courier.ends.lanes) limit window)
   pub idle : IsIdle session.courier.under_way.items
   pub none_read : session.seat.unread ≡ []
+  pub none_waits : text_in session.unwritten ≡ []
 
 abbrev pub MayBegin : Session → Type 0
 MayBegin session = (limit window : ℕ) × IsVacant limit window session
 
--- It serves a line, which began so and is so now, since its ends were as before.
-abbrev pub IsServing : ℕ → ℕ → (ℕ → Type 0) → Sight → Sight → Ends Near → Session → Type 0
-IsServing shards limit may_answer begin now before session =
+-- It serves a line of which no further command was taken, by what is seen of the line once it took the replies that wait.
+abbrev pub HasStopped : ℕ → ℕ → (ℕ → Type 0) → Sight → Sight → Ends Near → Session → Type 0
+HasStopped shards limit may_answer begin now before session =
     Stops shards limit may_answer begin now before session.courier.ends session.courier.under_way.items session.seat.unread session.conn session.commands session.stop
+
+-- It serves a line, which began so and is so now, since its ends were as before.
+pub record IsServing (shards limit : ℕ) (may_answer : ℕ → Type 0) (begin now : Sight) (before : Ends Near) (session : Session) : Type 0 where
+  pub stopped : HasStopped shards limit may_answer begin (took (text_in session.unwritten) now) before session
+  pub grown : HasGrown begin now
 
 -- It has served the line, and nothing is under way.
 pub record HasServed (shards limit : ℕ) (may_answer : ℕ → Type 0) (begin now : Sight) (before : Ends Near) (session : Session) (commands : ℕ) (broke : Bool) : Type 0 where
@@ -50,4 +58,4 @@ MayTake shards limit may_answer begin now before session =
 -- The commands of the line were taken, as far as there are any.
 abbrev pub TakesFor : (ℕ → Type 0) → Session → Session → Type 0
 TakesFor may_answer old new =
-    (shards limit : ℕ) (begin now : Sight) (before : Ends Near) → MayTake shards limit may_answer begin now before old → IsServing shards limit may_answer begin now before new
+    (shards limit : ℕ) (begin now : Sight) (before : Ends Near) → MayTake shards limit may_answer begin now before old → HasStopped shards limit may_answer begin now before new

@@ -1,4 +1,3 @@
 -- Definitions that only private contracts name.
 pub mod Carrying
-pub mod Ending
 pub mod Turns

@@ -1,13 +1,12 @@
 //! Carries the pieces of a connection to the shards, and their replies back.
 ghost use Rattle.std.specs.Prelude.{◌≡◌, ◌<◌, ◌==◌, false, true, IfOk, IsTrue, length};
+ghost use Rattle.std.specs.Bool.{OnFalse, OnTrue};
 ghost use Rattle.std.specs.List.{list_all};
 
 use mc_conn::Conn;
 use mc_ring::{Parcel, SeatEnds};
 use mc_wake::Wakers;
 use std::alloc::{AllocError, Global};
-use std::sync::Wait;
-use std::thread;
 
 /// A seat's ends of its lanes, and what is under way on them.
 #[derive(Drop)]
@@ -15,6 +14,9 @@ pub struct Courier {
     pub(crate) ends: SeatEnds,
     /// How many pieces were sent to each shard whose replies were not received yet.
     under_way: Vec<usize>,
+    /// At most so many pieces are under way on a lane: as many as its ring of replies has places. So a shard never finds that
+    /// ring full.
+    places: usize,
     /// A piece could not be sent yet.
     blocked: bool,
     shards: Wakers,
@@ -22,12 +24,17 @@ pub struct Courier {
 }
 
 impl Courier {
-    ghost use Rattle.mc_threads.specs.Serving.{EndsAll, IsIdle};
+    ghost use Rattle.mc_threads.specs.Ending.{EndsOne, StandsStill};
+    ghost use Rattle.mc_threads.specs.Serving.{IsIdle};
     ghost use Rattle.mc_threads.specs.internal.Carrying.{AllOutWhere, AnyOut, CanCarry, Goes, NoneOut};
-    ghost use Rattle.mc_threads.specs.internal.Ending.{EndsOne};
 
-    /// Nothing is under way on the ends. The wakers are those of the shards.
-    pub(crate) fn new(alloc: Global, ends: SeatEnds, shards: Wakers) -> Result<Courier, AllocError>
+    /// Nothing is under way on the ends, whose rings have so many places. The wakers are those of the shards.
+    pub(crate) fn new(
+        alloc: Global,
+        ends: SeatEnds,
+        shards: Wakers,
+        places: usize,
+    ) -> Result<Courier, AllocError>
         ensures ends { IfOk result (λ courier. courier.ends ≡ ends) }
         ensures idle { IfOk result (λ courier. IsIdle courier.under_way.items) }
     {
@@ -35,6 +42,7 @@ impl Courier {
         Ok(Courier {
             ends,
             under_way,
+            places,
             blocked: false,
             shards,
         })
@@ -95,7 +103,8 @@ impl Courier {
         }
     }
 
-    /// Sends the next piece, and tells whether it did: not where none is left, and where its ring is full.
+    /// Sends the next piece, and tells whether it did: not where none is left, and where as many are under way to its shard as
+    /// a ring has places.
     fn send_next(&mut self, conn: &mut Conn) -> bool
         requires { CanCarry self.old conn.old }
         ensures { Goes (AllOutWhere ((result ≡ false) × (self.new.blocked ≡ false))) self.old conn.old self.new conn.new }
@@ -104,15 +113,15 @@ impl Courier {
         let Some((shard, piece)) = conn.next_piece() else {
             return false;
         };
-        // No ring holds so many that this fails; the piece would wait for replies.
-        let Some(count) = self.under_way[shard].checked_add(1) else {
+        let count = self.under_way[shard];
+        if count >= self.places {
             self.blocked = true;
             conn.not_sent(shard, piece);
             return false;
-        };
+        }
         match self.ends.send(shard, Parcel::Piece(piece)) {
             Ok(()) => {
-                self.under_way[shard] = count;
+                self.under_way[shard] = count + 1;
                 true
             }
             Err(parcel) => {
@@ -195,27 +204,18 @@ impl Courier {
         ends
     }
 
-    /// Tells the shards that nothing more comes.
-    pub(crate) fn close<R: Wait>(&mut self, rt: &R)
-        ensures { EndsAll self.old.ends self.new.ends }
-    {
-        for shard in 0..self.ends.shards() {
-            self.send_end(rt, shard);
-            self.shards.call(shard, self.ends.number());
-        }
-    }
-
-    /// Sends the shard the End of its lane.
-    fn send_end<R: Wait>(&mut self, rt: &R, shard: usize)
+    /// Sends the shard the End of its lane where there is room, and tells whether it did.
+    pub(crate) fn end_lane(&mut self, shard: usize) -> bool
         requires { shard < length self.old.ends.lanes }
-        ensures { EndsOne shard self.old.ends self.new.ends }
+        ensures ended { OnTrue result (EndsOne shard self.old.ends self.new.ends) }
+        ensures full { OnFalse result (StandsStill self.old.ends self.new.ends) }
     {
-        for _ in rt.forever() {
-            match self.ends.send(shard, Parcel::End) {
-                Ok(()) => return,
-                Err(_) => thread::yield_now(),
+        match self.ends.send(shard, Parcel::End) {
+            Ok(()) => {
+                self.shards.call(shard, self.ends.number());
+                true
             }
+            Err(_) => false,
         }
-        unreachable!()
     }
 }

@@ -8,5 +8,5 @@ mod working;
 
 pub use courier::Courier;
 pub use session::{Session, Stepped};
-pub use workers::{make_sleepers, make_workers, start_workers};
+pub use workers::make_workers;
 pub use working::Working;

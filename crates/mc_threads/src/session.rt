@@ -1,21 +1,21 @@
 //! A seat serves a line step by step. No step waits for a shard.
 ghost use Rattle.std.specs.Prelude.{◌≡◌, ◌<◌, ◌≤◌, ◌↔◌, ℕ, [], false, IfOk, IsTrue, length};
+ghost use Rattle.std.specs.Bool.{OnFalse, OnTrue};
 
 use crate::courier::Courier;
 use mc_conn::{Conn, Taken};
 use mc_ring::SeatEnds;
-use mc_seat::{Clock, Line, Seat, Served, Turn};
-use mc_wake::{Sleeper, Wakers};
+use mc_seat::{Clock, Line, Rooms, Seat, Served, Turn, Unwritten};
+use mc_wake::Wakers;
 use mc_wire::GREATEST_VALUE_LIMIT;
 use std::alloc::{AllocError, Global};
-use std::sync::Wait;
 
 /// What a step did.
 #[derive(Clone, Copy, Debug, PartialEq, Eq)]
 pub enum Stepped {
     /// Something: the next step may follow at once.
     Did,
-    /// Nothing: replies of a shard, or bytes of the line, have to come first.
+    /// Nothing: replies of a shard or bytes of the line have to come first, or the line has to take replies that wait.
     Waits,
     /// The line was served.
     Ended(Served),
@@ -28,6 +28,8 @@ pub struct Session {
     pub(crate) courier: Courier,
     conn: Conn,
     seat: Seat,
+    /// Replies that were handed out, and which the line didn't take yet.
+    pub(crate) unwritten: Unwritten,
     /// How many commands of the line were taken.
     commands: u64,
     /// Why no further command was.
@@ -40,14 +42,18 @@ impl Session {
     ghost use Rattle.mc_ring.specs.Ends.{Ends};
     ghost use Rattle.mc_conn.specs.Conn.{IsConn};
     ghost use Rattle.mc_conn.specs.Told.{Told, IsAtRest, IsOver, told_nothing};
-    ghost use Rattle.mc_threads.specs.Serving.{EndsAll, IsIdle};
-    ghost use Rattle.mc_threads.specs.Session.{HasServed, IsVacant, IsServing, MayBegin, MayStep, StepSays, TakesFor};
+    ghost use Rattle.mc_seat.specs.Later.{text_in};
+    ghost use Rattle.mc_threads.specs.Ending.{EndsOne, StandsStill};
+    ghost use Rattle.mc_threads.specs.Serving.{IsIdle};
+    ghost use Rattle.mc_threads.specs.Session.{IsVacant, IsServing, MayStep, StepSays, TakesFor};
 
-    /// A seat that serves no line yet, over new ends of its lanes. The wakers are those of the shards.
+    /// A seat that serves no line yet, over new ends of its lanes, whose rings have so many places. The wakers are those of the
+    /// shards.
     pub fn new(
         alloc: Global,
         ends: SeatEnds,
         shards: Wakers,
+        places: usize,
         limit: usize,
         window: usize,
     ) -> Result<Session, AllocError>
@@ -60,13 +66,14 @@ impl Session {
         let Ok(conn) = Conn::new(alloc, ends.shards(), limit, window) else {
             return Err(AllocError);
         };
-        let seat = Seat::new(alloc)?;
-        let courier = Courier::new(alloc, ends, shards)?;
+        let seat = Seat::new(alloc);
+        let courier = Courier::new(alloc, ends, shards, places)?;
         Ok(Session {
             alloc,
             courier,
             conn,
             seat,
+            unwritten: Unwritten::new(alloc),
             commands: 0,
             stop: Taken::NeedMore,
         })
@@ -86,6 +93,7 @@ impl Session {
     fn take_all<K: Clock>(&mut self, clock: &K)
         ensures takes { TakesFor (K.may_answer clock.now) self.old self.new }
         ensures ends { self.new.courier.ends ≡ self.old.courier.ends }
+        ensures unwritten { text_in self.new.unwritten ≡ text_in self.old.unwritten }
     {
         for _ in 0..u64::MAX {
             match self.conn.take(self.alloc, clock.now()) {
@@ -99,33 +107,15 @@ impl Session {
         self.stop = Taken::Full;
     }
 
-    /// Serves a line until its input ends, it quits or it fails. All pieces of the commands taken are sent and answered then,
-    /// of a line that failed too. The sleeper is that of the seat's own thread, which sleeps while it waits.
-    pub fn serve_line<R: Wait, L: Line, K: Clock>(
+    /// Serves the line a step further: sends what there is room for and takes in what has come; and where every reply has come,
+    /// hands them out, and reads on once the line took them all. Nothing waits here. Where memory for replies that the line
+    /// doesn't take at once is refused, the line is given up. The rooms are those of the thread, to read into.
+    pub fn step<L: Line, K: Clock>(
         &mut self,
-        rt: &R,
-        sleeper: &Sleeper,
         line: &mut L,
         clock: &K,
-    ) -> Served
-        requires { MayBegin self.old }
-        ensures { (limit window : ℕ) → IsVacant limit window self.old →
-            HasServed (length self.old.courier.ends.lanes) limit (K.may_answer clock.now) (L.sight line.old) (L.sight line.new) self.old.courier.ends self.new result.commands result.broke }
-    {
-        self.begin(clock);
-        for _ in rt.forever() {
-            match self.step(line, clock) {
-                Stepped::Did => sleeper.found(),
-                Stepped::Waits => sleeper.wait(rt),
-                Stepped::Ended(served) => return served,
-            }
-        }
-        unreachable!()
-    }
-
-    /// Serves the line a step further: sends what there is room for and takes in what has come; and where every reply has come,
-    /// hands them out and reads on.
-    pub fn step<L: Line, K: Clock>(&mut self, line: &mut L, clock: &K) -> Stepped
+        rooms: &mut Rooms,
+    ) -> Stepped
         requires { MayStep self.old }
         ensures { (shards limit : ℕ) (begin : Sight) (before : Ends Near) →
             IsServing shards limit (K.may_answer clock.now) begin (L.sight line.old) before self.old →
@@ -137,7 +127,22 @@ impl Session {
         if !self.courier.is_settled() {
             return Stepped::Waits;
         }
-        match self.seat.go_on(&mut self.conn, line, self.stop) {
+        if let Err(_refused) = self.conn.hand(&mut self.unwritten) {
+            line.give_up();
+            return self.ended(true);
+        }
+        match self.unwritten.flush(line) {
+            Ok(true) => {}
+            Ok(false) => return Stepped::Waits,
+            Err(_fault) => {
+                self.conn.broken();
+                return self.ended(true);
+            }
+        }
+        match self
+            .seat
+            .go_on_reading(&mut self.conn, line, self.stop, rooms)
+        {
             Turn::Goes => {
                 self.take_all(clock);
                 Stepped::Did
@@ -168,14 +173,24 @@ impl Session {
         ensures ends { self.new.courier.ends ≡ self.old.courier.ends }
     {
         self.seat.renew();
+        self.unwritten.clear();
         self.conn.renew()
     }
 
-    /// Tells the shards that nothing more comes.
-    pub fn close<R: Wait>(&mut self, rt: &R)
-        ensures { EndsAll self.old.courier.ends self.new.courier.ends }
+    /// How many shards there are.
+    pub fn shards(&self) -> usize
+        ensures { result ≡ length self.now.courier.ends.lanes }
     {
-        self.courier.close(rt);
+        self.courier.ends.shards()
+    }
+
+    /// Sends the shard the End of its lane where there is room, and tells whether it did: nothing more comes there.
+    pub fn end_lane(&mut self, shard: usize) -> bool
+        requires { shard < length self.old.courier.ends.lanes }
+        ensures ended { OnTrue result (EndsOne shard self.old.courier.ends self.new.courier.ends) }
+        ensures full { OnFalse result (StandsStill self.old.courier.ends self.new.courier.ends) }
+    {
+        self.courier.end_lane(shard)
     }
 
     /// The seat's ends of its lanes, once it serves no more.

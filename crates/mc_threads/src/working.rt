@@ -1,29 +1,33 @@
-//! The thread of a shard's worker.
-ghost use Rattle.std.specs.Prelude.{◌≡◌, ◌<◌, Some, IfOk, length};
+//! A worker, and which of its seats it has to serve.
+ghost use Rattle.std.specs.Prelude.{◌≡◌, ◌<◌, ◌≤◌, Some, IfOk, length};
+ghost use Rattle.std.specs.Bool.{OnTrue};
 ghost use Rattle.std.specs.List.{slice_get};
 ghost use Rattle.mc_ring.specs.Ends.{AreSameEnds};
 ghost use Rattle.mc_ring.specs.Made.{IsLane, LooksAtBoth};
-ghost use Rattle.mc_core.specs.Desk.{Goes};
+ghost use Rattle.mc_core.specs.Desk.{Desk, Goes};
 ghost use Rattle.mc_threads.specs.Working.{Finishes};
 
 use mc_core::{Gate, Worker};
-use mc_crew::Task;
 use mc_ring::SeatEnds;
-use mc_wake::{Sleeper, Wakers};
+use mc_wake::Wakers;
 use std::alloc::{AllocError, Global};
-use std::sync::{Arc, Wait};
-use std::thread;
+use std::sync::Arc;
 
-/// A worker, with all that its thread needs.
+/// So many seats stand in a block, each with a bit of a word.
+const BLOCK: usize = 64;
+
+/// A worker, with all that its turns need. It serves the seats in blocks of 64, and passes over the blocks in which no seat has
+/// anything for it.
 #[derive(Drop)]
 pub struct Working<G> {
     pub worker: Worker,
     gate: Arc<G, Global>,
-    sleeper: Sleeper,
     seats: Wakers,
     /// Of each seat, whether its lane may hold more.
     waiting: Vec<bool>,
-    /// Of each seat, whether a reply was given to it since it was woken last.
+    /// Of each block, whether the lane of one of its seats may hold more.
+    blocks: Vec<bool>,
+    /// Of each seat, whether a reply was given to it since it was roused last.
     given: Vec<bool>,
     alloc: Global,
     ghost each_seat: { length given.items ≡ length worker.ends.lanes },
@@ -31,72 +35,88 @@ pub struct Working<G> {
 }
 
 impl<G: Gate + Drop> Working<G> {
-    /// The task of the worker's thread: to run what the seats send, until the End of every lane has come. The sleeper is the
-    /// thread's own, the wakers are those of the seats.
+    /// The worker before its first turn. It passes the gate before each piece; the wakers are those of the seats.
     pub fn new(
         alloc: Global,
         worker: Worker,
         gate: Arc<G, Global>,
-        sleeper: Sleeper,
         seats: Wakers,
     ) -> Result<Working<G>, AllocError>
         ensures { IfOk result (λ working. working.worker ≡ worker) }
     {
-        let waiting = vec![in alloc; false; worker.seats()]?;
-        let given = vec![in alloc; false; worker.seats()]?;
+        let count = worker.seats();
+        let waiting = vec![in alloc; false; count]?;
+        let blocks = vec![in alloc; false; count.div_ceil(BLOCK)]?;
+        let given = vec![in alloc; false; count]?;
         Ok(Working {
             worker,
             gate,
-            sleeper,
             seats,
             waiting,
+            blocks,
             given,
             alloc,
         })
     }
 
-    /// Runs what the seats send, until the End of every lane has come.
-    fn run<R: Wait>(&mut self, rt: &R)
-        ensures { Finishes self.old.worker self.new.worker }
-    {
-        for _ in rt.forever() {
-            if self.serve_callers() {
-                self.sleeper.found();
-                if !self.wake_seats() {
-                    // A reply waits for room on its ring, which its seat makes.
-                    thread::yield_now();
-                }
-            } else if self.worker.ended() {
-                return;
-            } else {
-                self.sleeper.wait(rt);
-            }
-        }
-        unreachable!()
-    }
-
-    /// Serves the seats that called, and those whose lanes may hold more. Whether there was anything to do.
-    fn serve_callers(&mut self) -> bool
+    /// Serves the seats that called, and those whose lanes may hold more, and rouses the seats that it gave a reply to. Whether
+    /// there was anything to do. Of each block of seats a word has a bit for each seat that called, the lowest for the first.
+    pub fn turn(&mut self, called: &[u64]) -> bool
         ensures { Goes self.old.worker self.new.worker }
     {
         let mut busy = false;
-        for seat in 0..self.waiting.len() {
-            if self.serve_caller(seat) {
+        for (block, called) in called.iter().enumerate() {
+            if self.serve_block(block, *called) {
                 busy = true;
             }
         }
         busy
     }
 
+    /// The same, of one block of seats.
+    fn serve_block(&mut self, block: usize, called: u64) -> bool
+        ensures { Goes self.old.worker self.new.worker }
+    {
+        let Some(waiting) = self.blocks.get(block) else {
+            return false;
+        };
+        if called == 0 && !*waiting {
+            return false;
+        }
+        let first = block.saturating_mul(BLOCK);
+        let last = first.saturating_add(BLOCK).min(self.waiting.len());
+        let busy = self.serve_seats(first, last, called);
+        if let Some(waiting) = self.blocks.get_mut(block) {
+            *waiting = busy;
+        }
+        busy
+    }
+
+    /// The same, of the seats from the first on to before the last.
+    fn serve_seats(&mut self, first: usize, last: usize, called: u64) -> bool
+        requires { last ≤ length self.old.waiting.items }
+        ensures { Goes self.old.worker self.new.worker }
+    {
+        let mut called = called;
+        let mut busy = false;
+        for seat in first..last {
+            let served = self.serve_seat(seat, called & 1 == 1);
+            self.rouse_given(seat);
+            busy |= served;
+            called >>= 1;
+        }
+        busy
+    }
+
     /// Serves the seat where it called, or where its lane may hold more. Whether there was anything to do.
-    fn serve_caller(&mut self, seat: usize) -> bool
+    fn serve_seat(&mut self, seat: usize, called: bool) -> bool
         requires { seat < length self.old.waiting.items }
         ensures goes { Goes self.old.worker self.new.worker }
         ensures as_many { length self.new.waiting.items ≡ length self.old.waiting.items }
         // What it notes of the seat is what its turn answered.
         ensures noted { slice_get self.new.waiting.items seat ≡ Some result }
     {
-        if !self.sleeper.was_called_by(seat) && !self.waiting[seat] {
+        if !called && !self.waiting[seat] {
             return false;
         }
         let more = self
@@ -104,6 +124,27 @@ impl<G: Gate + Drop> Working<G> {
             .serve(self.alloc, seat, &*self.gate, &mut self.given);
         self.waiting[seat] = more;
         more
+    }
+
+    /// Rouses the seat where a reply was given to it.
+    fn rouse_given(&mut self, seat: usize)
+        ensures worker { self.new.worker ≡ self.old.worker }
+        ensures waiting { self.new.waiting ≡ self.old.waiting }
+    {
+        let Some(given) = self.given.get_mut(seat) else {
+            return;
+        };
+        if *given {
+            *given = false;
+            self.seats.rouse(seat);
+        }
+    }
+
+    /// Whether the End of every lane has come.
+    pub fn ended(&self) -> bool
+        ensures { OnTrue result ((begun : Desk) → Goes begun self.now.worker → Finishes begun self.now.worker) }
+    {
+        self.worker.ended()
     }
 
     /// How many parcels and how many replies wait on its lane of a seat, whose ends must be of the same call of `lanes`.
@@ -114,32 +155,5 @@ impl<G: Gate + Drop> Working<G> {
         ensures keeps { AreSameEnds self.old.worker.ends self.new.worker.ends }
     {
         self.worker.beside(seat)
-    }
-
-    /// Wakes the seats that a reply was given to, and tells whether there was one.
-    fn wake_seats(&mut self) -> bool
-        ensures { self.new.worker ≡ self.old.worker }
-    {
-        let mut woken = false;
-        for (seat, given) in self.given.iter_mut().enumerate() {
-            if *given {
-                *given = false;
-                woken = true;
-                self.seats.wake(seat);
-            }
-        }
-        woken
-    }
-}
-
-impl<G: Gate + Drop> Task for Working<G> {
-    ghost is_ready = { λ _. Unit {0} };
-
-    ghost does = { λ begun ended. Finishes begun.worker ended.worker };
-
-    fn work<R: Wait>(self, rt: &R) -> Working<G> {
-        let mut working = self;
-        working.run(rt);
-        working
     }
 }

@@ -1,14 +1,21 @@
-//! How a thread waits while its rings are empty, and how those who push onto them wake it.
+//! How a thread waits while there is nothing to do, and how others wake it.
 //!
-//! A thread that finds nothing looks again at once for a while, then lets other threads run between its looks, and at last
-//! sleeps. Before it sleeps it says so and looks once more: whoever pushes something after that look finds it said, and
+//! A thread serves seats and workers. Whoever pushes something for one of them marks it, and wakes the thread where it sleeps.
+//! A thread that finds nothing looks again at once for a while, and then sleeps: in a parker, or in a poll of the sockets of
+//! its seats. Before it sleeps it says so and looks once more: whoever pushes something after that look finds it said, and
 //! wakes the thread. No clause tells that a thread wakes.
 #![tactic(auto)]
 
+mod board;
+mod marked;
 mod patience;
 mod sleeper;
+mod sockets;
+mod waker;
 mod wakers;
 
+pub use marked::Marked;
 pub use patience::Patience;
-pub use sleeper::{Sleeper, Waker};
+pub use sleeper::Sleeper;
+pub use sockets::Readiness;
 pub use wakers::Wakers;

@@ -1,139 +1,253 @@
-//! A thread's sleep, and who ends it.
-ghost use Rattle.std.specs.Prelude.{◌≡◌, ◌≤◌, true, IfOk};
+//! A thread's sleep.
+ghost use Rattle.std.specs.Prelude.{◌≡◌, ◌≤◌, ◌-◌, ◌*◌, ◌^◌, IfOk};
+ghost use Rattle.std.specs.Arc.{arc_value};
+ghost use Rattle.std.specs.Int.{div_ceil};
 
 use crate::patience::Patience;
-use crossbeam_utils::sync::{Parker, Unparker};
+use crate::sockets::{Readiness, Sockets};
+use crate::waker::{Alarm, Waker};
+use crossbeam_utils::sync::Parker;
 use std::alloc::{AllocError, Global};
-use std::cell::Cell;
 use std::marker::Model;
+use std::net::Net;
 use std::sync::atomic::{AtomicBool, Ordering};
 use std::sync::{Arc, Wait};
-use std::{hint, thread};
+use std::time::Duration;
+use std::{hint, io, thread};
 
-/// Waits for one thread while its rings are empty. Contracts see the number of its callers.
+/// Where seats want to be roused again in a while, the thread sleeps at most so long, in milliseconds.
+const REMINDER_MILLIS: u64 = 50;
+
+/// They are roused at every so many looks at the sockets too, however busy the thread is.
+const REMINDER_LOOKS: u32 = 32;
+
+/// A thread that always finds something to do looks at its sockets every so many turns.
+const TURNS: u32 = 4;
+
+/// Where a thread sleeps.
 #[derive(Drop)]
-pub struct Sleeper {
-    parker: Parker,
-    /// The thread sleeps, or looks for the last time before it does.
-    asleep: Arc<AtomicBool, Global>,
-    patience: Patience,
-    /// How often it has looked in vain since it last found something.
-    vain: Cell<usize>,
-    /// Of each caller, whether it has called since this thread last asked.
-    called: Arc<Vec<AtomicBool>, Global>,
+enum Bed {
+    Memory(Parker),
+    Sockets(Sockets),
 }
 
-/// Wakes one thread.
+/// Waits for one thread while there is nothing to do. Contracts see how many seats may call its workers, and how many seats and
+/// workers it has.
 #[derive(Drop)]
-pub struct Waker {
-    unparker: Unparker,
-    asleep: Arc<AtomicBool, Global>,
-    /// Of each caller, whether it has called since it was last asked.
-    called: Arc<Vec<AtomicBool>, Global>,
+pub struct Sleeper {
+    bed: Bed,
+    waker: Arc<Waker, Global>,
+    patience: Patience,
+    /// How often the thread has looked in vain since it last found something.
+    vain: usize,
+    /// How often it has found something since it last looked at its sockets.
+    turns: u32,
+    /// How often it has looked at its sockets since it last roused those that want to be roused again.
+    looks: u32,
+    callers: usize,
+    places: usize,
+    workers: usize,
+    ghost of_callers: { (arc_value waker).callers ≡ div_ceil callers 64 },
+    ghost of_places: { (arc_value waker).roused ≡ div_ceil places 64 },
 }
 
 impl Model for Sleeper {
-    ghost use Rattle.std.specs.Prelude.{ℕ, length};
-    ghost use Rattle.std.specs.Arc.{arc_value};
+    ghost use Rattle.mc_wake.specs.Sleeper.{ThreadSize};
 
-    ghost Value = { ℕ };
+    ghost Value = { ThreadSize };
 
-    ghost view = { λ sleeper. length (arc_value sleeper.called).items };
+    ghost view = { λ sleeper. record { callers = sleeper.callers; places = sleeper.places; workers = sleeper.workers } };
 }
 
 impl Sleeper {
-    /// The sleep of one thread that has this patience, and so many callers, who are numbered from 0.
-    pub fn new(alloc: Global, patience: Patience, callers: usize) -> Result<Sleeper, AllocError>
-        ensures { IfOk result (λ sleeper. sleeper ≡ callers) }
+    /// The sleep of a thread whose seats have no sockets, in a parker. Any of so many callers, the seats of the server, may call
+    /// its workers; it has so many places, which are its own seats, and so many workers. At first each place is roused.
+    pub fn new(
+        alloc: Global,
+        patience: Patience,
+        callers: usize,
+        places: usize,
+        workers: usize,
+    ) -> Result<Sleeper, AllocError>
+        ensures { IfOk result (λ sleeper. sleeper ≡ record { callers = callers; places = places; workers = workers }) }
     {
-        let mut called = Vec::with_capacity(alloc, callers)?;
-        for _ in 0..callers {
-            called.push(AtomicBool::new(false))?;
-        }
+        let parker = Parker::new(alloc)?;
+        let alarm = Alarm::Memory(parker.unparker().clone()?);
+        let waker = Waker::new(alloc, alarm, callers, places)?;
         Ok(Sleeper {
-            parker: Parker::new(alloc)?,
-            asleep: Arc::new(alloc, AtomicBool::new(false))?,
+            bed: Bed::Memory(parker),
+            waker: Arc::new(alloc, waker)?,
             patience,
-            vain: Cell::new(0),
-            called: Arc::new(alloc, called)?,
+            vain: 0,
+            turns: 0,
+            looks: 0,
+            callers,
+            places,
+            workers,
         })
     }
 
-    /// One more that wakes this thread.
-    pub fn waker(&self) -> Result<Waker, AllocError> {
-        Ok(Waker {
-            unparker: self.parker.unparker().clone()?,
-            asleep: Arc::try_clone(&self.asleep)?,
-            called: Arc::try_clone(&self.called)?,
-        })
-    }
-
-    /// Whether the caller has called since this was last asked. What it pushed before it called is found from now on. Of one
-    /// that this thread doesn't know it says so whenever it is asked: nobody waits in vain for having too high a number.
-    pub fn was_called_by(&self, caller: usize) -> bool
-        ensures unknown { self.now ≤ caller → result ≡ true }
+    /// The same of a thread whose seats have sockets: it sleeps in a poll of them.
+    pub fn polling<R: Net>(
+        rt: &R,
+        alloc: Global,
+        patience: Patience,
+        callers: usize,
+        places: usize,
+        workers: usize,
+    ) -> io::Result<Sleeper>
+        ensures { IfOk result (λ sleeper. sleeper ≡ record { callers = callers; places = places; workers = workers }) }
     {
-        let Some(called) = self.called.get(caller) else {
-            return true;
+        let sockets = Sockets::new(rt, alloc, places)?;
+        let alarm = Alarm::Sockets {
+            waker: sockets.alarm()?,
+            registry: sockets.registry()?,
         };
-        if !called.load(Ordering::SeqCst) {
-            return false;
-        }
-        called.store(false, Ordering::SeqCst);
-        true
+        let waker = Waker::new(alloc, alarm, callers, places)?;
+        Ok(Sleeper {
+            bed: Bed::Sockets(sockets),
+            waker: Arc::new(alloc, waker)?,
+            patience,
+            vain: 0,
+            turns: 0,
+            looks: 0,
+            callers,
+            places,
+            workers,
+        })
     }
 
-    /// The thread's last look found something. To be said before it waits for others.
-    pub fn found(&self) {
-        if self.is_last_look() {
-            self.asleep.store(false, Ordering::SeqCst);
-        }
-        self.vain.set(0);
+    /// How many seats the thread serves.
+    pub fn places(&self) -> usize
+        ensures { result ≡ self.now.places }
+    {
+        self.places
     }
 
-    /// The thread's last look found nothing: it waits a little before the next. The longer it finds nothing, the longer it
-    /// waits, and after a last look until it is woken. It must look at all that it waits for between two calls.
-    pub fn wait<R: Wait>(&self, rt: &R) {
+    /// How many workers the thread serves.
+    pub fn workers(&self) -> usize
+        ensures { result ≡ self.now.workers }
+    {
+        self.workers
+    }
+
+    /// What wakes the thread.
+    pub(crate) fn waker(&self) -> Result<Arc<Waker, Global>, AllocError> {
+        Arc::try_clone(&self.waker)
+    }
+
+    /// Takes the marks of those of the 64 seats from `64 * word` on that have called since this was last asked: the bit of value
+    /// 1 is that of the seat `64 * word`. What a seat pushed before it called is found from now on. Seats that the thread wasn't
+    /// made for are always marked: none waits in vain for having too high a number.
+    #[tactic(auto, using(crate::proofs::Words::words_within))]
+    pub fn callers_in(&self, word: usize) -> u64
+        ensures unknown { self.now.callers ≤ 64 * word → result ≡ 2 ^ 64 - 1 }
+    {
+        self.waker.callers.take(word)
+    }
+
+    /// Takes the marks of those of the 64 places from `64 * word` on that were roused since this was last asked: replies were
+    /// given to the seat, or its socket has something, or it wanted to be roused again. Places that the thread doesn't have are
+    /// always marked.
+    #[tactic(auto, using(crate::proofs::Words::words_within))]
+    pub fn roused_in(&self, word: usize) -> u64
+        ensures unknown { self.now.places ≤ 64 * word → result ≡ 2 ^ 64 - 1 }
+    {
+        self.waker.roused.take(word)
+    }
+
+    /// Takes what was told of the socket of the seat at this place since this was last asked.
+    pub fn ready(&mut self, place: usize) -> Option<Readiness>
+        ensures same { self.new ≡ self.old }
+    {
+        match &mut self.bed {
+            Bed::Memory(_) => None,
+            Bed::Sockets(sockets) => sockets.ready(place),
+        }
+    }
+
+    /// The thread has found something to do since it was last here. To be said after it has looked at all that was marked, and
+    /// before it looks again.
+    pub fn found(&mut self)
+        ensures same { self.new ≡ self.old }
+    {
+        self.rise();
+        self.turns = self.turns.saturating_add(1);
+        if self.turns >= TURNS {
+            self.look(Some(Duration::ZERO));
+        }
+    }
+
+    /// The thread has found nothing to do since it was last here: it waits a little before it looks again. The longer it finds
+    /// nothing, the longer it waits, and after a last look until it is woken. It must look at all that may be marked between two
+    /// calls.
+    pub fn wait<R: Wait>(&mut self, rt: &R)
+        ensures same { self.new ≡ self.old }
+    {
         if self.is_last_look() {
-            self.parker.park(rt);
-            self.asleep.store(false, Ordering::SeqCst);
-            self.vain.set(0);
+            self.sleep(rt);
             return;
         }
-        let vain = self.vain.get();
-        if vain < self.patience.looks {
+        if self.vain < self.patience.looks {
             hint::spin_loop();
-        } else if vain - self.patience.looks < self.patience.yields {
+        } else if self.vain - self.patience.looks < self.patience.yields {
             thread::yield_now();
         } else {
-            self.asleep.store(true, Ordering::SeqCst);
+            self.waker.asleep.store(true, Ordering::SeqCst);
         }
-        self.vain.set(vain.saturating_add(1));
+        self.vain = self.vain.saturating_add(1);
     }
 
     /// Whether the thread has said that it sleeps, and looks for the last time.
     fn is_last_look(&self) -> bool {
         let patience = self.patience.looks.saturating_add(self.patience.yields);
-        patience < self.vain.get()
+        patience < self.vain
     }
-}
 
-impl Waker {
-    /// Tells the thread that the caller has pushed something for it, and wakes it where it sleeps or is about to. To be called
-    /// once for all that was pushed together.
-    pub fn call(&self, caller: usize) {
-        if let Some(called) = self.called.get(caller) {
-            called.store(true, Ordering::SeqCst);
+    /// The thread doesn't sleep.
+    fn rise(&mut self)
+        ensures same { self.new ≡ self.old }
+    {
+        if self.is_last_look() {
+            self.waker.asleep.store(false, Ordering::SeqCst);
         }
-        self.wake();
+        self.vain = 0;
     }
 
-    /// Wakes the thread where it sleeps or is about to. To be called after something was pushed for it, once for all that
-    /// was pushed together.
-    pub fn wake(&self) {
-        if self.asleep.load(Ordering::SeqCst) {
-            self.asleep.store(false, Ordering::SeqCst);
-            self.unparker.unpark();
+    /// Sleeps until the thread is woken.
+    fn sleep<R: Wait>(&mut self, rt: &R)
+        ensures same { self.new ≡ self.old }
+    {
+        match &self.bed {
+            Bed::Memory(parker) => parker.park(rt),
+            Bed::Sockets(_) => self.look(self.at_most()),
+        }
+        self.rise();
+    }
+
+    /// How long it may sleep.
+    fn at_most(&self) -> Option<Duration> {
+        if self.waker.reminders.is_empty() {
+            None
+        } else {
+            Some(Duration::from_millis(REMINDER_MILLIS))
+        }
+    }
+
+    /// Waits at most so long, or for good, until a socket has something or the thread is woken.
+    fn look(&mut self, timeout: Option<Duration>)
+        ensures same { self.new ≡ self.old }
+    {
+        self.turns = 0;
+        let Bed::Sockets(sockets) = &mut self.bed else {
+            return;
+        };
+        self.looks = self.looks.saturating_add(1);
+        let came = sockets.look(timeout, &self.waker.roused);
+        let waited = timeout != Some(Duration::ZERO) && !came;
+        if waited || self.looks >= REMINDER_LOOKS {
+            self.looks = 0;
+            self.waker.remind();
         }
     }
 }

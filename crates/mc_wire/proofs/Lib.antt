@@ -3,7 +3,6 @@ pub mod Base64Octets
 pub mod Base64Keys
 pub mod Places
 pub mod Numbers
-pub mod SameBytes
 pub mod Scanning
 pub mod Splitting
 pub mod Outlets

@@ -217,11 +217,14 @@ pub fn key_fault(word: &[u8]) -> Option<WireFault>
 fn same_bytes(one: &[u8], other: &[u8]) -> bool
     ensures { result ≡ same_key one.now other.now }
 {
+    if one.len() != other.len() {
+        return false;
+    }
     let (mut rest, mut other_rest) = (one, other);
-    while let (Some((word, behind)), Some((other_word, other_behind))) = (
-        rest.split_first_chunk::<8>(),
-        other_rest.split_first_chunk::<8>(),
-    ) {
+    while let Some((word, behind)) = rest.split_first_chunk::<8>() {
+        let Some((other_word, other_behind)) = other_rest.split_first_chunk::<8>() else {
+            unreachable!()
+        };
         if read_word(*word) != read_word(*other_word) {
             return false;
         }

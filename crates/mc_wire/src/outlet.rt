@@ -1,9 +1,11 @@
 //! Where replies go, and how whole texts are written there.
 ghost use Rattle.std.specs.Prelude.{◌≡◌, ◌<◌, ◌≤◌, OnErr, IfOk, length, take};
+ghost use Rattle.std.specs.Arc.{arc_slice_items};
 ghost use Rattle.std.specs.List.{flat_map};
 ghost use Rattle.mc_wire.specs.Outlet.{Sight, Writes, broke, took};
 
 use crate::fault::OutFault;
+use std::sync::ArcSlice;
 
 /// Where replies go: a socket, a stream or memory.
 pub trait Outlet {
@@ -17,6 +19,24 @@ pub trait Outlet {
         ensures some { IfOk result (λ count. 0 < length bytes.now → 0 < count) }
         ensures ok { IfOk result (λ count. sight self.new ≡ took (take count bytes.now) (sight self.old)) }
         ensures err { OnErr result (sight self.new ≡ broke (sight self.old)) };
+
+    /// Writes all bytes of a block that has several owners, as `put_all` does. An outlet that keeps what it is given may
+    /// become one of them in place of copying the bytes.
+    fn put_shared(&mut self, block: &ArcSlice<u8>) -> Result<(), OutFault>
+        ensures { Writes (arc_slice_items block.now) result (sight self.old) (sight self.new) }
+    {
+        let mut left = block.as_slice();
+        while !left.is_empty() {
+            let count = self.write(left)?;
+            left = left.split_at(count).1;
+        }
+        Ok(())
+    }
+
+    /// Whether it keeps blocks that have several owners without copying them.
+    fn shares(&self) -> bool {
+        false
+    }
 }
 
 /// Writes all the bytes, in as many writes as the outlet asks for. Where the outlet fails, it took a

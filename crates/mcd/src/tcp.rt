@@ -3,19 +3,26 @@ ghost use Rattle.std.specs.Prelude.{◌≤◌};
 ghost use Rattle.mc_core.specs.declared.sizes.TheConstants.{LEAST, MOST_SEATS};
 ghost use Rattle.mc_options.specs.Numbers.{AreWithin};
 
+use crate::files::tell_files;
 use crate::refuse;
 use crate::sizes::sizes_of;
+use libc::net::listen as listen_again;
 use mc_options::Limits;
 use mc_serve::{ServeRefusal, serve_tcp};
 use mc_server::MachineClock;
 use std::alloc::Global;
 use std::io::Eprint;
 use std::net::{Net, TcpListener, TcpStream};
+use std::os::fd::AsRawFd;
 use std::process::ExitCode;
 use std::random::RandomSource;
 use std::sync::Wait;
 use std::thread::Threads;
 use std::{io, time};
+
+/// So many connections may wait in the system's queue until they are accepted. The system has a limit of its own
+/// (net.core.somaxconn).
+const QUEUE: i32 = 4_096;
 
 /// Listens on the address, and serves who connects; the status with which the program ends.
 pub fn listen<
@@ -43,7 +50,10 @@ pub fn listen<
         Ok(local) => local,
         Err(error) => return refuse_address(rt, address, &error),
     };
+    // Where this fails fewer wait there: 128.
+    let _ = listen_again(listener.as_raw_fd(), QUEUE);
     let _ = eprintln!(rt; "listening {local}");
+    tell_files(rt, seats, limits.shards);
     let ended = serve_tcp(
         rt,
         rt.alloc(),
@@ -56,7 +66,7 @@ pub fn listen<
     match ended {
         Ok(_) => ExitCode::SUCCESS,
         Err(ServeRefusal::Memory) => refuse(rt, "out of memory"),
-        Err(ServeRefusal::Thread) => refuse_threads(rt, seats, limits.shards),
+        Err(ServeRefusal::Thread) => refuse_threads(rt, limits.shards),
         Err(ServeRefusal::Bind) => refuse(rt, "cannot listen"),
     }
 }
@@ -69,8 +79,8 @@ fn refuse_address(rt: &impl Eprint, address: &str, error: &io::Error) -> ExitCod
 }
 
 /// Tells how many threads the options ask for, where they can't be started; the status with which the program ends.
-fn refuse_threads(rt: &impl Eprint, seats: usize, shards: usize) -> ExitCode {
+fn refuse_threads(rt: &impl Eprint, shards: usize) -> ExitCode {
     let status = refuse(rt, "cannot start a thread");
-    let _ = eprintln!(rt; "mcd: --seats {seats} and --shards {shards} need a thread each");
+    let _ = eprintln!(rt; "mcd: --shards {shards} needs a thread for each, and three open files");
     status
 }

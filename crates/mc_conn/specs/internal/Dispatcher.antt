@@ -1,6 +1,10 @@
 -- What taking a command does to the place where commands are planned and opened.
-use Rattle.std.specs.Prelude.{ℕ, ◌≡◌, ◌<◌, List, [], ◌∷◌, ◌++◌, length}
+use Rattle.std.specs.Prelude.{ℕ, ◌≡◌, ◌<◌, List, [], ◌∷◌, ◌++◌, length, Result, MatchResult}
 use Rattle.mc_command.specs.declared.command.Command.{Command}
+use Rattle.mc_command.specs.declared.command.Command.TheVariants.{Refused}
+use Rattle.mc_command.specs.declared.refusal.Refusal.TheVariants.{Memory}
+use Rattle.mc_item.specs.declared.memory.NoMemory.{NoMemory}
+use Rattle.mc_split.specs.Plan.{form_of}
 use Rattle.mc_ring.specs.Reply.{Shown}
 use Rattle.mc_split.specs.declared.form.Form.{Form}
 use Rattle.mc_join.specs.Held.{opened_count}
@@ -19,4 +23,17 @@ pub record Opens (old : Dispatcher) (command : Command) (new : Dispatcher) : Typ
   pub plan : Plans old.shards old.ticket old.moment command form old.unsent.items new.unsent.items
   pub joiner : new.joiner ≡ record old.joiner { forms = old.joiner.forms ++ form ∷ [] }
   pub joins : (opened : List Form) (accepted : List Shown) (handed : List (List ℕ)) → IsJoiner old.joiner opened accepted handed → IsJoiner new.joiner (opened ++ form ∷ []) accepted handed
+  pub shards : new.shards ≡ old.shards
+
+-- the form of the refusal "out of memory", at the number of the next command
+abbrev pub refusal_of : Dispatcher → Form
+refusal_of dispatcher = form_of dispatcher.shards dispatcher.ticket (Refused Memory)
+
+-- The form of a command that was split, or of the refusal where memory ran out, is the last of those that are open.
+pub record OpensSplit (old : Dispatcher) (split : Result Form NoMemory) (new : Dispatcher) : Type 0 where
+  pub form : Form
+  pub form_is : MatchResult split (λ f. form ≡ f) (λ _. form ≡ refusal_of old)
+  pub joiner : new.joiner ≡ record old.joiner { forms = old.joiner.forms ++ form ∷ [] }
+  pub joins : (opened : List Form) (accepted : List Shown) (handed : List (List ℕ)) → IsJoiner old.joiner opened accepted handed → IsJoiner new.joiner (opened ++ form ∷ []) accepted handed
+  pub unsent : new.unsent ≡ old.unsent
   pub shards : new.shards ≡ old.shards

@@ -61,6 +61,14 @@ GoOnSays turn stop old unread before new left now =
     (KeysFit told.shards told.taken received → length (all_texts told) ≡ length told.taken) →
     TurnSays turn received begin now told new left
 
+-- What going on does, once all replies to the commands taken are handed out.
+abbrev pub HandedSays : Turn → Took → Conn → List ℕ → Sight → Conn → List ℕ → Sight → Type 0
+HandedSays turn stop old unread before new left now =
+    (received : ℕ → List Shown) (begin : Sight) (told : Told) →
+    IsConn old (all_handed told) → Serving received begin before unread (all_handed told) → told.broken ≡ false → StopsAt stop told →
+    (KeysFit told.shards told.taken received → length (all_texts told) ≡ length told.taken) →
+    TurnSays turn received begin now told new left
+
 -- What reading on does, once all replies are handed out and more bytes are needed.
 abbrev pub ReadOnSays : Turn → Conn → List ℕ → Sight → Conn → List ℕ → Sight → Type 0
 ReadOnSays turn old unread before new left now =

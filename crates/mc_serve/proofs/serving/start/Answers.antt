@@ -1,37 +1,43 @@
 -- The threads start over new lanes.
-use Rattle.std.proofs.Common.{◌≡◌, ℕ, List, ◌++◌, length, map, ap, sym, subst, ◌∙◌, rules}
-use Rattle.std.proofs.lemmas.Result.{on_ok_weaker}
+use Rattle.std.proofs.Common.{◌≡◌, ℕ, List, length, map, ap, sym, subst, ◌∙◌, rules}
 use Rattle.mc_core.proofs.Lists.{all_from}
 use Rattle.mc_ring.specs.Ends.{Ends}
 use Rattle.mc_ring.specs.Lane.{Far, Near}
 use Rattle.mc_ring.specs.Made.{AreLanes}
 use Rattle.mc_threads.specs.Workers.{ends_of}
 use Rattle.mc_threads.proofs.Fresh.{all_fresh}
+use Rattle.mc_serve.proofs.Parts.{both_ok, one_ok}
 use Rattle.mc_serve.proofs.serving.start.Goals as goal
 
 pub make_workers-requires-clause-fresh : goal.make_workers-requires-clause-fresh
 make_workers-requires-clause-fresh g c = all_fresh _ _ _ c.in-Ok.near.items c.in-Ok.far.items c.in-Ok.ensures.made
 
-pub start_seats-requires-clause-width : goal.start_seats-requires-clause-width
-start_seats-requires-clause-width g c κs within =
+pub sit_down-requires-clause-width : goal.sit_down-requires-clause-width
+sit_down-requires-clause-width g c =
     let lanes = c.in-Ok.ensures.made in
     all_from (λ seat. length seat.lanes ≡ c.args.sizes.shards) c.in-Ok.near.items (λ i seat here. (lanes.each_seat i seat here).counted)
+
+pub start_parts-requires-clause-begin : goal.start_parts-requires-clause-begin
+start_parts-requires-clause-begin g c κs within = c.in_ok-seats.ensures.begin
 
 pub returns : goal.returns
 returns g c =
     let lanes = c.in-Ok.ensures.made in
-    let workers = c.in_ok-workers.ensures in
-    let begun : map (λ one. one.worker) c.start_workers.new.crew ≡ map (λ one. one.worker) c.args.working.now ++ c.in_ok-workers.workers.items = search rules in
-    let all : map (λ one. one.worker) c.start_workers.new.crew ≡ c.in_ok-workers.workers.items = begun ∙ ap (λ ws. map (λ one. one.worker) ws ++ c.in_ok-workers.workers.items) c.requires.working in
-    let far : map ends_of (map (λ one. one.worker) c.start_workers.new.crew) ≡ c.in-Ok.far.items = ap (map ends_of) all ∙ workers.ends in
+    let made = c.in_ok-workers.ensures in
+    let set = c.in_ok-workers-2.ensures in
+    let sat = c.in_ok-seats.ensures in
+    let seats = c.in_ok-seats.seats.items in
+    let workers = c.in_ok-workers-2.workers.items in
     let count : c.len-count.result ≡ length c.args.doors.items = search rules in
     let A : List (Ends Near) → List (Ends Far) → ℕ → Type 0 = λ near far n. AreLanes n c.args.sizes.shards c.args.sizes.ring near far in
-    let working : List (Ends Far) = map ends_of (map (λ one. one.worker) c.start_workers.new.crew) in
-    let made : A c.in-Ok.near.items c.in-Ok.far.items (length c.args.doors.items) = subst (A c.in-Ok.near.items c.in-Ok.far.items) count lanes in
-    let started : A c.in-Ok.near.items working (length c.args.doors.items) = subst (λ far. A c.in-Ok.near.items far (length c.args.doors.items)) (sym far) made in
+    let far : map ends_of (map (λ one. one.worker) workers) ≡ c.in-Ok.far.items = ap (map ends_of) set ∙ made.ends in
+    let all : A (map (λ one. one.session.courier.ends) seats) (map ends_of (map (λ one. one.worker) workers)) (length c.args.doors.items) =
+    subst (λ n. A (map (λ one. one.session.courier.ends) seats) (map ends_of (map (λ one. one.worker) workers)) n) count
+    (subst (λ near. A near (map ends_of (map (λ one. one.worker) workers)) c.len-count.result) (sym sat.ends)
+    (subst (λ far. A c.in-Ok.near.items far c.len-count.result) (sym far) lanes)) in
     record {
-      lanes = on_ok_weaker c.start_seats.result (λ same. subst (λ near. A near working (length c.args.doors.items)) (sym same) started) c.start_seats.ensures.ends;
-      fresh = on_ok_weaker c.start_seats.result (λ same. rw all (workers.fresh (length c.args.doors.items))) c.start_seats.ensures.ends;
-      doors = c.start_seats.ensures.doors;
-      same = c.start_seats.ensures.same;
+      lanes = both_ok c.start_parts.result c.start_parts.ensures.seats c.start_parts.ensures.workers (λ mine own. rw (mine, own) all);
+      fresh = one_ok c.start_parts.result c.start_parts.ensures.workers (λ own. rw (own, set) (made.fresh (length c.args.doors.items)));
+      doors = one_ok c.start_parts.result c.start_parts.ensures.seats (λ mine. rw mine sat.doors);
+      same = c.start_parts.ensures.same;
     }

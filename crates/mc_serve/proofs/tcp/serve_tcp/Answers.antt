@@ -11,11 +11,11 @@ use denote.Param.Send.{arg_send, param_send}
 use Rattle.mc_serve.proofs.TcpSent.{tcp_send}
 use Rattle.mc_serve.proofs.tcp.serve_tcp.Goals as goal
 
-pub serve-requires-clause-free : goal.serve-requires-clause-free
-serve-requires-clause-free g c κs within = new_free (λ door. told_tcp door.is_out door.gone.items door.is_over) c.in_ok-doors.doors.items c.in_ok-doors.ensures.new
+pub serve-served-requires-clause-free : goal.serve-served-requires-clause-free
+serve-served-requires-clause-free g c κs within = new_free (λ door. told_tcp door.is_out door.gone.items door.is_over) c.in_ok-doors.doors.items c.in_ok-doors.ensures.new
 
-pub serve-requires-clause-sizes : goal.serve-requires-clause-sizes
-serve-requires-clause-sizes g c κs within = let P : ℕ → Type 0 = λ n. MayServe n c.args.sizes in subst P (sym c.in_ok-doors.ensures.count) c.requires
+pub serve-served-requires-clause-sizes : goal.serve-served-requires-clause-sizes
+serve-served-requires-clause-sizes g c κs within = let P : ℕ → Type 0 = λ n. MayServe n c.args.sizes in subst P (sym c.in_ok-doors.ensures.count) c.requires
 
 pub returns : goal.returns
 returns g c =
@@ -25,5 +25,5 @@ returns g c =
     if_ok c.count_ended.result _ _ (λ ended counted. all_connections (sizes_of c.args.seats c.args.sizes) (g.K.Clock.may_answer c.args.clock) (λ door. told_tcp door.is_out door.gone.items door.is_over) doors back ended
     c.in_ok-doors.ensures.count c.in_ok-doors.ensures.new (λ door. tcp_new door.is_out door.gone.items door.is_over) (subst P c.in_ok-doors.ensures.count c.in_ok-back.ensures.explained) counted) c.count_ended.ensures
 
-pub serve-requires-send-D : goal.serve-requires-send-D
-serve-requires-send-D g c κs within = param_send 1 _ (arg_send _ no _ (tcp_send _ c.type_bounds.send-R))
+pub serve-served-requires-send-D : goal.serve-served-requires-send-D
+serve-served-requires-send-D g c κs within = param_send 1 _ (arg_send _ no _ (tcp_send _ c.type_bounds.send-R))

@@ -1,6 +1,6 @@
-use Rattle.mc_store.specs.internal.Polynomial.{read_u64}
+use Rattle.std.proofs.Common.{◌∙◌, ap, take}
+use Rattle.mc_store.proofs.Polynomials.{eight_bytes}
 use Rattle.mc_store.proofs.hashing.read_u64.Goals as goal
 
 pub returns : goal.returns
-unfolding read_u64
-returns c = rw (c.read_u32.ensures, c.read_u32-2.ensures)
+returns c = c.from_le_bytes.ensures ∙ eight_bytes c.args.bytes.now c.in-Some.chunk.now c.args.at (c.in-Some.ensures.cases.same ∙ ap (take 8) c.split_at.ensures.back)

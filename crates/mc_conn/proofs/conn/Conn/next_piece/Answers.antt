@@ -1,16 +1,14 @@
-use Rattle.std.proofs.Common.{refl, ap, sym}
+use Rattle.std.proofs.Common.{refl}
 use Rattle.mc_conn.specs.Conn.{IsConn}
-use Rattle.mc_conn.specs.internal.Inside.{put_first}
-use Rattle.mc_conn.proofs.Calls.{gives, gives_front}
+use Rattle.mc_conn.proofs.Calls.{gives_back, gives_front, none_back}
 use Rattle.mc_conn.proofs.conn.Conn.next_piece.Goals as goal
 
-pub returns-in-Some-clause-some : goal.returns-in-Some-clause-some
+pub returns-then-is_some-clause-some : goal.returns-then-is_some-clause-some
 unfolding IsConn
-returns-in-Some-clause-some c =
-    gives c.args.self.now _ c.in-Some.piece refl refl refl refl c.in-Some.ensures.after
-    (ap (λ back. put_first back c.args.self.now.dispatcher.unsent.items) (sym c.in-Some.ensures.value))
+returns-then-is_some-clause-some c = gives_back c.take.result c.args.self.now _ refl refl refl refl c.take.ensures.after c.take.ensures.value refl
 
-pub returns-in-None-clause-some : goal.returns-in-None-clause-some
+pub returns-clause-some : goal.returns-clause-some
 unfolding IsConn
-returns-in-None-clause-some c =
-    gives_front c.pop_front.result c.args.self.now _ refl refl refl refl c.in-None.ensures.after (sym c.in-None.ensures.value) c.pop_front.ensures.items
+returns-clause-some c =
+    let none = none_back c.args.self.now.put_back c.is_some.result c.is_some.ensures c.if-is_some.false in
+    gives_front c.pop_front.result c.args.self.now _ refl refl refl refl none none c.pop_front.ensures.items

@@ -7,11 +7,11 @@ use Rattle.mc_conn.proofs.dispatcher.DispatcherCommands.get.Goals as goal
 pub returns : goal.returns
 returns c =
     let dispatcher = c.args.self.now in
-    let form = c.form_or_refusal-form.result in
+    let opens = c.open_split.ensures in
     record {
-      form = form;
-      plan = rw c.open.ensures.unsent (plans_split dispatcher.shards dispatcher.ticket dispatcher.moment (get_of (c.args.first.now ∷ words_of c.args.others.now) c.args.with_unique) c.split_get-split.result form dispatcher.unsent.items c.split_get-split.new.queue.items c.split_get-split.ensures c.form_or_refusal-form.ensures);
-      joiner = c.open.ensures.joiner;
-      joins = c.open.ensures.joins;
-      shards = c.open.ensures.shards;
+      form = opens.form;
+      plan = rw opens.unsent (plans_split dispatcher.shards dispatcher.ticket dispatcher.moment (get_of (c.args.first.now ∷ words_of c.args.others.now) c.args.with_unique) c.split_get-split.result opens.form dispatcher.unsent.items c.split_get-split.new.queue.items c.split_get-split.ensures opens.form_is);
+      joiner = opens.joiner;
+      joins = opens.joins;
+      shards = opens.shards;
     }

@@ -5,11 +5,11 @@ use Rattle.mc_conn.proofs.dispatcher.DispatcherCommands.meta_get.Goals as goal
 pub returns : goal.returns
 returns c =
     let dispatcher = c.args.self.now in
-    let form = c.form_or_refusal-form.result in
+    let opens = c.open_split.ensures in
     record {
-      form = form;
-      plan = rw c.open.ensures.unsent (plans_split dispatcher.shards dispatcher.ticket dispatcher.moment (command.MetaGet c.args.get) c.split_meta_get-split.result form dispatcher.unsent.items c.split_meta_get-split.new.queue.items c.split_meta_get-split.ensures c.form_or_refusal-form.ensures);
-      joiner = c.open.ensures.joiner;
-      joins = c.open.ensures.joins;
-      shards = c.open.ensures.shards;
+      form = opens.form;
+      plan = rw opens.unsent (plans_split dispatcher.shards dispatcher.ticket dispatcher.moment (command.MetaGet c.args.get) c.split_meta_get-split.result opens.form dispatcher.unsent.items c.split_meta_get-split.new.queue.items c.split_meta_get-split.ensures opens.form_is);
+      joiner = opens.joiner;
+      joins = opens.joins;
+      shards = opens.shards;
     }

@@ -1,15 +1,30 @@
+use Rattle.std.proofs.Common.{refl}
 use Rattle.mc_plain.specs.Plain.{meta_get_of}
-use Rattle.mc_conn.proofs.Dispatching.{plans_split}
+use Rattle.mc_conn.specs.internal.Dispatcher.{refusal_of}
+use Rattle.mc_conn.proofs.Dispatching.{plans_queued}
+use Rattle.mc_conn.proofs.GivenUp.{plans_refusal}
 use Rattle.mc_conn.proofs.dispatcher.DispatcherCommands.meta_get_value.Goals as goal
 
-pub returns : goal.returns
-returns c =
+pub returns-in-Ok : goal.returns-in-Ok
+returns-in-Ok c =
     let dispatcher = c.args.self.now in
-    let form = c.form_or_refusal-form.result in
+    let asked = meta_get_of c.args.key.now in
     record {
-      form = form;
-      plan = rw c.open.ensures.unsent (plans_split dispatcher.shards dispatcher.ticket dispatcher.moment (meta_get_of c.args.key.now) c.split_meta_get_value-split.result form dispatcher.unsent.items c.split_meta_get_value-split.new.queue.items c.split_meta_get_value-split.ensures c.form_or_refusal-form.ensures);
+      form = c.form_of_meta_get_value.result;
+      plan = rw c.open.ensures.unsent (plans_queued dispatcher.shards dispatcher.ticket dispatcher.moment asked c.form_of_meta_get_value.result dispatcher.unsent.items _ (c.form_of_meta_get_value.ensures dispatcher.shards c.args.key.now) c.in-Ok.ensures.pieces);
       joiner = c.open.ensures.joiner;
       joins = c.open.ensures.joins;
       shards = c.open.ensures.shards;
+    }
+
+pub returns-in-Err : goal.returns-in-Err
+returns-in-Err c =
+    let dispatcher = c.args.self.now in
+    let asked = meta_get_of c.args.key.now in
+    record {
+      form = refusal_of dispatcher;
+      plan = rw c.open_refusal.ensures.unsent (plans_refusal dispatcher.shards dispatcher.ticket dispatcher.moment asked (refusal_of dispatcher) dispatcher.unsent.items _ c.in-Err.ensures.gives_up refl c.in-Err.ensures.unchanged);
+      joiner = c.open_refusal.ensures.joiner;
+      joins = c.open_refusal.ensures.joins;
+      shards = c.open_refusal.ensures.shards;
     }

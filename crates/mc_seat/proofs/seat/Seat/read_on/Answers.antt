@@ -11,10 +11,10 @@ returns-in-Err g c received begin told is serving all open_is complete =
 
 pub returns-then-is_empty : goal.returns-then-is_empty
 returns-then-is_empty g c received begin told is serving all open_is complete =
-    let more = reads_more received begin _ _ _ c.refill.new.self told all complete open_is (c.in-Ok-true.ensures.ok c.in-Ok-true.field-0-test) (sym c.if-not-is_empty.ensures) serving in
-    goes_end received begin _ _ told _ (ap (λ (s : Sight). s.ended) (c.in-Ok-true.ensures.ok c.in-Ok-true.field-0-test)) (sym c.if-is_empty.ensures) (c.end.ensures (all_handed told) is) more
+    let more = reads_more received begin _ _ _ c.refill.new.self told all complete open_is (c.in-Ok-Bytes.ensures.bytes c.in-Ok-Bytes.field-0-is) (sym c.if-not-is_empty.ensures) serving in
+    rw c.give_back.ensures (goes_end received begin _ _ told _ (ap (λ (s : Sight). s.ended) (c.in-Ok-Bytes.ensures.bytes c.in-Ok-Bytes.field-0-is)) (sym c.if-is_empty.ensures) (c.end.ensures (all_handed told) is) more)
 
 pub returns : goal.returns
 returns g c received begin told is serving all open_is complete =
-    let more = reads_more received begin _ _ _ c.refill.new.self told all complete open_is (c.in-Ok-true.ensures.ok c.in-Ok-true.field-0-test) (sym c.if-not-is_empty.ensures) serving in
+    let more = reads_more received begin _ _ _ c.refill.new.self told all complete open_is (c.in-Ok-Bytes.ensures.bytes c.in-Ok-Bytes.field-0-is) (sym c.if-not-is_empty.ensures) serving in
     c.feed-2.ensures received begin _ told is more open_is

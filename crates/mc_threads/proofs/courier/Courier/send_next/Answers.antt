@@ -3,22 +3,22 @@ use Rattle.std.proofs.Common.{◌≡◌, ◌+◌, length, refl, arith, rules, ve
 use Rattle.std.proofs.lemmas.Option.{slice_get_read}
 use Rattle.mc_split.specs.declared.plan.Piece.{Piece}
 use Rattle.mc_threads.proofs.Carrying.{PutsBack, back_again, next_there, none_left, same_piece, sent_one, still_back}
-use Rattle.mc_threads.specs.internal.Ending.{StandsStill}
+use Rattle.mc_threads.specs.Ending.{StandsStill}
 use Rattle.mc_ring.specs.EndsLaws.{same_ends-refl}
 use Rattle.mc_threads.proofs.courier.Courier.send_next.Goals as goal
 
 pub returns-in_default : goal.returns-in_default
 returns-in_default c = none_left _ c.args.self.now.ends c.args.self.now.under_way.items c.args.conn.now c.next_piece.new.self c.in_default.ensures.none
 
-pub index-requires : goal.index-requires
-index-requires c =
+pub index-count-requires : goal.index-count-requires
+index-count-requires c =
     let there = next_there _ _ _ _ c.in-Some.shard c.in-Some.piece c.requires c.in-Some.ensures.some in
     let below = there.1 in
     let same : vec_len c.args.self.now.under_way ≡ length c.args.self.now.under_way.items = search rules in
     omega (arith, below, same)
 
-pub returns-in_default-checked_add : goal.returns-in_default-checked_add
-returns-in_default-checked_add c =
+pub returns-then-count-self : goal.returns-then-count-self
+returns-then-count-self c =
     let still : StandsStill c.args.self.now.ends c.args.self.now.ends = record { same = same_ends-refl c.args.self.now.ends; sent = λ s. refl; received = λ s. refl } in
     back_again _ c.args.self.now.ends c.args.self.now.ends c.args.self.now.under_way.items c.args.conn.now c.next_piece.new.self c.not_sent.new.self c.in-Some.shard c.in-Some.piece (λ so. let bad = so.1 in absurd (cc)) still c.in-Some.ensures.some c.not_sent.ensures
 
@@ -36,9 +36,9 @@ pub returns-in-Ok : goal.returns-in-Ok
 returns-in-Ok c =
     let ways = c.args.self.now.under_way.items in
     let there = next_there _ _ _ _ c.in-Some.shard c.in-Some.piece c.requires c.in-Some.ensures.some in
-    let got = slice_get_read ways (length ways) c.in-Some.shard c.index.result.now refl there.1 c.index.ensures in
-    let more : c.in-Some-checked_add.count ≡ c.index.result.now + 1 = omega arith in
-    sent_one _ c.args.self.now.ends c.send.new.self ways c.args.conn.now c.next_piece.new.self c.in-Some.shard c.in-Some-checked_add.count c.index.result.now c.in-Some.piece (λ so. let bad = so.0 in absurd (cc)) got more c.in-Ok.ensures.lane c.in-Ok.ensures.same c.in-Some.ensures.some
+    let was = c.index-count.result.now in
+    let got = slice_get_read ways (length ways) c.in-Some.shard was refl there.1 c.index-count.ensures in
+    sent_one _ c.args.self.now.ends c.send.new.self ways c.args.conn.now c.next_piece.new.self c.in-Some.shard (was + 1) was c.in-Some.piece (λ so. let bad = so.0 in absurd (cc)) got refl c.in-Ok.ensures.lane c.in-Ok.ensures.same c.in-Some.ensures.some
 
 pub returns-in-Piece : goal.returns-in-Piece
 returns-in-Piece c =

@@ -1,44 +1,118 @@
--- It carries on; and once every reply has come it goes on with the line.
-use Rattle.std.proofs.Common.{false, refl, true}
-use Rattle.mc_seat.specs.declared.seat.Turn.TheVariants.{Broke, Ends, Goes, Waits}
+-- It carries on; and once every reply has come it hands the replies out, and goes on with the line once that took them.
+use Rattle.std.proofs.Common.{arith, false, refl, true, ◌∙◌}
+use Rattle.mc_seat.specs.Later.{text_in}
+use Rattle.mc_seat.specs.internal.Steps.{all_handed}
+use Rattle.mc_seat.proofs.Later.{breaks_flushing, breaks_given_up, grown_since}
 use Rattle.mc_threads.proofs.Carrying.{moves_all, stays_refl}
-use Rattle.mc_threads.proofs.Serving.{settles, stops_move, stops_rest, turn_ends, turn_said, turns_go}
+use Rattle.mc_threads.proofs.Serving.{settles, stops_move, stops_rest, turn_ends, turns_go}
+use Rattle.mc_threads.proofs.Writing.{complete_settled, handed_out, serving_flushed, stops_flushed, stops_none_waits}
 use Rattle.mc_threads.proofs.session.Session.step.Goals as goal
 
 pub returns-then-carry : goal.returns-then-carry
 returns-then-carry g c shards limit begin before serving =
-    stops_move _ shards limit (g.K.Clock.may_answer c.args.clock.now) begin _ before _ _ _ _ _ _ _ _ _ c.carry.ensures serving
+    record { stopped = stops_move _ shards limit (g.K.Clock.may_answer c.args.clock.now) begin _ before _ _ _ _ _ _ _ _ _ c.carry.ensures serving.stopped; grown = serving.grown }
 
 pub returns-then-not-is_settled : goal.returns-then-not-is_settled
 returns-then-not-is_settled g c shards limit begin before serving =
-    stops_move _ shards limit (g.K.Clock.may_answer c.args.clock.now) begin _ before _ _ _ _ _ _ _ _ _ c.carry.ensures serving
+    record { stopped = stops_move _ shards limit (g.K.Clock.may_answer c.args.clock.now) begin _ before _ _ _ _ _ _ _ _ _ c.carry.ensures serving.stopped; grown = serving.grown }
+
+pub returns-in-Err : goal.returns-in-Err
+returns-in-Err g c shards limit begin before serving =
+    let all = moves_all _ _ _ _ _ _ _ _ _ _ (refl, c.if-not-is_settled.ensures.sent refl) c.if-carry.ensures (stays_refl _ _ _) in
+    let idle = c.if-not-is_settled.ensures.idle refl in
+    let settled = settles shards limit (g.K.Clock.may_answer c.args.clock.now) begin _ before _ _ _ _ _ _ _ _ _ all idle serving.stopped in
+    let turns = settled.stopped.turns in
+    let off = c.in-Err.ensures.gone turns.told turns.conn_is in
+    let served = breaks_given_up turns.received begin _ _ _ _ turns.told _ off.now c.give_up.ensures serving.grown turns.serving in
+    rw c.ended.ensures (record { served = turn_ends _ _ _ _ _ _ _ _ _ _ _ _ _ _ true settled served; idle = idle })
+
+pub returns-in-Ok-false : goal.returns-in-Ok-false
+returns-in-Ok-false g c shards limit begin before serving =
+    let all = moves_all _ _ _ _ _ _ _ _ _ _ (refl, c.if-not-is_settled.ensures.sent refl) c.if-carry.ensures (stays_refl _ _ _) in
+    let idle = c.if-not-is_settled.ensures.idle refl in
+    let settled = settles shards limit (g.K.Clock.may_answer c.args.clock.now) begin _ before _ _ _ _ _ _ _ _ _ all idle serving.stopped in
+    let turns = settled.stopped.turns in
+    let out = c.in_default.ensures.ok turns.told turns.conn_is turns.unbroken in
+    let handed = handed_out shards limit (g.K.Clock.may_answer c.args.clock.now) begin _ before _ _ _ _ _ _ _ _ (text_in c.args.self.now.unwritten) (text_in c.hand.new.out) _ _ settled out in
+    let before_it = serving.grown in
+    let more = c.in-Ok-false.ensures.grows in
+    record {
+      stopped = stops_flushed shards limit (g.K.Clock.may_answer c.args.clock.now) begin _ _ before _ _ _ _ _ _ _ (text_in c.args.self.now.unwritten) (text_in c.hand.new.out) (text_in c.flush.new.self) settled handed.0 handed.1 c.in-Ok-false.ensures.ok;
+      grown = omega (arith, before_it, more);
+    }
+
+pub returns-in-Err-flush : goal.returns-in-Err-flush
+returns-in-Err-flush g c shards limit begin before serving =
+    let all = moves_all _ _ _ _ _ _ _ _ _ _ (refl, c.if-not-is_settled.ensures.sent refl) c.if-carry.ensures (stays_refl _ _ _) in
+    let idle = c.if-not-is_settled.ensures.idle refl in
+    let settled = settles shards limit (g.K.Clock.may_answer c.args.clock.now) begin _ before _ _ _ _ _ _ _ _ _ all idle serving.stopped in
+    let turns = settled.stopped.turns in
+    let out = c.in_default.ensures.ok turns.told turns.conn_is turns.unbroken in
+    let handed = handed_out shards limit (g.K.Clock.may_answer c.args.clock.now) begin _ before _ _ _ _ _ _ _ _ (text_in c.args.self.now.unwritten) (text_in c.hand.new.out) _ _ settled out in
+    let before_it = serving.grown in
+    let more = c.in-Err-flush.ensures.grows in
+    let served = breaks_flushing turns.received begin _ _ (text_in c.hand.new.out) (text_in c.flush.new.self) _ turns.told _ (c.broken.ensures (all_handed turns.told) handed.0) c.in-Err-flush.ensures.err (omega (arith, before_it, more)) handed.1 in
+    rw c.ended-in-Err-flush.ensures (record { served = turn_ends _ _ _ _ _ _ _ _ _ _ _ _ _ _ true settled served; idle = idle })
 
 pub returns-in-Goes : goal.returns-in-Goes
 returns-in-Goes g c shards limit begin before serving =
     let all = moves_all _ _ _ _ _ _ _ _ _ _ (refl, c.if-not-is_settled.ensures.sent refl) c.if-carry.ensures (stays_refl _ _ _) in
-    let settled = settles shards limit (g.K.Clock.may_answer c.args.clock.now) begin _ before _ _ _ _ _ _ _ _ _ all (c.if-not-is_settled.ensures.idle refl) serving in
-    let goes = turn_said _ _ _ _ _ _ _ _ _ _ c.go_on.new.self.unread _ _ _ _ Goes settled c.in-Goes.ensures in
-    c.take_all.ensures.takes shards limit begin _ before (turns_go _ _ _ _ _ _ _ _ _ _ _ _ _ _ settled.stopped.turns goes)
+    let idle = c.if-not-is_settled.ensures.idle refl in
+    let settled = settles shards limit (g.K.Clock.may_answer c.args.clock.now) begin _ before _ _ _ _ _ _ _ _ _ all idle serving.stopped in
+    let turns = settled.stopped.turns in
+    let out = c.in_default.ensures.ok turns.told turns.conn_is turns.unbroken in
+    let handed = handed_out shards limit (g.K.Clock.may_answer c.args.clock.now) begin _ before _ _ _ _ _ _ _ _ (text_in c.args.self.now.unwritten) (text_in c.hand.new.out) _ _ settled out in
+    let none = c.in-Ok-true.ensures.out c.in-Ok-true.field-0-test in
+    let taken = serving_flushed shards limit (g.K.Clock.may_answer c.args.clock.now) begin _ _ before _ _ _ _ _ _ (text_in c.args.self.now.unwritten) (text_in c.hand.new.out) (text_in c.flush.new.self) settled handed.1 c.in-Ok-true.ensures.ok none in
+    let complete = complete_settled _ _ _ _ _ _ _ _ _ _ _ _ settled in
+    let said = c.in-Goes.ensures turns.received begin turns.told handed.0 taken turns.unbroken settled.stopped.stops complete in
+    let stopped = c.take_all.ensures.takes shards limit begin _ before (turns_go _ _ _ _ _ _ _ _ _ _ _ _ _ _ turns said) in
+    record {
+      stopped = stops_none_waits _ _ _ _ _ _ _ _ _ _ _ _ _ (c.take_all.ensures.unwritten ∙ none) stopped;
+      grown = grown_since begin (g.L.Outlet.sight c.go_on_reading.new.line) _ said.serving.taken_is;
+    }
 
 pub returns-in-Waits : goal.returns-in-Waits
 returns-in-Waits g c shards limit begin before serving =
     let all = moves_all _ _ _ _ _ _ _ _ _ _ (refl, c.if-not-is_settled.ensures.sent refl) c.if-carry.ensures (stays_refl _ _ _) in
-    let settled = settles shards limit (g.K.Clock.may_answer c.args.clock.now) begin _ before _ _ _ _ _ _ _ _ _ all (c.if-not-is_settled.ensures.idle refl) serving in
-    let rests = turn_said _ _ _ _ _ _ _ _ _ _ c.go_on.new.self.unread _ _ _ _ Waits settled c.in-Waits.ensures in
-    stops_rest _ _ _ _ _ _ _ _ _ _ _ _ _ _ _ settled rests
+    let idle = c.if-not-is_settled.ensures.idle refl in
+    let settled = settles shards limit (g.K.Clock.may_answer c.args.clock.now) begin _ before _ _ _ _ _ _ _ _ _ all idle serving.stopped in
+    let turns = settled.stopped.turns in
+    let out = c.in_default.ensures.ok turns.told turns.conn_is turns.unbroken in
+    let handed = handed_out shards limit (g.K.Clock.may_answer c.args.clock.now) begin _ before _ _ _ _ _ _ _ _ (text_in c.args.self.now.unwritten) (text_in c.hand.new.out) _ _ settled out in
+    let none = c.in-Ok-true.ensures.out c.in-Ok-true.field-0-test in
+    let taken = serving_flushed shards limit (g.K.Clock.may_answer c.args.clock.now) begin _ _ before _ _ _ _ _ _ (text_in c.args.self.now.unwritten) (text_in c.hand.new.out) (text_in c.flush.new.self) settled handed.1 c.in-Ok-true.ensures.ok none in
+    let complete = complete_settled _ _ _ _ _ _ _ _ _ _ _ _ settled in
+    let said = c.in-Waits.ensures turns.received begin turns.told handed.0 taken turns.unbroken settled.stopped.stops complete in
+    record {
+      stopped = stops_none_waits _ _ _ _ _ _ _ _ _ _ _ _ _ none (stops_rest _ _ _ _ _ _ _ _ _ _ _ _ _ _ _ settled said);
+      grown = grown_since begin (g.L.Outlet.sight c.go_on_reading.new.line) _ said.serving.taken_is;
+    }
 
 pub returns-in-Ends : goal.returns-in-Ends
 returns-in-Ends g c shards limit begin before serving =
     let all = moves_all _ _ _ _ _ _ _ _ _ _ (refl, c.if-not-is_settled.ensures.sent refl) c.if-carry.ensures (stays_refl _ _ _) in
     let idle = c.if-not-is_settled.ensures.idle refl in
-    let settled = settles shards limit (g.K.Clock.may_answer c.args.clock.now) begin _ before _ _ _ _ _ _ _ _ _ all idle serving in
-    let served = turn_said _ _ _ _ _ _ _ _ _ _ c.go_on.new.self.unread _ _ _ _ Ends settled c.in-Ends.ensures in
-    rw c.ended.ensures (record { served = turn_ends _ _ _ _ _ _ _ _ _ _ _ _ _ _ false settled served; idle = idle })
+    let settled = settles shards limit (g.K.Clock.may_answer c.args.clock.now) begin _ before _ _ _ _ _ _ _ _ _ all idle serving.stopped in
+    let turns = settled.stopped.turns in
+    let out = c.in_default.ensures.ok turns.told turns.conn_is turns.unbroken in
+    let handed = handed_out shards limit (g.K.Clock.may_answer c.args.clock.now) begin _ before _ _ _ _ _ _ _ _ (text_in c.args.self.now.unwritten) (text_in c.hand.new.out) _ _ settled out in
+    let none = c.in-Ok-true.ensures.out c.in-Ok-true.field-0-test in
+    let taken = serving_flushed shards limit (g.K.Clock.may_answer c.args.clock.now) begin _ _ before _ _ _ _ _ _ (text_in c.args.self.now.unwritten) (text_in c.hand.new.out) (text_in c.flush.new.self) settled handed.1 c.in-Ok-true.ensures.ok none in
+    let complete = complete_settled _ _ _ _ _ _ _ _ _ _ _ _ settled in
+    let said = c.in-Ends.ensures turns.received begin turns.told handed.0 taken turns.unbroken settled.stopped.stops complete in
+    rw c.ended-in-Ends.ensures (record { served = turn_ends _ _ _ _ _ _ _ _ _ _ _ _ _ _ false settled said; idle = idle })
 
 pub returns-in-Broke : goal.returns-in-Broke
 returns-in-Broke g c shards limit begin before serving =
     let all = moves_all _ _ _ _ _ _ _ _ _ _ (refl, c.if-not-is_settled.ensures.sent refl) c.if-carry.ensures (stays_refl _ _ _) in
     let idle = c.if-not-is_settled.ensures.idle refl in
-    let settled = settles shards limit (g.K.Clock.may_answer c.args.clock.now) begin _ before _ _ _ _ _ _ _ _ _ all idle serving in
-    let served = turn_said _ _ _ _ _ _ _ _ _ _ c.go_on.new.self.unread _ _ _ _ Broke settled c.in-Broke.ensures in
-    rw c.ended-in-Broke.ensures (record { served = turn_ends _ _ _ _ _ _ _ _ _ _ _ _ _ _ true settled served; idle = idle })
+    let settled = settles shards limit (g.K.Clock.may_answer c.args.clock.now) begin _ before _ _ _ _ _ _ _ _ _ all idle serving.stopped in
+    let turns = settled.stopped.turns in
+    let out = c.in_default.ensures.ok turns.told turns.conn_is turns.unbroken in
+    let handed = handed_out shards limit (g.K.Clock.may_answer c.args.clock.now) begin _ before _ _ _ _ _ _ _ _ (text_in c.args.self.now.unwritten) (text_in c.hand.new.out) _ _ settled out in
+    let none = c.in-Ok-true.ensures.out c.in-Ok-true.field-0-test in
+    let taken = serving_flushed shards limit (g.K.Clock.may_answer c.args.clock.now) begin _ _ before _ _ _ _ _ _ (text_in c.args.self.now.unwritten) (text_in c.hand.new.out) (text_in c.flush.new.self) settled handed.1 c.in-Ok-true.ensures.ok none in
+    let complete = complete_settled _ _ _ _ _ _ _ _ _ _ _ _ settled in
+    let said = c.in-Broke.ensures turns.received begin turns.told handed.0 taken turns.unbroken settled.stopped.stops complete in
+    rw c.ended-in-Broke.ensures (record { served = turn_ends _ _ _ _ _ _ _ _ _ _ _ _ _ _ true settled said; idle = idle })

@@ -3,6 +3,7 @@ use Rattle.std.proofs.Common.{ℕ, ◌≡◌}
 use Rattle.mc_wire.specs.Outlet.{Sight}
 use Rattle.mc_ring.specs.Lane.{Near}
 use Rattle.mc_ring.specs.Ends.{Ends}
+use Rattle.mc_seat.specs.Later.{text_in}
 use Rattle.mc_threads.specs.Session.{MayTake}
 use Rattle.mc_threads.proofs.session.Session.take_all.Given as goal
 
@@ -10,4 +11,5 @@ abbrev pub invariant-loop : goal.invariant-loop
 invariant-loop g l = record {
   takes : (shards limit : ℕ) (begin now : Sight) (before : Ends Near) → MayTake shards limit (g.K.Clock.may_answer l.fn.clock) begin now before l.fn.self → MayTake shards limit (g.K.Clock.may_answer l.fn.clock) begin now before l.self;
   ends : l.self.courier.ends ≡ l.fn.self.courier.ends;
+  unwritten : text_in l.self.unwritten ≡ text_in l.fn.self.unwritten;
 }

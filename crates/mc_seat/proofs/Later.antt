@@ -1,0 +1,102 @@
+-- Replies that were handed out and wait for their line: what is seen of the line once it took them.
+use Rattle.std.proofs.Common.{◌≡◌, ℕ, ◌-◌, ◌≤◌, inl, Bool, true, List, [], ◌++◌, length, take, drop, refl, sym, ap, subst, ◌∙◌, arith, append_assoc, append-nil}
+use Rattle.std.specs.List.{concat}
+use Rattle.std.proofs.lemmas.List.{take-append-drop}
+use Rattle.std.proofs.lemmas.List.Folds.{concat-append}
+use Rattle.mc_wire.specs.Outlet.{Listed, Sight, Trace, broke, sight_out, took, with_bytes}
+use Rattle.mc_wire.proofs.Outlets.{took-append, took-nil}
+use Rattle.mc_ring.specs.Reply.{Shown}
+use Rattle.mc_join.specs.internal.Gathered.{told as bytes_told}
+use Rattle.mc_join.proofs.Gatherings.{told-grows, traces}
+use Rattle.mc_conn.specs.declared.conn.Conn.{Conn}
+use Rattle.mc_conn.specs.Conn.{HandsOut, IsConn}
+use Rattle.mc_conn.specs.Told.{Told, all_texts, commands_of, waiting_text}
+use Rattle.mc_conn.proofs.Staying.{is_sound}
+use Rattle.mc_seat.specs.Lines.{HasGrown}
+use Rattle.mc_seat.specs.internal.Stands.{Serving, handed_texts}
+use Rattle.mc_seat.specs.internal.Steps.{IsServed, all_handed}
+use Rattle.mc_seat.proofs.Fronts.{begins_more}
+use Rattle.mc_seat.proofs.Standing.{all_owed_later, commands-length}
+
+-- of a line that has taken what it is said to have taken since it began
+pub grown_since : (begin now : Sight) (bytes : List ℕ) → now.taken ≡ with_bytes begin.taken bytes → HasGrown begin now
+grown_since begin now bytes taken =
+    let P : Trace → Type 0 = λ trace. bytes_told begin.taken ≤ bytes_told trace in subst P (sym taken) (told-grows begin.taken bytes)
+
+-- what was handed out waits behind what waited
+pub hands_waiting : (told : Told) (count : ℕ) (new : Conn) (waited waits : List ℕ) (was is : Bool) (now : Sight) → HandsOut told count new (sight_out (Listed waited) was) (sight_out (Listed waits) is) → HandsOut told count new (took waited now) (took waits now)
+hands_waiting told count new waited waits was is now out =
+    let text = waiting_text told in
+    let listed : Listed waits ≡ Listed (waited ++ text) = ap (λ (s : Sight). s.taken) out.written in
+    let behind : waits ≡ waited ++ text = cc in
+    record {
+      whole = out.whole;
+      all = out.all;
+      written = ap (λ bytes. took bytes now) behind ∙ sym (took-append now waited text);
+      now = out.now;
+      together = out.together;
+      none_waits = out.none_waits;
+    }
+
+-- that a line has failed changes nothing of how it is served
+serving_broke : (received : ℕ → List Shown) (begin now : Sight) (unread : List ℕ) (told : Told) → Serving received begin now unread told → Serving received begin (broke now) unread told
+serving_broke received begin now unread told serving = record {
+  read_is = serving.read_is;
+  ended_is = serving.ended_is;
+  taken_is = serving.taken_is;
+  counted = serving.counted;
+  reads = serving.reads;
+  reads_are = serving.reads_are;
+  owes_nothing = serving.owes_nothing;
+}
+
+-- the line failed while replies waited: it took a beginning of those handed out
+pub breaks_waiting : (received : ℕ → List Shown) (begin now : Sight) (waits unread : List ℕ) (told : Told) (conn : Conn) → IsConn conn (record told { broken = true }) → now.failed ≡ true → HasGrown begin now → Serving received begin (took waits now) unread told → IsServed received begin now told true conn
+breaks_waiting received begin now waits unread told conn is failed grown serving =
+    let sound = is_sound conn (record told { broken = true }) is in
+    let counted = serving.counted in
+    let texts = handed_texts told in
+    let rest = drop told.handed (all_texts told) in
+    let text = concat texts in
+    let count = length text - length waits in
+    let all : all_texts told ≡ texts ++ rest = sym (take-append-drop told.handed (all_texts told)) in
+    record {
+      handed = told.handed;
+      conn_is = is;
+      over = inl refl;
+      rest = λ e. absurd cc;
+      story = record {
+        read = told.fed ++ unread;
+        written = take count text;
+        read_is = serving.read_is;
+        written_is = traces begin.taken now.taken waits text serving.taken_is grown;
+        covers = begins_more told.limit told.fed unread (commands_of told.taken) sound.begin;
+        writes = (
+          drop count text ++ concat rest,
+          sym (append_assoc (take count text) (drop count text) (concat rest))
+              ∙ (ap (λ t. t ++ concat rest) (take-append-drop count text) ∙ (sym (concat-append texts rest) ∙ ap concat (sym all))),
+        );
+        may = sound.may;
+        finished = λ e. absurd cc;
+        failed = λ e. failed;
+      };
+      reads = λ f. record {
+        reads = serving.reads;
+        reads_are = serving.reads_are;
+        each = rw (all, ← append-nil (commands_of told.taken)) (all_owed_later told.limit begin (commands_of told.taken) [] texts rest serving.reads (omega (arith, counted, commands-length told.taken)) (serving.owes_nothing f));
+      };
+    }
+
+-- the line was given up while replies waited
+pub breaks_given_up : (received : ℕ → List Shown) (begin old new : Sight) (waits unread : List ℕ) (told : Told) (conn : Conn) → IsConn conn (record told { broken = true }) → new ≡ broke old → HasGrown begin old → Serving received begin (took waits old) unread told → IsServed received begin new told true conn
+breaks_given_up received begin old new waits unread told conn is fails grown serving =
+    let P : Sight → Type 0 = λ now. IsServed received begin now told true conn in
+    subst P (sym fails) (breaks_waiting received begin (broke old) waits unread told conn is refl grown (serving_broke received begin (took waits old) unread told serving))
+
+-- the line failed while it took replies that waited
+pub breaks_flushing : (received : ℕ → List Shown) (begin old new : Sight) (waited waits unread : List ℕ) (told : Told) (conn : Conn) → IsConn conn (record (all_handed told) { broken = true }) → took waits new ≡ broke (took waited old) → HasGrown begin new → Serving received begin (took waited old) unread (all_handed told) → IsServed received begin new told true conn
+breaks_flushing received begin old new waited waits unread told conn is fails grown serving =
+    let P : Sight → Type 0 = λ now. Serving received begin now unread (all_handed told) in
+    let failed : new.failed ≡ true = ap (λ (s : Sight). s.failed) fails in
+    let served = breaks_waiting received begin new waits unread (all_handed told) conn is failed grown (subst P (sym fails) (serving_broke received begin (took waited old) unread (all_handed told) serving)) in
+    record { handed = served.handed; conn_is = served.conn_is; over = served.over; rest = served.rest; story = served.story; reads = served.reads }

@@ -1,0 +1,187 @@
+//! Replies that were handed out, and which their line didn't take yet.
+ghost use Rattle.std.specs.Prelude.{◌≡◌, ◌≤◌, ◌++◌, [], false, IfOk, IsTrue, OnErr, OnOk, drop, length};
+ghost use Rattle.std.specs.Arc.{arc_slice_items};
+ghost use Rattle.mc_wire.specs.Outlet.{Listed, broke, sight_out, took};
+ghost use Rattle.mc_seat.specs.Lines.{HasGrown};
+ghost use Rattle.mc_seat.specs.Chunks.{bytes_of};
+
+use crate::lines::Line;
+use mc_wire::{OutFault, Outlet};
+use std::alloc::{AllocError, Global};
+use std::collections::VecDeque;
+use std::mem;
+use std::sync::ArcSlice;
+
+/// Bytes that lie together.
+#[derive(Drop)]
+pub enum Chunk {
+    /// Text that was copied.
+    Text(Vec<u8>),
+    /// A block that has other owners too.
+    Shared(ArcSlice<u8>),
+}
+
+impl Chunk {
+    /// The bytes.
+    fn bytes(&self) -> &[u8]
+        ensures { result.now ≡ bytes_of self.now }
+    {
+        match self {
+            Chunk::Text(text) => text.as_slice(),
+            Chunk::Shared(block) => block.as_slice(),
+        }
+    }
+}
+
+/// The replies that a line is to take: they wait in memory, so that no write waits for a peer that reads slowly. As an outlet it
+/// fails where memory is refused.
+#[derive(Drop)]
+pub struct Unwritten {
+    alloc: Global,
+    /// What is written first, and how many bytes of it were.
+    pub(crate) front: Chunk,
+    pub(crate) sent: usize,
+    /// What is written after it, and then the tail.
+    pub(crate) later: VecDeque<Chunk>,
+    pub(crate) tail: Vec<u8>,
+    /// Memory was refused.
+    refused: bool,
+    ghost within: { sent ≤ length (bytes_of front) },
+}
+
+impl Unwritten {
+    ghost use Rattle.mc_seat.specs.Later.{text_in};
+
+    /// No replies. It takes no memory.
+    pub fn new(alloc: Global) -> Unwritten
+        ensures { text_in result ≡ [] }
+    {
+        Unwritten {
+            alloc,
+            front: Chunk::Text(Vec::new(alloc)),
+            sent: 0,
+            later: VecDeque::new(alloc),
+            tail: Vec::new(alloc),
+            refused: false,
+        }
+    }
+
+    /// Lets all replies go, and their memory.
+    pub fn clear(&mut self)
+        ensures { text_in self.new ≡ [] }
+    {
+        self.front = Chunk::Text(Vec::new(self.alloc));
+        self.sent = 0;
+        self.later = VecDeque::new(self.alloc);
+        self.tail = Vec::new(self.alloc);
+        self.refused = false;
+    }
+
+    /// What is left of the front.
+    fn rest(&self) -> &[u8]
+        ensures { result.now ≡ drop self.now.sent (bytes_of self.now.front) }
+    {
+        self.front.bytes().split_at(self.sent).1
+    }
+
+    /// Whether nothing stands behind the front.
+    fn is_last(&self) -> bool
+        ensures { IsTrue result → (self.now.later.items ≡ []) × (self.now.tail.items ≡ []) }
+    {
+        self.later.is_empty() && self.tail.is_empty()
+    }
+
+    /// The first bytes of the front, so many, were written.
+    fn pass(&mut self, count: usize)
+        requires { count ≤ length (drop self.old.sent (bytes_of self.old.front)) }
+        ensures { text_in self.new ≡ drop count (text_in self.old) }
+    {
+        self.sent += count;
+    }
+
+    /// What stands behind the front, which is written, becomes the front.
+    fn go_on(&mut self)
+        requires { drop self.old.sent (bytes_of self.old.front) ≡ [] }
+        ensures { text_in self.new ≡ text_in self.old }
+    {
+        self.front = match self.later.pop_front() {
+            Some(chunk) => chunk,
+            None => Chunk::Text(mem::replace(&mut self.tail, Vec::new(self.alloc))),
+        };
+        self.sent = 0;
+    }
+
+    /// The text waits too, behind the rest. Where memory is refused, the rest waits as before.
+    fn add(&mut self, text: &[u8]) -> Result<(), AllocError>
+        ensures ok { OnOk result (text_in self.new ≡ text_in self.old ++ text.now) }
+        ensures err { OnErr result (text_in self.new ≡ text_in self.old) }
+        ensures refused { self.new.refused ≡ self.old.refused }
+    {
+        self.tail.reserve(text.len())?;
+        self.tail.extend_from_slice(text)?;
+        Ok(())
+    }
+
+    /// The block waits too, behind the rest, and isn't copied. Where memory is refused, the rest waits as before.
+    fn add_shared(&mut self, block: &ArcSlice<u8>) -> Result<(), AllocError>
+        ensures ok { OnOk result (text_in self.new ≡ text_in self.old ++ arc_slice_items block.now) }
+        ensures err { OnErr result (text_in self.new ≡ text_in self.old) }
+        ensures refused { self.new.refused ≡ self.old.refused }
+    {
+        let share = block.clone()?;
+        self.later.reserve(2)?;
+        let text = mem::replace(&mut self.tail, Vec::new(self.alloc));
+        self.later.push_back_reserved(Chunk::Text(text));
+        self.later.push_back_reserved(Chunk::Shared(share));
+        Ok(())
+    }
+
+    /// Writes to the line what it takes without waiting, and tells whether that was all. At a fault the rest waits still.
+    pub fn flush<L: Line>(&mut self, line: &mut L) -> Result<bool, OutFault>
+        ensures out { IfOk result (λ out. IsTrue out → text_in self.new ≡ []) }
+        ensures ok { IfOk result (λ _. took (text_in self.new) (L.sight line.new) ≡ took (text_in self.old) (L.sight line.old)) }
+        ensures err { OnErr result (took (text_in self.new) (L.sight line.new) ≡ broke (took (text_in self.old) (L.sight line.old))) }
+        ensures grows { HasGrown (L.sight line.old) (L.sight line.new) }
+    {
+        for _ in 0..u64::MAX {
+            if !self.rest().is_empty() {
+                let count = line.write_if_ready(self.rest())?;
+                if count == 0 {
+                    return Ok(false);
+                }
+                self.pass(count);
+            } else if self.is_last() {
+                return Ok(true);
+            } else {
+                self.go_on();
+            }
+        }
+        Ok(false)
+    }
+}
+
+impl Outlet for Unwritten {
+    ghost use Rattle.mc_seat.specs.Later.{text_in};
+
+    ghost sight = { λ unwritten. sight_out (Listed (text_in unwritten)) unwritten.refused };
+
+    fn write(&mut self, bytes: &[u8]) -> Result<usize, OutFault> {
+        if self.refused || self.add(bytes).is_err() {
+            self.refused = true;
+            return Err(OutFault);
+        }
+        Ok(bytes.len())
+    }
+
+    fn put_shared(&mut self, block: &ArcSlice<u8>) -> Result<(), OutFault> {
+        if self.refused || self.add_shared(block).is_err() {
+            self.refused = true;
+            return Err(OutFault);
+        }
+        Ok(())
+    }
+
+    fn shares(&self) -> bool {
+        true
+    }
+}

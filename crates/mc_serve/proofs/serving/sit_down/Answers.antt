@@ -1,0 +1,40 @@
+-- One seat more.
+use Rattle.std.proofs.Common.{◌≡◌, length, arith, ap, rules, ◌∙◌}
+use Rattle.std.specs.Vec.Iter.{into_iter_items}
+use Rattle.mc_threads.proofs.Orders.{all_first, all_more, all_rest, order_all, order_more}
+use Rattle.mc_serve.specs.Seats.{HasSatDown}
+use Rattle.mc_serve.specs.Told.{IsFree}
+use Rattle.mc_serve.proofs.serving.sit_down.Goals as goal
+
+pub loop-ends-preserved : goal.loop-ends-preserved
+loop-ends-preserved g c =
+    let was = c.loop-ends.invariant in
+    let step = c.in-Some.ensures.steps in
+    let door = c.in-Some-next.ensures.cases in
+    let grown = c.in_ok-push.ensures.items in
+    let made = c.in_ok-sitting.ensures in
+    let fewer = ap length step.0 in
+    let fewer' = ap length door.0 in
+    let many = was.as_many in
+    let free = all_first (λ door. IsFree (g.D.Door.told door)) _ c.in-Some-next.door _ door.0 was.free in
+    let wide = all_first (λ seat. length seat.lanes ≡ c.args.sizes.shards) _ c.in-Some.ends _ step.0 was.width in
+    record {
+      width = all_rest (λ seat. length seat.lanes ≡ c.args.sizes.shards) _ c.in-Some.ends _ step.0 was.width;
+      as_many = omega (arith, fewer, fewer', many);
+      free = all_rest (λ door. IsFree (g.D.Door.told door)) _ c.in-Some-next.door _ door.0 was.free;
+      ends = order_more (λ one. one.session.courier.ends) c.loop-ends.seats.items _ c.in_ok-sitting.sitting c.in-Some.ends _ _ grown made.ends (rw step.0 at was.ends);
+      doors = order_more (λ one. one.door) c.loop-ends.seats.items _ c.in_ok-sitting.sitting c.in-Some-next.door _ _ grown made.door (rw door.0 at was.doors);
+      begin = all_more (λ one. HasSatDown c.args.sizes.shards c.args.sizes.value (g.D.Door.told one.door) one.session one.phase) c.loop-ends.seats.items _ c.in_ok-sitting.sitting grown was.begin
+          (record { none = made.free; free = rw made.door free; width = rw made.ends wide; window = c.args.sizes.window; vacant = made.vacant });
+    }
+
+pub returns : goal.returns
+returns g c =
+    let was = c.loop-ends.invariant in
+    let none : length (into_iter_items c.loop-ends.ends-iterator) ≡ 0 = search rules in
+    let many = was.as_many in
+    record {
+      ends = order_all _ (into_iter_items c.loop-ends.ends-iterator) _ none was.ends;
+      doors = order_all _ (into_iter_items c.loop-ends.doors) _ (omega (arith, none, many)) was.doors;
+      begin = was.begin;
+    }

@@ -1,0 +1,17 @@
+-- The seats made so far, then the ends and the doors that are left: as many of each.
+use Rattle.std.proofs.Common.{◌≡◌, ◌++◌, length, map}
+use Rattle.std.specs.List.{AllByRecursion}
+use Rattle.std.specs.Vec.Iter.{into_iter_items}
+use Rattle.mc_serve.specs.Seats.{HasSatDown}
+use Rattle.mc_serve.specs.Told.{IsFree}
+use Rattle.mc_serve.proofs.serving.sit_down.Given as goal
+
+abbrev pub invariant-loop-ends : goal.invariant-loop-ends
+invariant-loop-ends g l = record {
+  width : AllByRecursion (λ seat. length seat.lanes ≡ l.fn.sizes.shards) (into_iter_items l.ends-iterator);
+  as_many : length (into_iter_items l.doors) ≡ length (into_iter_items l.ends-iterator);
+  free : AllByRecursion (λ door. IsFree (g.D.Door.told door)) (into_iter_items l.doors);
+  ends : map (λ one. one.session.courier.ends) l.seats.items ++ into_iter_items l.ends-iterator ≡ l.fn.ends.items;
+  doors : map (λ one. one.door) l.seats.items ++ into_iter_items l.doors ≡ l.fn.doors.items;
+  begin : AllByRecursion (λ one. HasSatDown l.fn.sizes.shards l.fn.sizes.value (g.D.Door.told one.door) one.session one.phase) l.seats.items;
+}

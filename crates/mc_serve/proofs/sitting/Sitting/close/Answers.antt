@@ -1,0 +1,17 @@
+-- One lane more, or none, or all were closed.
+use Rattle.std.proofs.Common.{◌≤◌, length, arith, ◌∙◌, sym}
+use Rattle.mc_threads.proofs.Ending.{ends_all, ends_next, ends_still}
+use Rattle.mc_serve.proofs.sitting.Sitting.close.Goals as goal
+
+pub returns-then-count-shards-clause-closes : goal.returns-then-count-shards-clause-closes
+returns-then-count-shards-clause-closes g c served closed =
+    let same = closed.same.count in
+    let many = c.shards.ensures in
+    let whole : length served.lanes ≤ c.args.count = omega (arith, same, many) in
+    ends_all c.args.count served c.args.self.now.session.courier.ends whole closed
+
+pub returns-then-end_lane-clause-closes : goal.returns-then-end_lane-clause-closes
+returns-then-end_lane-clause-closes g c served closed = ends_next c.args.count served c.args.self.now.session.courier.ends c.end_lane.new.self.courier.ends closed c.if-end_lane.ensures.ended
+
+pub returns-clause-closes : goal.returns-clause-closes
+returns-clause-closes g c served closed = ends_still c.args.count served c.args.self.now.session.courier.ends c.end_lane.new.self.courier.ends closed c.if-end_lane.ensures.full

@@ -1,0 +1,82 @@
+//! A connection that is closed while its peer may still be sending.
+ghost use Rattle.std.specs.Prelude.{◌≤◌};
+
+use crate::tcp_line::read_some;
+use mio::net::TcpStream;
+use std::io::ErrorKind;
+use std::net::Shutdown;
+use std::time;
+use std::time::{Duration, Instant};
+
+/// After its last write a connection waits at most so long, in milliseconds, for the end of its peer's bytes.
+const LINGER_MILLIS: u64 = 500;
+
+/// At most so many reads of its peer's bytes are dropped.
+const LINGER_READS: u32 = 1_024;
+
+/// So many at once.
+const READS_AT_ONCE: u32 = 16;
+
+/// So many bytes are dropped by one read at most.
+const LINGER_BYTES: usize = 4_096;
+
+/// How a connection lingers on.
+#[derive(Clone, Copy, Debug, PartialEq, Eq)]
+pub(crate) enum Lingers {
+    /// There is more to drop at once.
+    More,
+    /// Nothing has come.
+    Waits,
+    /// It has waited long enough, or its peer has ended or failed.
+    Over,
+}
+
+/// A connection whose output was ended, and of which what comes is dropped for a while: to close with bytes unread would reset
+/// the connection, and the peer could lose the last reply (RFC 1122, section 4.2.2.13).
+#[derive(Drop)]
+pub(crate) struct Lingering {
+    stream: TcpStream,
+    /// So many reads of it may still be dropped.
+    reads: u32,
+    /// It lingers no longer.
+    until: Instant,
+}
+
+impl Lingering {
+    /// Ends the output of the stream, which is closed at once where that fails.
+    pub(crate) fn begin<R: time::Clock>(rt: &R, stream: TcpStream) -> Option<Lingering> {
+        stream.shutdown(Shutdown::Write).ok()?;
+        let now = Instant::now(rt).ok()?;
+        let until = now.checked_add(Duration::from_millis(LINGER_MILLIS))?;
+        Some(Lingering {
+            stream,
+            reads: LINGER_READS,
+            until,
+        })
+    }
+
+    /// Drops what has come.
+    pub(crate) fn go_on<R: time::Clock>(&mut self, rt: &R) -> Lingers {
+        let mut room = [0; LINGER_BYTES];
+        for _ in 0..READS_AT_ONCE {
+            if self.reads == 0 {
+                return Lingers::Over;
+            }
+            self.reads -= 1;
+            match read_some(&mut self.stream, &mut room) {
+                Ok(count) if count > 0 => {}
+                Err(fault) if fault.kind() == ErrorKind::WouldBlock => return self.wait(rt),
+                _ => return Lingers::Over,
+            }
+        }
+        Lingers::More
+    }
+
+    /// Whether there is time left to wait for more.
+    fn wait<R: time::Clock>(&self, rt: &R) -> Lingers {
+        match Instant::now(rt) {
+            Ok(now) if now < self.until => Lingers::Waits,
+            _ => Lingers::Over,
+        }
+    }
+}

@@ -1,0 +1,173 @@
+//! What one thread serves.
+ghost use Rattle.std.specs.Prelude.{◌≡◌, ℕ, List, IfOk, IsTrue, map};
+ghost use Rattle.std.specs.Bool.{OnTrue};
+ghost use Rattle.std.specs.List.{AllByRecursion};
+ghost use Rattle.mc_core.specs.Desk.{Desk, Goes};
+ghost use Rattle.mc_crew.specs.Zips.{Zips};
+ghost use Rattle.mc_threads.specs.Working.{Finishes};
+ghost use Rattle.mc_serve.specs.Seats.{HasSatDown, SeatServes, seat_at};
+ghost use Rattle.mc_serve.specs.declared.sitting.Phase.TheVariants as phase;
+
+use crate::door::Door;
+use crate::seats::{Seats, WORD};
+use crate::sitting::Sitting;
+use mc_core::Gate;
+use mc_crew::Task;
+use mc_seat::{Clock, Rooms};
+use mc_server::Sizes;
+use mc_threads::Working;
+use mc_wake::Sleeper;
+use std::alloc::{AllocError, Global};
+use std::sync::Wait;
+
+/// The seats of the server that called, each 64 a word.
+#[derive(Drop)]
+struct Calls {
+    words: Vec<u64>,
+}
+
+impl Calls {
+    /// Takes what was called.
+    fn take(&mut self, sleeper: &Sleeper) -> &[u64] {
+        for (word, called) in self.words.iter_mut().enumerate() {
+            *called = sleeper.callers_in(word);
+        }
+        &self.words
+    }
+}
+
+/// Any number of seats and any number of workers, which one thread serves. In each turn the seats come first: what they send is
+/// on the lanes before a worker waits at its gate.
+#[derive(Drop)]
+pub struct Part<D: Door, G, K> {
+    pub(crate) seats: Seats<D>,
+    pub(crate) workers: Vec<Working<G>>,
+    calls: Calls,
+    sleeper: Sleeper,
+    rooms: Rooms,
+    sizes: Sizes,
+    clock: K,
+}
+
+impl<D: Door + Drop, G: Gate + Drop, K: Clock + Drop> Part<D, G, K> {
+    /// The part that serves these seats and these workers, which any of so many seats may call. The sleeper is its thread's.
+    pub(crate) fn new(
+        alloc: Global,
+        seats: Vec<Sitting<D>>,
+        workers: Vec<Working<G>>,
+        callers: usize,
+        sleeper: Sleeper,
+        sizes: Sizes,
+        clock: K,
+    ) -> Result<Part<D, G, K>, AllocError>
+        requires { AllByRecursion (λ one. HasSatDown sizes.shards sizes.value (D.told one.door) one.session one.phase) seats.items }
+        ensures ready { IfOk result (λ part. AllByRecursion (λ one. HasSatDown part.sizes.shards part.sizes.value (D.told one.door) one.session one.phase) part.seats.all.items) }
+        ensures seats { IfOk result (λ part. part.seats.all ≡ seats) }
+        ensures workers { IfOk result (λ part. part.workers ≡ workers) }
+        ensures sizes { IfOk result (λ part. part.sizes ≡ sizes) }
+        ensures clock { IfOk result (λ part. part.clock ≡ clock) }
+    {
+        let words = if workers.is_empty() {
+            0
+        } else {
+            callers.div_ceil(WORD)
+        };
+        let seats = Seats::new(alloc, seats)?;
+        Ok(Part {
+            seats,
+            workers,
+            calls: Calls {
+                words: vec![in alloc; 0; words]?,
+            },
+            sleeper,
+            rooms: Rooms::new(alloc)?,
+            sizes,
+            clock,
+        })
+    }
+
+    /// Serves by turns until each seat has closed its lanes and each worker has ended.
+    fn run<R: Wait>(&mut self, rt: &R)
+        requires { AllByRecursion (λ one. HasSatDown self.old.sizes.shards self.old.sizes.value (D.told one.door) one.session one.phase) self.old.seats.all.items }
+        ensures seats { Zips (SeatServes self.old.sizes.shards self.old.sizes.value (K.may_answer self.old.clock))
+            (map (λ one. seat_at (D.told one.door) one.session.courier.ends) self.old.seats.all.items)
+            (map (λ one. seat_at (D.told one.door) one.session.courier.ends) self.new.seats.all.items) }
+        ensures workers { Zips Finishes (map (λ one. one.worker) self.old.workers.items) (map (λ one. one.worker) self.new.workers.items) }
+    {
+        for _ in rt.forever() {
+            let stepped = self
+                .seats
+                .step(&mut self.sleeper, &self.clock, &mut self.rooms);
+            let served = serve_callers(&mut self.workers, self.calls.take(&self.sleeper));
+            if stepped || served {
+                self.sleeper.found();
+            } else if self.is_done() {
+                return;
+            } else {
+                self.sleeper.wait(rt);
+            }
+        }
+        unreachable!()
+    }
+
+    /// Whether each seat has closed its lanes and each worker has ended.
+    fn is_done(&self) -> bool
+        ensures over { IsTrue result → AllByRecursion (λ one. one.phase ≡ phase.Over) self.now.seats.all.items }
+        ensures ended { IsTrue result → AllByRecursion (λ one. (begun : Desk) → Goes begun one.worker → Finishes begun one.worker) self.now.workers.items }
+    {
+        if !self.seats.are_over() {
+            return false;
+        }
+        have_ended(&self.workers)
+    }
+
+    /// The seats and the workers, once they were served.
+    pub(crate) fn apart(self) -> (Vec<Sitting<D>>, Vec<Working<G>>)
+        ensures seats { result.0 ≡ self.seats.all }
+        ensures workers { result.1 ≡ self.workers }
+    {
+        let Part { seats, workers, .. } = self;
+        (seats.into_all(), workers)
+    }
+}
+
+/// Gives each worker a turn, for the seats that called. Whether one of them had anything to do.
+fn serve_callers<G: Gate + Drop>(workers: &mut Vec<Working<G>>, called: &[u64]) -> bool
+    ensures { (begun : List Desk) → Zips Goes begun (map (λ one. one.worker) workers.old.items) → Zips Goes begun (map (λ one. one.worker) workers.new.items) }
+{
+    let mut busy = false;
+    for place in 0..workers.len() {
+        let working = &mut workers[place];
+        if working.turn(called) {
+            busy = true;
+        }
+    }
+    busy
+}
+
+/// Whether each worker has ended.
+fn have_ended<G: Gate + Drop>(workers: &Vec<Working<G>>) -> bool
+    ensures { IsTrue result → AllByRecursion (λ one. (begun : Desk) → Goes begun one.worker → Finishes begun one.worker) workers.now.items }
+{
+    for place in 0..workers.len() {
+        if !workers[place].ended() {
+            return false;
+        }
+    }
+    true
+}
+
+impl<D: Door + Drop, G: Gate + Drop, K: Clock + Drop> Task for Part<D, G, K> {
+    ghost is_ready = { λ part. AllByRecursion (λ one. HasSatDown part.sizes.shards part.sizes.value (D.told one.door) one.session one.phase) part.seats.all.items };
+
+    ghost does = { λ sat rose. Zips (SeatServes sat.sizes.shards sat.sizes.value (K.may_answer sat.clock))
+        (map (λ one. seat_at (D.told one.door) one.session.courier.ends) sat.seats.all.items)
+        (map (λ one. seat_at (D.told one.door) one.session.courier.ends) rose.seats.all.items)
+        × Zips Finishes (map (λ one. one.worker) sat.workers.items) (map (λ one. one.worker) rose.workers.items) };
+
+    fn work<R: Wait>(self, rt: &R) -> Part<D, G, K> {
+        let mut part = self;
+        part.run(rt);
+        part
+    }
+}

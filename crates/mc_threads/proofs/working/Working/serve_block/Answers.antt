@@ -1,0 +1,8 @@
+use Rattle.mc_core.specs.DeskLaws.{goes_refl}
+use Rattle.mc_threads.proofs.working.Working.serve_block.Goals as goal
+
+pub returns-in_default : goal.returns-in_default
+returns-in_default g c = goes_refl c.args.self.now.worker
+
+pub returns-then-not-waiting : goal.returns-then-not-waiting
+returns-then-not-waiting g c = goes_refl c.args.self.now.worker

@@ -1,5 +1,0 @@
-use Rattle.mc_core.specs.DeskLaws.{goes_refl}
-use Rattle.mc_threads.proofs.working.Working.serve_caller.Goals as goal
-
-pub returns-then-not-index-clause-goes : goal.returns-then-not-index-clause-goes
-returns-then-not-index-clause-goes g c = goes_refl c.args.self.now.worker

@@ -1,0 +1,46 @@
+//! The numbers that are marked in a word.
+ghost use Rattle.std.specs.Prelude.{◌≡◌, ◌*◌, ◌-◌, ◌^◌, min};
+ghost use Rattle.std.specs.Iterator.{at_most};
+ghost use Rattle.mc_wake.specs.Marked.{GivesLowest};
+
+use crate::board::WORD;
+
+/// Gives the numbers that are marked in a word, the lowest first.
+#[derive(Drop)]
+pub struct Marked {
+    /// The number that the lowest bit stands for.
+    first: usize,
+    bits: u64,
+}
+
+impl Marked {
+    /// The numbers that are marked by the bits of the word of this number, whose lowest stands for `64 * word`.
+    pub fn of(word: usize, bits: u64) -> Marked
+        ensures first { result.first ≡ min (word * 64) (2 ^ 64 - 1) }
+        ensures bits { result.bits ≡ bits }
+    {
+        Marked {
+            first: word.saturating_mul(WORD),
+            bits,
+        }
+    }
+}
+
+impl Iterator for Marked {
+    type Item = usize;
+
+    ghost next_gives = { GivesLowest };
+
+    ghost remaining = { λ marked. at_most marked.bits };
+
+    fn next(&mut self) -> Option<usize> {
+        if self.bits == 0 {
+            return None;
+        }
+        let place = self.bits.trailing_zeros();
+        let number = self.first.saturating_add(place as usize);
+        self.bits = self.bits >> place >> 1;
+        self.first = number.saturating_add(1);
+        Some(number)
+    }
+}

@@ -1,0 +1,88 @@
+//! The sockets of the seats of one thread, and the poll in which the thread sleeps.
+ghost use Rattle.std.specs.Prelude.{◌≡◌, IfOk, length};
+
+use crate::board::Board;
+use mio::event::Event;
+use mio::{Events, Poll, Registry, Token, Waker};
+use std::alloc::Global;
+use std::io;
+use std::net::Net;
+use std::time::Duration;
+
+/// The token of the thread's own alarm. No place has it.
+const ALARM: Token = Token(usize::MAX);
+
+/// At most so many events are taken at once; others come with the next look.
+const MOST_EVENTS: usize = 1_024;
+
+/// What the poll has told of a socket.
+#[derive(Clone, Copy, Debug, PartialEq, Eq)]
+pub enum Readiness {
+    /// It has bytes to give, or room for more.
+    Ready,
+    /// And its input has ended, it has failed, or it has urgent bytes: a read that doesn't fill its room doesn't tell that
+    /// nothing is left.
+    Closing,
+}
+
+/// The poll, and what it has told since it was last asked.
+#[derive(Drop)]
+pub(crate) struct Sockets {
+    poll: Poll,
+    events: Events,
+    /// Of each place.
+    ready: Vec<Option<Readiness>>,
+}
+
+impl Sockets {
+    /// No socket yet, for so many places.
+    pub(crate) fn new<R: Net>(rt: &R, alloc: Global, places: usize) -> io::Result<Sockets> {
+        let room = places.min(MOST_EVENTS).saturating_add(1);
+        Ok(Sockets {
+            poll: Poll::new(rt)?,
+            events: Events::with_capacity(alloc, room)?,
+            ready: vec![in alloc; None; places]?,
+        })
+    }
+
+    /// What wakes the thread while it sleeps here.
+    pub(crate) fn alarm(&self) -> io::Result<Waker> {
+        Waker::new(self.poll.registry(), ALARM)
+    }
+
+    /// Where the sockets of the places are registered.
+    pub(crate) fn registry(&self) -> io::Result<Registry> {
+        self.poll.registry().try_clone()
+    }
+
+    /// Waits at most so long, or for good, until a socket has something or the thread is woken. The places that it is told of are
+    /// marked as roused. Whether it was told anything.
+    pub(crate) fn look(&mut self, timeout: Option<Duration>, roused: &Board) -> bool {
+        if self.poll.poll(&mut self.events, timeout).is_err() {
+            return false;
+        }
+        for event in self.events.iter() {
+            let place = event.token().0;
+            if let Some(ready) = self.ready.get_mut(place) {
+                *ready = Some(told(*ready, event));
+                roused.mark(place);
+            }
+        }
+        !self.events.is_empty()
+    }
+
+    /// Takes what was told of the socket of a place.
+    pub(crate) fn ready(&mut self, place: usize) -> Option<Readiness> {
+        self.ready.get_mut(place)?.take()
+    }
+}
+
+/// What is told of a socket by what was, and by an event.
+fn told(before: Option<Readiness>, event: &Event) -> Readiness {
+    let closing = event.is_read_closed() || event.is_error() || event.is_priority();
+    if closing || before == Some(Readiness::Closing) {
+        Readiness::Closing
+    } else {
+        Readiness::Ready
+    }
+}

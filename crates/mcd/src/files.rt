@@ -1,0 +1,37 @@
+//! How many files the system lets the program open.
+ghost use Rattle.std.specs.Prelude.{◌≡◌, ◌+◌, ◌*◌, ◌-◌, ◌^◌, min};
+
+use libc::types::rlimit;
+use std::io::Eprint;
+
+/// The files that each shard's thread has open: its poll twice, and what wakes it.
+const FILES_A_SHARD: u64 = 3;
+
+/// The files that are open besides: the three standard ones, the listener, and a connection that waits for a seat.
+const OTHER_FILES: u64 = 5;
+
+/// How many files are open while each seat has a connection.
+fn files_for(seats: usize, shards: usize) -> u64
+    ensures { result ≡ min (min (seats + min (shards * 3) (2 ^ 64 - 1)) (2 ^ 64 - 1) + 5) (2 ^ 64 - 1) }
+{
+    let threads = (shards as u64).saturating_mul(FILES_A_SHARD);
+    (seats as u64)
+        .saturating_add(threads)
+        .saturating_add(OTHER_FILES)
+}
+
+/// Tells on standard error where fewer files may be open than a connection on each seat needs. Connections that find no file
+/// wait, as those that find no seat.
+pub fn tell_files(rt: &impl Eprint, seats: usize, shards: usize) {
+    let mut limit = rlimit {
+        rlim_cur: 0,
+        rlim_max: 0,
+    };
+    let needed = files_for(seats, shards);
+    if libc::getrlimit(libc::RLIMIT_NOFILE, &mut limit) == 0 && limit.rlim_cur < needed {
+        let most = limit.rlim_cur;
+        let _ = eprintln!(rt;
+            "mcd: --seats {seats} needs {needed} open files, and {most} are allowed (ulimit -n)"
+        );
+    }
+}
