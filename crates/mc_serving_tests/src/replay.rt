@@ -92,7 +92,10 @@ fn what_was_done_is_told(rt: HostRuntime) -> Result<(), Fail> {
 #[test]
 fn a_size_out_of_its_limits_is_refused(rt: HostRuntime) -> Result<(), Fail> {
     let plan = read_schedule(rt.alloc(), ENDS)?;
-    let plan = Schedule { seats: 4_097, ..plan };
+    let plan = Schedule {
+        seats: 4_097,
+        ..plan
+    };
     let mut told = MemoryLine::new(rt.alloc(), b"")?;
     let refused = replay(&rt, rt.alloc(), &plan, &mut told);
     equal(&rt, refused, Err(ReplayFault::Size));

@@ -110,12 +110,7 @@ impl Session {
     /// Serves the line a step further: sends what there is room for and takes in what has come; and where every reply has come,
     /// hands them out, and reads on once the line took them all. Nothing waits here. Where memory for replies that the line
     /// doesn't take at once is refused, the line is given up. The rooms are those of the thread, to read into.
-    pub fn step<L: Line, K: Clock>(
-        &mut self,
-        line: &mut L,
-        clock: &K,
-        rooms: &mut Rooms,
-    ) -> Stepped
+    pub fn step<L: Line, K: Clock>(&mut self, line: &mut L, clock: &K, rooms: &mut Rooms) -> Stepped
         requires { MayStep self.old }
         ensures { (shards limit : ℕ) (begin : Sight) (before : Ends Near) →
             IsServing shards limit (K.may_answer clock.now) begin (L.sight line.old) before self.old →
