@@ -4,7 +4,8 @@ the constants, each with the lines that a reader has to check.
 
     scripts/definitions.py            prints the tables
     scripts/definitions.py --write    puts them into docs/PROOFS.md
-    scripts/definitions.py --check    fails where docs/PROOFS.md has others (the gate does this)
+    scripts/definitions.py --check    fails where docs/PROOFS.md has others, or where a contract that README.md or docs/PROOFS.md
+                                      quotes is not the one in the code (the gate does this)
 
 A definition is counted where a theorem reaches it, through others or alone, and stands behind those that it stands on; so is a
 type, and what its fields or its model name. Lines of imports, comments and attributes are not counted. What is private inside a
@@ -18,6 +19,7 @@ import sys
 TOP = pathlib.Path(__file__).resolve().parent.parent
 CRATES = TOP / "crates"
 PAGE = TOP / "docs/PROOFS.md"
+QUOTING = [TOP / "README.md", PAGE]
 BEGIN, END = "<!-- scripts/definitions.py -->\n", "<!-- end -->\n"
 
 # The functions whose contracts are the theorems: the headline, the laws of progress and order, what ties the simulator to
@@ -251,6 +253,18 @@ def tables():
     return "\n".join(said)
 
 
+def quotes(page):
+    """The functions whose contracts a page quotes, each with its clauses."""
+    blocks = re.findall(r"^```rust\n(.*?)^```$", page.read_text(encoding="utf-8"), re.M | re.S)
+    return [" ".join(function.split()) for block in blocks for function in block.strip().split("\n\n")]
+
+
+def misquoted():
+    """The quotes that the code doesn't have, word for word but for where its lines end."""
+    code = " ".join(word for file in sorted(CRATES.glob("*/src/**/*.rt")) for word in file.read_text(encoding="utf-8").split())
+    return [(page, quote) for page in QUOTING for quote in quotes(page) if quote not in code]
+
+
 def main():
     found = tables()
     if not sys.argv[1:]:
@@ -260,10 +274,13 @@ def main():
     there, _, back = rest.partition(END)
     if sys.argv[1:] == ["--write"]:
         PAGE.write_text(front + BEGIN + found + END + back, encoding="utf-8")
-    elif there != found:
+        return 0
+    if there != found:
         print("docs/PROOFS.md has other tables of what the theorems rest on: run scripts/definitions.py --write, and read what changed")
-        return 1
-    return 0
+    wrong = misquoted()
+    for page, quote in wrong:
+        print(f"{page.relative_to(TOP)} quotes a contract that the code doesn't have: {quote:.80}")
+    return 1 if wrong or there != found else 0
 
 
 if __name__ == "__main__":
