@@ -105,21 +105,29 @@ text_next f xs ys i d same below so_far =
     let next : flat_map f (drop i ys) ≡ f (get_or ys i d) ++ flat_map f (drop (i + 1) ys) = at_drop_more (λ zs. flat_map f zs) ys i d below in
     rw (ap (λ zs. flat_map f (drop i zs)) (sym same) ∙ (next ∙ ap (λ zs. f (get_or ys i d) ++ flat_map f (drop (i + 1) zs)) same)) at so_far
 
--- the line before a value is the first part of a reply with one
-pub value-parts : (value digits line flags end : List ℕ) → digits ≡ decimal (length value) → line ≡ codes "VA " ++ (digits ++ []) →
-    codes "VA " ++ (decimal (length value) ++ (flags ++ (end ++ (value ++ codes "\r\n")))) ≡ line ++ (flags ++ (end ++ (value ++ codes "\r\n")))
-value-parts value digits line flags end size line_is = rw (line_is, size, append-nil (decimal (length value)))
+-- the line before a value is the first part of what stands before it
+pub size-parts : (size : ℕ) (digits line flags : List ℕ) → digits ≡ decimal size → line ≡ codes "VA " ++ (digits ++ []) →
+    codes "VA " ++ (decimal size ++ flags) ≡ line ++ flags
+size-parts size digits line flags size_is line_is = rw (line_is, size_is, append-nil (decimal size))
+
+-- the size and the flags stand before a value
+front_text : (size flags rest : List ℕ) → codes "VA " ++ (size ++ (flags ++ rest)) ≡ (codes "VA " ++ (size ++ flags)) ++ rest
+front_text size flags rest = ap (λ xs. codes "VA " ++ xs) (sym (append_assoc size flags rest))
 
 -- a hit of `mg` with its value, whose line the marks end
-pub found_text : (flags : MetaFlags) (key : Option (List ℕ)) (answer : Answer) (hit : MetaHit) (shown : Bool) (value end : List ℕ) → answer ≡ answers.MetaHit hit → shown ≡ true → value ≡ hit.value → end ≡ marks_text hit.marks ++ codes "\r\n" →
-    coded_text flags key answer shown ≡ codes "VA " ++ (decimal (length value) ++ (flags_text flags key answer ++ (end ++ (value ++ codes "\r\n"))))
-found_text flags key answer hit shown value end is on same ends =
-    rw (is, on, same, ends) (ap (λ xs. codes "VA " ++ (decimal (length hit.value) ++ (flags_text flags key (answers.MetaHit hit) ++ xs))) (sym (append_assoc (marks_text hit.marks) (codes "\r\n") (hit.value ++ codes "\r\n"))))
+pub found_text : (flags : MetaFlags) (key : Option (List ℕ)) (answer : Answer) (hit : MetaHit) (shown : Bool) (size : ℕ) (end : List ℕ) → answer ≡ answers.MetaHit hit → shown ≡ true → size ≡ length hit.value → end ≡ marks_text hit.marks ++ codes "\r\n" →
+    coded_text flags key answer shown ≡ (codes "VA " ++ (decimal size ++ flags_text flags key answer)) ++ (end ++ (hit.value ++ codes "\r\n"))
+found_text flags key answer hit shown size end is on same ends =
+    let told = flags_text flags key (answers.MetaHit hit) in
+    let marked = sym (append_assoc (marks_text hit.marks) (codes "\r\n") (hit.value ++ codes "\r\n")) in
+    rw (is, on, same, ends) (ap (λ xs. codes "VA " ++ (decimal (length hit.value) ++ (told ++ xs))) marked
+    ∙ front_text (decimal (length hit.value)) told _)
 
 -- what `ma` did, with its number
 pub done_text : (flags : MetaFlags) (key : Option (List ℕ)) (answer : Answer) (done : MetaDone) (shown : Bool) (number : List ℕ) → answer ≡ answers.MetaDone done → shown ≡ true → number ≡ decimal done.number →
-    coded_text flags key answer shown ≡ codes "VA " ++ (decimal (length number) ++ (flags_text flags key answer ++ (codes "\r\n" ++ (number ++ codes "\r\n"))))
-done_text flags key answer done shown number is on same = rw (is, on, same) refl
+    coded_text flags key answer shown ≡ (codes "VA " ++ (decimal (length number) ++ flags_text flags key answer)) ++ (codes "\r\n" ++ (number ++ codes "\r\n"))
+done_text flags key answer done shown number is on same =
+    rw (is, on, same) (front_text (decimal (length (decimal done.number))) (flags_text flags key (answers.MetaDone done)) _)
 
 abbrev pub texts : List Form → List ℕ
 texts forms = concat (map form_text (complete forms))

@@ -1,5 +1,5 @@
 //! The replies of the classic commands.
-ghost use Rattle.std.specs.Prelude.{◌≡◌, ◌≤◌, ◌∷◌, [], ◌++◌, IsTrue, length, OnOk, OnErr, codes, decimal};
+ghost use Rattle.std.specs.Prelude.{◌≡◌, ◌≤◌, ◌+◌, ◌∷◌, [], ◌++◌, IsTrue, length, OnOk, OnErr, codes, decimal};
 ghost use Rattle.std.specs.List.{concat, list_any};
 ghost use Rattle.mc_wire.specs.Outlet.{Writes};
 ghost use Rattle.mc_wire.specs.Words.{words_left};
@@ -9,7 +9,7 @@ ghost use Rattle.mc_join.specs.internal.Slots.{fixed_line, slot_text, first_text
 
 use crate::block::put_block;
 use crate::fixed::MEMORY_LINE;
-use crate::header::{HEADER_LIMIT, SHORT_VALUE, gathered};
+use crate::header::{BESIDE_KEY, HEADER_LIMIT, SHORT_HEADER, SHORT_VALUE, gathered};
 use itoa::Buffer;
 use mc_command::Keys;
 use mc_item::{Answer, Value};
@@ -149,8 +149,10 @@ fn put_item<O: Outlet>(
         } => {
             if with_unique {
                 put_unique_item(out, key, *flags, *unique, value)
+            } else if key.len() <= SHORT_HEADER - BESIDE_KEY {
+                put_plain_item::<O, SHORT_HEADER>(out, key, *flags, value)
             } else {
-                put_plain_item(out, key, *flags, value)
+                put_plain_item::<O, HEADER_LIMIT>(out, key, *flags, value)
             }
         }
         Answer::Stored
@@ -171,20 +173,22 @@ fn put_item<O: Outlet>(
     }
 }
 
-fn put_plain_item<O: Outlet>(
+/// Writes an item whose line, with a short value, has room in so many bytes.
+fn put_plain_item<O: Outlet, const ROOM: usize>(
     out: &mut O,
     key: &[u8],
     flags: u32,
     value: &Value,
 ) -> Result<(), OutFault>
-    requires { length key.now ≤ KEY_LIMIT }
+    requires room { length key.now + BESIDE_KEY ≤ ROOM }
+    requires small { ROOM ≤ HEADER_LIMIT }
     ensures { Writes (plain_item key.now flags value.now) result (O.sight out.old) (O.sight out.new) }
 {
     let mut flag_digits = Buffer::new();
     let mut size_digits = Buffer::new();
     let flags = flag_digits.format(flags).as_bytes();
     let size = size_digits.format(value.len()).as_bytes();
-    let mut room = [0; HEADER_LIMIT];
+    let mut room = [0; ROOM];
     if value.len() <= SHORT_VALUE {
         let item = gathered(
             &mut room,

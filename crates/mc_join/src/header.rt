@@ -6,6 +6,12 @@ ghost use Rattle.std.specs.List.{flat_map};
 /// value behind it.
 pub const HEADER_LIMIT: usize = 512;
 
+/// Room enough where the key is short. A room is filled with zeros before it is used, so a smaller one is made sooner.
+pub const SHORT_HEADER: usize = 256;
+
+/// At most so many bytes stand beside the key: the rest of the line before a value, and a short value with the end of its block.
+pub const BESIDE_KEY: usize = 166;
+
 /// A value of at most so many bytes goes out in one write with the line before it.
 pub const SHORT_VALUE: usize = 120;
 

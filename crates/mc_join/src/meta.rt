@@ -1,5 +1,5 @@
 //! The replies of the meta commands (protocol.txt, "Meta Commands").
-ghost use Rattle.std.specs.Prelude.{◌≡◌, ◌∷◌, ◌++◌, [], codes, decimal, length};
+ghost use Rattle.std.specs.Prelude.{◌≡◌, ◌∷◌, ◌++◌, [], codes, decimal};
 ghost use Rattle.std.specs.List.{concat};
 ghost use Rattle.mc_item.specs.declared.answer.Answer.TheVariants as answers;
 ghost use Rattle.mc_wire.specs.Base64Key.{base64_of};
@@ -12,7 +12,7 @@ use crate::classic::put_line;
 use crate::header::gathered;
 use itoa::Buffer;
 use mc_command::{MetaFlags, MetaKind, ReturnFlag};
-use mc_item::{Answer, Marks, MetaDone, MetaHit, Value};
+use mc_item::{Answer, Marks, MetaDone, MetaHit};
 use mc_wire::{BASE64_LIMIT, Key, OutFault, Outlet, put_all, put_parts};
 
 /// Room for `VA` and the size of a value.
@@ -92,11 +92,11 @@ fn put_found<O: Outlet>(
     ensures { Writes (coded_text flags.now key.now answer.now value) result (O.sight out.old) (O.sight out.new) }
 {
     let end = marks_line(hit.marks);
-    if value {
-        put_hit(out, &hit.value, flags, key, answer, end)
-    } else {
-        put_head(out, b"HD", flags, key, answer, end)
+    if !value {
+        return put_head(out, b"HD", flags, key, answer, end);
     }
+    put_size(out, hit.value.len(), flags, key, answer)?;
+    put_block(out, end, &hit.value)
 }
 
 /// Writes the reply of what `ms` or `ma` did, with the number where `v` shows it.
@@ -111,13 +111,13 @@ fn put_done<O: Outlet>(
     requires { answer.now ≡ answers.MetaDone done.now }
     ensures { Writes (coded_text flags.now key.now answer.now value) result (O.sight out.old) (O.sight out.new) }
 {
-    if value {
-        let mut digits = Buffer::new();
-        let number = digits.format(done.number).as_bytes();
-        put_value(out, number, flags, key, answer, b"\r\n")
-    } else {
-        put_head(out, b"HD", flags, key, answer, b"\r\n")
+    if !value {
+        return put_head(out, b"HD", flags, key, answer, b"\r\n");
     }
+    let mut digits = Buffer::new();
+    let number = digits.format(done.number).as_bytes();
+    put_size(out, number.len(), flags, key, answer)?;
+    put_parts(out, &[b"\r\n", number, b"\r\n"])
 }
 
 /// Writes a reply without a value: a code, the flags, and what ends the line.
@@ -136,42 +136,21 @@ fn put_head<O: Outlet>(
     put_all(out, end)
 }
 
-/// Writes a reply with the value of a hit, behind its size, the flags, and what ends the line.
-fn put_hit<O: Outlet>(
+/// Writes the front of a reply with a value: its size, and the flags.
+fn put_size<O: Outlet>(
     out: &mut O,
-    value: &Value,
+    size: usize,
     flags: &MetaFlags,
     key: &Option<Key>,
     answer: &Answer,
-    end: &[u8],
 ) -> Result<(), OutFault>
-    ensures { Writes (codes "VA " ++ (decimal (length value.now) ++ (flags_text flags.now key.now answer.now ++ (end.now ++ (value.now ++ codes "\r\n"))))) result (O.sight out.old) (O.sight out.new) }
+    ensures { Writes (codes "VA " ++ (decimal size ++ flags_text flags.now key.now answer.now)) result (O.sight out.old) (O.sight out.new) }
 {
     let mut digits = Buffer::new();
     let mut room = [0; SIZE_LIMIT];
-    let size = digits.format(value.len()).as_bytes();
+    let size = digits.format(size).as_bytes();
     put_all(out, gathered(&mut room, &[b"VA ", size]))?;
-    put_flags(out, flags, key, answer)?;
-    put_block(out, end, value)
-}
-
-/// Writes a reply with a number as its value, behind its size, the flags, and what ends the line.
-fn put_value<O: Outlet>(
-    out: &mut O,
-    value: &[u8],
-    flags: &MetaFlags,
-    key: &Option<Key>,
-    answer: &Answer,
-    end: &[u8],
-) -> Result<(), OutFault>
-    ensures { Writes (codes "VA " ++ (decimal (length value.now) ++ (flags_text flags.now key.now answer.now ++ (end.now ++ (value.now ++ codes "\r\n"))))) result (O.sight out.old) (O.sight out.new) }
-{
-    let mut digits = Buffer::new();
-    let mut room = [0; SIZE_LIMIT];
-    let size = digits.format(value.len()).as_bytes();
-    put_all(out, gathered(&mut room, &[b"VA ", size]))?;
-    put_flags(out, flags, key, answer)?;
-    put_parts(out, &[end, value, b"\r\n"])
+    put_flags(out, flags, key, answer)
 }
 
 /// The marks of a hit, in their order, and the end of the line.

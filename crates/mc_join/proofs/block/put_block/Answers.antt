@@ -1,5 +1,5 @@
 -- The line was written, then the value, then the end of its block.
-use Rattle.std.proofs.Common.{◌≡◌, List, ℕ, ◌++◌, codes, refl}
+use Rattle.std.proofs.Common.{◌++◌, codes, refl}
 use Rattle.mc_wire.proofs.Outlets.{breaks, breaks_first, breaks_later}
 use Rattle.mc_join.proofs.Texts.{WroteBut, writes_rest, wrote_first, wrote_more}
 use Rattle.mc_join.proofs.block.put_block.Goals as goal
