@@ -132,16 +132,23 @@ impl Value {
         number_u64(&bytes[..space]).ok()
     }
 
-    /// The value once more, which shares the bytes. Where they can have no further owner, it has a copy of them, for which
-    /// the reserve is used up.
+    /// The value once more, which shares the bytes. Where they can have no further owner, or are a copy themselves, it has a
+    /// copy of them, for which the reserve is used up.
     pub fn shared(&self, reserve: &mut Option<Reserve>) -> Value
         requires { IsSome reserve.old }
         ensures { result ≡ self.now }
     {
-        let Ok(value) = self.clone() else {
+        let bytes = match &self.held {
+            Held::Empty => return Value::empty(),
+            Held::Shared(bytes) => bytes,
+            Held::Copied(_) => return self.copied(reserve),
+        };
+        let Ok(bytes) = bytes.clone() else {
             return self.copied(reserve);
         };
-        value
+        Value {
+            held: Held::Shared(bytes),
+        }
     }
 
     /// A copy of the value, in the memory of the reserve.

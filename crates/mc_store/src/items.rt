@@ -35,9 +35,6 @@ pub struct Items {
     cost: usize,
     /// What they may cost together, in bytes.
     budget: usize,
-    /// For a copy of the value of an item that is read, where the allocator refuses one. None is left once it was used, and
-    /// where it was refused itself.
-    reserve: Option<Reserve>,
 }
 
 impl Model for Items {
@@ -125,6 +122,7 @@ fn use_item(cache: &mut Cache, key: &Key, new: Use)
 }
 
 /// Gives the item under the key as it is, and makes it the most recently used one and what it becomes by the access.
+#[inline(always)]
 fn read_item(
     cache: &mut Cache,
     key: &Key,
@@ -171,7 +169,6 @@ impl Items {
             cache,
             cost: 0,
             budget,
-            reserve: Reserve::new(alloc).ok(),
         })
     }
 
@@ -207,32 +204,34 @@ impl Items {
     }
 
     /// Gives the item under the key as it is, unless it is dead, and makes it the most recently used one and what it becomes
-    /// by the access. A dead item is taken out. Where memory is refused nothing changes.
-    pub fn read(&mut self, key: &Key, access: Access) -> Result<Option<Item>, NoMemory>
-        requires { access.time ≤ LATEST_MOMENT }
-        ensures item { IfOk result (λ item. item ≡ met access key.now self.old.entries) }
-        ensures read { OnOk result (self.new ≡ read_shelf access key.now self.old) }
-        ensures alive { OnErr result (IsSome (met access key.now self.old.entries)) }
-        ensures err { OnErr result (self.new ≡ self.old) }
+    /// by the access. A dead item is taken out. The reserve is used up where the value can't be shared.
+    #[inline(always)]
+    pub fn read(&mut self, key: &Key, access: Access, reserve: &mut Option<Reserve>) -> Option<Item>
+        requires time { access.time ≤ LATEST_MOMENT }
+        requires reserve { IsSome reserve.old }
+        ensures item { result ≡ met access key.now self.old.entries }
+        ensures read { self.new ≡ read_shelf access key.now self.old }
     {
-        if self.reserve.is_none() {
-            return self.read_after_copy(key, access);
-        }
-        let Some(item) = read_item(&mut self.cache, key, access, &mut self.reserve) else {
-            return Ok(None);
-        };
+        let item = read_item(&mut self.cache, key, access, reserve)?;
         if item.is_dead(access.time) {
-            self.remove(key);
-            return Ok(None);
+            self.remove_read(key, item);
+            return None;
         }
-        Ok(Some(item))
+        Some(item)
     }
 
-    /// The same without a reserve. The item is looked up twice, since its copy may be refused, and then nothing may have
-    /// changed.
+    /// Takes the item under the key out, and lets go what was read of it.
     #[cold]
     #[inline(never)]
-    fn read_after_copy(&mut self, key: &Key, access: Access) -> Result<Option<Item>, NoMemory>
+    fn remove_read(&mut self, key: &Key, _read: Item)
+        ensures { self.new ≡ record self.old { entries = remove_entry (same_key key.now) self.old.entries } }
+    {
+        self.remove(key);
+    }
+
+    /// The same as `read`, without a reserve. The item is looked up twice, since its copy may be refused, and then nothing
+    /// may have changed.
+    pub fn read_after_copy(&mut self, key: &Key, access: Access) -> Result<Option<Item>, NoMemory>
         requires { access.time ≤ LATEST_MOMENT }
         ensures item { IfOk result (λ item. item ≡ met access key.now self.old.entries) }
         ensures read { OnOk result (self.new ≡ read_shelf access key.now self.old) }

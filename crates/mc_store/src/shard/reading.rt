@@ -1,14 +1,14 @@
 //! Reading and touching: `get`, `gat`, `mg`, `touch`.
-ghost use Rattle.std.specs.Prelude.{◌≡◌, ◌-◌, true, false, []};
-ghost use Rattle.mc_item.specs.Expiry.{seconds_left};
+ghost use Rattle.std.specs.Prelude.{◌≡◌, ◌≤◌, true, false, []};
 ghost use Rattle.mc_item.specs.Kind.{is_lawful};
 ghost use Rattle.mc_item.specs.declared.op.Op.TheVariants as op;
-ghost use Rattle.mc_store.specs.Rows.{marks_of};
+ghost use Rattle.mc_store.specs.Rows.{hit_of, marks_of};
+ghost use Rattle.mc_wire.specs.declared.TheConstants.{LATEST_MOMENT};
 
-use crate::access::{Access, Reader, Use, is_won};
+use crate::access::{Access, Reader, Use, expiry_from, is_won};
 use crate::shard::Shard;
 use mc_item::{Answer, Item, Kind, Marks, MetaGet, MetaHit, PackedExpiry, Value};
-use mc_wire::Key;
+use mc_wire::{Key, LATEST_MOMENT};
 
 /// The marks of a hit, by the item before the command.
 fn marks_of(item: &Item, recache: Option<i64>, time: u64) -> Marks
@@ -21,19 +21,34 @@ fn marks_of(item: &Item, recache: Option<i64>, time: u64) -> Marks
     }
 }
 
-/// What is shown of the item, before the command, and of the expiry that it has now.
-fn hit_of(found: Item, expiry: PackedExpiry, marks: Marks, time: u64) -> MetaHit
-    ensures { result ≡ record { value = found.value; flags = found.flags; unique = found.unique; fetched = found.fetched; idle = time - found.last_access; left = seconds_left expiry time; marks = marks } }
+/// The answer to `get` and its kin, by the item before the command.
+fn fetched(item: Item) -> Answer
+    ensures { result ≡ Answer.Hit item.flags item.unique item.value }
 {
-    MetaHit {
-        value: found.value,
-        flags: found.flags,
-        unique: found.unique,
-        fetched: found.fetched,
-        idle: time.saturating_sub(found.last_access),
-        left: expiry.seconds_left(time),
-        marks,
+    let (flags, unique) = (item.flags, item.unique);
+    Answer::Hit {
+        flags,
+        unique,
+        value: item.value,
     }
+}
+
+/// The answer to `mg`, by the item before the command.
+fn shown(item: Item, access: Access, recache: Option<i64>) -> Answer
+    requires { access.time ≤ LATEST_MOMENT }
+    ensures { result ≡ Answer.MetaHit (hit_of item access.touch recache access.time) }
+{
+    let marks = marks_of(&item, recache, access.time);
+    let expiry = expiry_from(access.touch, item.expiry, access.time);
+    Answer::MetaHit(MetaHit {
+        flags: item.flags,
+        fetched: item.fetched,
+        marks,
+        unique: item.unique,
+        idle: access.time.saturating_sub(item.last_access),
+        left: expiry.seconds_left(access.time),
+        value: item.value,
+    })
 }
 
 /// An empty item that a client is told to fill. It has no unique yet.
@@ -75,27 +90,48 @@ impl Shard {
     ghost use Rattle.mc_store.specs.Step.{absent_meta_get};
     ghost use Rattle.mc_store.specs.internal.Parts.{Acts, Does};
 
+    /// An access now.
+    fn access(&self, touch: Option<i64>, reader: Reader) -> Access
+        ensures { result ≡ record { time = self.now.time; touch = touch; reader = reader } }
+    {
+        Access {
+            time: self.time,
+            touch,
+            reader,
+        }
+    }
+
     /// `get`, `gets`; with an exptime `gat` and `gats`.
     #[tactic(auto, unfolding(mc_item::specs::Kind::is_lawful))]
     pub(super) fn fetch(&mut self, key: &Key, touch: Option<i64>) -> Answer
         ensures acts { Acts self.old (op.Fetch key.now touch) result self.new }
         ensures lawful { is_lawful Kind.Fetch result ≡ true }
     {
-        let access = Access {
-            time: self.time,
-            touch,
-            reader: Reader::Classic,
-        };
-        let Ok(found) = self.items.read(key, access) else {
+        if self.reserve.is_none() {
+            return self.fetch_after_copy(key, touch);
+        }
+        let access = self.access(touch, Reader::Classic);
+        match self.items.read(key, access, &mut self.reserve) {
+            Some(item) => fetched(item),
+            None => Answer::Miss,
+        }
+    }
+
+    /// The same without a reserve.
+    #[cold]
+    #[inline(never)]
+    #[tactic(auto, unfolding(mc_item::specs::Kind::is_lawful))]
+    fn fetch_after_copy(&mut self, key: &Key, touch: Option<i64>) -> Answer
+        ensures acts { Acts self.old (op.Fetch key.now touch) result self.new }
+        ensures lawful { is_lawful Kind.Fetch result ≡ true }
+    {
+        let access = self.access(touch, Reader::Classic);
+        let Ok(found) = self.items.read_after_copy(key, access) else {
             return Answer::NoMemory;
         };
-        let Some(item) = found else {
-            return Answer::Miss;
-        };
-        Answer::Hit {
-            flags: item.flags,
-            unique: item.unique,
-            value: item.value,
+        match found {
+            Some(item) => fetched(item),
+            None => Answer::Miss,
         }
     }
 
@@ -125,20 +161,32 @@ impl Shard {
         ensures acts { Acts self.old (op.MetaGet asked) result self.new }
         ensures lawful { is_lawful Kind.MetaGet result ≡ true }
     {
-        let access = Access {
-            time: self.time,
-            touch: asked.touch,
-            reader: Reader::Meta(asked.recache),
-        };
-        let Ok(found) = self.items.read(&asked.key, access) else {
+        if self.reserve.is_none() {
+            return self.meta_get_after_copy(asked);
+        }
+        let access = self.access(asked.touch, Reader::Meta(asked.recache));
+        match self.items.read(&asked.key, access, &mut self.reserve) {
+            Some(item) => shown(item, access, asked.recache),
+            None => self.meta_get_absent(asked.key, asked.vivify),
+        }
+    }
+
+    /// The same without a reserve.
+    #[cold]
+    #[inline(never)]
+    #[tactic(auto, unfolding(mc_item::specs::Kind::is_lawful))]
+    fn meta_get_after_copy(&mut self, asked: MetaGet) -> Answer
+        ensures acts { Acts self.old (op.MetaGet asked) result self.new }
+        ensures lawful { is_lawful Kind.MetaGet result ≡ true }
+    {
+        let access = self.access(asked.touch, Reader::Meta(asked.recache));
+        let Ok(found) = self.items.read_after_copy(&asked.key, access) else {
             return Answer::NoMemory;
         };
-        let Some(item) = found else {
-            return self.meta_get_absent(asked.key, asked.vivify);
-        };
-        let marks = marks_of(&item, asked.recache, self.time);
-        let expiry = self.expiry_from(asked.touch, item.expiry);
-        Answer::MetaHit(hit_of(item, expiry, marks, self.time))
+        match found {
+            Some(item) => shown(item, access, asked.recache),
+            None => self.meta_get_absent(asked.key, asked.vivify),
+        }
     }
 
     /// `mg` of a key that is not there: with an exptime it makes an empty item, and this client is told to fill it.

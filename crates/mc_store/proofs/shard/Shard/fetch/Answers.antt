@@ -4,22 +4,17 @@ use Rattle.mc_wire.specs.SameKey.{same_key}
 use Rattle.mc_item.specs.Kind.{key_of}
 use Rattle.mc_store.specs.internal.Found.{live}
 use Rattle.mc_store.specs.Shard.{IsShard, held_of}
-use Rattle.mc_store.proofs.Gets.{fetch_miss, fetch_lacks, fetch_hit}
+use Rattle.mc_store.proofs.Gets.{fetch_miss, fetch_hit}
 use Rattle.mc_store.proofs.shard.Shard.fetch.Goals as goal
 
-pub returns-in_default-clause-acts : goal.returns-in_default-clause-acts
+pub returns-in-None-clause-acts : goal.returns-in-None-clause-acts
 unfolding IsShard key_of
-returns-in_default-clause-acts c = λ state h.
-    rw c.in_default.ensures.err (fetch_lacks (held_of c.args.self.now) state c.args.key.now c.args.touch h c.in_default.ensures.alive)
+returns-in-None-clause-acts c = λ state h.
+    let none : None ≡ live c.args.self.now.time (lookup (same_key c.args.key.now) c.args.self.now.items.entries) = rw c.access-access.ensures at c.in-None.ensures.item in
+    rw (c.in-None.ensures.read, c.access-access.ensures, ← none) (fetch_miss (held_of c.args.self.now) state c.args.key.now c.args.touch h none)
 
-pub returns-in_default-found-clause-acts : goal.returns-in_default-found-clause-acts
+pub returns-in-Some-clause-acts : goal.returns-in-Some-clause-acts
 unfolding IsShard key_of
-returns-in_default-found-clause-acts c = λ state h.
-    let none : None ≡ live c.args.self.now.time (lookup (same_key c.args.key.now) c.args.self.now.items.entries) = sym c.in_default-found.is ∙ c.in-Ok.ensures.item in
-    rw (c.in-Ok.ensures.read, ← none) (fetch_miss (held_of c.args.self.now) state c.args.key.now c.args.touch h none)
-
-pub returns-clause-acts : goal.returns-clause-acts
-unfolding IsShard key_of
-returns-clause-acts c = λ state h.
-    let there : Some c.in-Some.item ≡ live c.args.self.now.time (lookup (same_key c.args.key.now) c.args.self.now.items.entries) = sym c.in-Some.is ∙ c.in-Ok.ensures.item in
-    rw (c.in-Ok.ensures.read, ← there) (fetch_hit (held_of c.args.self.now) state c.args.key.now c.args.touch c.in-Some.item h there)
+returns-in-Some-clause-acts c = λ state h.
+    let there : Some c.in-Some.item ≡ live c.args.self.now.time (lookup (same_key c.args.key.now) c.args.self.now.items.entries) = rw c.access-access.ensures at c.in-Some.ensures.item in
+    rw (c.fetched.ensures, c.in-Some.ensures.read, c.access-access.ensures, ← there) (fetch_hit (held_of c.args.self.now) state c.args.key.now c.args.touch c.in-Some.item h there)
