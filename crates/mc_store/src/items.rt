@@ -35,6 +35,9 @@ pub struct Items {
     cost: usize,
     /// What they may cost together, in bytes.
     budget: usize,
+    /// For a copy of a value that is read, where it can't be shared. None is left once it was used, and where no memory was
+    /// found for it.
+    reserve: Option<Reserve>,
 }
 
 impl Model for Items {
@@ -169,6 +172,7 @@ impl Items {
             cache,
             cost: 0,
             budget,
+            reserve: Reserve::new(alloc).ok(),
         })
     }
 
@@ -204,20 +208,26 @@ impl Items {
     }
 
     /// Gives the item under the key as it is, unless it is dead, and makes it the most recently used one and what it becomes
-    /// by the access. A dead item is taken out. The reserve is used up where the value can't be shared.
+    /// by the access. A dead item is taken out. Where memory is refused nothing changes.
     #[inline(always)]
-    pub fn read(&mut self, key: &Key, access: Access, reserve: &mut Option<Reserve>) -> Option<Item>
-        requires time { access.time ≤ LATEST_MOMENT }
-        requires reserve { IsSome reserve.old }
-        ensures item { result ≡ met access key.now self.old.entries }
-        ensures read { self.new ≡ read_shelf access key.now self.old }
+    pub fn read(&mut self, key: &Key, access: Access) -> Result<Option<Item>, NoMemory>
+        requires { access.time ≤ LATEST_MOMENT }
+        ensures item { IfOk result (λ item. item ≡ met access key.now self.old.entries) }
+        ensures read { OnOk result (self.new ≡ read_shelf access key.now self.old) }
+        ensures alive { OnErr result (IsSome (met access key.now self.old.entries)) }
+        ensures err { OnErr result (self.new ≡ self.old) }
     {
-        let item = read_item(&mut self.cache, key, access, reserve)?;
+        if self.reserve.is_none() {
+            return self.read_after_copy(key, access);
+        }
+        let Some(item) = read_item(&mut self.cache, key, access, &mut self.reserve) else {
+            return Ok(None);
+        };
         if item.is_dead(access.time) {
             self.remove_read(key, item);
-            return None;
+            return Ok(None);
         }
-        Some(item)
+        Ok(Some(item))
     }
 
     /// Takes the item under the key out, and lets go what was read of it.
@@ -231,7 +241,9 @@ impl Items {
 
     /// The same as `read`, without a reserve. The item is looked up twice, since its copy may be refused, and then nothing
     /// may have changed.
-    pub fn read_after_copy(&mut self, key: &Key, access: Access) -> Result<Option<Item>, NoMemory>
+    #[cold]
+    #[inline(never)]
+    fn read_after_copy(&mut self, key: &Key, access: Access) -> Result<Option<Item>, NoMemory>
         requires { access.time ≤ LATEST_MOMENT }
         ensures item { IfOk result (λ item. item ≡ met access key.now self.old.entries) }
         ensures read { OnOk result (self.new ≡ read_shelf access key.now self.old) }

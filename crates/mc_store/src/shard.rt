@@ -20,7 +20,7 @@ mod storing;
 
 use crate::items::{Items, cost_of};
 use crate::{GREATEST_BUDGET, LEAST_BUDGET, access};
-use mc_item::{Answer, Item, MetaDone, Op, PackedExpiry, Reserve, Value};
+use mc_item::{Answer, Item, MetaDone, Op, PackedExpiry, Value};
 use mc_wire::{GREATEST_VALUE_LIMIT, Key, LATEST_MOMENT};
 use std::alloc::{AllocError, Global};
 use std::hash::RandomState;
@@ -57,9 +57,6 @@ pub struct Shard {
     given: u64,
     index: u64,
     shards: u64,
-    /// For a copy of a value that is read, where it can't be shared. None is left once it was used, and where the shard found
-    /// no memory for it.
-    reserve: Option<Reserve>,
     ghost limited: { limit ≤ GREATEST_VALUE_LIMIT },
     ghost timely: { time ≤ LATEST_MOMENT },
     ghost place: { index < shards },
@@ -98,7 +95,6 @@ impl Shard {
             given,
             index: index as u64,
             shards: shards as u64,
-            reserve: Reserve::new(alloc).ok(),
         })
     }
 

@@ -107,26 +107,8 @@ impl Shard {
         ensures acts { Acts self.old (op.Fetch key.now touch) result self.new }
         ensures lawful { is_lawful Kind.Fetch result ≡ true }
     {
-        if self.reserve.is_none() {
-            return self.fetch_after_copy(key, touch);
-        }
         let access = self.access(touch, Reader::Classic);
-        match self.items.read(key, access, &mut self.reserve) {
-            Some(item) => fetched(item),
-            None => Answer::Miss,
-        }
-    }
-
-    /// The same without a reserve.
-    #[cold]
-    #[inline(never)]
-    #[tactic(auto, unfolding(mc_item::specs::Kind::is_lawful))]
-    fn fetch_after_copy(&mut self, key: &Key, touch: Option<i64>) -> Answer
-        ensures acts { Acts self.old (op.Fetch key.now touch) result self.new }
-        ensures lawful { is_lawful Kind.Fetch result ≡ true }
-    {
-        let access = self.access(touch, Reader::Classic);
-        let Ok(found) = self.items.read_after_copy(key, access) else {
+        let Ok(found) = self.items.read(key, access) else {
             return Answer::NoMemory;
         };
         match found {
@@ -161,26 +143,8 @@ impl Shard {
         ensures acts { Acts self.old (op.MetaGet asked) result self.new }
         ensures lawful { is_lawful Kind.MetaGet result ≡ true }
     {
-        if self.reserve.is_none() {
-            return self.meta_get_after_copy(asked);
-        }
         let access = self.access(asked.touch, Reader::Meta(asked.recache));
-        match self.items.read(&asked.key, access, &mut self.reserve) {
-            Some(item) => shown(item, access, asked.recache),
-            None => self.meta_get_absent(asked.key, asked.vivify),
-        }
-    }
-
-    /// The same without a reserve.
-    #[cold]
-    #[inline(never)]
-    #[tactic(auto, unfolding(mc_item::specs::Kind::is_lawful))]
-    fn meta_get_after_copy(&mut self, asked: MetaGet) -> Answer
-        ensures acts { Acts self.old (op.MetaGet asked) result self.new }
-        ensures lawful { is_lawful Kind.MetaGet result ≡ true }
-    {
-        let access = self.access(asked.touch, Reader::Meta(asked.recache));
-        let Ok(found) = self.items.read_after_copy(&asked.key, access) else {
+        let Ok(found) = self.items.read(&asked.key, access) else {
             return Answer::NoMemory;
         };
         match found {

@@ -5,22 +5,22 @@ use Rattle.mc_store.proofs.Listed.{counted_first}
 use Rattle.mc_store.proofs.Accesses.{read_absent, read_dead}
 use Rattle.mc_store.proofs.items.Items.read.Goals as goal
 
-pub returns-in_err-item-clause-read : goal.returns-in_err-item-clause-read
-returns-in_err-item-clause-read c =
+pub returns-in_default-clause-read : goal.returns-in_default-clause-read
+returns-in_default-clause-read c =
     let shelf : Shelf = record { entries = c.self.inside.cache.entries; budget = c.self.inside.budget } in
-    rw (c.read_item.ensures.none (sym c.in_err-item.ensures.found), ← c.self.view_is) (read_absent c.args.access c.args.key.now shelf c.in_err-item.ensures.found)
+    rw (c.read_item.ensures.none (sym c.in_default.ensures.found), ← c.self.view_is) (read_absent c.args.access c.args.key.now shelf c.in_default.ensures.found)
 
 pub invariant_of-self-then-is_dead : goal.invariant_of-self-then-is_dead
 invariant_of-self-then-is_dead c =
-    let found = sym c.in_ok-item.ensures.found in
-    rw (c.read_item.ensures.read c.in_ok-item.item found) (counted_first c.self.inside.cache.entries c.self.inside.cache.cap c.self.inside.cost c.self.inside.budget c.args.key.now c.in_ok-item.item (read_item c.args.access c.in_ok-item.item) c.self.invariant found refl)
+    let found = sym c.in-Some.ensures.found in
+    rw (c.read_item.ensures.read c.in-Some.item found) (counted_first c.self.inside.cache.entries c.self.inside.cache.cap c.self.inside.cost c.self.inside.budget c.args.key.now c.in-Some.item (read_item c.args.access c.in-Some.item) c.self.invariant found refl)
 
 pub returns-then-is_dead-clause-read : goal.returns-then-is_dead-clause-read
 returns-then-is_dead-clause-read c =
     let shelf : Shelf = record { entries = c.self.inside.cache.entries; budget = c.self.inside.budget } in
-    rw (c.remove_read.ensures, c.read_item.ensures.read c.in_ok-item.item (sym c.in_ok-item.ensures.found), ← c.self.view_is) (read_dead c.args.access c.args.key.now shelf c.in_ok-item.item (read_item c.args.access c.in_ok-item.item) c.in_ok-item.ensures.found (sym c.is_dead.ensures ∙ c.if-is_dead.true))
+    rw (c.remove_read.ensures, c.read_item.ensures.read c.in-Some.item (sym c.in-Some.ensures.found), ← c.self.view_is) (read_dead c.args.access c.args.key.now shelf c.in-Some.item (read_item c.args.access c.in-Some.item) c.in-Some.ensures.found (sym c.is_dead.ensures ∙ c.if-is_dead.true))
 
 pub invariant_of-self-else-is_dead : goal.invariant_of-self-else-is_dead
 invariant_of-self-else-is_dead c =
-    let found = sym c.in_ok-item.ensures.found in
-    rw (c.read_item.ensures.read c.in_ok-item.item found) (counted_first c.self.inside.cache.entries c.self.inside.cache.cap c.self.inside.cost c.self.inside.budget c.args.key.now c.in_ok-item.item (read_item c.args.access c.in_ok-item.item) c.self.invariant found refl)
+    let found = sym c.in-Some.ensures.found in
+    rw (c.read_item.ensures.read c.in-Some.item found) (counted_first c.self.inside.cache.entries c.self.inside.cache.cap c.self.inside.cost c.self.inside.budget c.args.key.now c.in-Some.item (read_item c.args.access c.in-Some.item) c.self.invariant found refl)
