@@ -1,13 +1,15 @@
 //! What a shard keeps under a key.
 ghost use Rattle.std.specs.Prelude.{◌≡◌, ◌+◌, ◌≤◌, length, IfOk};
+ghost use Rattle.std.specs.Option.{IsSome};
 ghost use Rattle.mc_item.specs.Expiry.{is_dead, seconds_left};
 ghost use Rattle.mc_item.specs.Value.{number_in, joined};
 
 use crate::memory::NoMemory;
 use crate::packed::PackedExpiry;
+use crate::reserve::Reserve;
 use crate::value::Value;
 use mc_wire::GREATEST_VALUE_LIMIT;
-use std::alloc::Global;
+use std::alloc::{AllocError, Global};
 
 /// When an item dies (protocol.txt, "Expiration times").
 #[derive(Clone, Copy, Debug, PartialEq, Eq)]
@@ -75,11 +77,45 @@ impl Item {
         self.value.number()
     }
 
+    /// The item once more, with the same value: shared, or else a copy for which the reserve is used up.
+    pub fn shared(&self, reserve: &mut Option<Reserve>) -> Item
+        requires { IsSome reserve.old }
+        ensures { result ≡ self.now }
+    {
+        Item {
+            value: self.value.shared(reserve),
+            flags: self.flags,
+            fetched: self.fetched,
+            stale: self.stale,
+            sent: self.sent,
+            expiry: self.expiry,
+            unique: self.unique,
+            last_access: self.last_access,
+        }
+    }
+
     /// The item's value with the block after it or before it. The item stays as it is.
     pub fn joined(&self, alloc: Global, block: &Value, after: bool) -> Result<Value, NoMemory>
         requires { length self.now.value + length block.now ≤ GREATEST_VALUE_LIMIT }
         ensures { IfOk result (λ value. value ≡ joined self.now.value block.now after) }
     {
         self.value.joined(alloc, block, after)
+    }
+}
+
+impl Clone for Item {
+    ghost is_clone = { λ item copy. copy ≡ item };
+
+    fn clone(&self) -> Result<Item, AllocError> {
+        Ok(Item {
+            value: self.value.clone()?,
+            flags: self.flags,
+            fetched: self.fetched,
+            stale: self.stale,
+            sent: self.sent,
+            expiry: self.expiry,
+            unique: self.unique,
+            last_access: self.last_access,
+        })
     }
 }

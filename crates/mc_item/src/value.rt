@@ -1,34 +1,49 @@
 //! The value of an item.
 ghost use Rattle.std.specs.Prelude.{◌≡◌, ◌+◌, ◌≤◌, ◌==◌, [], length, IfOk};
+ghost use Rattle.std.specs.Option.{IsSome};
 ghost use Rattle.std.specs.List.{list_all, position};
 ghost use Rattle.mc_item.specs.Value.{number_in, number_text, joined};
 ghost use Rattle.mc_wire.specs.Outlet.{Writes};
 ghost use Rattle.mc_wire.specs.Words.{is_space};
 
 use crate::memory::NoMemory;
+use crate::reserve::Reserve;
 use itoa::Buffer;
 use mc_wire::{DIGIT_LIMIT, GREATEST_VALUE_LIMIT, OutFault, Outlet, number_u64, put_all};
 use std::alloc::{AllocError, Global};
 use std::marker::Model;
 use std::sync::ArcSlice;
 
+/// How a value holds its bytes.
+#[derive(Drop)]
+enum Held {
+    /// No bytes, which take no memory.
+    Empty,
+    /// Bytes that are shared with every clone.
+    Shared(ArcSlice<u8>),
+    /// A copy of its own, in memory that was put aside.
+    Copied(Box<Vec<u8>>),
+}
+
 /// The bytes that a client stored: at most `GREATEST_VALUE_LIMIT`.
 #[derive(Drop)]
 pub struct Value {
-    /// Shared with every clone; no bytes are none, and take no memory.
-    shared: Option<ArcSlice<u8>>,
+    held: Held,
 }
+
+/// A value takes 16 bytes of its item.
+const _: () = prove!(size_of::<Value>() == 16);
 
 impl Model for Value {
     ghost use Rattle.std.specs.Prelude.{ℕ, List, ◌≤◌, length};
     ghost use Rattle.mc_wire.specs.declared.TheConstants.{GREATEST_VALUE_LIMIT};
-    ghost use Rattle.mc_item.specs.internal.Held.{held};
+    ghost use Rattle.mc_item.specs.internal.Held.{bytes_of};
 
     ghost Value = { List ℕ };
 
-    ghost view = { λ value. held value.shared };
+    ghost view = { λ value. bytes_of value.held };
 
-    ghost invariant = { λ value. length (held value.shared) ≤ GREATEST_VALUE_LIMIT };
+    ghost invariant = { λ value. length (bytes_of value.held) ≤ GREATEST_VALUE_LIMIT };
 }
 
 impl Value {
@@ -42,7 +57,7 @@ impl Value {
         }
         let shared = ArcSlice::from_vec(bytes)?;
         Ok(Value {
-            shared: Some(shared),
+            held: Held::Shared(shared),
         })
     }
 
@@ -50,7 +65,7 @@ impl Value {
     pub fn empty() -> Value
         ensures { result ≡ [] }
     {
-        Value { shared: None }
+        Value { held: Held::Empty }
     }
 
     /// The text of a number: its decimal digits, without padding.
@@ -68,9 +83,10 @@ impl Value {
         ensures value { result.now ≡ self.now }
         ensures within { length self.now ≤ GREATEST_VALUE_LIMIT }
     {
-        match &self.shared {
-            Some(bytes) => bytes.as_slice(),
-            None => &[],
+        match &self.held {
+            Held::Empty => &[],
+            Held::Shared(bytes) => bytes.as_slice(),
+            Held::Copied(bytes) => bytes.as_slice(),
         }
     }
 
@@ -78,9 +94,10 @@ impl Value {
     pub fn put_to<O: Outlet>(&self, out: &mut O) -> Result<(), OutFault>
         ensures { Writes self.now result (O.sight out.old) (O.sight out.new) }
     {
-        match &self.shared {
-            Some(block) => out.put_shared(block),
-            None => put_all(out, &[]),
+        match &self.held {
+            Held::Empty => put_all(out, &[]),
+            Held::Shared(block) => out.put_shared(block),
+            Held::Copied(block) => put_all(out, block.as_slice()),
         }
     }
 
@@ -115,6 +132,38 @@ impl Value {
         number_u64(&bytes[..space]).ok()
     }
 
+    /// The value once more, which shares the bytes. Where they can have no further owner, or are a copy themselves, it has a
+    /// copy of them, for which the reserve is used up.
+    pub fn shared(&self, reserve: &mut Option<Reserve>) -> Value
+        requires { IsSome reserve.old }
+        ensures { result ≡ self.now }
+    {
+        let bytes = match &self.held {
+            Held::Empty => return Value::empty(),
+            Held::Shared(bytes) => bytes,
+            Held::Copied(_) => return self.copied(reserve),
+        };
+        let Ok(bytes) = bytes.clone() else {
+            return self.copied(reserve);
+        };
+        Value {
+            held: Held::Shared(bytes),
+        }
+    }
+
+    /// A copy of the value, in the memory of the reserve.
+    #[cold]
+    #[inline(never)]
+    fn copied(&self, reserve: &mut Option<Reserve>) -> Value
+        requires { IsSome reserve.old }
+        ensures { result ≡ self.now }
+    {
+        let reserve = reserve.take().unwrap();
+        Value {
+            held: Held::Copied(reserve.filled(self.bytes())),
+        }
+    }
+
     /// The value with the block after it, as by `append`, or before it, as by `prepend`. Both stay as they are.
     pub fn joined(&self, alloc: Global, block: &Value, after: bool) -> Result<Value, NoMemory>
         requires { length self.now + length block.now ≤ GREATEST_VALUE_LIMIT }
@@ -146,10 +195,11 @@ impl Clone for Value {
     ghost is_clone = { λ value copy. copy ≡ value };
 
     fn clone(&self) -> Result<Value, AllocError> {
-        let shared = match &self.shared {
-            Some(bytes) => Some(bytes.clone()?),
-            None => None,
+        let held = match &self.held {
+            Held::Empty => Held::Empty,
+            Held::Shared(bytes) => Held::Shared(bytes.clone()?),
+            Held::Copied(bytes) => Held::Copied(bytes.clone()?),
         };
-        Ok(Value { shared })
+        Ok(Value { held })
     }
 }

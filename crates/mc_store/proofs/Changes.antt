@@ -1,6 +1,7 @@
 -- Making a shard, moving its time, flushing it, and settling a key.
 use Rattle.std.proofs.Common.{◌≡◌, ℕ, ◌+◌, ◌<◌, ◌≤◌, true, false, List, [], Some, None, arith, nat_eq, max, min, Option, refl, sym, ap, subst}
 use Rattle.std.specs.Cmp.Lexicographic.{pointwise}
+use Rattle.std.specs.FinMap.{get}
 use Rattle.std.specs.Map.{lookup, remove_entry}
 use Rattle.mc_wire.specs.Limits.{latest_moment}
 use Rattle.mc_item.specs.declared.item.Item.{Item}
@@ -43,6 +44,10 @@ arrived_early held state moment time h is early = rw (due_is held state moment t
 
 pub settled_gone : (held : Held) (state : State) (key : List ℕ) → Keeps held state → None ≡ live held.time (lookup (pointwise nat_eq key) held.entries) → Keeps (with_entries held (remove_entry (pointwise nat_eq key) held.entries)) (without_dead state (Some key))
 settled_gone held state key h none = rw (misses held state key h none).settled (take_out held state key h)
+
+-- settled once, a key stays so
+pub settled_again : (settled : State) (key : List ℕ) → get settled.items key ≡ None → without_dead settled (Some key) ≡ settled
+settled_again settled key gone = rw gone refl
 
 pub settled_live : (held : Held) (state : State) (key : List ℕ) (item : Item) → Keeps held state → Some item ≡ live held.time (lookup (pointwise nat_eq key) held.entries) → Keeps held (without_dead state (Some key))
 settled_live held state key item h is = rw (meets held state key item h is).settled h

@@ -1,5 +1,6 @@
 -- The outcomes of reading and touching.
 use Rattle.std.proofs.Common.{◌≡◌, ℕ, ℤ, true, false, List, [], Option, Some, None, refl, sym, ◌∙◌, nat_eq, subst}
+use Rattle.std.specs.Option.{IsSome}
 use Rattle.std.specs.Cmp.Lexicographic.{pointwise}
 use Rattle.std.specs.FinMap.{get}
 use Rattle.std.specs.Map.{lookup, remove_entry, set_value}
@@ -17,23 +18,21 @@ use Rattle.mc_store.specs.State.{State, without_dead, entered}
 use Rattle.mc_store.specs.Rows.{fetched_item, touched_item, shown_item, hit_of, made_hit}
 use Rattle.mc_store.specs.Step.{numbered, fetch_step, touch_step, meta_get_step, absent_meta_get, step_of}
 use Rattle.mc_store.specs.Shard.{Held, Keeps}
-use Rattle.mc_store.proofs.Shards.{with_entries, at_now}
-use Rattle.mc_store.proofs.Changes.{absent_none, nothing_out}
+use Rattle.mc_store.proofs.Shards.{with_entries, at_now, misses}
+use Rattle.mc_store.proofs.Changes.{settled_again}
 use Rattle.mc_store.proofs.Writes.{Closes, along, met_time}
-use Rattle.mc_store.proofs.Outcomes.{Ends, ends, misses_as, absent_as, lacks_as, uses_as}
+use Rattle.mc_store.proofs.Outcomes.{Ends, ends, misses_as, absent_as, lacks_as, some_of, uses_as}
 
 pub fetch_miss : (held : Held) (state : State) (key : List ℕ) (touch : Option ℤ) → Keeps held state → None ≡ live held.time (lookup (pointwise nat_eq key) held.entries) → Ends (without_dead state (Some key)) (Fetch key touch) Miss (with_entries held (remove_entry (pointwise nat_eq key) held.entries))
 unfolding step_of kind_of is_lawful
 fetch_miss held state key touch h none =
     ends (without_dead state (Some key)) (Fetch key touch) Miss _ (λ _. refl) (misses_as held state key (λ s o. fetch_step s key touch o) Miss h none (λ s. refl))
 
-pub fetch_absent : (held : Held) (state : State) (key : List ℕ) (touch : Option ℤ) → Keeps held state → None ≡ lookup (pointwise nat_eq key) held.entries → Ends (without_dead state (Some key)) (Fetch key touch) Miss held
-fetch_absent held state key touch h none =
-    subst (Ends (without_dead state (Some key)) (Fetch key touch) Miss) (nothing_out held key none) (fetch_miss held state key touch h (absent_none held.time (lookup (pointwise nat_eq key) held.entries) none))
-
-pub fetch_lacks : (held : Held) (state : State) (key : List ℕ) (touch : Option ℤ) (item : Item) → Keeps held state → Some item ≡ live held.time (lookup (pointwise nat_eq key) held.entries) → Ends (without_dead state (Some key)) (Fetch key touch) NoMemory held
+pub fetch_lacks : (held : Held) (state : State) (key : List ℕ) (touch : Option ℤ) → Keeps held state → IsSome (live held.time (lookup (pointwise nat_eq key) held.entries)) → Ends (without_dead state (Some key)) (Fetch key touch) NoMemory held
 unfolding step_of kind_of is_lawful
-fetch_lacks held state key touch item h is = ends (without_dead state (Some key)) (Fetch key touch) NoMemory held (λ _. refl) (lacks_as held state key item _ h is)
+fetch_lacks held state key touch h some =
+    let alive = some_of (live held.time (lookup (pointwise nat_eq key) held.entries)) some in
+    ends (without_dead state (Some key)) (Fetch key touch) NoMemory held (λ _. refl) (lacks_as held state key alive.0 _ h alive.1)
 
 pub fetch_hit : (held : Held) (state : State) (key : List ℕ) (touch : Option ℤ) (item : Item) → Keeps held state → Some item ≡ live held.time (lookup (pointwise nat_eq key) held.entries) → Ends (without_dead state (Some key)) (Fetch key touch) (Hit item.flags item.unique item.value) (with_entries held (set_value (pointwise nat_eq key) (promoted (pointwise nat_eq key) held.entries) (at_now (fetched_item item touch held.time) held.time)))
 unfolding step_of kind_of is_lawful
@@ -52,9 +51,11 @@ touch_hit held state key exptime item h is =
     ends (without_dead state (Some key)) (Touch key exptime) Touched _ (λ e. absurd cc)
     (uses_as held state key item (λ s o. touch_step s key exptime o) (λ _ _. Touched) (λ i time. touched_item i exptime time) (λ _ _. refl) h is (λ s u _. refl))
 
-pub meta_get_lacks : (held : Held) (state : State) (asked : op.MetaGet) (item : Item) → Keeps held state → Some item ≡ live held.time (lookup (pointwise nat_eq asked.key) held.entries) → Ends (without_dead state (Some asked.key)) (MetaGet asked) NoMemory held
+pub meta_get_lacks : (held : Held) (state : State) (asked : op.MetaGet) → Keeps held state → IsSome (live held.time (lookup (pointwise nat_eq asked.key) held.entries)) → Ends (without_dead state (Some asked.key)) (MetaGet asked) NoMemory held
 unfolding step_of kind_of is_lawful
-meta_get_lacks held state asked item h is = ends (without_dead state (Some asked.key)) (MetaGet asked) NoMemory held (λ _. refl) (lacks_as held state asked.key item _ h is)
+meta_get_lacks held state asked h some =
+    let alive = some_of (live held.time (lookup (pointwise nat_eq asked.key) held.entries)) some in
+    ends (without_dead state (Some asked.key)) (MetaGet asked) NoMemory held (λ _. refl) (lacks_as held state asked.key alive.0 _ h alive.1)
 
 pub meta_get_hit : (held : Held) (state : State) (asked : op.MetaGet) (item : Item) → Keeps held state → Some item ≡ live held.time (lookup (pointwise nat_eq asked.key) held.entries) → Ends (without_dead state (Some asked.key)) (MetaGet asked) (MetaHit (hit_of item asked.touch asked.recache held.time)) (with_entries held (set_value (pointwise nat_eq asked.key) (promoted (pointwise nat_eq asked.key) held.entries) (at_now (shown_item item asked.touch asked.recache held.time) held.time)))
 unfolding step_of kind_of is_lawful
@@ -62,12 +63,16 @@ meta_get_hit held state asked item h is =
     ends (without_dead state (Some asked.key)) (MetaGet asked) (MetaHit (hit_of item asked.touch asked.recache held.time)) _ (λ _. refl)
     (uses_as held state asked.key item (λ s o. meta_get_step s asked.key asked.touch asked.vivify asked.recache o) (λ i time. MetaHit (hit_of i asked.touch asked.recache time)) (λ i time. shown_item i asked.touch asked.recache time) (λ _ _. refl) h is (λ s u _. refl))
 
-pub meta_get_absent : (held : Held) (state : State) (asked : op.MetaGet) (answer : Answer) (new : Held) → Keeps held state → None ≡ live held.time (lookup (pointwise nat_eq asked.key) held.entries) → Closes (without_dead state (Some asked.key)) (absent_meta_get (without_dead state (Some asked.key)) asked.key asked.vivify) answer new → Ends (without_dead state (Some asked.key)) (MetaGet asked) answer new
+-- the key was settled, and is settled once more by what makes the item
+pub meta_get_absent : (held : Held) (state : State) (asked : op.MetaGet) (answer : Answer) (new : Held) → Keeps held state → None ≡ live held.time (lookup (pointwise nat_eq asked.key) held.entries) →
+    (let again = without_dead (without_dead state (Some asked.key)) (Some asked.key) in Closes again (absent_meta_get again asked.key asked.vivify) answer new) → Ends (without_dead state (Some asked.key)) (MetaGet asked) answer new
 unfolding step_of kind_of is_lawful
 meta_get_absent held state asked answer new h none closes =
-    ends (without_dead state (Some asked.key)) (MetaGet asked) answer new (λ _. refl)
-    (along (without_dead state (Some asked.key)) (absent_meta_get (without_dead state (Some asked.key)) asked.key asked.vivify) (meta_get_step (without_dead state (Some asked.key)) asked.key asked.touch asked.vivify asked.recache (get (without_dead state (Some asked.key)).items asked.key)) answer new
-    (absent_as held state asked.key (λ s o. meta_get_step s asked.key asked.touch asked.vivify asked.recache o) (λ s. absent_meta_get s asked.key asked.vivify) h none (λ s. refl)) closes)
+    let settled = without_dead state (Some asked.key) in
+    let once = subst (λ s. Closes s (absent_meta_get s asked.key asked.vivify) answer new) (settled_again settled asked.key (misses held state asked.key h none).gone) closes in
+    ends settled (MetaGet asked) answer new (λ _. refl)
+    (along settled (absent_meta_get settled asked.key asked.vivify) (meta_get_step settled asked.key asked.touch asked.vivify asked.recache (get settled.items asked.key)) answer new
+    (absent_as held state asked.key (λ s o. meta_get_step s asked.key asked.touch asked.vivify asked.recache o) (λ s. absent_meta_get s asked.key asked.vivify) h none (λ s. refl)) once)
 
 -- an item that mg makes, before it has a unique
 abbrev pub empty_item : Expiry → ℕ → Item

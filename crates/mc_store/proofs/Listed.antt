@@ -175,6 +175,10 @@ counted_first es capacity cost budget key old item h is value =
     let keys : HaveKeys ((key, item) ∷ left) = All-cons HasKey (key, item) left (found.some h.keys) (keys_removed es key h.keys) in
     rw (first_is es key old item is) assumption
 
+-- it goes, as it would have gone before
+pub first_gone : (es : List Entry) (key : List ℕ) (old item : Item) → lookup (pointwise nat_eq key) es ≡ Some old → remove_entry (pointwise nat_eq key) (set_value (pointwise nat_eq key) (promoted (pointwise nat_eq key) es) item) ≡ remove_entry (pointwise nat_eq key) es
+first_gone es key old item h = rw (first_is es key old item h, texts_ties key key, same_self key)
+
 -- A put
 
 -- the shelf after a put

@@ -1,6 +1,7 @@
 -- From what a look-up found to the outcome of a step, which is a function of the settled state and of the item there.
 use Rattle.std.proofs.Common.{◌≡◌, ℕ, true, false, List, Option, Some, None, refl, sym, ap, ◌∙◌, inl, inr, nat_eq, subst}
 use Rattle.std.specs.Prelude.{IsTrue}
+use Rattle.std.specs.Option.{IsSome}
 use Rattle.std.specs.Cmp.Lexicographic.{pointwise}
 use Rattle.std.specs.FinMap.{get, remove}
 use Rattle.std.specs.Map.{lookup, remove_entry, set_value}
@@ -84,6 +85,11 @@ pub goes_as : (held : Held) (state : State) (key : List ℕ) (item : Item) (step
 goes_as held state key item step answer h is same =
     at_live held state key item h is (λ i _ settled. i ≡ item → Closes settled (here step settled key) answer (with_entries held (remove_entry (pointwise nat_eq key) held.entries)))
     (λ u found i. (with_items state (remove state.items key), inr (same state u i ∙ sym (ap (λ o. step state o) found)), take_out held state key h)) refl
+
+-- the item that is there
+pub some_of : (o : Option Item) → IsSome o → (item : Item) × (Some item ≡ o)
+some_of None some = absurd cc
+some_of (Some item) some = (item, refl)
 
 -- what a look-up in the list finds, once it is known whether that is dead
 pub live_of : (time : ℕ) (o : Option Item) (item : Item) → Some item ≡ o → is_dead item.expiry time ≡ false → Some item ≡ live time o

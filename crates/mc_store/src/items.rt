@@ -7,13 +7,15 @@ ghost use Rattle.mc_wire.specs.SameKey.{same_key};
 ghost use Rattle.mc_item.specs.declared.item.Item.{Item as TheItem};
 ghost use Rattle.mc_store.specs.State.{item_overhead, cost};
 ghost use Rattle.mc_store.specs.Step.{is_other};
+ghost use Rattle.mc_store.specs.internal.Access.{met, read_item, read_shelf};
 ghost use Rattle.mc_store.specs.internal.Listed.{Fits, freed_by, listed_cost, within};
 
+use crate::access::{Access, Use};
 use crate::hashing::PolynomialState;
 use crate::{GREATEST_BUDGET, ITEM_OVERHEAD, LEAST_BUDGET};
 use lru::LruCache;
-use mc_item::{Item, NoMemory, PackedExpiry};
-use mc_wire::{KEY_LIMIT, Key};
+use mc_item::{Item, NoMemory, PackedExpiry, Reserve};
+use mc_wire::{KEY_LIMIT, Key, LATEST_MOMENT};
 use std::alloc::{AllocError, Global};
 use std::hash::RandomState;
 use std::marker::Model;
@@ -33,6 +35,9 @@ pub struct Items {
     cost: usize,
     /// What they may cost together, in bytes.
     budget: usize,
+    /// For a copy of a value that is read, where it can't be shared. None is left once it was used, and where no memory was
+    /// found for it.
+    reserve: Option<Reserve>,
 }
 
 impl Model for Items {
@@ -45,16 +50,6 @@ impl Model for Items {
     ghost view = { λ items. record { entries = items.cache.entries; budget = items.budget } };
 
     ghost invariant = { λ items. IsCounted items.cache.entries items.cache.cap items.cost items.budget };
-}
-
-/// What an item becomes when it is made the most recently used one in its place.
-#[derive(Clone, Copy)]
-pub struct Use {
-    /// The second of the access.
-    pub time: u64,
-    pub expiry: PackedExpiry,
-    pub fetched: bool,
-    pub sent: bool,
 }
 
 /// What an item becomes when it is marked stale where it stands.
@@ -109,17 +104,44 @@ fn evict(cache: &mut Cache, cost: usize, budget: usize) -> usize
     left
 }
 
+/// Notes in an item that it is made the most recently used one.
+fn note_use(item: &mut Item, new: Use)
+    ensures { item.new ≡ record item.old { last_access = new.time; expiry = new.expiry; fetched = new.fetched; sent = new.sent } }
+{
+    item.last_access = new.time;
+    item.expiry = new.expiry;
+    item.fetched = new.fetched;
+    item.sent = new.sent;
+}
+
 /// Makes the item under the key the most recently used one, and what it becomes by that.
 fn use_item(cache: &mut Cache, key: &Key, new: Use)
     ensures used { (item : TheItem) → lookup (same_key key.now) cache.old.entries ≡ Some item → cache.new ≡ lru_cache (set_value (same_key key.now) (promoted (same_key key.now) cache.old.entries) (record item { last_access = new.time; expiry = new.expiry; fetched = new.fetched; sent = new.sent })) cache.old.cap }
     ensures none { lookup (same_key key.now) cache.old.entries ≡ None → cache.new ≡ cache.old }
 {
     if let Some(item) = cache.get_mut(key) {
-        item.last_access = new.time;
-        item.expiry = new.expiry;
-        item.fetched = new.fetched;
-        item.sent = new.sent;
+        note_use(item, new);
     }
+}
+
+/// Gives the item under the key as it is, and makes it the most recently used one and what it becomes by the access.
+#[inline(always)]
+fn read_item(
+    cache: &mut Cache,
+    key: &Key,
+    access: Access,
+    reserve: &mut Option<Reserve>,
+) -> Option<Item>
+    requires time { access.time ≤ LATEST_MOMENT }
+    requires reserve { IsSome reserve.old }
+    ensures found { result ≡ lookup (same_key key.now) cache.old.entries }
+    ensures read { (item : TheItem) → lookup (same_key key.now) cache.old.entries ≡ Some item → cache.new ≡ lru_cache (set_value (same_key key.now) (promoted (same_key key.now) cache.old.entries) (read_item access item)) cache.old.cap }
+    ensures none { lookup (same_key key.now) cache.old.entries ≡ None → cache.new ≡ cache.old }
+{
+    let item = cache.get_mut(key)?;
+    let found = item.shared(reserve);
+    note_use(item, access.use_of(&found));
+    Some(found)
 }
 
 /// Marks the item under the key stale where it stands.
@@ -150,6 +172,7 @@ impl Items {
             cache,
             cost: 0,
             budget,
+            reserve: Reserve::new(alloc).ok(),
         })
     }
 
@@ -182,6 +205,61 @@ impl Items {
         ensures { option_copied result ≡ lookup (same_key key.now) self.now.entries }
     {
         self.cache.peek(key)
+    }
+
+    /// Gives the item under the key as it is, unless it is dead, and makes it the most recently used one and what it becomes
+    /// by the access. A dead item is taken out. Where memory is refused nothing changes.
+    #[inline(always)]
+    pub fn read(&mut self, key: &Key, access: Access) -> Result<Option<Item>, NoMemory>
+        requires { access.time ≤ LATEST_MOMENT }
+        ensures item { IfOk result (λ item. item ≡ met access key.now self.old.entries) }
+        ensures read { OnOk result (self.new ≡ read_shelf access key.now self.old) }
+        ensures alive { OnErr result (IsSome (met access key.now self.old.entries)) }
+        ensures err { OnErr result (self.new ≡ self.old) }
+    {
+        if self.reserve.is_none() {
+            return self.read_after_copy(key, access);
+        }
+        let Some(item) = read_item(&mut self.cache, key, access, &mut self.reserve) else {
+            return Ok(None);
+        };
+        if item.is_dead(access.time) {
+            self.remove_read(key, item);
+            return Ok(None);
+        }
+        Ok(Some(item))
+    }
+
+    /// Takes the item under the key out, and lets go what was read of it.
+    #[cold]
+    #[inline(never)]
+    fn remove_read(&mut self, key: &Key, _read: Item)
+        ensures { self.new ≡ record self.old { entries = remove_entry (same_key key.now) self.old.entries } }
+    {
+        self.remove(key);
+    }
+
+    /// The same as `read`, without a reserve. The item is looked up twice, since its copy may be refused, and then nothing
+    /// may have changed.
+    #[cold]
+    #[inline(never)]
+    fn read_after_copy(&mut self, key: &Key, access: Access) -> Result<Option<Item>, NoMemory>
+        requires { access.time ≤ LATEST_MOMENT }
+        ensures item { IfOk result (λ item. item ≡ met access key.now self.old.entries) }
+        ensures read { OnOk result (self.new ≡ read_shelf access key.now self.old) }
+        ensures alive { OnErr result (IsSome (met access key.now self.old.entries)) }
+        ensures err { OnErr result (self.new ≡ self.old) }
+    {
+        let Some(old) = self.peek(key) else {
+            return Ok(None);
+        };
+        if old.is_dead(access.time) {
+            self.remove(key);
+            return Ok(None);
+        }
+        let item = old.clone()?;
+        self.make_first(key, access.use_of(&item));
+        Ok(Some(item))
     }
 
     /// Takes the item under the key out.

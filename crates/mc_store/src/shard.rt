@@ -19,7 +19,7 @@ mod running;
 mod storing;
 
 use crate::items::{Items, cost_of};
-use crate::{GREATEST_BUDGET, LEAST_BUDGET};
+use crate::{GREATEST_BUDGET, LEAST_BUDGET, access};
 use mc_item::{Answer, Item, MetaDone, Op, PackedExpiry, Value};
 use mc_wire::{GREATEST_VALUE_LIMIT, Key, LATEST_MOMENT};
 use std::alloc::{AllocError, Global};
@@ -238,10 +238,7 @@ impl Shard {
     fn expiry_from(&self, exptime: Option<i64>, old: PackedExpiry) -> PackedExpiry
         ensures { result ≡ expiry_from exptime old self.now.time }
     {
-        match exptime {
-            Some(exptime) => PackedExpiry::from_exptime(exptime, self.time),
-            None => old,
-        }
+        access::expiry_from(exptime, old, self.time)
     }
 
     /// Puts the item under the key as the most recently used one, with a new unique, which it answers.

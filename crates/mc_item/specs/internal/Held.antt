@@ -1,9 +1,11 @@
 -- What a value's own field holds.
-use Rattle.std.specs.Prelude.{ℕ, List, [], Option, Some, None}
+use Rattle.std.specs.Prelude.{ℕ, List, []}
 use Rattle.std.specs.Arc.{arc_slice_items}
-use Rattle.std.specs.declared.sync.ArcSlice.{ArcSlice}
+use Rattle.mc_item.specs.declared.value.Held.{Held}
+use Rattle.mc_item.specs.declared.value.Held.TheVariants.{Empty, Shared, Copied}
 
--- the bytes that are shared; none are no bytes
-abbrev pub held : {Z : Type 0} → Option (ArcSlice ℕ Z) → List ℕ
-held None = []
-held (Some bytes) = arc_slice_items bytes
+-- the bytes
+abbrev pub bytes_of : Held → List ℕ
+bytes_of Empty = []
+bytes_of (Shared bytes) = arc_slice_items bytes
+bytes_of (Copied bytes) = bytes.value.items

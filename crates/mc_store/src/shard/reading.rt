@@ -1,31 +1,14 @@
 //! Reading and touching: `get`, `gat`, `mg`, `touch`.
-ghost use Rattle.std.specs.Prelude.{◌≡◌, ◌-◌, ◌||◌, true, false, []};
-ghost use Rattle.mc_item.specs.Expiry.{seconds_left};
+ghost use Rattle.std.specs.Prelude.{◌≡◌, ◌≤◌, true, false, []};
 ghost use Rattle.mc_item.specs.Kind.{is_lawful};
 ghost use Rattle.mc_item.specs.declared.op.Op.TheVariants as op;
-ghost use Rattle.mc_store.specs.Rows.{is_won, has_fewer_left, marks_of};
+ghost use Rattle.mc_store.specs.Rows.{hit_of, marks_of};
+ghost use Rattle.mc_wire.specs.declared.TheConstants.{LATEST_MOMENT};
 
-use crate::items::Use;
+use crate::access::{Access, Reader, Use, expiry_from, is_won};
 use crate::shard::Shard;
 use mc_item::{Answer, Item, Kind, Marks, MetaGet, MetaHit, PackedExpiry, Value};
-use mc_wire::Key;
-
-/// Whether fewer seconds are left than the token of `R`; an item that never dies has none left.
-fn has_fewer_left(left: Option<u64>, recache: Option<i64>) -> bool
-    ensures { result ≡ has_fewer_left left recache }
-{
-    let (Some(left), Some(token)) = (left, recache) else {
-        return false;
-    };
-    token > 0 && left < token as u64
-}
-
-/// `W`: nobody was told to recompute the item, and it is stale or soon dead.
-fn is_won(item: &Item, recache: Option<i64>, time: u64) -> bool
-    ensures { result ≡ is_won item.now recache time }
-{
-    !item.sent && (item.stale || has_fewer_left(item.expiry.seconds_left(time), recache))
-}
+use mc_wire::{Key, LATEST_MOMENT};
 
 /// The marks of a hit, by the item before the command.
 fn marks_of(item: &Item, recache: Option<i64>, time: u64) -> Marks
@@ -38,26 +21,34 @@ fn marks_of(item: &Item, recache: Option<i64>, time: u64) -> Marks
     }
 }
 
-/// Whether a client was told to recompute the item, once these marks were shown.
-fn is_sent_after(marks: Marks) -> bool
-    ensures { result ≡ (marks.sent || marks.won) }
+/// The answer to `get` and its kin, by the item before the command.
+fn fetched(item: Item) -> Answer
+    ensures { result ≡ Answer.Hit item.flags item.unique item.value }
 {
-    marks.sent || marks.won
+    let (flags, unique) = (item.flags, item.unique);
+    Answer::Hit {
+        flags,
+        unique,
+        value: item.value,
+    }
 }
 
-/// What is shown of the item, before the command, and of the expiry that it has now.
-fn hit_of(found: &Item, value: Value, expiry: PackedExpiry, marks: Marks, time: u64) -> MetaHit
-    ensures { result ≡ record { value = value; flags = found.now.flags; unique = found.now.unique; fetched = found.now.fetched; idle = time - found.now.last_access; left = seconds_left expiry time; marks = marks } }
+/// The answer to `mg`, by the item before the command.
+fn shown(item: Item, access: Access, recache: Option<i64>) -> Answer
+    requires { access.time ≤ LATEST_MOMENT }
+    ensures { result ≡ Answer.MetaHit (hit_of item access.touch recache access.time) }
 {
-    MetaHit {
-        value,
-        flags: found.flags,
-        unique: found.unique,
-        fetched: found.fetched,
-        idle: time.saturating_sub(found.last_access),
-        left: expiry.seconds_left(time),
+    let marks = marks_of(&item, recache, access.time);
+    let expiry = expiry_from(access.touch, item.expiry, access.time);
+    Answer::MetaHit(MetaHit {
+        flags: item.flags,
+        fetched: item.fetched,
         marks,
-    }
+        unique: item.unique,
+        idle: access.time.saturating_sub(item.last_access),
+        left: expiry.seconds_left(access.time),
+        value: item.value,
+    })
 }
 
 /// An empty item that a client is told to fill. It has no unique yet.
@@ -99,34 +90,30 @@ impl Shard {
     ghost use Rattle.mc_store.specs.Step.{absent_meta_get};
     ghost use Rattle.mc_store.specs.internal.Parts.{Acts, Does};
 
+    /// An access now.
+    fn access(&self, touch: Option<i64>, reader: Reader) -> Access
+        ensures { result ≡ record { time = self.now.time; touch = touch; reader = reader } }
+    {
+        Access {
+            time: self.time,
+            touch,
+            reader,
+        }
+    }
+
     /// `get`, `gets`; with an exptime `gat` and `gats`.
     #[tactic(auto, unfolding(mc_item::specs::Kind::is_lawful))]
     pub(super) fn fetch(&mut self, key: &Key, touch: Option<i64>) -> Answer
         ensures acts { Acts self.old (op.Fetch key.now touch) result self.new }
         ensures lawful { is_lawful Kind.Fetch result ≡ true }
     {
-        let Some(item) = self.items.peek(key) else {
-            return Answer::Miss;
-        };
-        if item.is_dead(self.time) {
-            self.items.remove(key);
-            return Answer::Miss;
-        }
-        let Ok(value) = item.value.clone() else {
+        let access = self.access(touch, Reader::Classic);
+        let Ok(found) = self.items.read(key, access) else {
             return Answer::NoMemory;
         };
-        let (flags, unique) = (item.flags, item.unique);
-        let new = Use {
-            time: self.time,
-            expiry: self.expiry_from(touch, item.expiry),
-            fetched: true,
-            sent: item.sent,
-        };
-        self.items.make_first(key, new);
-        Answer::Hit {
-            flags,
-            unique,
-            value,
+        match found {
+            Some(item) => fetched(item),
+            None => Answer::Miss,
         }
     }
 
@@ -156,23 +143,14 @@ impl Shard {
         ensures acts { Acts self.old (op.MetaGet asked) result self.new }
         ensures lawful { is_lawful Kind.MetaGet result ≡ true }
     {
-        let Some(item) = self.find(&asked.key) else {
-            return self.meta_get_absent(asked.key, asked.vivify);
-        };
-        let Ok(value) = item.value.clone() else {
+        let access = self.access(asked.touch, Reader::Meta(asked.recache));
+        let Ok(found) = self.items.read(&asked.key, access) else {
             return Answer::NoMemory;
         };
-        let marks = marks_of(item, asked.recache, self.time);
-        let expiry = self.expiry_from(asked.touch, item.expiry);
-        let hit = hit_of(item, value, expiry, marks, self.time);
-        let new = Use {
-            time: self.time,
-            expiry,
-            fetched: true,
-            sent: is_sent_after(marks),
-        };
-        self.items.make_first(&asked.key, new);
-        Answer::MetaHit(hit)
+        match found {
+            Some(item) => shown(item, access, asked.recache),
+            None => self.meta_get_absent(asked.key, asked.vivify),
+        }
     }
 
     /// `mg` of a key that is not there: with an exptime it makes an empty item, and this client is told to fill it.

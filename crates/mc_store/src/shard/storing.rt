@@ -8,7 +8,8 @@ ghost use Rattle.mc_item.specs.declared.op.Op.TheVariants as op;
 ghost use Rattle.mc_store.specs.internal.Found.{joining, is_unconditional};
 ghost use Rattle.mc_store.specs.Step.{mode_of, compare_of};
 
-use crate::items::{Use, is_other};
+use crate::access::Use;
+use crate::items::is_other;
 use crate::shard::{Shard, fresh_item};
 use mc_command::{MetaMode, StoreMode};
 use mc_item::{Answer, Item, Kind, MetaDone, MetaStore, PackedExpiry, Value};
