@@ -12,6 +12,12 @@ use std::collections::VecDeque;
 use std::mem;
 use std::sync::ArcSlice;
 
+/// Once all is written, a room of text of at most so many bytes is kept for the replies to come; a larger one is given back.
+const KEPT_TEXT: usize = 16_384;
+
+/// The same of the places for what is written later, in chunks.
+const KEPT_CHUNKS: usize = 64;
+
 /// Bytes that lie together.
 #[derive(Drop)]
 pub enum Chunk {
@@ -111,6 +117,26 @@ impl Unwritten {
         self.sent = 0;
     }
 
+    /// All is written: the front is let go, so that a line at rest keeps no share of a value and no large text. A small room of
+    /// text becomes the tail's, for the next replies.
+    fn let_go(&mut self)
+        requires { (self.old.later.items ≡ []) × (self.old.tail.items ≡ []) }
+        ensures { text_in self.new ≡ [] }
+    {
+        let front = mem::replace(&mut self.front, Chunk::Text(Vec::new(self.alloc)));
+        self.sent = 0;
+        if let Chunk::Text(mut text) = front
+            && text.capacity() > self.tail.capacity()
+            && text.capacity() <= KEPT_TEXT
+        {
+            text.clear();
+            self.tail = text;
+        }
+        if self.later.capacity() > KEPT_CHUNKS {
+            self.later = VecDeque::new(self.alloc);
+        }
+    }
+
     /// The text waits too, behind the rest. Where memory is refused, the rest waits as before.
     fn add(&mut self, text: &[u8]) -> Result<(), AllocError>
         ensures ok { OnOk result (text_in self.new ≡ text_in self.old ++ text.now) }
@@ -136,7 +162,8 @@ impl Unwritten {
         Ok(())
     }
 
-    /// Writes to the line what it takes without waiting, and tells whether that was all. At a fault the rest waits still.
+    /// Writes to the line what it takes without waiting, and tells whether that was all. At a fault the rest waits still. Once
+    /// all is written, it keeps no memory but a small room for the next replies.
     pub fn flush<L: Line>(&mut self, line: &mut L) -> Result<bool, OutFault>
         ensures out { IfOk result (λ out. IsTrue out → text_in self.new ≡ []) }
         ensures ok { IfOk result (λ _. took (text_in self.new) (L.sight line.new) ≡ took (text_in self.old) (L.sight line.old)) }
@@ -151,6 +178,7 @@ impl Unwritten {
                 }
                 self.pass(count);
             } else if self.is_last() {
+                self.let_go();
                 return Ok(true);
             } else {
                 self.go_on();
