@@ -4,7 +4,7 @@ use Rattle.std.specs.List.{concat}
 use Rattle.std.proofs.lemmas.List.{take-append-drop}
 use Rattle.std.proofs.lemmas.List.Folds.{concat-append}
 use Rattle.mc_wire.specs.Outlet.{Listed, Sight, Trace, broke, sight_out, took, with_bytes}
-use Rattle.mc_wire.proofs.Outlets.{took-append, took-nil}
+use Rattle.mc_wire.proofs.Outlets.{took-append}
 use Rattle.mc_ring.specs.Reply.{Shown}
 use Rattle.mc_join.specs.internal.Gathered.{told as bytes_told}
 use Rattle.mc_join.proofs.Gatherings.{told-grows, traces}

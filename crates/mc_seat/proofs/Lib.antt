@@ -3,3 +3,5 @@ pub mod Standing
 pub mod Turns
 pub mod Along
 pub mod Later
+pub mod Pieces
+pub mod Buffers

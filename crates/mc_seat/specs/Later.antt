@@ -1,9 +1,25 @@
 -- What waits for a line to take it.
-use Rattle.std.specs.Prelude.{ℕ, List, ◌++◌, drop}
+use Rattle.std.specs.Prelude.{ℕ, zero, suc, ◌+◌, List, [], ◌∷◌, ◌++◌, drop, length}
 use Rattle.std.specs.List.{flat_map}
+use Rattle.mc_seat.specs.declared.unwritten.Chunk.{Chunk}
 use Rattle.mc_seat.specs.declared.unwritten.Unwritten.{Unwritten}
 use Rattle.mc_seat.specs.Chunks.{bytes_of}
 
+-- what stands behind the front, and then the tail
+abbrev pub behind : Unwritten → List ℕ
+behind unwritten = flat_map bytes_of unwritten.later.items ++ unwritten.tail.items
+
 -- what is left of the front, then what stands behind it, and then the tail
 abbrev pub text_in : Unwritten → List ℕ
-text_in unwritten = drop unwritten.sent (bytes_of unwritten.front) ++ (flat_map bytes_of unwritten.later.items ++ unwritten.tail.items)
+text_in unwritten = drop unwritten.sent (bytes_of unwritten.front) ++ behind unwritten
+
+-- the piece at this place among the chunks and the tail behind them; nothing behind that
+abbrev pub piece_behind : List Chunk → List ℕ → ℕ → List ℕ
+piece_behind [] tail zero = tail
+piece_behind [] tail (suc place) = []
+piece_behind (chunk ∷ chunks) tail zero = bytes_of chunk
+piece_behind (chunk ∷ chunks) tail (suc place) = piece_behind chunks tail place
+
+-- how much stands behind the front: the chunks, each as one, and the bytes of the tail
+abbrev pub ahead : Unwritten → ℕ
+ahead unwritten = length unwritten.later.items + length unwritten.tail.items

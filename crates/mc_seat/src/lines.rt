@@ -1,9 +1,12 @@
 //! Where commands come from and replies go, and what tells the time.
 ghost use Rattle.std.specs.Prelude.{◌≡◌, ◌<◌, ◌≤◌, ℕ, IfOk, IfSome, OnErr, length, take};
+ghost use Rattle.std.specs.Io.{StartsWith};
+ghost use Rattle.std.specs.Io.Slices.{io_slices_bytes};
 ghost use Rattle.mc_wire.specs.Outlet.{Reads, broke, took};
 ghost use Rattle.mc_seat.specs.Lines.{ReadsIfReady};
 
 use mc_wire::{OutFault, Outlet};
+use std::io::IoSlice;
 
 /// A line gives no more bytes: it has failed.
 #[derive(Clone, Copy, Debug, PartialEq, Eq)]
@@ -16,6 +19,19 @@ pub enum Ready {
     Open,
     /// The same, and its input is at its end, or it has failed: from now on there is always something to read.
     Closing,
+}
+
+/// The bytes of the first buffer that isn't empty.
+fn first_filled<'a>(bufs: &[IoSlice<'a>]) -> &'a [u8]
+    ensures { StartsWith (io_slices_bytes bufs.now) result.now }
+{
+    for buf in bufs {
+        let bytes = buf.as_slice();
+        if !bytes.is_empty() {
+            return bytes;
+        }
+    }
+    &[]
 }
 
 /// A line of bytes in both directions, over memory, a stream or a socket. What it gave and took it tells, if it does, by what
@@ -47,6 +63,16 @@ pub trait Line: Outlet {
         ensures err { OnErr result (Self.sight self.new ≡ broke (Self.sight self.old)) }
     {
         self.write(bytes)
+    }
+
+    /// The same of the bytes of all the buffers, one after another. Where it isn't told how else, a line is offered the first of
+    /// them that isn't empty.
+    fn write_vectored_if_ready(&mut self, bufs: &[IoSlice<'_>]) -> Result<usize, OutFault>
+        ensures within { IfOk result (λ count. count ≤ length (io_slices_bytes bufs.now)) }
+        ensures ok { IfOk result (λ count. Self.sight self.new ≡ took (take count (io_slices_bytes bufs.now)) (Self.sight self.old)) }
+        ensures err { OnErr result (Self.sight self.new ≡ broke (Self.sight self.old)) }
+    {
+        self.write_if_ready(first_filled(bufs))
     }
 
     /// Gives the line up: it counts as failed from now on.

@@ -1,5 +1,5 @@
 //! Replies that were handed out, and which their line didn't take yet.
-ghost use Rattle.std.specs.Prelude.{◌≡◌, ◌≤◌, ◌++◌, [], false, IfOk, IsTrue, OnErr, OnOk, drop, length};
+ghost use Rattle.std.specs.Prelude.{◌≡◌, ◌<◌, ◌≤◌, ◌++◌, [], false, IfOk, IsTrue, OnErr, OnOk, drop, length, take};
 ghost use Rattle.std.specs.Arc.{arc_slice_items};
 ghost use Rattle.mc_wire.specs.Outlet.{Listed, broke, sight_out, took};
 ghost use Rattle.mc_seat.specs.Lines.{HasGrown};
@@ -9,6 +9,7 @@ use crate::lines::Line;
 use mc_wire::{OutFault, Outlet};
 use std::alloc::{AllocError, Global};
 use std::collections::VecDeque;
+use std::io::IoSlice;
 use std::mem;
 use std::sync::ArcSlice;
 
@@ -56,7 +57,7 @@ pub struct Unwritten {
 }
 
 impl Unwritten {
-    ghost use Rattle.mc_seat.specs.Later.{text_in};
+    ghost use Rattle.mc_seat.specs.Later.{ahead, behind, piece_behind, text_in};
 
     /// No replies. It takes no memory.
     pub fn new(alloc: Global) -> Unwritten
@@ -97,18 +98,52 @@ impl Unwritten {
         self.later.is_empty() && self.tail.is_empty()
     }
 
-    /// The first bytes of the front, so many, were written.
-    fn pass(&mut self, count: usize)
-        requires { count ≤ length (drop self.old.sent (bytes_of self.old.front)) }
-        ensures { text_in self.new ≡ drop count (text_in self.old) }
+    /// What stands so many places behind the front: a chunk, then the tail, and nothing behind that.
+    fn piece(&self, place: usize) -> &[u8]
+        ensures { result.now ≡ piece_behind self.now.later.items self.now.tail.items place }
     {
-        self.sent += count;
+        match self.later.get(place) {
+            Some(chunk) => chunk.bytes(),
+            None if place == self.later.len() => self.tail.as_slice(),
+            None => &[],
+        }
     }
 
-    /// What stands behind the front, which is written, becomes the front.
+    /// Offers a beginning of what waits to the line, which gives how many bytes it took, without waiting: what lies together by
+    /// a plain write, else the rest of the front and what stands behind it, so many pieces as one write takes.
+    fn offer<L: Line>(&self, line: &mut L) -> Result<usize, OutFault>
+        ensures within { IfOk result (λ count. count ≤ length (text_in self.now)) }
+        ensures ok { IfOk result (λ count. L.sight line.new ≡ took (take count (text_in self.now)) (L.sight line.old)) }
+        ensures err { OnErr result (L.sight line.new ≡ broke (L.sight line.old)) }
+    {
+        if self.is_last() {
+            return line.write_if_ready(self.rest());
+        }
+        line.write_vectored_if_ready(&[
+            IoSlice::new(self.rest()),
+            IoSlice::new(self.piece(0)),
+            IoSlice::new(self.piece(1)),
+            IoSlice::new(self.piece(2)),
+        ])
+    }
+
+    /// The first bytes of what waits, so many, were written.
+    fn pass(&mut self, count: usize)
+        requires { count ≤ length (text_in self.old) }
+        ensures { text_in self.new ≡ drop count (text_in self.old) }
+    {
+        let mut left = count;
+        while left > self.rest().len() {
+            left -= self.rest().len();
+            self.go_on();
+        }
+        self.sent += left;
+    }
+
+    /// What stands behind the front becomes the front, whose rest is let go.
     fn go_on(&mut self)
-        requires { drop self.old.sent (bytes_of self.old.front) ≡ [] }
-        ensures { text_in self.new ≡ text_in self.old }
+        ensures text { text_in self.new ≡ behind self.old }
+        ensures fewer { 0 < ahead self.old → ahead self.new < ahead self.old }
     {
         self.front = match self.later.pop_front() {
             Some(chunk) => chunk,
@@ -172,7 +207,7 @@ impl Unwritten {
     {
         for _ in 0..u64::MAX {
             if !self.rest().is_empty() {
-                let count = line.write_if_ready(self.rest())?;
+                let count = self.offer(line)?;
                 if count == 0 {
                     return Ok(false);
                 }
