@@ -9,6 +9,7 @@ pub mod Chain
 pub mod Steps
 pub mod Segments
 pub mod AtDoors
+pub mod Buffers
 pub mod Parts
 pub mod Sent
 pub mod TcpSent

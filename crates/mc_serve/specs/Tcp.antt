@@ -34,6 +34,13 @@ abbrev pub WritesStream : {E : Type 0} → List ℕ → Result ℕ E → Option 
 WritesStream bytes (Ok count) old new = Appends old new (take count bytes)
 WritesStream bytes (Err fault) old new = Keeps old new
 
+-- A line tells of a write as many bytes as its stream took, also none; and where that is a failure, the stream took none.
+abbrev pub TellsWrite : {D E : Type 0} → Result ℕ D → Result ℕ E → Type 0
+TellsWrite (Ok count) (Ok told) = told ≡ count
+TellsWrite (Ok count) (Err fault) = count ≡ 0
+TellsWrite (Err why) (Ok told) = told ≡ 0
+TellsWrite (Err why) (Err fault) = Unit {0}
+
 -- one that is gone: what its reads gave and its writes took
 abbrev pub gone_line : Gone → LineTold
 gone_line gone = record {

@@ -18,6 +18,7 @@ mod tcp;
 mod tcp_door;
 mod tcp_line;
 mod trail;
+mod vectored;
 
 pub use door::{Arrival, Door};
 pub use mc_server::Sizes;
@@ -29,3 +30,4 @@ pub use tcp::serve_tcp;
 pub use tcp_door::{Gone, TcpDoor};
 pub use tcp_line::TcpLine;
 pub use trail::Trail;
+pub use vectored::VectoredWrite;

@@ -2,15 +2,17 @@
 ghost use Rattle.std.specs.Prelude.{◌≡◌, ◌<◌, ◌≤◌, [], false, IfOk, IfSome, OnErr, length, take};
 ghost use Rattle.std.specs.Io.{ReadsAtMost, WritesAtMost};
 ghost use Rattle.std.specs.Io.KnownBytes.{Appends, Consumes, Keeps};
+ghost use Rattle.std.specs.Io.Slices.{io_slices_bytes};
 ghost use Rattle.mc_wire.specs.Outlet.{Reads, asked, broke, gave, took};
 ghost use Rattle.mc_seat.specs.Lines.{ReadsIfReady};
-ghost use Rattle.mc_serve.specs.Tcp.{ReadsStream, WritesStream, new_line, sight_of};
+ghost use Rattle.mc_serve.specs.Tcp.{ReadsStream, TellsWrite, WritesStream, new_line, sight_of};
 
 use crate::trail::Trail;
+use crate::vectored::VectoredWrite;
 use http_server::Log;
 use mc_seat::{Line, LineFault, Ready};
 use mc_wire::{OutFault, Outlet};
-use std::io::{ErrorKind, Read, Write};
+use std::io::{ErrorKind, IoSlice, Read, Write};
 use std::{io, thread};
 
 /// A stream of bytes in both directions, as a TCP connection. It tells each byte that its own reads gave and its own writes
@@ -85,6 +87,27 @@ impl<S> TcpLine<S> {
         // A read that doesn't fill its room leaves nothing, unless the end or urgent bytes come after it.
         self.may_read = !self.is_polled || self.is_closing || self.ended || count == room.len();
     }
+
+    /// What a write of some bytes came to: how many of them the stream took, none where it would wait. A line whose stream takes
+    /// none otherwise has failed.
+    fn after_write(&mut self, done: io::Result<usize>) -> Result<usize, OutFault>
+        ensures told { TellsWrite done result }
+        ensures ok { IfOk result (λ _. sight_of self.new ≡ sight_of self.old) }
+        ensures err { OnErr result (sight_of self.new ≡ broke (sight_of self.old)) }
+        ensures stream { self.new.stream ≡ self.old.stream }
+    {
+        match done {
+            Ok(count) if count > 0 => Ok(count),
+            Err(fault) if fault.kind() == ErrorKind::WouldBlock => {
+                self.may_write = !self.is_polled;
+                Ok(0)
+            }
+            _ => {
+                self.failed = true;
+                Err(OutFault)
+            }
+        }
+    }
 }
 
 impl<S: Drop> TcpLine<S> {
@@ -131,7 +154,27 @@ fn write_some<S: Write>(stream: &mut S, bytes: &[u8]) -> io::Result<usize>
     Err(io::Error::from(ErrorKind::Interrupted))
 }
 
-impl<S: Read + Write> Outlet for TcpLine<S> {
+/// The same of the bytes of all the buffers, one after another.
+fn write_some_of<S: VectoredWrite>(stream: &mut S, bufs: &[IoSlice<'_>]) -> io::Result<usize>
+    ensures bound { WritesAtMost result (io_slices_bytes bufs.now) }
+    ensures ok { IfOk result (λ count. Appends (S.contents stream.old) (S.contents stream.new) (take count (io_slices_bytes bufs.now))) }
+    ensures err { OnErr result (Keeps (S.contents stream.old) (S.contents stream.new)) }
+{
+    for _ in 0..u64::MAX {
+        match stream.write_buffers(bufs) {
+            Err(fault) if fault.kind() == ErrorKind::Interrupted => {}
+            done => return done,
+        }
+    }
+    Err(io::Error::from(ErrorKind::Interrupted))
+}
+
+/// Whether no buffer has a byte.
+fn are_empty(bufs: &[IoSlice<'_>]) -> bool {
+    bufs.iter().all(|buf| buf.as_slice().is_empty())
+}
+
+impl<S: Read + VectoredWrite> Outlet for TcpLine<S> {
     ghost sight = { sight_of };
 
     fn write(&mut self, bytes: &[u8]) -> Result<usize, OutFault>
@@ -155,7 +198,7 @@ impl<S: Read + Write> Outlet for TcpLine<S> {
     }
 }
 
-impl<S: Read + Write> Line for TcpLine<S> {
+impl<S: Read + VectoredWrite> Line for TcpLine<S> {
     fn read(&mut self, room: &mut [u8]) -> Result<usize, LineFault>
         ensures within { IfOk result (λ count. count ≤ length room.old) }
         ensures read { Reads room.new result (sight_of self.old) (sight_of self.new) }
@@ -219,20 +262,29 @@ impl<S: Read + Write> Line for TcpLine<S> {
         if bytes.is_empty() || !self.may_write {
             return Ok(0);
         }
-        match write_some(&mut self.stream, bytes) {
-            Ok(count) if count > 0 => {
-                self.taken.add(bytes.split_at(count).0);
-                Ok(count)
-            }
-            Err(fault) if fault.kind() == ErrorKind::WouldBlock => {
-                self.may_write = !self.is_polled;
-                Ok(0)
-            }
-            _ => {
-                self.failed = true;
-                Err(OutFault)
-            }
+        let done = write_some(&mut self.stream, bytes);
+        let count = self.after_write(done)?;
+        self.taken.add(bytes.split_at(count).0);
+        Ok(count)
+    }
+
+    fn write_vectored_if_ready(&mut self, bufs: &[IoSlice<'_>]) -> Result<usize, OutFault>
+        ensures within { IfOk result (λ count. count ≤ length (io_slices_bytes bufs.now)) }
+        ensures ok { IfOk result (λ count. sight_of self.new ≡ took (take count (io_slices_bytes bufs.now)) (sight_of self.old)) }
+        ensures err { OnErr result (sight_of self.new ≡ broke (sight_of self.old)) }
+        // Just the bytes that it says went to the stream.
+        ensures stream { WritesStream (io_slices_bytes bufs.now) result (S.contents self.old.stream) (S.contents self.new.stream) }
+    {
+        if self.failed {
+            return Err(OutFault);
         }
+        if are_empty(bufs) || !self.may_write {
+            return Ok(0);
+        }
+        let done = write_some_of(&mut self.stream, bufs);
+        let count = self.after_write(done)?;
+        self.taken.add_first(bufs, count);
+        Ok(count)
     }
 
     fn give_up(&mut self) {

@@ -1,7 +1,9 @@
 //! Bytes that only proofs read.
-ghost use Rattle.std.specs.Prelude.{◌≡◌, ◌++◌, []};
+ghost use Rattle.std.specs.Prelude.{◌≡◌, ◌++◌, [], take};
+ghost use Rattle.std.specs.Io.Slices.{io_slices_bytes};
 
 use http_server::Log;
+use std::io::IoSlice;
 use std::marker::Model;
 
 /// The bytes that went one way over a connection. It keeps none of them and takes no memory: contracts alone see the list.
@@ -32,6 +34,19 @@ impl Trail {
     {
         for byte in bytes {
             self.log = self.log.and(byte, &());
+        }
+    }
+
+    /// And then the first bytes of all the buffers, so many.
+    pub fn add_first(&mut self, bufs: &[IoSlice<'_>], count: usize)
+        ensures { self.new ≡ self.old ++ take count (io_slices_bytes bufs.now) }
+    {
+        let mut left = count;
+        for buf in bufs {
+            let bytes = buf.as_slice();
+            let (front, _) = bytes.split_at(left.min(bytes.len()));
+            self.add(front);
+            left -= front.len();
         }
     }
 }
