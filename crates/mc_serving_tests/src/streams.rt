@@ -1,11 +1,13 @@
 //! A connection over a stream that takes and gives little at a call, and whose calls a signal interrupts.
 use crate::asserting::{equal, holds};
-use mc_serve::TcpLine;
+use mc_seat::Unwritten;
+use mc_serve::{TcpLine, VectoredWrite};
 use mc_server::{Sizes, StillClock, serve_one};
-use mc_wire::put_all;
+use mc_wire::{Outlet, put_all};
 use std::alloc::Global;
 use std::io;
 use std::io::{ErrorKind, Read, Write};
+use std::sync::ArcSlice;
 use std::test::Fail;
 
 /// So many bytes it takes and gives at most.
@@ -66,6 +68,8 @@ impl Write for Slow {
     }
 }
 
+impl VectoredWrite for Slow {}
+
 #[test]
 fn what_is_written_goes_out_whole_and_once(rt: HostRuntime) -> Result<(), Fail> {
     let mut stream = Slow::new(rt.alloc(), b"");
@@ -74,6 +78,25 @@ fn what_is_written_goes_out_whole_and_once(rt: HostRuntime) -> Result<(), Fail> 
     holds(&rt, put_all(&mut line, text).is_ok());
     drop(line);
     equal(&rt, stream.output.as_slice(), text.as_slice());
+    Ok(())
+}
+
+#[test]
+fn pieces_that_wait_go_out_whole_and_once(rt: HostRuntime) -> Result<(), Fail> {
+    let mut stream = Slow::new(rt.alloc(), b"");
+    let mut line = TcpLine::new(&mut stream);
+    let mut waiting = Unwritten::new(rt.alloc());
+    let value = ArcSlice::from_slice(rt.alloc(), b"0123456789")?;
+    for _ in 0..3 {
+        holds(&rt, put_all(&mut waiting, b"VALUE a 0 10\r\n").is_ok());
+        holds(&rt, waiting.put_shared(&value).is_ok());
+        holds(&rt, put_all(&mut waiting, b"\r\nEND\r\n").is_ok());
+    }
+    holds(&rt, matches!(waiting.flush(&mut line), Ok(true)));
+    drop(line);
+    let wanted =
+        b"VALUE a 0 10\r\n0123456789\r\nEND\r\nVALUE a 0 10\r\n0123456789\r\nEND\r\nVALUE a 0 10\r\n0123456789\r\nEND\r\n";
+    equal(&rt, stream.output.as_slice(), wanted.as_slice());
     Ok(())
 }
 
