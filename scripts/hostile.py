@@ -1,8 +1,9 @@
 #!/usr/bin/env python3
 """Runs the server as it is met by hostile and unlucky clients, and says which checks hold. Some three minutes.
 
-    scripts/hostile.py [--soak SECONDS] [NAME ..]     all checks, or those whose names have one of these words in them
+    scripts/hostile.py [--soak SECONDS] [--long] [NAME ..]     all checks, or those whose names have one of these words in them
 
+`--long`: a million connections come one after another, and clients that ask once a second do so for five minutes.
 Plain sockets and pipes alone are used, and one server for each check, on a port of its own. Beside them all `bench/soak.py`
 runs, two minutes where nothing else is said. scripts/seen_to_fail.py shows which faults the checks find. The last line is
 `hostile: N passed, M failed`.
@@ -13,6 +14,7 @@ import sys
 
 import hostile_bytes
 import hostile_calls
+import hostile_crowd
 import hostile_flood
 import hostile_lines
 import hostile_memory
@@ -29,7 +31,7 @@ REST = 0.2
 def checks():
     return [
         *hostile_calls.CHECKS, *hostile_lines.CHECKS, *hostile_system.CHECKS, *hostile_memory.CHECKS, *hostile_flood.CHECKS,
-        *hostile_bytes.CHECKS, *hostile_soak.CHECKS,
+        *hostile_bytes.CHECKS, *hostile_soak.CHECKS, *hostile_crowd.CHECKS,
     ]
 
 
@@ -53,10 +55,13 @@ def run_beside_the_soak(tally, seconds):
 def main():
     parser = argparse.ArgumentParser(description=__doc__.splitlines()[0])
     parser.add_argument("--soak", type=float, default=120)
+    parser.add_argument("--long", action="store_true")
     parser.add_argument("names", nargs="*")
     given = parser.parse_args()
     needs_program()
-    bounded(LIMIT_SECONDS)
+    bounded(3600 if given.long else LIMIT_SECONDS)
+    if given.long:
+        hostile_crowd.CONNECTIONS, hostile_crowd.SECONDS = 1_000_000, 300
     tally = Tally("hostile")
     if given.names:
         run(tally, given.names)
