@@ -227,10 +227,10 @@ def converse(fault, program, words):
 
 
 def one_fewer(words):
-    """The words with a connection fewer."""
+    """The words with a connection fewer, where they name more than one."""
     if "--connections" in words:
         at = words.index("--connections") + 1
-        words[at] = str(int(words[at]) - 1)
+        words[at] = str(max(1, int(words[at]) - 1))
     return words
 
 

@@ -226,6 +226,19 @@ def each_fault_of_the_command_line():
         equal((call, *ended(call.split())), (call, 2, b"", f"mcd: {text}\n"))
 
 
+# Calls of which a word is no option, or an option stands there in another way than it may; and what the text must name.
+WORDS = [
+    ("--nope", "--nope"), ("nope", "nope"), ("--stdio nope", "nope"), ("--seats 1 --seats 2", "--seats"), ("--stdio --stdio", "--stdio"),
+    ("--listen", "--listen"), ("--replay", "--replay"), ("--stdio --at", "--at"), ("--shards", "--shards"), ("--stdio=yes", "yes"),
+]
+
+
+def each_fault_of_a_word():
+    for call, word in WORDS:
+        status, out, told = ended(call.split())
+        equal((call, status, out, told[:7], word in told.splitlines()[0]), (call, 2, b"", "error: ", True))
+
+
 def what_cannot_be_read_is_told():
     status, out, told = ended(["--replay", "no-such-file"])
     first, second = told.splitlines()
@@ -253,8 +266,8 @@ def a_taken_address_is_told():
 
 CHECKS = [
     a_value_limit_of_1024, values_of_2_mib, a_budget_of_1024, a_budget_of_1_mib, each_number_of_shards, two_seats,
-    each_window, the_clock_goes_on, the_clock_tells_the_year, each_fault_of_the_command_line, what_cannot_be_read_is_told,
-    what_cannot_be_written_is_told, a_taken_address_is_told,
+    each_window, the_clock_goes_on, the_clock_tells_the_year, each_fault_of_the_command_line, each_fault_of_a_word,
+    what_cannot_be_read_is_told, what_cannot_be_written_is_told, a_taken_address_is_told,
 ]
 
 

@@ -35,7 +35,7 @@ FAULTS = {
     "a_file_that_cannot_be_read_is_told": ["ends with 0"],
     "a_replay_that_cannot_be_written_is_told": ["ends with 0"],
     "help_ends_with_0": ["ends with 1"],
-    "so_many_connections_and_then_status_0": ["ends with 1"],
+    "so_many_connections_and_then_status_0": ["ends with 1", "counts a connection twice"],
     "the_last_connections_are_served_to_their_end": ["counts a connection twice"],
     "a_port_is_free_again_at_once": ["keeps its port"],
     "half_closed_connections_get_all_replies": ["closes both ways"],
