@@ -127,7 +127,7 @@ def is_seen(check, fault):
 def main():
     served.needs_program()
     served.Line.__init__.__defaults__ = (PATIENCE, None)
-    hostile_crowd.PATIENCE, hostile_crowd.SECONDS, hostile_crowd.CONNECTIONS = PATIENCE, 5, 2_000
+    hostile_crowd.SECONDS, hostile_crowd.CONNECTIONS = 5, 2_000
     tally = served.Tally("seen to fail")
     checks = {check.__name__: check for check in hostile.checks()} | {"soak": soaks}
     for name, check in checks.items():
