@@ -150,7 +150,7 @@ def plot(found, folder):
         set ylabel "mcd to memcached"
         set xtics rotate by -25
         set grid ytics
-        set key top right
+        set key top left
         $Data << EOD
 {data}
 EOD
