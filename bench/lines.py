@@ -23,7 +23,7 @@ PROGRAM = TOP / "crates/mc_trials/out/mc_trials"
 RIGHT = TOP / "crates/mc_trials/stdout"
 
 # How long a load may take: one that stops never ends by itself.
-SECONDS = 120
+SECONDS = 300
 
 LINES, SHARDS, BATCHES = (1, 2, 4, 8), (1, 2, 4), (256, 1)
 
