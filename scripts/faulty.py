@@ -1,7 +1,7 @@
 #!/usr/bin/env python3
 """Stands in for mcd with one fault put in, so that scripts/seen_to_fail.py can see which checks find it.
 
-    scripts/faulty.py FAULT PROGRAM [WORD ..]     FAULT is a key of STATUSES, INPUTS or LINES below, PROGRAM the real one
+    scripts/faulty.py FAULT PROGRAM [WORD ..]     FAULT is a key of STATUSES, INPUTS, CALLS or LINES below, PROGRAM the real one
 
 Calls that serve connections go through a proxy of this process, so what a check reads of the memory of the server is its.
 """
@@ -169,7 +169,7 @@ def takes(mebibytes, at_start=0):
     class Takes(Honest):
         def __init__(self, *given):
             super().__init__(*given)
-            KEPT.append(b"x" * (mebibytes * MIB))
+            KEPT.append(b"x" * int(mebibytes * MIB))
 
     Takes.at_start = at_start
     return Takes
@@ -181,7 +181,7 @@ LINES = {
     "has one seat": HasOneSeat, "gathers replies": GathersReplies, "resets": Resets, "stores torn blocks": StoresTornBlocks,
     "slow for chosen keys": SlowForChosenKeys, "keeps its port": Honest, "takes 64 MiB": takes(0, 64),
     "takes 1 MiB a connection": takes(1), "takes 4 MiB a connection": takes(4), "takes 16 MiB a connection": takes(16),
-    "takes 64 MiB a connection": takes(64), "counts a connection twice": Honest,
+    "takes 64 MiB a connection": takes(64), "takes 4 KiB a connection": takes(1 / 256), "counts a connection twice": Honest,
     "spins": Spins,
 }
 
@@ -226,11 +226,23 @@ def converse(fault, program, words):
     return subprocess.run([*WITH_US, program, *words], input=INPUTS[fault](whole, first)).returncode
 
 
+def few_seats(words):
+    """The words with a hundredth of the seats."""
+    if "--seats" in words:
+        at = words.index("--seats") + 1
+        words[at] = str(max(1, int(words[at]) // 100))
+    return words
+
+
+# Faults of how the program is called.
+CALLS = {"has few seats": few_seats}
+
+
 def one_fewer(words):
-    """The words with a connection fewer."""
+    """The words with a connection fewer, where they name more than one."""
     if "--connections" in words:
         at = words.index("--connections") + 1
-        words[at] = str(int(words[at]) - 1)
+        words[at] = str(max(1, int(words[at]) - 1))
     return words
 
 
@@ -238,6 +250,8 @@ def main():
     fault, program, *words = sys.argv[1:]
     if fault in INPUTS:
         return converse(fault, program, words)
+    if fault in CALLS:
+        os.execv(program, [program, *CALLS[fault](words)])
     if fault in STATUSES:
         subprocess.run([*WITH_US, program, *words])
         return STATUSES[fault]

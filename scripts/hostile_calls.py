@@ -68,13 +68,29 @@ def help_ends_with_0():
     equal((status, b"--listen" in out, told), (0, True, b""))
 
 
+def leaves(port, number):
+    """A client that ends, quits, or is reset in the middle of a block."""
+    with Line(port) as line:
+        line.ask(b"mn\r\n", b"MN\r\n")
+        if number % 3 == 1:
+            line.ask(b"quit\r\n", b"")
+        elif number % 3 == 2:
+            line.send(b"set torn 0 0 10\r\nabc")
+            line.reset()
+
+
 def so_many_connections_and_then_status_0():
-    for count, seats in ((1, 1), (1, 4), (3, 2), (20, 4)):
+    """Each connection counts once, however it ends: before the last the server goes on, and then it ends."""
+    for count, seats in ((1, 1), (1, 4), (1, 64), (3, 1), (3, 4), (3, 64), (200, 1), (200, 4), (200, 64)):
         with Server("--connections", count, "--seats", seats) as server:
-            for _ in range(count):
-                with Line(server.port) as line:
-                    line.ask(b"mn\r\nquit\r\n", b"MN\r\n")
-            equal((server.process.wait(timeout=30), server.process.stderr.read()), (0, b""))
+            for number in range(count - 1):
+                leaves(server.port, number)
+            with Line(server.port) as last:
+                last.ask(b"mn\r\n", b"MN\r\n")
+                time.sleep(0.1)
+                equal(server.is_running(), True)
+                last.ask(b"mn\r\nquit\r\n", b"MN\r\n")
+            equal((count, seats, server.process.wait(timeout=30), server.process.stderr.read()), (count, seats, 0, b""))
 
 
 def the_last_connections_are_served_to_their_end():

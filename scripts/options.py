@@ -226,6 +226,19 @@ def each_fault_of_the_command_line():
         equal((call, *ended(call.split())), (call, 2, b"", f"mcd: {text}\n"))
 
 
+# Calls of which a word is no option, or an option stands there in another way than it may; and what the text must name.
+WORDS = [
+    ("--nope", "--nope"), ("nope", "nope"), ("--stdio nope", "nope"), ("--seats 1 --seats 2", "--seats"), ("--stdio --stdio", "--stdio"),
+    ("--listen", "--listen"), ("--replay", "--replay"), ("--stdio --at", "--at"), ("--shards", "--shards"), ("--stdio=yes", "yes"),
+]
+
+
+def each_fault_of_a_word():
+    for call, word in WORDS:
+        status, out, told = ended(call.split())
+        equal((call, status, out, told[:7], word in told.splitlines()[0]), (call, 2, b"", "error: ", True))
+
+
 def what_cannot_be_read_is_told():
     status, out, told = ended(["--replay", "no-such-file"])
     first, second = told.splitlines()
@@ -251,10 +264,44 @@ def a_taken_address_is_told():
         equal(second.startswith(f"mcd: --listen {address}: Address already in use"), True)
 
 
+def limited(limit, *words):
+    """The words of a call under a limit of the system."""
+    return ["sh", "-c", f'ulimit {limit}; exec "$0" "$@"', MCD, "--listen", "127.0.0.1:0", *words]
+
+
+def few_open_files_are_told():
+    """Where fewer may be open than all seats need, the program says so and goes on."""
+    process = started(limited("-n 20", "--seats", "30"), stderr=subprocess.PIPE)
+    try:
+        port = int(process.stderr.readline().rpartition(b":")[2])
+        equal(process.stderr.readline(), b"mcd: --seats 30 needs 41 open files, and 20 are allowed (ulimit -n)\n")
+        with Line(port) as line:
+            line.ask(b"mn\r\n", b"MN\r\n")
+    finally:
+        process.kill()
+        process.wait()
+        process.stderr.close()
+
+
+def ended_under(limit, *words):
+    """The status of a call under a limit, and what it tells last."""
+    ran = subprocess.run(limited(limit, *words), stdin=subprocess.DEVNULL, stderr=subprocess.PIPE, timeout=30)
+    return ran.returncode, ran.stderr.decode().splitlines()[-2:]
+
+
+def what_the_system_refuses_is_told():
+    """Without the open files that the threads need, and without memory."""
+    equal(ended_under("-n 8", "--shards", "16"),
+          (1, ["mcd: cannot start a thread", "mcd: --shards 16 needs a thread for each, and three open files"]))
+    status, told = ended_under("-v 100000", "--shards", "16", "--seats", "4096")
+    equal((status, told[-1]), (1, "mcd: out of memory"))
+
+
 CHECKS = [
     a_value_limit_of_1024, values_of_2_mib, a_budget_of_1024, a_budget_of_1_mib, each_number_of_shards, two_seats,
-    each_window, the_clock_goes_on, the_clock_tells_the_year, each_fault_of_the_command_line, what_cannot_be_read_is_told,
-    what_cannot_be_written_is_told, a_taken_address_is_told,
+    each_window, the_clock_goes_on, the_clock_tells_the_year, each_fault_of_the_command_line, each_fault_of_a_word,
+    what_cannot_be_read_is_told, what_cannot_be_written_is_told, a_taken_address_is_told, few_open_files_are_told,
+    what_the_system_refuses_is_told,
 ]
 
 

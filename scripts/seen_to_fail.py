@@ -14,6 +14,7 @@ import time
 import hostile
 import hostile_bytes
 import hostile_calls
+import hostile_crowd
 import hostile_soak
 import served
 from faulty import LINES
@@ -35,7 +36,7 @@ FAULTS = {
     "a_file_that_cannot_be_read_is_told": ["ends with 0"],
     "a_replay_that_cannot_be_written_is_told": ["ends with 0"],
     "help_ends_with_0": ["ends with 1"],
-    "so_many_connections_and_then_status_0": ["ends with 1"],
+    "so_many_connections_and_then_status_0": ["ends with 1", "counts a connection twice"],
     "the_last_connections_are_served_to_their_end": ["counts a connection twice"],
     "a_port_is_free_again_at_once": ["keeps its port"],
     "half_closed_connections_get_all_replies": ["closes both ways"],
@@ -67,6 +68,9 @@ FAULTS = {
     "an_honest_proxy_is_seen_as_one": ["a proxy that spoils"],
     "spoiled_replies_are_seen": ["a checker that looks away"],
     "strangers_are_seen": ["a checker that looks away"],
+    "four_thousand_clients_at_once_are_answered": ["has few seats"],
+    "clients_that_ask_once_a_second_are_answered": ["drops connections"],
+    "connections_one_after_another_take_nothing_that_stays": ["takes 4 KiB a connection"],
     "soak": ["drops connections", "changes a byte", "takes 1 MiB a connection"],
 }
 
@@ -123,6 +127,7 @@ def is_seen(check, fault):
 def main():
     served.needs_program()
     served.Line.__init__.__defaults__ = (PATIENCE, None)
+    hostile_crowd.SECONDS, hostile_crowd.CONNECTIONS = 5, 2_000
     tally = served.Tally("seen to fail")
     checks = {check.__name__: check for check in hostile.checks()} | {"soak": soaks}
     for name, check in checks.items():
