@@ -142,7 +142,7 @@ def plot(found, folder):
         return
     data = "\n".join(f'"{workload}" {rate:.3f} {cpu:.3f}' for workload, _, _, rate, cpu in rows(found))
     script = f"""
-        set terminal svg size 900,480 font "sans,12"
+        set terminal svg size 900,480 font "sans,12" background rgb "white"
         set output "{folder}/side-by-side.svg"
         set style data histograms
         set style fill solid 0.8
@@ -150,7 +150,7 @@ def plot(found, folder):
         set ylabel "mcd to memcached"
         set xtics rotate by -25
         set grid ytics
-        set key top right
+        set key top left
         $Data << EOD
 {data}
 EOD
