@@ -1,5 +1,6 @@
 pub mod Fresh
 pub mod Orders
+pub mod Calling
 pub mod Carrying
 pub mod Ending
 pub mod Serving

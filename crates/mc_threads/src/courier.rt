@@ -2,10 +2,11 @@
 ghost use Rattle.std.specs.Prelude.{◌≡◌, ◌<◌, ◌==◌, false, true, IfOk, IsTrue, length};
 ghost use Rattle.std.specs.Bool.{OnFalse, OnTrue};
 ghost use Rattle.std.specs.List.{list_all};
+ghost use Rattle.mc_threads.specs.Serving.{AreCalled};
 
 use mc_conn::Conn;
 use mc_ring::{Parcel, SeatEnds};
-use mc_wake::Wakers;
+use mc_wake::{Caller, Wakers};
 use std::alloc::{AllocError, Global};
 
 /// A seat's ends of its lanes, and what is under way on them.
@@ -19,8 +20,11 @@ pub struct Courier {
     places: usize,
     /// A piece could not be sent yet.
     blocked: bool,
-    shards: Wakers,
+    /// A piece was sent, and the shards were not called for it yet.
+    uncalled: bool,
+    shards: Caller,
     ghost each_shard: { length under_way.items ≡ length ends.lanes },
+    ghost all_called: { uncalled ≡ false → AreCalled shards under_way.items },
 }
 
 impl Courier {
@@ -39,11 +43,13 @@ impl Courier {
         ensures idle { IfOk result (λ courier. IsIdle courier.under_way.items) }
     {
         let under_way = vec![in alloc; 0; ends.shards()]?;
+        let shards = Caller::new(shards, ends.number());
         Ok(Courier {
             ends,
             under_way,
             places,
             blocked: false,
+            uncalled: false,
             shards,
         })
     }
@@ -66,10 +72,12 @@ impl Courier {
         self.under_way.iter().all(|count| *count == 0)
     }
 
-    /// Sends what there is room for and takes in what has come, and tells whether there was something.
+    /// Sends what there is room for and takes in what has come, and tells whether there was something. Each shard of which a
+    /// reply is awaited was called then, after the last piece was sent.
     pub(crate) fn carry(&mut self, conn: &mut Conn) -> bool
         requires { CanCarry self.old conn.old }
-        ensures { Goes (AllOutWhere ((result ≡ false) × (self.new.blocked ≡ false))) self.old conn.old self.new conn.new }
+        ensures goes { Goes (AllOutWhere ((result ≡ false) × (self.new.blocked ≡ false))) self.old conn.old self.new conn.new }
+        ensures called { self.new.uncalled ≡ false }
     {
         if self.send_all(conn) {
             self.receive_all(conn);
@@ -78,16 +86,18 @@ impl Courier {
         self.receive_all(conn)
     }
 
-    /// Sends pieces while there is room, and wakes the shards; tells whether one was sent.
+    /// Sends pieces while there is room, and calls the shards; tells whether one was sent.
     fn send_all(&mut self, conn: &mut Conn) -> bool
         requires { CanCarry self.old conn.old }
-        ensures { Goes (AllOutWhere ((result ≡ false) × (self.new.blocked ≡ false))) self.old conn.old self.new conn.new }
+        ensures goes { Goes (AllOutWhere ((result ≡ false) × (self.new.blocked ≡ false))) self.old conn.old self.new conn.new }
+        ensures called { self.new.uncalled ≡ false }
     {
         if !self.send_next(conn) {
+            self.call_shards();
             return false;
         }
         self.send_more(conn);
-        self.wake_shards();
+        self.call_shards();
         true
     }
 
@@ -121,6 +131,7 @@ impl Courier {
         }
         match self.ends.send(shard, Parcel::Piece(piece)) {
             Ok(()) => {
+                self.uncalled = true;
                 self.under_way[shard] = count + 1;
                 true
             }
@@ -134,13 +145,23 @@ impl Courier {
         }
     }
 
-    /// Wakes the shards that are asked something.
-    fn wake_shards(&self) {
-        for (shard, count) in self.under_way.iter().enumerate() {
-            if *count > 0 {
-                self.shards.call(shard, self.ends.number());
+    /// Calls the shards of which replies are awaited, where that wasn't done since the last piece was sent.
+    fn call_shards(&mut self)
+        ensures called { self.new.uncalled ≡ false }
+        ensures ends { self.new.ends ≡ self.old.ends }
+        ensures under_way { self.new.under_way ≡ self.old.under_way }
+        ensures blocked { self.new.blocked ≡ self.old.blocked }
+    {
+        if !self.uncalled {
+            return;
+        }
+        self.shards.note_sent();
+        for shard in 0..self.under_way.len() {
+            if self.under_way[shard] > 0 {
+                self.shards.call(shard);
             }
         }
+        self.uncalled = false;
     }
 
     /// Takes in the replies that have come; tells whether there was one.
@@ -148,6 +169,7 @@ impl Courier {
         requires { CanCarry self.old conn.old }
         ensures goes { Goes NoneOut self.old conn.old self.new conn.new }
         ensures blocked { self.new.blocked ≡ self.old.blocked }
+        ensures called { self.new.uncalled ≡ self.old.uncalled }
     {
         let mut received = false;
         for shard in 0..self.under_way.len() {
@@ -164,6 +186,7 @@ impl Courier {
         requires carries { CanCarry self.old conn.old }
         ensures goes { Goes NoneOut self.old conn.old self.new conn.new }
         ensures blocked { self.new.blocked ≡ self.old.blocked }
+        ensures called { self.new.uncalled ≡ self.old.uncalled }
         ensures same { length self.new.under_way.items ≡ length self.old.under_way.items }
     {
         let mut received = false;
@@ -182,6 +205,7 @@ impl Courier {
         requires carries { CanCarry self.old conn.old }
         ensures goes { Goes NoneOut self.old conn.old self.new conn.new }
         ensures blocked { self.new.blocked ≡ self.old.blocked }
+        ensures called { self.new.uncalled ≡ self.old.uncalled }
         ensures same { length self.new.under_way.items ≡ length self.old.under_way.items }
     {
         let Some(left) = self.under_way[shard].checked_sub(1) else {
@@ -212,7 +236,7 @@ impl Courier {
     {
         match self.ends.send(shard, Parcel::End) {
             Ok(()) => {
-                self.shards.call(shard, self.ends.number());
+                self.shards.call_last(shard);
                 true
             }
             Err(_) => false,

@@ -44,7 +44,7 @@ impl Session {
     ghost use Rattle.mc_conn.specs.Told.{Told, IsAtRest, IsOver, told_nothing};
     ghost use Rattle.mc_seat.specs.Later.{text_in};
     ghost use Rattle.mc_threads.specs.Ending.{EndsOne, StandsStill};
-    ghost use Rattle.mc_threads.specs.Serving.{IsIdle};
+    ghost use Rattle.mc_threads.specs.Serving.{AreCalled, IsIdle};
     ghost use Rattle.mc_threads.specs.Session.{IsVacant, IsServing, MayStep, StepSays, TakesFor};
 
     /// A seat that serves no line yet, over new ends of its lanes, whose rings have so many places. The wakers are those of the
@@ -112,9 +112,11 @@ impl Session {
     /// doesn't take at once is refused, the line is given up. The rooms are those of the thread, to read into.
     pub fn step<L: Line, K: Clock>(&mut self, line: &mut L, clock: &K, rooms: &mut Rooms) -> Stepped
         requires { MayStep self.old }
-        ensures { (shards limit : ℕ) (begin : Sight) (before : Ends Near) →
+        ensures says { (shards limit : ℕ) (begin : Sight) (before : Ends Near) →
             IsServing shards limit (K.may_answer clock.now) begin (L.sight line.old) before self.old →
             StepSays result shards limit (K.may_answer clock.now) begin (L.sight line.new) before self.new }
+        // Where it waits, each shard of which replies are awaited was called after the last piece was sent.
+        ensures called { result ≡ Stepped.Waits → AreCalled self.new.courier.shards self.new.courier.under_way.items }
     {
         if self.courier.carry(&mut self.conn) {
             return Stepped::Did;

@@ -7,6 +7,7 @@
 #![tactic(auto)]
 
 mod board;
+mod caller;
 mod marked;
 mod patience;
 mod sleeper;
@@ -14,6 +15,7 @@ mod sockets;
 mod waker;
 mod wakers;
 
+pub use caller::Caller;
 pub use marked::Marked;
 pub use patience::Patience;
 pub use sleeper::Sleeper;

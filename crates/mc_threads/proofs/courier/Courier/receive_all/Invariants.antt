@@ -7,6 +7,7 @@ abbrev pub invariant-loop-shard : goal.invariant-loop-shard
 invariant-loop-shard l = record {
   goes : MovesOn NoneOut l.fn.self.ends l.fn.self.under_way.items l.fn.conn l.self.ends l.self.under_way.items l.conn;
   blocked : l.self.blocked ≡ l.fn.self.blocked;
+  called : l.self.uncalled ≡ l.fn.self.uncalled;
   same : length l.self.under_way.items ≡ length l.fn.self.under_way.items;
   last : l.shard-end ≡ length l.fn.self.under_way.items;
 }

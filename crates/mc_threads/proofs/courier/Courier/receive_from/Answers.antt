@@ -5,7 +5,7 @@ use Rattle.mc_threads.proofs.Carrying.{may_still, stays_more, stays_refl}
 use Rattle.mc_threads.proofs.courier.Courier.receive_from.Goals as goal
 
 pub loop-init : goal.loop-init
-loop-init c = record { goes = stays_refl c.args.self.now.ends c.args.self.now.under_way.items c.args.conn.now; blocked = refl; same = refl }
+loop-init c = record { goes = stays_refl c.args.self.now.ends c.args.self.now.under_way.items c.args.conn.now; blocked = refl; called = refl; same = refl }
 
 pub receive_next-requires : goal.receive_next-requires
 receive_next-requires c = record {
@@ -17,6 +17,7 @@ pub returns-then-not-receive_next : goal.returns-then-not-receive_next
 returns-then-not-receive_next c = record {
   goes = stays_more _ _ _ _ _ _ _ _ _ c.loop.invariant.goes c.receive_next.ensures.goes;
   blocked = c.receive_next.ensures.blocked ∙ c.loop.invariant.blocked;
+  called = c.receive_next.ensures.called ∙ c.loop.invariant.called;
   same = c.receive_next.ensures.same ∙ c.loop.invariant.same;
 }
 
@@ -24,5 +25,6 @@ pub loop-preserved : goal.loop-preserved
 loop-preserved c = record {
   goes = stays_more _ _ _ _ _ _ _ _ _ c.loop.invariant.goes c.receive_next.ensures.goes;
   blocked = c.receive_next.ensures.blocked ∙ c.loop.invariant.blocked;
+  called = c.receive_next.ensures.called ∙ c.loop.invariant.called;
   same = c.receive_next.ensures.same ∙ c.loop.invariant.same;
 }

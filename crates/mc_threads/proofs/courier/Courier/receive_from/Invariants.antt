@@ -7,5 +7,6 @@ abbrev pub invariant-loop : goal.invariant-loop
 invariant-loop l = record {
   goes : MovesOn NoneOut l.fn.self.ends l.fn.self.under_way.items l.fn.conn l.self.ends l.self.under_way.items l.conn;
   blocked : l.self.blocked ≡ l.fn.self.blocked;
+  called : l.self.uncalled ≡ l.fn.self.uncalled;
   same : length l.self.under_way.items ≡ length l.fn.self.under_way.items;
 }

@@ -8,17 +8,17 @@ use Rattle.mc_threads.proofs.Serving.{settles, stops_move, stops_rest, turn_ends
 use Rattle.mc_threads.proofs.Writing.{complete_settled, handed_out, serving_flushed, stops_flushed, stops_none_waits}
 use Rattle.mc_threads.proofs.session.Session.step.Goals as goal
 
-pub returns-then-carry : goal.returns-then-carry
-returns-then-carry g c shards limit begin before serving =
-    record { stopped = stops_move _ shards limit (g.K.Clock.may_answer c.args.clock.now) begin _ before _ _ _ _ _ _ _ _ _ c.carry.ensures serving.stopped; grown = serving.grown }
+pub returns-then-carry-clause-says : goal.returns-then-carry-clause-says
+returns-then-carry-clause-says g c shards limit begin before serving =
+    record { stopped = stops_move _ shards limit (g.K.Clock.may_answer c.args.clock.now) begin _ before _ _ _ _ _ _ _ _ _ c.carry.ensures.goes serving.stopped; grown = serving.grown }
 
-pub returns-then-not-is_settled : goal.returns-then-not-is_settled
-returns-then-not-is_settled g c shards limit begin before serving =
-    record { stopped = stops_move _ shards limit (g.K.Clock.may_answer c.args.clock.now) begin _ before _ _ _ _ _ _ _ _ _ c.carry.ensures serving.stopped; grown = serving.grown }
+pub returns-then-not-is_settled-clause-says : goal.returns-then-not-is_settled-clause-says
+returns-then-not-is_settled-clause-says g c shards limit begin before serving =
+    record { stopped = stops_move _ shards limit (g.K.Clock.may_answer c.args.clock.now) begin _ before _ _ _ _ _ _ _ _ _ c.carry.ensures.goes serving.stopped; grown = serving.grown }
 
-pub returns-in-Err : goal.returns-in-Err
-returns-in-Err g c shards limit begin before serving =
-    let all = moves_all _ _ _ _ _ _ _ _ _ _ (refl, c.if-not-is_settled.ensures.sent refl) c.if-carry.ensures (stays_refl _ _ _) in
+pub returns-in-Err-clause-says : goal.returns-in-Err-clause-says
+returns-in-Err-clause-says g c shards limit begin before serving =
+    let all = moves_all _ _ _ _ _ _ _ _ _ _ (refl, c.if-not-is_settled.ensures.sent refl) c.if-carry.ensures.goes (stays_refl _ _ _) in
     let idle = c.if-not-is_settled.ensures.idle refl in
     let settled = settles shards limit (g.K.Clock.may_answer c.args.clock.now) begin _ before _ _ _ _ _ _ _ _ _ all idle serving.stopped in
     let turns = settled.stopped.turns in
@@ -26,9 +26,9 @@ returns-in-Err g c shards limit begin before serving =
     let served = breaks_given_up turns.received begin _ _ _ _ turns.told _ off.now c.give_up.ensures serving.grown turns.serving in
     rw c.ended.ensures (record { served = turn_ends _ _ _ _ _ _ _ _ _ _ _ _ _ _ true settled served; idle = idle })
 
-pub returns-in-Ok-false : goal.returns-in-Ok-false
-returns-in-Ok-false g c shards limit begin before serving =
-    let all = moves_all _ _ _ _ _ _ _ _ _ _ (refl, c.if-not-is_settled.ensures.sent refl) c.if-carry.ensures (stays_refl _ _ _) in
+pub returns-in-Ok-false-clause-says : goal.returns-in-Ok-false-clause-says
+returns-in-Ok-false-clause-says g c shards limit begin before serving =
+    let all = moves_all _ _ _ _ _ _ _ _ _ _ (refl, c.if-not-is_settled.ensures.sent refl) c.if-carry.ensures.goes (stays_refl _ _ _) in
     let idle = c.if-not-is_settled.ensures.idle refl in
     let settled = settles shards limit (g.K.Clock.may_answer c.args.clock.now) begin _ before _ _ _ _ _ _ _ _ _ all idle serving.stopped in
     let turns = settled.stopped.turns in
@@ -41,9 +41,9 @@ returns-in-Ok-false g c shards limit begin before serving =
       grown = omega (arith, before_it, more);
     }
 
-pub returns-in-Err-flush : goal.returns-in-Err-flush
-returns-in-Err-flush g c shards limit begin before serving =
-    let all = moves_all _ _ _ _ _ _ _ _ _ _ (refl, c.if-not-is_settled.ensures.sent refl) c.if-carry.ensures (stays_refl _ _ _) in
+pub returns-in-Err-flush-clause-says : goal.returns-in-Err-flush-clause-says
+returns-in-Err-flush-clause-says g c shards limit begin before serving =
+    let all = moves_all _ _ _ _ _ _ _ _ _ _ (refl, c.if-not-is_settled.ensures.sent refl) c.if-carry.ensures.goes (stays_refl _ _ _) in
     let idle = c.if-not-is_settled.ensures.idle refl in
     let settled = settles shards limit (g.K.Clock.may_answer c.args.clock.now) begin _ before _ _ _ _ _ _ _ _ _ all idle serving.stopped in
     let turns = settled.stopped.turns in
@@ -54,9 +54,9 @@ returns-in-Err-flush g c shards limit begin before serving =
     let served = breaks_flushing turns.received begin _ _ (text_in c.hand.new.out) (text_in c.flush.new.self) _ turns.told _ (c.broken.ensures (all_handed turns.told) handed.0) c.in-Err-flush.ensures.err (omega (arith, before_it, more)) handed.1 in
     rw c.ended-in-Err-flush.ensures (record { served = turn_ends _ _ _ _ _ _ _ _ _ _ _ _ _ _ true settled served; idle = idle })
 
-pub returns-in-Goes : goal.returns-in-Goes
-returns-in-Goes g c shards limit begin before serving =
-    let all = moves_all _ _ _ _ _ _ _ _ _ _ (refl, c.if-not-is_settled.ensures.sent refl) c.if-carry.ensures (stays_refl _ _ _) in
+pub returns-in-Goes-clause-says : goal.returns-in-Goes-clause-says
+returns-in-Goes-clause-says g c shards limit begin before serving =
+    let all = moves_all _ _ _ _ _ _ _ _ _ _ (refl, c.if-not-is_settled.ensures.sent refl) c.if-carry.ensures.goes (stays_refl _ _ _) in
     let idle = c.if-not-is_settled.ensures.idle refl in
     let settled = settles shards limit (g.K.Clock.may_answer c.args.clock.now) begin _ before _ _ _ _ _ _ _ _ _ all idle serving.stopped in
     let turns = settled.stopped.turns in
@@ -72,9 +72,9 @@ returns-in-Goes g c shards limit begin before serving =
       grown = grown_since begin (g.L.Outlet.sight c.go_on_reading.new.line) _ said.serving.taken_is;
     }
 
-pub returns-in-Waits : goal.returns-in-Waits
-returns-in-Waits g c shards limit begin before serving =
-    let all = moves_all _ _ _ _ _ _ _ _ _ _ (refl, c.if-not-is_settled.ensures.sent refl) c.if-carry.ensures (stays_refl _ _ _) in
+pub returns-in-Waits-clause-says : goal.returns-in-Waits-clause-says
+returns-in-Waits-clause-says g c shards limit begin before serving =
+    let all = moves_all _ _ _ _ _ _ _ _ _ _ (refl, c.if-not-is_settled.ensures.sent refl) c.if-carry.ensures.goes (stays_refl _ _ _) in
     let idle = c.if-not-is_settled.ensures.idle refl in
     let settled = settles shards limit (g.K.Clock.may_answer c.args.clock.now) begin _ before _ _ _ _ _ _ _ _ _ all idle serving.stopped in
     let turns = settled.stopped.turns in
@@ -89,9 +89,9 @@ returns-in-Waits g c shards limit begin before serving =
       grown = grown_since begin (g.L.Outlet.sight c.go_on_reading.new.line) _ said.serving.taken_is;
     }
 
-pub returns-in-Ends : goal.returns-in-Ends
-returns-in-Ends g c shards limit begin before serving =
-    let all = moves_all _ _ _ _ _ _ _ _ _ _ (refl, c.if-not-is_settled.ensures.sent refl) c.if-carry.ensures (stays_refl _ _ _) in
+pub returns-in-Ends-clause-says : goal.returns-in-Ends-clause-says
+returns-in-Ends-clause-says g c shards limit begin before serving =
+    let all = moves_all _ _ _ _ _ _ _ _ _ _ (refl, c.if-not-is_settled.ensures.sent refl) c.if-carry.ensures.goes (stays_refl _ _ _) in
     let idle = c.if-not-is_settled.ensures.idle refl in
     let settled = settles shards limit (g.K.Clock.may_answer c.args.clock.now) begin _ before _ _ _ _ _ _ _ _ _ all idle serving.stopped in
     let turns = settled.stopped.turns in
@@ -103,9 +103,9 @@ returns-in-Ends g c shards limit begin before serving =
     let said = c.in-Ends.ensures turns.received begin turns.told handed.0 taken turns.unbroken settled.stopped.stops complete in
     rw c.ended-in-Ends.ensures (record { served = turn_ends _ _ _ _ _ _ _ _ _ _ _ _ _ _ false settled said; idle = idle })
 
-pub returns-in-Broke : goal.returns-in-Broke
-returns-in-Broke g c shards limit begin before serving =
-    let all = moves_all _ _ _ _ _ _ _ _ _ _ (refl, c.if-not-is_settled.ensures.sent refl) c.if-carry.ensures (stays_refl _ _ _) in
+pub returns-in-Broke-clause-says : goal.returns-in-Broke-clause-says
+returns-in-Broke-clause-says g c shards limit begin before serving =
+    let all = moves_all _ _ _ _ _ _ _ _ _ _ (refl, c.if-not-is_settled.ensures.sent refl) c.if-carry.ensures.goes (stays_refl _ _ _) in
     let idle = c.if-not-is_settled.ensures.idle refl in
     let settled = settles shards limit (g.K.Clock.may_answer c.args.clock.now) begin _ before _ _ _ _ _ _ _ _ _ all idle serving.stopped in
     let turns = settled.stopped.turns in
@@ -116,3 +116,12 @@ returns-in-Broke g c shards limit begin before serving =
     let complete = complete_settled _ _ _ _ _ _ _ _ _ _ _ _ settled in
     let said = c.in-Broke.ensures turns.received begin turns.told handed.0 taken turns.unbroken settled.stopped.stops complete in
     rw c.ended-in-Broke.ensures (record { served = turn_ends _ _ _ _ _ _ _ _ _ _ _ _ _ _ true settled said; idle = idle })
+
+pub returns-then-not-is_settled-clause-called : goal.returns-then-not-is_settled-clause-called
+returns-then-not-is_settled-clause-called g c waits = c.carry.new.self.all_called c.if-carry.ensures.called
+
+pub returns-in-Ok-false-clause-called : goal.returns-in-Ok-false-clause-called
+returns-in-Ok-false-clause-called g c waits = c.carry.new.self.all_called c.if-carry.ensures.called
+
+pub returns-in-Waits-clause-called : goal.returns-in-Waits-clause-called
+returns-in-Waits-clause-called g c waits = c.carry.new.self.all_called c.if-carry.ensures.called

@@ -1,0 +1,14 @@
+-- The shards before this one were called, as far as replies of them are awaited.
+use Rattle.std.proofs.Common.{◌≡◌, length}
+use Rattle.mc_threads.proofs.Calling.{AreCalledBelow}
+use Rattle.mc_threads.proofs.courier.Courier.call_shards.Given as goal
+
+abbrev pub invariant-loop-shard : goal.invariant-loop-shard
+invariant-loop-shard l = record {
+  called : AreCalledBelow l.shard l.self.shards l.fn.self.under_way.items;
+  uncalled : l.self.uncalled ≡ l.fn.self.uncalled;
+  ends : l.self.ends ≡ l.fn.self.ends;
+  under_way : l.self.under_way ≡ l.fn.self.under_way;
+  blocked : l.self.blocked ≡ l.fn.self.blocked;
+  last : l.shard-end ≡ length l.fn.self.under_way.items;
+}
