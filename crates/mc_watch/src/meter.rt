@@ -40,7 +40,7 @@ impl Meter {
         }
     }
 
-    /// So many bytes were read of it, at least one.
+    /// So many bytes were read of it; none where its input has ended.
     pub fn note_read(&mut self, count: usize) {
         let count = count as u64;
         self.read = self.read.saturating_add(count);
@@ -50,7 +50,7 @@ impl Meter {
         self.beat();
     }
 
-    /// So many bytes were written to it, at least one.
+    /// So many bytes were written to it.
     pub fn note_written(&mut self, count: usize) {
         let count = count as u64;
         self.written = self.written.saturating_add(count);
