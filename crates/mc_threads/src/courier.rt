@@ -1,5 +1,5 @@
 //! Carries the pieces of a connection to the shards, and their replies back.
-ghost use Rattle.std.specs.Prelude.{◌≡◌, ◌<◌, ◌==◌, false, true, IfOk, IsTrue, length};
+ghost use Rattle.std.specs.Prelude.{◌≡◌, ◌<◌, ◌==◌, [], false, true, IfOk, IsTrue, length};
 ghost use Rattle.std.specs.Bool.{OnFalse, OnTrue};
 ghost use Rattle.std.specs.List.{list_all};
 ghost use Rattle.mc_threads.specs.Serving.{AreCalled};
@@ -117,7 +117,9 @@ impl Courier {
     /// a ring has places.
     fn send_next(&mut self, conn: &mut Conn) -> bool
         requires { CanCarry self.old conn.old }
-        ensures { Goes (AllOutWhere ((result ≡ false) × (self.new.blocked ≡ false))) self.old conn.old self.new conn.new }
+        ensures goes { Goes (AllOutWhere ((result ≡ false) × (self.new.blocked ≡ false))) self.old conn.old self.new conn.new }
+        // No shard was called since.
+        ensures noted { IsTrue result → self.new.shards ≡ [] }
     {
         self.blocked = false;
         let Some((shard, piece)) = conn.next_piece() else {
@@ -132,6 +134,7 @@ impl Courier {
         match self.ends.send(shard, Parcel::Piece(piece)) {
             Ok(()) => {
                 self.uncalled = true;
+                self.shards.note_sent();
                 self.under_way[shard] = count + 1;
                 true
             }
@@ -155,7 +158,6 @@ impl Courier {
         if !self.uncalled {
             return;
         }
-        self.shards.note_sent();
         for shard in 0..self.under_way.len() {
             if self.under_way[shard] > 0 {
                 self.shards.call(shard);

@@ -10,7 +10,7 @@ pub send_next-requires : goal.send_next-requires
 send_next-requires c = may_still AnyOut _ _ _ _ _ _ c.requires c.loop.invariant
 
 pub returns-then-not-send_next : goal.returns-then-not-send_next
-returns-then-not-send_next c = moves_more AnyOut _ _ _ _ _ _ _ _ _ _ c.loop.invariant c.send_next.ensures
+returns-then-not-send_next c = moves_more AnyOut _ _ _ _ _ _ _ _ _ _ c.loop.invariant c.send_next.ensures.goes
 
 pub loop-preserved : goal.loop-preserved
-loop-preserved c = moves_more AnyOut _ _ _ _ _ _ _ _ _ _ c.loop.invariant c.send_next.ensures
+loop-preserved c = moves_more AnyOut _ _ _ _ _ _ _ _ _ _ c.loop.invariant c.send_next.ensures.goes

@@ -7,8 +7,8 @@ use Rattle.mc_threads.specs.Ending.{StandsStill}
 use Rattle.mc_ring.specs.EndsLaws.{same_ends-refl}
 use Rattle.mc_threads.proofs.courier.Courier.send_next.Goals as goal
 
-pub returns-in_default : goal.returns-in_default
-returns-in_default c = none_left _ c.args.self.now.ends c.args.self.now.under_way.items c.args.conn.now c.next_piece.new.self c.in_default.ensures.none
+pub returns-in_default-clause-goes : goal.returns-in_default-clause-goes
+returns-in_default-clause-goes c = none_left _ c.args.self.now.ends c.args.self.now.under_way.items c.args.conn.now c.next_piece.new.self c.in_default.ensures.none
 
 pub index-count-requires : goal.index-count-requires
 index-count-requires c =
@@ -17,8 +17,8 @@ index-count-requires c =
     let same : vec_len c.args.self.now.under_way ≡ length c.args.self.now.under_way.items = search rules in
     omega (arith, below, same)
 
-pub returns-then-count-self : goal.returns-then-count-self
-returns-then-count-self c =
+pub returns-then-count-self-clause-goes : goal.returns-then-count-self-clause-goes
+returns-then-count-self-clause-goes c =
     let still : StandsStill c.args.self.now.ends c.args.self.now.ends = record { same = same_ends-refl c.args.self.now.ends; sent = λ s. refl; received = λ s. refl } in
     back_again _ c.args.self.now.ends c.args.self.now.ends c.args.self.now.under_way.items c.args.conn.now c.next_piece.new.self c.not_sent.new.self c.in-Some.shard c.in-Some.piece (λ so. let bad = so.1 in absurd (cc)) still c.in-Some.ensures.some c.not_sent.ensures
 
@@ -32,16 +32,16 @@ index_mut-requires c =
     let same : vec_len c.args.self.now.under_way ≡ length c.args.self.now.under_way.items = search rules in
     omega (arith, below, same)
 
-pub returns-in-Ok : goal.returns-in-Ok
-returns-in-Ok c =
+pub returns-in-Ok-clause-goes : goal.returns-in-Ok-clause-goes
+returns-in-Ok-clause-goes c =
     let ways = c.args.self.now.under_way.items in
     let there = next_there _ _ _ _ c.in-Some.shard c.in-Some.piece c.requires c.in-Some.ensures.some in
     let was = c.index-count.result.now in
     let got = slice_get_read ways (length ways) c.in-Some.shard was refl there.1 c.index-count.ensures in
     sent_one _ c.args.self.now.ends c.send.new.self ways c.args.conn.now c.next_piece.new.self c.in-Some.shard (was + 1) was c.in-Some.piece (λ so. let bad = so.0 in absurd (cc)) got refl c.in-Ok.ensures.lane c.in-Ok.ensures.same c.in-Some.ensures.some
 
-pub returns-in-Piece : goal.returns-in-Piece
-returns-in-Piece c =
+pub returns-in-Piece-clause-goes : goal.returns-in-Piece-clause-goes
+returns-in-Piece-clause-goes c =
     let still = still_back _ _ c.in-Some.shard c.args.self.now.ends c.send.new.self c.in-Err.ensures.lane c.in-Err.ensures.same in
     let same = same_piece c.in-Some.piece c.in-Piece.piece _ _ _ _ c.in-Err.ensures.lane c.in-Piece.is in
     let P : Piece → Type 0 = λ p. PutsBack c.next_piece.new.self c.in-Some.shard p c.not_sent-in-Piece.new.self in
