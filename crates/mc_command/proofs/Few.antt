@@ -23,6 +23,7 @@ use Rattle.mc_command.specs.Classic.{cas_words, count_in, count_words, delete_wo
 use Rattle.mc_command.specs.Meta.{asked_of, command_by, compare_refusal, flags_refusal, has_flag, meta_command_of, meta_key_of, meta_line_of, set_by, unless}
 use Rattle.mc_command.specs.Name.{name_of}
 use Rattle.mc_command.specs.Table.{line_if_named, line_named, line_of}
+use Rattle.mc_command.specs.declared.rules.Rules.{Rules}
 
 -- It gets at most so many keys.
 abbrev pub AsksFew : ℕ → Command → Type 0
@@ -121,32 +122,32 @@ few_meta_by most meta.Arithmetic key asked = tt
 few_meta : (most : ℕ) (name : MetaKind) (word : List ℕ) (words : List (List ℕ)) → FewAsked most (meta_command_of name word words)
 few_meta most name word words = few_unless most (flags_refusal name [] words) (then_of (meta_key_of (has_flag 98 words) word) (λ key. command_by name key (asked_of name words))) (few_then most (meta_key_of (has_flag 98 words) word) (λ key. command_by name key (asked_of name words)) (λ key. few_meta_by most name key (asked_of name words)))
 
-few_meta_line : (most limit : ℕ) (name : MetaKind) (words : List (List ℕ)) → FewLine most (meta_line_of limit name words)
+few_meta_line : (most : ℕ) (rules : Rules) (name : MetaKind) (words : List (List ℕ)) → FewLine most (meta_line_of rules name words)
 unfolding meta_line_of
-few_meta_line most limit meta.Set (word ∷ count ∷ words) = few_block most limit (number_of (2 ^ 32) count) (meta_command_of meta.Set word words) (few_meta most meta.Set word words)
-few_meta_line most limit meta.Set words = tt
-few_meta_line most limit name [] = tt
-few_meta_line most limit name (word ∷ words) = few_whole most (meta_command_of name word words) (few_meta most name word words)
+few_meta_line most rules meta.Set (word ∷ count ∷ words) = few_block most rules.value_limit (number_of (2 ^ 32) count) (meta_command_of meta.Set word words) (few_meta most meta.Set word words)
+few_meta_line most rules meta.Set words = tt
+few_meta_line most rules name [] = tt
+few_meta_line most rules name (word ∷ words) = few_whole most (meta_command_of name word words) (few_meta most name word words)
 
-few_named : (most limit : ℕ) (name : CommandName) (words : List (List ℕ)) → length words ≤ most → FewLine most (line_named limit name words)
-few_named most limit (name.Store mode) words few = few_block most limit (count_in words) (storage_words mode words) (few_storage most mode words)
-few_named most limit name.CompareAndSwap words few = few_block most limit (count_in words) (cas_words words) (few_cas most words)
-few_named most limit (name.Get with_unique) words few = few_whole most (get_words with_unique words) (few_get most with_unique words few)
-few_named most limit (name.GetAndTouch with_unique) words few = few_whole most (gat_words with_unique words) (few_gat most with_unique words few)
-few_named most limit name.Delete words few = few_whole most (delete_words words) (few_delete most words)
-few_named most limit (name.Count direction) words few = few_whole most (count_words direction words) (few_count most direction words)
-few_named most limit name.Touch words few = few_whole most (touch_words words) (few_touch most words)
-few_named most limit name.FlushAll words few = few_whole most (flush_words words) (few_flush most words)
-few_named most limit name.Verbosity words few = few_whole most (verbosity_words words) (few_verbosity most words)
-few_named most limit (name.Meta kind) words few = few_meta_line most limit kind words
-few_named most limit other words few = tt
+few_named : (most : ℕ) (rules : Rules) (name : CommandName) (words : List (List ℕ)) → length words ≤ most → FewLine most (line_named rules name words)
+few_named most rules (name.Store mode) words few = few_block most rules.value_limit (count_in words) (storage_words mode words) (few_storage most mode words)
+few_named most rules name.CompareAndSwap words few = few_block most rules.value_limit (count_in words) (cas_words words) (few_cas most words)
+few_named most rules (name.Get with_unique) words few = few_whole most (get_words with_unique words) (few_get most with_unique words few)
+few_named most rules (name.GetAndTouch with_unique) words few = few_whole most (gat_words with_unique words) (few_gat most with_unique words few)
+few_named most rules name.Delete words few = few_whole most (delete_words words) (few_delete most words)
+few_named most rules (name.Count direction) words few = few_whole most (count_words direction words) (few_count most direction words)
+few_named most rules name.Touch words few = few_whole most (touch_words words) (few_touch most words)
+few_named most rules name.FlushAll words few = few_whole most (flush_words words) (few_flush most words)
+few_named most rules name.Verbosity words few = few_whole most (verbosity_words words) (few_verbosity most words)
+few_named most rules (name.Meta kind) words few = few_meta_line most rules kind words
+few_named most rules other words few = tt
 
-few_if_named : (most limit : ℕ) (name : Option CommandName) (words : List (List ℕ)) → length words ≤ most → FewLine most (line_if_named limit name words)
-few_if_named most limit None words few = tt
-few_if_named most limit (Some named) words few = few_named most limit named words few
+few_if_named : (most : ℕ) (rules : Rules) (name : Option CommandName) (words : List (List ℕ)) → length words ≤ most → FewLine most (line_if_named rules name words)
+few_if_named most rules None words few = tt
+few_if_named most rules (Some named) words few = few_named most rules named words few
 
 -- A line asks for no more keys than it has words.
-pub few_line : (most limit : ℕ) (words : List (List ℕ)) → length words ≤ most → FewLine most (line_of limit words)
+pub few_line : (most : ℕ) (rules : Rules) (words : List (List ℕ)) → length words ≤ most → FewLine most (line_of rules words)
 unfolding line_of
-few_line most limit [] few = tt
-few_line most limit (first ∷ words) few = few_if_named most limit (name_of first) words (omega (arith, few))
+few_line most rules [] few = tt
+few_line most rules (first ∷ words) few = few_if_named most rules (name_of first) words (omega (arith, few))

@@ -23,6 +23,7 @@ use Rattle.mc_command.specs.Table.{line_of}
 use Rattle.mc_command.proofs.MetaCounts.{eq_comm}
 use Rattle.mc_command.proofs.MetaLookups.{has_flag-append}
 use Rattle.mc_command.proofs.Permuted.{along_permutation, IsPermutation-filter_map}
+use Rattle.mc_command.specs.declared.rules.Rules.{Rules}
 
 -- One flag after another is lawful: what that says of the two.
 
@@ -166,8 +167,8 @@ same_block limit None (Err refusal) (Err other) same = tt
 same_block limit count asked other same = absurd same
 
 -- a meta line with its flags in another order
-pub flags_reordered : (limit : ℕ) (name : MetaKind) (key count : List ℕ) (flags others : List (List ℕ)) → IsPermutation flags others →
-    SameButOrder (line_of limit (before_flags name key count ++ flags)) (line_of limit (before_flags name key count ++ others))
+pub flags_reordered : (rules : Rules) (name : MetaKind) (key count : List ℕ) (flags others : List (List ℕ)) → IsPermutation flags others →
+    SameButOrder (line_of rules (before_flags name key count ++ flags)) (line_of rules (before_flags name key count ++ others))
 unfolding line_of name_of meta_line_of
-flags_reordered limit Set key count flags others moved = same_block limit (number_of (2 ^ 32) count) _ _ (same_asked Set key flags others moved)
-flags_reordered limit name key count flags others moved = same_whole _ _ (same_asked name key flags others moved)
+flags_reordered rules Set key count flags others moved = same_block rules.value_limit (number_of (2 ^ 32) count) _ _ (same_asked Set key flags others moved)
+flags_reordered rules name key count flags others moved = same_whole _ _ (same_asked name key flags others moved)

@@ -17,6 +17,7 @@ use Rattle.mc_command.specs.Classic.{keys_of}
 use Rattle.mc_command.specs.Meta.{meta_line_of}
 use Rattle.mc_command.specs.Name.{name_of}
 use Rattle.mc_command.specs.Table.{line_of}
+use Rattle.mc_command.specs.Rules.{own}
 
 -- a line and what it is
 abbrev Rows : Type 0
@@ -24,7 +25,7 @@ Rows = List (List ℕ × Line)
 
 -- each line of the rows is what stands beside it
 abbrev AreSo : Rows → Type 0
-AreSo rows = map (λ row. line_of DEFAULT_VALUE_LIMIT (words_of row.0)) rows ≡ map (λ row. row.1) rows
+AreSo rows = map (λ row. line_of (own DEFAULT_VALUE_LIMIT) (words_of row.0)) rows ≡ map (λ row. row.1) rows
 
 -- these lines are all the same
 abbrev each_is : Line → List (List ℕ) → Rows

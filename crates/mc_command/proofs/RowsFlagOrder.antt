@@ -15,9 +15,10 @@ use Rattle.mc_command.specs.FlagOrder.{before_flags}
 use Rattle.mc_command.specs.Meta.{meta_line_of}
 use Rattle.mc_command.specs.Name.{name_of}
 use Rattle.mc_command.specs.Table.{line_of}
+use Rattle.mc_command.specs.Rules.{own}
 
 abbrev line : List ℕ → Line
-line text = line_of DEFAULT_VALUE_LIMIT (words_of text)
+line text = line_of (own DEFAULT_VALUE_LIMIT) (words_of text)
 
 -- what stands before the flags
 heads : map words_of (codes "mg a k t" ∷ codes "ms a 2 k t" ∷ [])

@@ -19,20 +19,21 @@ use Rattle.mc_command.specs.Field.{is_key}
 use Rattle.mc_command.specs.Meta.{decoded_key, mode_of, direction_of, meta_line_of}
 use Rattle.mc_command.specs.Name.{name_of}
 use Rattle.mc_command.specs.Table.{line_of}
+use Rattle.mc_command.specs.Rules.{own}
 
 -- lines of the four commands, by the text behind the name
 
 abbrev mg : List ℕ → Line
-mg text = meta_line_of DEFAULT_VALUE_LIMIT Get (words_of text)
+mg text = meta_line_of (own DEFAULT_VALUE_LIMIT) Get (words_of text)
 
 abbrev ms : List ℕ → Line
-ms text = meta_line_of DEFAULT_VALUE_LIMIT Set (words_of text)
+ms text = meta_line_of (own DEFAULT_VALUE_LIMIT) Set (words_of text)
 
 abbrev md : List ℕ → Line
-md text = meta_line_of DEFAULT_VALUE_LIMIT Delete (words_of text)
+md text = meta_line_of (own DEFAULT_VALUE_LIMIT) Delete (words_of text)
 
 abbrev ma : List ℕ → Line
-ma text = meta_line_of DEFAULT_VALUE_LIMIT Arithmetic (words_of text)
+ma text = meta_line_of (own DEFAULT_VALUE_LIMIT) Arithmetic (words_of text)
 
 abbrev no_flags : MetaFlags
 no_flags = record { base64 = false; quiet = false; returned = []; opaque = [] }
@@ -96,8 +97,8 @@ limits : map (λ limit. map (λ count. block_line limit (Some count) (Ok MetaNoo
     ∷ []
 limits = refl
 
-line_limits : map (λ text. line_of LEAST_VALUE_LIMIT (words_of text)) (map codes ("ms a 1025" ∷ "set a 0 0 1025" ∷ "cas a 0 0 1025 1" ∷ []))
-    ++ map (λ text. line_of GREATEST_VALUE_LIMIT (words_of text)) (map codes ("ms a 8388609" ∷ "set a 0 0 8388609" ∷ "cas a 0 0 8388609 1" ∷ []))
+line_limits : map (λ text. line_of (own LEAST_VALUE_LIMIT) (words_of text)) (map codes ("ms a 1025" ∷ "set a 0 0 1025" ∷ "cas a 0 0 1025 1" ∷ []))
+    ++ map (λ text. line_of (own GREATEST_VALUE_LIMIT) (words_of text)) (map codes ("ms a 8388609" ∷ "set a 0 0 8388609" ∷ "cas a 0 0 8388609 1" ∷ []))
     ≡ replicate 3 (Skip TooLarge 1027) ++ replicate 3 (Skip TooLarge 8388611)
 unfolding line_of name_of meta_line_of words_of number_of is_key
 line_limits = refl

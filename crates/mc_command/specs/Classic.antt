@@ -14,6 +14,7 @@ use Rattle.mc_command.specs.declared.command.Direction.{Direction}
 use Rattle.mc_command.specs.declared.refusal.Refusal.{Refusal}
 use Rattle.mc_command.specs.declared.refusal.Refusal.TheVariants.{BadFormat, BadKey}
 use Rattle.mc_command.specs.declared.line.Line.{Line}
+use Rattle.mc_command.specs.declared.rules.Rules.{Rules}
 use Rattle.mc_command.specs.Field.{is_key, key_of, unsigned_of, signed_of, noreply_of, then_of}
 use Rattle.mc_command.specs.Blocks.{block_line}
 
@@ -36,8 +37,8 @@ storage_words mode (key ∷ flags ∷ exptime ∷ count ∷ []) = storage_of mod
 storage_words mode (key ∷ flags ∷ exptime ∷ count ∷ noreply ∷ []) = storage_of mode key flags exptime (Some noreply)
 storage_words mode words = Err BadFormat
 
-abbrev pub storage_line : ℕ → StoreMode → List (List ℕ) → Line
-storage_line limit mode words = block_line limit (count_in words) (storage_words mode words)
+abbrev pub storage_line : Rules → StoreMode → List (List ℕ) → Line
+storage_line rules mode words = block_line rules.value_limit (count_in words) (storage_words mode words)
 
 -- the storage command that a unique guards
 abbrev pub cas_of : List ℕ → List ℕ → List ℕ → List ℕ → Option (List ℕ) → Result Command Refusal
@@ -55,8 +56,8 @@ cas_words (key ∷ flags ∷ exptime ∷ count ∷ unique ∷ []) = cas_of key f
 cas_words (key ∷ flags ∷ exptime ∷ count ∷ unique ∷ noreply ∷ []) = cas_of key flags exptime unique (Some noreply)
 cas_words words = Err BadFormat
 
-abbrev pub cas_line : ℕ → List (List ℕ) → Line
-cas_line limit words = block_line limit (count_in words) (cas_words words)
+abbrev pub cas_line : Rules → List (List ℕ) → Line
+cas_line rules words = block_line rules.value_limit (count_in words) (cas_words words)
 
 -- keys, each of the words one
 unfoldable pub keys_of : List (List ℕ) → Result (List (List ℕ)) Refusal

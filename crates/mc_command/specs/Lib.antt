@@ -1,3 +1,4 @@
+pub mod Rules
 pub mod Command
 pub mod Field
 pub mod Line

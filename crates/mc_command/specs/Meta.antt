@@ -28,6 +28,7 @@ use Rattle.mc_command.specs.declared.meta.MetaKind.{MetaKind}
 use Rattle.mc_command.specs.declared.meta.MetaKind.TheVariants.{Get, Set, Delete, Arithmetic}
 use Rattle.mc_command.specs.declared.refusal.Refusal.{Refusal}
 use Rattle.mc_command.specs.declared.refusal.Refusal.TheVariants.{BadFormat, BadKey, InvalidFlag, DuplicateFlag, OpaqueTooLong}
+use Rattle.mc_command.specs.declared.rules.Rules.{Rules}
 use Rattle.mc_command.specs.Blocks.{whole_line, block_line}
 use Rattle.mc_command.specs.Field.{key_of, then_of}
 
@@ -264,15 +265,15 @@ line_without_block name [] = Refused BadFormat
 line_without_block name (word ∷ words) = whole_line (meta_command_of name word words)
 
 -- a line of `ms`, whose second word counts the bytes of its block
-abbrev pub line_with_block : ℕ → List (List ℕ) → Line
-line_with_block limit [] = Refused BadFormat
-line_with_block limit (word ∷ []) = Refused BadFormat
-line_with_block limit (word ∷ count ∷ words) = block_line limit (number_of (2 ^ 32) count) (meta_command_of Set word words)
+abbrev pub line_with_block : Rules → List (List ℕ) → Line
+line_with_block rules [] = Refused BadFormat
+line_with_block rules (word ∷ []) = Refused BadFormat
+line_with_block rules (word ∷ count ∷ words) = block_line rules.value_limit (number_of (2 ^ 32) count) (meta_command_of Set word words)
 
 -- what a line of this name is, by the words behind the name
-unfoldable pub meta_line_of : ℕ → MetaKind → List (List ℕ) → Line
-meta_line_of limit Set words = line_with_block limit words
-meta_line_of limit name words = line_without_block name words
+unfoldable pub meta_line_of : Rules → MetaKind → List (List ℕ) → Line
+meta_line_of rules Set words = line_with_block rules words
+meta_line_of rules name words = line_without_block name words
 
 -- the count of the bytes that a block behind such a line has, where the line has one and it is readable
 abbrev pub meta_count_in : MetaKind → List (List ℕ) → Option ℕ

@@ -1,11 +1,12 @@
 //! What stands behind a line and belongs to it, told by the count of its block alone.
-ghost use Rattle.std.specs.Prelude.{ℕ, ◌≡◌, ◌^◌};
+ghost use Rattle.std.specs.Prelude.{◌≡◌, ◌^◌};
 ghost use Rattle.std.specs.Option.{option_and_then, option_copied};
 ghost use Rattle.std.specs.List.{slice_get};
 ghost use Rattle.mc_wire.specs.Number.{number_of};
 ghost use Rattle.mc_wire.specs.Words.{words_of, words_left};
 ghost use Rattle.mc_command.specs.Line.{bytes_behind};
 ghost use Rattle.mc_command.specs.Blocks.{bytes_with};
+ghost use Rattle.mc_command.specs.declared.rules.Rules.{Rules};
 ghost use Rattle.mc_command.specs.Table.{line_of, count_named};
 
 use crate::field::read_u32;
@@ -15,10 +16,10 @@ use mc_wire::{WordWalk, words};
 
 /// How many bytes behind a line belong to it: its data block and the line end of that, or, of a line that
 /// is refused, what is skipped; 0 where nothing does (protocol.txt, "Storage commands"). It reads the
-/// line as `read_line` does, whatever the value limit is, and takes no memory.
+/// line as `read_line_under` does, whatever the rules are, and takes no memory.
 #[tactic(auto, unfolding(crate::specs::Table::line_of), using(crate::proofs::Behind::behind_named))]
 pub fn announced_bytes(line: &[u8]) -> u64
-    ensures { (limit : ℕ) → result ≡ bytes_behind (line_of limit (words_of line.now)) }
+    ensures { (rules : Rules) → result ≡ bytes_behind (line_of rules (words_of line.now)) }
 {
     let mut walk = words(line);
     match walk.next().and_then(read_name) {

@@ -13,16 +13,17 @@ use crate::line::{Line, block_line, whole_line};
 use crate::meta::{MetaArithmetic, MetaDelete, MetaGet, MetaKind, MetaMode, MetaSet};
 use crate::meta_flags::{Asked, read_flags};
 use crate::refusal::Refusal;
+use crate::rules::Rules;
 use mc_wire::{Key, WordWalk};
 use std::alloc::Global;
 
-/// Reads a meta line by its words behind the name, under a value limit.
+/// Reads a meta line by its words behind the name.
 #[tactic(auto, unfolding(crate::specs::Meta::meta_line_of))]
-pub(crate) fn read_meta(alloc: Global, name: MetaKind, walk: WordWalk<'_>, limit: usize) -> Line
-    ensures { Says (meta_line_of limit name (words_left walk.entry)) result }
+pub(crate) fn read_meta(alloc: Global, name: MetaKind, walk: WordWalk<'_>, rules: Rules) -> Line
+    ensures { Says (meta_line_of rules name (words_left walk.entry)) result }
 {
     match name {
-        MetaKind::Set => read_with_block(alloc, walk, limit),
+        MetaKind::Set => read_with_block(alloc, walk, rules),
         MetaKind::Get | MetaKind::Delete | MetaKind::Arithmetic => {
             read_without_block(alloc, name, walk)
         }
@@ -38,14 +39,18 @@ fn read_without_block(alloc: Global, name: MetaKind, mut walk: WordWalk<'_>) -> 
     whole_line(read_command(alloc, name, word, walk))
 }
 
-fn read_with_block(alloc: Global, mut walk: WordWalk<'_>, limit: usize) -> Line
-    ensures { Says (line_with_block limit (words_left walk.entry)) result }
+fn read_with_block(alloc: Global, mut walk: WordWalk<'_>, rules: Rules) -> Line
+    ensures { Says (line_with_block rules (words_left walk.entry)) result }
 {
     let (Some(word), Some(count)) = (walk.next(), walk.next()) else {
         return Line::Refused(Refusal::BadFormat);
     };
     let count = read_u32(count).ok();
-    block_line(limit, count, read_command(alloc, MetaKind::Set, word, walk))
+    block_line(
+        rules.value_limit,
+        count,
+        read_command(alloc, MetaKind::Set, word, walk),
+    )
 }
 
 /// Reads what a key word and the flags behind it ask.

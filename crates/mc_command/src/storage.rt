@@ -13,6 +13,7 @@ use crate::command::{Command, Storage, StoreMode};
 use crate::field::{read_i64, read_key, read_noreply, read_u32, read_u64};
 use crate::line::{Line, block_line};
 use crate::refusal::Refusal;
+use crate::rules::Rules;
 use mc_wire::WordWalk;
 use std::alloc::Global;
 
@@ -21,9 +22,9 @@ pub(crate) fn read_storage(
     alloc: Global,
     mode: StoreMode,
     mut walk: WordWalk<'_>,
-    limit: usize,
+    rules: Rules,
 ) -> Line
-    ensures { Says (spec.storage_line limit mode (words_left walk.entry)) result }
+    ensures { Says (spec.storage_line rules mode (words_left walk.entry)) result }
 {
     let (key, flags, exptime, count) = (walk.next(), walk.next(), walk.next(), walk.next());
     let (noreply, more) = (walk.next(), walk.next());
@@ -31,18 +32,18 @@ pub(crate) fn read_storage(
     match (key, flags, exptime, count, more) {
         (Some(key), Some(flags), Some(exptime), Some(_), None) => {
             block_line(
-                limit,
+                rules.value_limit,
                 block,
                 storage(alloc, mode, key, flags, exptime, noreply),
             )
         }
-        _ => block_line(limit, block, Err(Refusal::BadFormat)),
+        _ => block_line(rules.value_limit, block, Err(Refusal::BadFormat)),
     }
 }
 
 /// `cas`: KEY flags E N U [noreply]
-pub(crate) fn read_cas(alloc: Global, mut walk: WordWalk<'_>, limit: usize) -> Line
-    ensures { Says (spec.cas_line limit (words_left walk.entry)) result }
+pub(crate) fn read_cas(alloc: Global, mut walk: WordWalk<'_>, rules: Rules) -> Line
+    ensures { Says (spec.cas_line rules (words_left walk.entry)) result }
 {
     let (key, flags, exptime, count) = (walk.next(), walk.next(), walk.next(), walk.next());
     let (unique, noreply, more) = (walk.next(), walk.next(), walk.next());
@@ -50,12 +51,12 @@ pub(crate) fn read_cas(alloc: Global, mut walk: WordWalk<'_>, limit: usize) -> L
     match (key, flags, exptime, count, unique, more) {
         (Some(key), Some(flags), Some(exptime), Some(_), Some(unique), None) => {
             block_line(
-                limit,
+                rules.value_limit,
                 block,
                 guarded(alloc, key, flags, exptime, unique, noreply),
             )
         }
-        _ => block_line(limit, block, Err(Refusal::BadFormat)),
+        _ => block_line(rules.value_limit, block, Err(Refusal::BadFormat)),
     }
 }
 

@@ -16,4 +16,4 @@ returns c =
     let number = number_of (2 ^ 32) c.in-Some-Some.count.now in
     let count : c.ok-count.result ≡ number = c.ok-count.ensures.value ∙ (ap result_ok c.read_u32.ensures ∙ result_ok-ok_or number BadFormat) in
     rw (c.block_line.ensures, c.in-Some-Some.ensures.steps, c.in-Some-Some.ensures'.steps, count)
-    (says_block c.args.limit number (meta_command_of Set word words) c.read_command.result c.read_command.ensures (meta_given_up Set word words))
+    (says_block c.args.rules.value_limit number (meta_command_of Set word words) c.read_command.result c.read_command.ensures (meta_given_up Set word words))
