@@ -68,7 +68,7 @@ last_of rules (first ∷ entries) before input entry rest front = elim (cases_Bo
 ]
 
 -- where nothing is left that spells, or a last command was given
-abbrev pub IsAll : ℕ → ℕ → List Command → List ℕ → Type 0
+abbrev pub IsAll : Rules → ℕ → List Command → List ℕ → Type 0
 IsAll rules before entries rest = MatchBool (is_closed_after before entries) (Unit {0}) (SpellsNothing rules rest)
 
 -- the commands of a beginning begin those of the whole, where these are all

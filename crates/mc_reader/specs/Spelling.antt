@@ -21,7 +21,7 @@ abbrev pub without_return : List ℕ → List ℕ
 without_return line = if slice_index line (length line - 1) == 13 then take (length line - 1) line else line
 
 -- what the command table says of a line without its line feed
-abbrev pub line_says : ℕ → List ℕ → Line
+abbrev pub line_says : Rules → List ℕ → Line
 line_says rules line = line_of rules (words_of (without_return line))
 
 abbrev pub HasNoEnd : List ℕ → Type 0
@@ -62,7 +62,7 @@ pub data Spells (rules : Rules) (text : List ℕ) (entry : Command) : Type 0 whe
   long : length text ≡ LINE_LIMIT → HasNoEnd text → entry ≡ command.Refused LineTooLong → Spells rules text entry
 
 -- No beginning of the bytes spells anything.
-abbrev pub SpellsNothing : ℕ → List ℕ → Type 0
+abbrev pub SpellsNothing : Rules → List ℕ → Type 0
 SpellsNothing rules bytes = (count : ℕ) (entry : Command) → count ≤ length bytes → Spells rules (take count bytes) entry → ⊥
 
 -- Nothing is read after `quit`, nor after a line that is too long.
@@ -81,7 +81,7 @@ is_last before entry = closes entry || (before + 1 == most_commands)
 
 -- Behind so many earlier commands, the input spells these, one after another, and then the rest follows.
 -- Nothing but the rest follows a last one.
-abbrev pub SpellsFront : ℕ → ℕ → List ℕ → List Command → List ℕ → Type 0
+abbrev pub SpellsFront : Rules → ℕ → List ℕ → List Command → List ℕ → Type 0
 SpellsFront rules before input [] rest = input ≡ rest
 SpellsFront rules before input (entry ∷ entries) rest =
     (text : List ℕ) × (after : List ℕ) × (input ≡ text ++ after) × Spells rules text entry
@@ -96,11 +96,11 @@ abbrev pub is_closed : List Command → Bool
 is_closed entries = is_closed_after 0 entries
 
 -- These are a beginning of the commands of the input.
-abbrev pub BeginCommands : ℕ → List ℕ → List Command → Type 0
+abbrev pub BeginCommands : Rules → List ℕ → List Command → Type 0
 BeginCommands rules input entries = (rest : List ℕ) × SpellsFront rules 0 input entries rest
 
 -- These are the commands of the input: all that it spells, up to the first after which nothing is read.
-abbrev pub AreCommands : ℕ → List ℕ → List Command → Type 0
+abbrev pub AreCommands : Rules → List ℕ → List Command → Type 0
 AreCommands rules input entries =
     (rest : List ℕ) × SpellsFront rules 0 input entries rest × MatchBool (is_closed entries) (Unit {0}) (SpellsNothing rules rest)
 

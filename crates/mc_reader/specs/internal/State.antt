@@ -32,7 +32,7 @@ pub record IsWhole (rules : Rules) (shown : Command) (others unread : List ℕ) 
   pub given : IsGiven shown one
 
 -- A beginning of the bytes spells something.
-abbrev pub SpellsSomething : ℕ → List ℕ → Type 0
+abbrev pub SpellsSomething : Rules → List ℕ → Type 0
 SpellsSomething rules bytes = (text after : List ℕ) × (entry : Command) × (bytes ≡ text ++ after) × Spells rules text entry
 
 -- The unread bytes are a storage line, these bytes of its block and the block's end, and then the others.
@@ -55,7 +55,7 @@ pub record IsInSkip (rules : Rules) (refusal : Refusal) (left : ℕ) (others unr
   pub behind : 0 < left → others ≡ []
 
 -- What is unread, by the state and the bytes of the buffer.
-abbrev pub Holds : ℕ → State → List ℕ → List ℕ → Type 0
+abbrev pub Holds : Rules → State → List ℕ → List ℕ → Type 0
 Holds rules (state.Line long) buffer unread = (unread ≡ buffer) × (length buffer ≤ LINE_LIMIT) × EndsAt buffer long
 Holds rules (state.Block block) buffer unread = IsInBlock rules block.command block.count block.bytes.items buffer unread
 Holds rules (state.Skip skipped) buffer unread = IsInSkip rules skipped.refusal skipped.left buffer unread
