@@ -7,7 +7,7 @@ use Rattle.mc_split.specs.Pieces.{pieces_of}
 use Rattle.mc_split.specs.Shape.{shape_of}
 use Rattle.mc_split.specs.Text.{shape_text}
 use Rattle.mc_conn.specs.Fits.{HasCome}
-use Rattle.mc_core.specs.Sizes.{AreWithin, Sizes}
+use Rattle.mc_core.specs.Sizes.{AreWithin, Sizes, rules_of}
 use Rattle.mc_core.specs.Log.{Entry}
 use Rattle.mc_core.specs.World.{IsAt, Link, World, empty_world, new_link, ran, sent_to}
 use Rattle.mc_core.specs.Rest.{IsAllTaken, IsClosed, IsUsedUp, MayRenew}
@@ -238,7 +238,7 @@ used_up = (line, [], refl, spells_flush, refl)
 
 -- A whole command is there, and isn't taken.
 untaken : ¬ IsAllTaken one_each fed
-untaken all = subst (λ bytes. SpellsNothing one_each.value bytes) (sym all.1) all.2 11 flush (lit≤ tt) spells_flush
+untaken all = subst (λ bytes. SpellsNothing (rules_of one_each) bytes) (sym all.1) all.2 11 flush (lit≤ tt) spells_flush
 
 fed_in_part : FedInPart
 fed_in_part = record {

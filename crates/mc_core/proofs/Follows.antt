@@ -15,7 +15,7 @@ use Rattle.mc_conn.proofs.Gets.{all_at}
 use Rattle.mc_conn.proofs.Places.{piece_at}
 use Rattle.mc_conn.proofs.Counting.{count_from_come}
 use Rattle.mc_conn.proofs.Telling.{tells}
-use Rattle.mc_core.specs.Sizes.{Sizes}
+use Rattle.mc_core.specs.Sizes.{Sizes, rules_of}
 use Rattle.mc_core.specs.Sized.{SpellAll}
 use Rattle.mc_core.specs.Log.{Entry, of_asker, on_shard, replies_in, reply_to}
 use Rattle.mc_core.specs.World.{Link, World, entries}
@@ -111,7 +111,7 @@ is_last_taken : (sizes : Sizes) (w : World) (k : ℕ) (link : Link) → LinkLaw 
 is_last_taken sizes w k link l place one here last =
     let own = of_asker k w.log in
     let at : place ≡ 0 + place = omega arith in
-    let all = last_place sizes.value 0 link.fed (entries link) l.begins.0 place one.entry l.begins.1 (entry_at link.taken place one here) (ap (λ n. is_last n one.entry) (sym at) ∙ last) in
+    let all = last_place (rules_of sizes) 0 link.fed (entries link) l.begins.0 place one.entry l.begins.1 (entry_at link.taken place one here) (ap (λ n. is_last n one.entry) (sym at) ∙ last) in
     let long : length link.taken ≡ place + 1 = omega (arith, all, length-map link.taken (λ (t : Taken). t.entry)) in
     let handed = l.handed in
     record {

@@ -1,5 +1,7 @@
 -- How large a server is, and between which limits.
 use Rattle.std.specs.Prelude.{ℕ, ◌≤◌}
+use Rattle.mc_command.specs.declared.rules.Rules.{Rules}
+use Rattle.mc_command.specs.Rules.{own}
 use Rattle.mc_core.specs.declared.sizes.TheConstants.{LEAST, LEAST_BYTES, LEAST_VALUE, MOST_BYTES, MOST_RING, MOST_SEATS, MOST_SHARDS, MOST_VALUE, MOST_WINDOW}
 
 pub record Sizes : Type 0 where
@@ -14,6 +16,10 @@ pub record Sizes : Type 0 where
   pub value : ℕ
   -- how many commands of a connection may be open: taken, and their replies not handed out
   pub window : ℕ
+
+-- the rules by which its lines are read
+abbrev pub rules_of : Sizes → Rules
+rules_of sizes = own sizes.value
 
 abbrev pub IsFrom : ℕ → ℕ → ℕ → Type 0
 IsFrom least most n = (least ≤ n) × (n ≤ most)

@@ -9,13 +9,14 @@ use Rattle.mc_seat.specs.Story.{Story}
 use Rattle.mc_seat.specs.Reads.{ReadsOwingNothing}
 use Rattle.mc_server.specs.Explains.{IsLogOf, LineTold, log_of}
 use Rattle.mc_serve.specs.Told.{DoorTold, IsDone, Passes, closed}
+use Rattle.mc_server.specs.Sizes.{rules_of}
 
 -- The line's commands, each with its moment and answers, explain what was read of it and what it took.
 pub record ExplainsHistory (sizes : Sizes) (may_answer : ℕ → Type 0) (line : LineTold) (history : List Done) : Type 0 where
   -- The commands are those of the bytes read, and the line took the texts of their replies.
-  pub story : Story sizes.value line.begin line.now line.broke (map taken_of history) (map text_done history)
+  pub story : Story (rules_of sizes) line.begin line.now line.broke (map taken_of history) (map text_done history)
   -- It was read only where all replies to the bytes read so far were written out.
-  pub reads : ReadsOwingNothing sizes.value line.begin line.now (entries_of history) (map text_done history)
+  pub reads : ReadsOwingNothing (rules_of sizes) line.begin line.now (entries_of history) (map text_done history)
   pub answered : AllByRecursion (IsAnswered sizes.shards) history
   pub moments : AllByRecursion (λ done. may_answer done.moment) history
   pub counted : line.commands ≡ length history

@@ -35,6 +35,7 @@ use Rattle.mc_server.specs.Explains.{IsExplained, entry_of}
 use Rattle.mc_server.specs.internal.Answering.{Answers, piece_in, replies_on}
 use Rattle.mc_server.proofs.Answering.{lane_ran}
 use Rattle.mc_server.proofs.Backing.{lawful}
+use Rattle.mc_server.specs.Sizes.{rules_of}
 
 -- all pieces that are due were run
 pub record RanAll (sizes : Sizes) (told : Told) (shards : List Shard) (log : List Entry) : Type 0 where
@@ -155,7 +156,7 @@ explains sizes may_answer begin now told broke commands conn last shards log is 
     let t = tells_all sizes told shards log conn is ran in
     let long = ap length t.same in
     let commands_are : commands_of told.taken ≡ entries_of history = ap commands_of (sym t.same) ∙ map-map (λ (one : Taken). one.entry) taken_of history in
-    let story : Story sizes.value begin now broke (map taken_of history) (map text_done history) = rw (← answers.limit, t.same, ← t.texts) served.story in
+    let story : Story (rules_of sizes) begin now broke (map taken_of history) (map text_done history) = rw (← answers.rules_are, t.same, ← t.texts) served.story in
     let answered : AllByRecursion (IsAnswered sizes.shards) history = rw (← answers.same) t.answered in
     let logged : (s : ℕ) → due.on_shard s (due.log_of sizes.shards history) ≡ map ran_of (on_shard s log) = λ s. rw (← answers.same) (on_shard_is sizes told shards log history ran t s) in
     let mine : (s : ℕ) → AllByRecursion (λ (entry : Entry). entry.asker ≡ 0) (on_shard s log) = λ s. mine_on s log answers.mine in
@@ -172,7 +173,7 @@ explains sizes may_answer begin now told broke commands conn last shards log is 
       explained = record {
         history = history;
         story = story;
-        reads = rw (← answers.limit, ← commands_are, ← t.texts) (served.reads (keys_fit sizes told shards log answers));
+        reads = rw (← answers.rules_are, ← commands_are, ← t.texts) (served.reads (keys_fit sizes told shards log answers));
         answered = answered;
         moments = all_unmap (λ (one : Taken). may_answer one.moment) taken_of history (rw t.same moments);
         counted = omega (arith, counted, long, length-map history taken_of);

@@ -10,6 +10,7 @@ use Rattle.mc_core.specs.Log.{Entry, IsLawful, of_asker, on_shard}
 use Rattle.mc_core.specs.Alone.{HadMemory, alone}
 use Rattle.mc_seat.specs.Story.{Story}
 use Rattle.mc_seat.specs.Reads.{ReadsOwingNothing}
+use Rattle.mc_server.specs.Sizes.{rules_of}
 
 -- what is told of a line that was served: what was seen of it before and after, how many commands it took, and whether it failed
 pub record LineTold : Type 0 where
@@ -35,9 +36,9 @@ pub record IsLogOf (sizes : Sizes) (lines : ℕ) (log : List Entry) : Type 0 whe
 pub record ExplainsLine (sizes : Sizes) (may_answer : ℕ → Type 0) (log : List Entry) (number : ℕ) (line : LineTold) : Type 0 where
   pub history : List Done
   -- The commands are those of the bytes read, and the line took the texts of their replies.
-  pub story : Story sizes.value line.begin line.now line.broke (map taken_of history) (map text_done history)
+  pub story : Story (rules_of sizes) line.begin line.now line.broke (map taken_of history) (map text_done history)
   -- It was read only where all replies to the bytes read so far were written out.
-  pub reads : ReadsOwingNothing sizes.value line.begin line.now (entries_of history) (map text_done history)
+  pub reads : ReadsOwingNothing (rules_of sizes) line.begin line.now (entries_of history) (map text_done history)
   pub answered : AllByRecursion (IsAnswered sizes.shards) history
   pub moments : AllByRecursion (λ done. may_answer done.moment) history
   pub counted : line.commands ≡ length history

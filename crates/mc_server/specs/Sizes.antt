@@ -1,7 +1,13 @@
 -- The sizes of a server, as its definitions name them.
 use Rattle.std.specs.Prelude.{ℕ}
+use Rattle.mc_command.specs.declared.rules.Rules.{Rules}
+use Rattle.mc_command.specs.Rules.{own}
 use Rattle.mc_core.specs.Sizes.{Sizes}
 use Rattle.mc_server.specs.declared.serve as serve
+
+-- the rules by which lines are read
+abbrev pub rules_of : serve.Sizes.Sizes → Rules
+rules_of sizes = own sizes.value
 
 -- those of a server with so many lines
 abbrev pub sizes_of : ℕ → serve.Sizes.Sizes → Sizes
