@@ -42,7 +42,7 @@ impl<D: Door + Drop> Seats<D> {
         clock: &K,
         rooms: &mut Rooms,
     ) -> bool
-        requires { (shards : ℕ) (rules : Rules) × (sats : List SeatAt) ×
+        requires { (shards : ℕ) × (rules : Rules) × (sats : List SeatAt) ×
             Zips (λ sat one. SeatStands (λ line. D.Line.sight line) shards rules (K.may_answer clock.now) sat (D.told one.door) one.session one.phase) sats self.old.all.items }
         ensures { (shards : ℕ) (rules : Rules) (sats : List SeatAt) →
             Zips (λ sat one. SeatStands (λ line. D.Line.sight line) shards rules (K.may_answer clock.now) sat (D.told one.door) one.session one.phase) sats self.old.all.items →
@@ -65,7 +65,7 @@ impl<D: Door + Drop> Seats<D> {
         clock: &K,
         rooms: &mut Rooms,
     ) -> bool
-        requires { (shards : ℕ) (rules : Rules) × (sats : List SeatAt) ×
+        requires { (shards : ℕ) × (rules : Rules) × (sats : List SeatAt) ×
             Zips (λ sat one. SeatStands (λ line. D.Line.sight line) shards rules (K.may_answer clock.now) sat (D.told one.door) one.session one.phase) sats self.old.all.items }
         ensures { (shards : ℕ) (rules : Rules) (sats : List SeatAt) →
             Zips (λ sat one. SeatStands (λ line. D.Line.sight line) shards rules (K.may_answer clock.now) sat (D.told one.door) one.session one.phase) sats self.old.all.items →
@@ -113,7 +113,7 @@ impl<D: Door + Drop> Seats<D> {
         clock: &K,
         rooms: &mut Rooms,
     ) -> Stepped
-        requires { (shards : ℕ) (rules : Rules) × (sats : List SeatAt) ×
+        requires { (shards : ℕ) × (rules : Rules) × (sats : List SeatAt) ×
             Zips (λ sat one. SeatStands (λ line. D.Line.sight line) shards rules (K.may_answer clock.now) sat (D.told one.door) one.session one.phase) sats self.old.all.items }
         ensures { (shards : ℕ) (rules : Rules) (sats : List SeatAt) →
             Zips (λ sat one. SeatStands (λ line. D.Line.sight line) shards rules (K.may_answer clock.now) sat (D.told one.door) one.session one.phase) sats self.old.all.items →

@@ -24,7 +24,7 @@ pub record IsVacant (rules : Rules) (window : ℕ) (session : Session) : Type 0 
   pub none_waits : text_in session.unwritten ≡ []
 
 abbrev pub MayBegin : Session → Type 0
-MayBegin session = (rules : Rules) (window : ℕ) × IsVacant rules window session
+MayBegin session = (rules : Rules) × (window : ℕ) × IsVacant rules window session
 
 -- It serves a line of which no further command was taken, by what is seen of the line once it took the replies that wait.
 abbrev pub HasStopped : ℕ → Rules → (ℕ → Type 0) → Sight → Sight → Ends Near → Session → Type 0
