@@ -12,6 +12,7 @@ use Rattle.mc_item.specs.declared.op.Op.{Op}
 use Rattle.mc_item.specs.declared.op.Op.TheVariants as op
 use Rattle.mc_item.specs.Expiry.{expiry_of}
 use Rattle.mc_item.specs.Kind.{key_of}
+use Rattle.mc_command.specs.Rules.{own}
 use Rattle.mc_reader.specs.Spelling.{line_says, block_entry}
 use Rattle.mc_conn.specs.History.{Taken}
 use Rattle.mc_core.specs.Sizes.{Sizes}
@@ -34,7 +35,7 @@ entry_of (Refused refusal) behind = command.Refused refusal
 entry_of (Skip refusal count) behind = command.Refused refusal
 
 abbrev pub spelled : Sent → Command
-spelled sent = entry_of (line_says DEFAULT_VALUE_LIMIT sent.line) sent.behind
+spelled sent = entry_of (line_says (own DEFAULT_VALUE_LIMIT) sent.line) sent.behind
 
 abbrev pub taken_at : ℕ → Sent → Taken
 taken_at moment sent = record { entry = spelled sent; moment = moment; given_up = false }
