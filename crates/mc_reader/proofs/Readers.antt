@@ -51,14 +51,14 @@ nothing_unread rules reader fed ended given h used =
     rw (same_rest rules (entries_of given) 0 fed at.0 [] at.1 used.0) at at.2
 
 -- What has come of an open block is no longer than the rules and the block's end.
-pub held_in_within : (rules : Rules) (at : State) (buffer unread : List ℕ) → Holds rules at buffer unread → held_in at ≤ rules + 2
+pub held_in_within : (rules : Rules) (at : State) (buffer unread : List ℕ) → Holds rules at buffer unread → held_in at ≤ rules.value_limit + 2
 held_in_within rules (state.Block block) buffer unread h =
     let within = block.within in
     let small = data_small rules (words_of (without_return h.line)) block.command block.count h.says in
     omega arith
 held_in_within rules at buffer unread h = omega arith
 
-pub held_within : (rules : Rules) (reader : Reader) (fed : List ℕ) (ended : Bool) (given : List Given) → HasGiven reader rules fed ended given → held_in reader.state ≤ rules + 2
+pub held_within : (rules : Rules) (reader : Reader) (fed : List ℕ) (ended : Bool) (given : List Given) → HasGiven reader rules fed ended given → held_in reader.state ≤ rules.value_limit + 2
 held_within rules reader fed ended given h = elim (cases_Bool (is_closed (entries_of given))) [
   | inl over ↦ let now : reader.state ≡ state.Closed = rw over at h.now in rw now (omega arith)
   | inr goes ↦ let now = rw goes at h.now in held_in_within rules reader.state reader.buffer h.unread now.1
