@@ -9,7 +9,7 @@ use Rattle.mc_ring.specs.Lane.{Near}
 use Rattle.mc_ring.specs.Ends.{AreSameEnds, Ends}
 use Rattle.mc_ring.specs.EndsLaws.{lane_kept, same_ends-trans}
 use Rattle.mc_ring.specs.Made.{AreLanes, AreNewEnds}
-use Rattle.mc_core.specs.Sizes.{Sizes}
+use Rattle.mc_core.specs.Sizes.{Sizes, rules_of}
 use Rattle.mc_core.specs.Desk.{Desk}
 use Rattle.mc_server.specs.Explains.{LineTold}
 use Rattle.mc_serve.specs.Asking.{AreTied, HasLanes}
@@ -27,7 +27,6 @@ use Rattle.mc_serve.specs.Served.{ExplainsSeat, PassEach, ServesDoors}
 use Rattle.mc_serve.proofs.Chain.{lines_same}
 use Rattle.mc_serve.proofs.Segments.{IsSeatKnown, explains_seat}
 use Rattle.mc_command.specs.declared.rules.Rules.{Rules}
-use Rattle.mc_server.specs.Sizes.{rules_of}
 
 -- A seat of which more is known: the keys of all replies to its lines fit.
 record SeatFits (shards : ℕ) (rules : Rules) (may_answer : ℕ → Type 0) (sat rose : SeatAt) : Type 0 where

@@ -6,7 +6,7 @@ use Rattle.mc_core.proofs.Lists.{take_next}
 use Rattle.mc_wire.specs.Outlet.{Sight}
 use Rattle.std.specs.Prelude.{OnOk}
 use Rattle.mc_ring.specs.Made.{AreLanes}
-use Rattle.mc_core.specs.Sizes.{Sizes}
+use Rattle.mc_core.specs.Sizes.{Sizes, rules_of}
 use Rattle.mc_core.specs.Desk.{Desk, Goes}
 use Rattle.mc_core.specs.DeskLaws.{goes_refl, goes_trans}
 use Rattle.mc_crew.specs.Zips.{Zips}
@@ -23,7 +23,6 @@ use Rattle.mc_serve.proofs.Steps.{can_step, sits_first}
 use Rattle.mc_serve.proofs.Zipped.{met_at, zips_append, zips_each, zips_set}
 use Rattle.mc_serve.proofs.AtDoors.{AreJoined}
 use Rattle.mc_command.specs.declared.rules.Rules.{Rules}
-use Rattle.mc_server.specs.Sizes.{rules_of}
 
 -- A seat stands, and how it is seen: by what is told of its door, its session and its phase.
 abbrev pub Stands : {S L : Type 0} → (L → Sight) → (S → DoorTold) → (S → Session) → (S → Phase L) → ℕ → Rules → (ℕ → Type 0) → SeatAt → S → Type 0

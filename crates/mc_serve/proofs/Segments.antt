@@ -18,7 +18,7 @@ use Rattle.mc_conn.specs.Fits.{CameFrom, KeysFit, Serves, Tells, reply_of}
 use Rattle.mc_conn.specs.Told.{Told, all_texts, commands_of}
 use Rattle.mc_conn.proofs.Serving.{keys_came}
 use Rattle.mc_conn.proofs.Telling.{ran_on-same, tells}
-use Rattle.mc_core.specs.Sizes.{Sizes}
+use Rattle.mc_core.specs.Sizes.{Sizes, rules_of}
 use Rattle.mc_core.specs.Log.{Entry, of_asker, on_shard, pieces_in, replies_in}
 use Rattle.mc_core.specs.Desk.{Desk, end_come}
 use Rattle.mc_crew.specs.Zips.{Zips}
@@ -35,7 +35,6 @@ use Rattle.mc_serve.proofs.Tying.{as_many_replies, none_came, pieces_ran, ran_of
 use Rattle.mc_serve.specs.Seats.{AllFit, SeatAt, SeatServes, ServesLine, ServesLines}
 use Rattle.mc_serve.specs.Served.{ExplainsHistory, ExplainsSeat}
 use Rattle.mc_command.specs.declared.rules.Rules.{Rules}
-use Rattle.mc_server.specs.Sizes.{rules_of}
 
 -- What is known of a line that was served, by what its connection was told.
 pub record Core (may_answer : ℕ → Type 0) (line : LineTold) (before after : Ends Near) (told : Told) (received : ℕ → List Shown) : Type 0 where

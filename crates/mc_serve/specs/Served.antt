@@ -2,14 +2,13 @@
 use Rattle.std.specs.Prelude.{ℕ, ◌≡◌, ◌<◌, List, [], ◌∷◌, length, map, Some}
 use Rattle.std.specs.List.{AllByRecursion, flat_map, slice_get}
 use Rattle.mc_conn.specs.History.{Done, IsAnswered, entries_of, taken_of, text_done}
-use Rattle.mc_core.specs.Sizes.{Sizes}
+use Rattle.mc_core.specs.Sizes.{Sizes, rules_of}
 use Rattle.mc_core.specs.Log.{Entry, of_asker, on_shard}
 use Rattle.mc_crew.specs.Zips.{Zips}
 use Rattle.mc_seat.specs.Story.{Story}
 use Rattle.mc_seat.specs.Reads.{ReadsOwingNothing}
 use Rattle.mc_server.specs.Explains.{IsLogOf, LineTold, log_of}
 use Rattle.mc_serve.specs.Told.{DoorTold, IsDone, Passes, closed}
-use Rattle.mc_server.specs.Sizes.{rules_of}
 
 -- The line's commands, each with its moment and answers, explain what was read of it and what it took.
 pub record ExplainsHistory (sizes : Sizes) (may_answer : ℕ → Type 0) (line : LineTold) (history : List Done) : Type 0 where

@@ -23,7 +23,7 @@ use Rattle.mc_conn.proofs.Places.{lane-append}
 use Rattle.mc_conn.proofs.Serving.{keys_came}
 use Rattle.mc_conn.proofs.Staying.{is_sound}
 use Rattle.mc_conn.proofs.Telling.{ran_on-same, tells}
-use Rattle.mc_core.specs.Sizes.{Sizes}
+use Rattle.mc_core.specs.Sizes.{Sizes, rules_of}
 use Rattle.mc_core.specs.Sized.{empty_shard}
 use Rattle.mc_core.specs.Log.{Entry, on_shard, pieces_in, reply_to}
 use Rattle.mc_core.specs.Alone.{empty_shards}
@@ -35,7 +35,6 @@ use Rattle.mc_server.specs.Explains.{IsExplained, entry_of}
 use Rattle.mc_server.specs.internal.Answering.{Answers, piece_in, replies_on}
 use Rattle.mc_server.proofs.Answering.{lane_ran}
 use Rattle.mc_server.proofs.Backing.{lawful}
-use Rattle.mc_server.specs.Sizes.{rules_of}
 
 -- all pieces that are due were run
 pub record RanAll (sizes : Sizes) (told : Told) (shards : List Shard) (log : List Entry) : Type 0 where

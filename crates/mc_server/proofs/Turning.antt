@@ -15,7 +15,7 @@ use Rattle.mc_conn.specs.Told.{Told, all_pieces, all_texts, commands_of, told_no
 use Rattle.mc_conn.proofs.Fitting.{fits_none, fits_take, pieces_from-append}
 use Rattle.mc_conn.proofs.Gets.{all_push}
 use Rattle.mc_conn.proofs.Staying.{is_sound, keeps_take}
-use Rattle.mc_core.specs.Sizes.{Sizes}
+use Rattle.mc_core.specs.Sizes.{Sizes, rules_of}
 use Rattle.mc_core.specs.Log.{Entry}
 use Rattle.mc_seat.specs.declared.seat.Turn.{Turn}
 use Rattle.mc_seat.specs.internal.Stands.{handed_texts}
@@ -28,7 +28,6 @@ use Rattle.mc_server.specs.internal.Answering.{Answers, AnswersAll, Backs, repli
 use Rattle.mc_server.specs.internal.Turns.{Turns}
 use Rattle.mc_server.proofs.Answering.{told_more}
 use Rattle.mc_server.proofs.Explaining.{RanAll, all_complete, explains, keys_fit}
-use Rattle.mc_server.specs.Sizes.{rules_of}
 
 -- nothing has happened yet
 pub turns_first : (sizes : Sizes) (may_answer : ℕ → Type 0) (now : Sight) (unread : List ℕ) (conn : Conn) (shards : List Shard) (window : ℕ) → 0 < sizes.shards → length shards ≡ sizes.shards → Backs sizes shards [] → unread ≡ [] → IsConn conn (told_nothing sizes.shards (rules_of sizes) window) → Turns sizes may_answer now now unread conn shards 0

@@ -5,12 +5,11 @@ use Rattle.mc_wire.specs.Outlet.{Sight}
 use Rattle.mc_conn.specs.History.{Done, IsAnswered, entries_of, taken_of, text_done}
 use Rattle.mc_conn.specs.Due.{Ran}
 use Rattle.mc_conn.specs.Due as due
-use Rattle.mc_core.specs.Sizes.{Sizes}
+use Rattle.mc_core.specs.Sizes.{Sizes, rules_of}
 use Rattle.mc_core.specs.Log.{Entry, IsLawful, of_asker, on_shard}
 use Rattle.mc_core.specs.Alone.{HadMemory, alone}
 use Rattle.mc_seat.specs.Story.{Story}
 use Rattle.mc_seat.specs.Reads.{ReadsOwingNothing}
-use Rattle.mc_server.specs.Sizes.{rules_of}
 
 -- what is told of a line that was served: what was seen of it before and after, how many commands it took, and whether it failed
 pub record LineTold : Type 0 where

@@ -10,9 +10,8 @@ use Rattle.mc_conn.specs.declared.conn.Conn.{Conn}
 use Rattle.mc_conn.specs.Conn.{IsConn}
 use Rattle.mc_conn.specs.Fits.{Fits}
 use Rattle.mc_conn.specs.Told.{KeepsHanded, Told, all_pieces}
-use Rattle.mc_core.specs.Sizes.{Sizes}
+use Rattle.mc_core.specs.Sizes.{Sizes, rules_of}
 use Rattle.mc_core.specs.Log.{Entry, Leaves, on_shard, replies_in}
-use Rattle.mc_server.specs.Sizes.{rules_of}
 
 -- Each shard is what its part of the log leads to, from the empty state.
 abbrev pub Backs : Sizes → List Shard → List Entry → Type 0
