@@ -1,7 +1,6 @@
 -- Laws of the command table, line by line.
-use Rattle.std.proofs.Common.{◌≡◌, ℕ, ◌+◌, ◌≤◌, ◌^◌, false, List, [], ◌∷◌, Option, Some, None, nat_lt, refl, Result, Ok, Err, IsTrue}
+use Rattle.std.proofs.Common.{◌≡◌, ℕ, ◌+◌, ◌≤◌, Bool, false, List, [], ◌∷◌, Option, Some, None, nat_lt, refl, ◌∙◌, Result, Ok, Err, IsTrue}
 use Rattle.std.proofs.lemmas.Bool.{cond_both, ltb-false}
-use Rattle.mc_wire.specs.Number.{number_of}
 use Rattle.mc_command.specs.declared.command.Command.{Command}
 use Rattle.mc_command.specs.declared.meta.MetaKind.{MetaKind}
 use Rattle.mc_command.specs.declared.meta.MetaKind.TheVariants.{Set}
@@ -10,17 +9,20 @@ use Rattle.mc_command.specs.declared.name.CommandName.TheVariants as name
 use Rattle.mc_command.specs.declared.refusal.Refusal.{Refusal}
 use Rattle.mc_command.specs.declared.refusal.Refusal.TheVariants.{BadFormat, TooLarge}
 use Rattle.mc_command.specs.declared.line.Line.{Line}
-use Rattle.mc_command.specs.declared.line.Line.TheVariants.{Data, Skip}
+use Rattle.mc_command.specs.declared.line.Line.TheVariants.{Whole, Data, Refused, Skip}
 use Rattle.mc_command.specs.Command.{can_give_up}
 use Rattle.mc_command.specs.Line.{bytes_behind, is_given_up}
-use Rattle.mc_command.specs.Blocks.{whole_line, block_line, bytes_with, MayBeGivenUp}
-use Rattle.mc_command.specs.Classic.{count_in}
+use Rattle.mc_command.specs.Blocks.{block_count, block_line, bytes_with, whole_line, MayBeGivenUp}
+use Rattle.mc_command.specs.Field.{word_count_refusal}
+use Rattle.mc_command.specs.Hiding.{hides_faults, shown_line}
+use Rattle.mc_command.specs.Classic.{cas_count_in, count_in}
 use Rattle.mc_command.specs.Meta.{meta_line_of, meta_count_in}
 use Rattle.mc_command.specs.Name.{name_of}
 use Rattle.mc_command.specs.Table.{line_of, line_named, line_if_named, count_named}
 use Rattle.mc_command.proofs.Lines.{storage_may, cas_may, get_may, gat_may, delete_may, count_may, touch_may, flush_may}
 use Rattle.mc_command.proofs.MetaLaws.{meta_given_up}
-use Rattle.mc_command.proofs.Told.{Told, no_memory, no_memory_command, told_may, verbosity_told}
+use Rattle.mc_command.proofs.Told.{Told, no_memory, no_memory_command, told_may, verbosity_told, words_told}
+use Rattle.mc_command.proofs.Hidings.{shown_told}
 use Rattle.mc_command.specs.declared.rules.Rules.{Rules}
 
 -- A data block belongs to a command that may be given up, and is no longer than the limit.
@@ -47,29 +49,36 @@ lawful_block limit (Some count) (Err refusal) may = record { told = no_memory re
 lawful_block limit None (Ok command) may = lawful_whole limit (Err BadFormat) refl
 lawful_block limit None (Err refusal) may = lawful_whole limit (Err refusal) (no_memory refusal may)
 
-lawful_meta : (rules : Rules) (name : MetaKind) (words : List (List ℕ)) → IsLawful rules.value_limit (bytes_with (meta_count_in name words)) (meta_line_of rules name words)
+lawful_meta : (rules : Rules) (name : MetaKind) (words : List (List ℕ)) → IsLawful rules.value_limit (bytes_with (meta_count_in rules name words)) (meta_line_of rules name words)
 unfolding meta_line_of
-lawful_meta rules Set (word ∷ count ∷ words) = lawful_block rules.value_limit (number_of (2 ^ 32) count) _ (meta_given_up Set word words)
-lawful_meta rules Set words = lawful_whole rules.value_limit (Err BadFormat) refl
-lawful_meta rules name [] = lawful_whole rules.value_limit (Err BadFormat) refl
-lawful_meta rules name (word ∷ words) = lawful_whole rules.value_limit _ (told_may _ (meta_given_up name word words))
+lawful_meta rules Set (word ∷ count ∷ words) = lawful_block rules.value_limit (block_count rules count) _ (meta_given_up rules Set word words)
+lawful_meta rules Set (word ∷ []) = lawful_whole rules.value_limit (Err BadFormat) refl
+lawful_meta rules name [] = lawful_whole rules.value_limit (Err (word_count_refusal rules)) (words_told rules)
+lawful_meta rules name (word ∷ words) = lawful_whole rules.value_limit _ (told_may _ (meta_given_up rules name word words))
 
-pub lawful_named : (rules : Rules) (name : CommandName) (words : List (List ℕ)) → IsLawful rules.value_limit (bytes_with (count_named name words)) (line_named rules name words)
-lawful_named rules (name.Store mode) words = lawful_block rules.value_limit (count_in words) _ (storage_may mode words)
-lawful_named rules name.CompareAndSwap words = lawful_block rules.value_limit (count_in words) _ (cas_may words)
-lawful_named rules (name.Get with_unique) words = lawful_whole rules.value_limit _ (told_may _ (get_may with_unique words))
-lawful_named rules (name.GetAndTouch with_unique) words = lawful_whole rules.value_limit _ (told_may _ (gat_may with_unique words))
-lawful_named rules name.Delete words = lawful_whole rules.value_limit _ (told_may _ (delete_may words))
-lawful_named rules (name.Count direction) words = lawful_whole rules.value_limit _ (told_may _ (count_may direction words))
-lawful_named rules name.Touch words = lawful_whole rules.value_limit _ (told_may _ (touch_may words))
-lawful_named rules name.FlushAll words = lawful_whole rules.value_limit _ (told_may _ (flush_may words))
-lawful_named rules name.Verbosity words = lawful_whole rules.value_limit _ (verbosity_told words)
+pub lawful_named : (rules : Rules) (name : CommandName) (words : List (List ℕ)) → IsLawful rules.value_limit (bytes_with (count_named rules name words)) (line_named rules name words)
+lawful_named rules (name.Store mode) words = lawful_block rules.value_limit (count_in rules words) _ (storage_may rules mode words)
+lawful_named rules name.CompareAndSwap words = lawful_block rules.value_limit (cas_count_in rules words) _ (cas_may rules words)
+lawful_named rules (name.Get with_unique) words = lawful_whole rules.value_limit _ (told_may _ (get_may rules with_unique words))
+lawful_named rules (name.GetAndTouch with_unique) words = lawful_whole rules.value_limit _ (told_may _ (gat_may rules with_unique words))
+lawful_named rules name.Delete words = lawful_whole rules.value_limit _ (told_may _ (delete_may rules words))
+lawful_named rules (name.Count direction) words = lawful_whole rules.value_limit _ (told_may _ (count_may rules direction words))
+lawful_named rules name.Touch words = lawful_whole rules.value_limit _ (told_may _ (touch_may rules words))
+lawful_named rules name.FlushAll words = lawful_whole rules.value_limit _ (told_may _ (flush_may rules words))
+lawful_named rules name.Verbosity words = lawful_whole rules.value_limit _ (verbosity_told rules words)
 lawful_named rules (name.Meta meta) words = lawful_meta rules meta words
 lawful_named rules other words = record { told = refl; block = tt; behind_is = refl }
 
+-- a fault that is hidden is still no want of memory
+shown_lawful : (limit behind : ℕ) (hides : Bool) (line : Line) → IsLawful limit behind line → IsLawful limit behind (shown_line hides line)
+shown_lawful limit behind hides (Whole asked) lawful = lawful
+shown_lawful limit behind hides (Data asked count) lawful = lawful
+shown_lawful limit behind hides (Refused refusal) lawful = record { told = shown_told hides refusal ∙ lawful.told; block = tt; behind_is = lawful.behind_is }
+shown_lawful limit behind hides (Skip refusal count) lawful = record { told = shown_told hides refusal ∙ lawful.told; block = tt; behind_is = lawful.behind_is }
+
 lawful_if_named : (rules : Rules) (name : Option CommandName) (words : List (List ℕ)) → (behind : ℕ) × IsLawful rules.value_limit behind (line_if_named rules name words)
 lawful_if_named rules None words = (0, record { told = refl; block = tt; behind_is = refl })
-lawful_if_named rules (Some name) words = (_, lawful_named rules name words)
+lawful_if_named rules (Some name) words = (_, shown_lawful rules.value_limit _ (hides_faults rules name words) (line_named rules name words) (lawful_named rules name words))
 
 lawful_line : (rules : Rules) (words : List (List ℕ)) → (behind : ℕ) × IsLawful rules.value_limit behind (line_of rules words)
 unfolding line_of

@@ -6,6 +6,7 @@ pub mod Blocks
 pub mod Classic
 pub mod Meta
 pub mod Name
+pub mod Hiding
 pub mod Table
 pub mod Laws
 pub mod FlagOrder

@@ -10,6 +10,7 @@ use crate::classic::{
     read_count, read_delete, read_flush_all, read_gat, read_get, read_touch, read_verbosity,
 };
 use crate::command::Command;
+use crate::hiding::hide_fault;
 use crate::meta_line::read_meta;
 use crate::name::{CommandName, read_name};
 use crate::refusal::Refusal;
@@ -40,17 +41,20 @@ pub fn read_line(alloc: Global, line: &[u8], limit: usize) -> Line
 }
 
 /// Reads a line, without its end, by these rules.
-#[tactic(auto, unfolding(crate::specs::Table::line_of))]
+#[tactic(auto, unfolding(crate::specs::Table::line_of), using(crate::proofs::Hidings::says_shown))]
 pub fn read_line_under(alloc: Global, line: &[u8], rules: Rules) -> Line
     ensures says { Says (line_of rules (words_of line.now)) result }
     // A line without keys is never given up.
     ensures told { may_take_memory (words_of line.now) ≡ false → result ≡ line_of rules (words_of line.now) }
 {
     let mut walk = words(line);
-    match walk.next().and_then(read_name) {
-        Some(name) => read_named(alloc, name, walk, rules),
-        None => Line::Refused(Refusal::Unknown),
-    }
+    let Some(name) = walk.next().and_then(read_name) else {
+        return Line::Refused(Refusal::Unknown);
+    };
+    let behind = walk.text();
+    let mut read = read_named(alloc, name, walk, rules);
+    hide_fault(&mut read, rules, name, behind);
+    read
 }
 
 /// Reads the words behind a name.
@@ -62,14 +66,19 @@ fn read_named(alloc: Global, name: CommandName, walk: WordWalk<'_>, rules: Rules
     match name {
         CommandName::Store(mode) => read_storage(alloc, mode, walk, rules),
         CommandName::CompareAndSwap => read_cas(alloc, walk, rules),
-        CommandName::Get { with_unique } => whole_line(read_get(alloc, with_unique, walk)),
-        CommandName::GetAndTouch { with_unique } => whole_line(read_gat(alloc, with_unique, walk)),
-        CommandName::Delete => whole_line(read_delete(alloc, walk)),
-        CommandName::Count(direction) => whole_line(read_count(alloc, direction, walk)),
-        CommandName::Touch => whole_line(read_touch(alloc, walk)),
-        CommandName::FlushAll => whole_line(read_flush_all(walk)),
-        CommandName::Version => Line::Whole(Command::Version),
-        CommandName::Verbosity => whole_line(read_verbosity(walk)),
+        CommandName::Get { with_unique } => whole_line(read_get(alloc, rules, with_unique, walk)),
+        CommandName::GetAndTouch { with_unique } => whole_line(read_gat(
+            alloc,
+            rules,
+            with_unique,
+            walk,
+        )),
+        CommandName::Delete => whole_line(read_delete(alloc, rules, walk)),
+        CommandName::Count(direction) => whole_line(read_count(alloc, rules, direction, walk)),
+        CommandName::Touch => whole_line(read_touch(alloc, rules, walk)),
+        CommandName::FlushAll => whole_line(read_flush_all(rules, walk)),
+        CommandName::Version => Line::Whole(Command::Version(rules.profile)),
+        CommandName::Verbosity => whole_line(read_verbosity(rules, walk)),
         CommandName::Quit => Line::Whole(Command::Quit),
         CommandName::MetaNoop => Line::Whole(Command::MetaNoop),
         CommandName::Meta(name) => read_meta(alloc, name, walk, rules),
