@@ -14,7 +14,7 @@ SECONDS = 15
 
 # As many clients as there may be seats, or as many as files may be open here: each is one of ours, and one of the server's.
 MOST_FILES = resource.getrlimit(resource.RLIMIT_NOFILE)[1]
-CROWD = min(4096, MOST_FILES - 256)
+CROWD = 4096 if MOST_FILES == resource.RLIM_INFINITY else min(4096, MOST_FILES - 256)
 ROUNDS = 6
 
 # So long a reply may take, in seconds.
