@@ -3,6 +3,7 @@ connections one after another. A client that isn't answered in time fails the ch
 """
 import asyncio
 import random
+import resource
 import time
 
 from served import MIB, Line, Server, equal, hit_of, set_of
@@ -11,7 +12,9 @@ from served import MIB, Line, Server, equal, hit_of, set_of
 CONNECTIONS = 20_000
 SECONDS = 15
 
-CROWD = 4096
+# As many clients as there may be seats, or as many as files may be open here: each is one of ours, and one of the server's.
+MOST_FILES = resource.getrlimit(resource.RLIMIT_NOFILE)[1]
+CROWD = 4096 if MOST_FILES == resource.RLIM_INFINITY else min(4096, MOST_FILES - 256)
 ROUNDS = 6
 
 # So long a reply may take, in seconds.
@@ -75,11 +78,12 @@ async def crowd(port):
 
 
 def four_thousand_clients_at_once_are_answered():
+    resource.setrlimit(resource.RLIMIT_NOFILE, (MOST_FILES, MOST_FILES))
     with Server("--seats", CROWD) as server:
         with Line(server.port) as line:
             line.ask(set_of(b"large", b"l" * 16_384), b"STORED\r\n")
         longest = asyncio.run(crowd(server.port))
-        told = f"{longest:.1f} s the longest, {server.most_resident() / MIB:.0f} MiB"
+        told = f"{CROWD} clients, {longest:.1f} s the longest, {server.most_resident() / MIB:.0f} MiB"
         with Line(server.port) as line:
             line.ask(b"get stalled0\r\nmn\r\n", b"END\r\nMN\r\n")
     return told
