@@ -2,15 +2,19 @@
 use mc_crew::CrewRefusal;
 use mc_ring::RingRefusal;
 use std::alloc::AllocError;
+use thiserror::Error;
 
 /// Why lines were not served. Of `Memory` and `Thread` nothing was read of any line nor written to it.
-#[derive(Clone, Copy, Debug, PartialEq, Eq)]
+#[derive(Clone, Copy, Debug, Error, PartialEq, Eq)]
 pub enum ServeRefusal {
     /// There is no memory for the shards, the connections or the rings, or the system gives no random bytes for a hash.
+    #[error("out of memory for the shards, the connections or the rings, or no random bytes from the system")]
     Memory,
     /// A thread could not be started.
+    #[error("a thread can't be started: fewer shards, or a higher limit of threads")]
     Thread,
     /// The listener can't be made, or accepts no more connections.
+    #[error("the address can't be listened on, or its listener accepts no more connections")]
     Bind,
 }
 
