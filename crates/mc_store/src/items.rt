@@ -35,6 +35,8 @@ pub struct Items {
     cost: usize,
     /// What they may cost together, in bytes.
     budget: usize,
+    /// How many went to make room for others.
+    evicted: u64,
     /// For a copy of a value that is read, where it can't be shared. None is left once it was used, and where no memory was
     /// found for it.
     reserve: Option<Reserve>,
@@ -172,6 +174,7 @@ impl Items {
             cache,
             cost: 0,
             budget,
+            evicted: 0,
             reserve: Reserve::new(alloc).ok(),
         })
     }
@@ -198,6 +201,11 @@ impl Items {
         ensures most { result ≤ GREATEST_BUDGET }
     {
         self.budget
+    }
+
+    /// How many went to make room for others.
+    pub fn evicted(&self) -> u64 {
+        self.evicted
     }
 
     /// The item under the key.
@@ -296,7 +304,10 @@ impl Items {
             return Err(NoMemory);
         };
         let freed = freed_by(&old, key_length);
+        let before = self.cache.len();
         self.cost = evict(&mut self.cache, self.cost + added - freed, self.budget);
+        let went = before.saturating_sub(self.cache.len());
+        self.evicted = self.evicted.saturating_add(went as u64);
         Ok(())
     }
 

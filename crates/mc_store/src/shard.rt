@@ -19,6 +19,7 @@ mod running;
 mod storing;
 
 use crate::items::{Items, cost_of};
+use crate::tally::{Asked, Status, Tally};
 use crate::{GREATEST_BUDGET, LEAST_BUDGET, access};
 use mc_item::{Answer, Item, MetaDone, Op, PackedExpiry, Value};
 use mc_wire::{GREATEST_VALUE_LIMIT, Key, LATEST_MOMENT};
@@ -57,6 +58,8 @@ pub struct Shard {
     given: u64,
     index: u64,
     shards: u64,
+    /// What it was asked so far.
+    tally: Tally,
     ghost limited: { limit ≤ GREATEST_VALUE_LIMIT },
     ghost timely: { time ≤ LATEST_MOMENT },
     ghost place: { index < shards },
@@ -95,12 +98,25 @@ impl Shard {
             given,
             index: index as u64,
             shards: shards as u64,
+            tally: Tally::NOTHING,
         })
     }
 
-    /// Does what it is asked, at the moment: a second since 1970.
-    #[tactic(auto, unfolding(mc_item::specs::Kind::is_lawful, mc_item::specs::Kind::kind_of))]
+    /// Does what it is asked, at the moment: a second since 1970. It is counted.
     pub fn run(&mut self, alloc: Global, op: Op, moment: u64) -> Answer
+        ensures step { Steps self.old op moment result self.new }
+        ensures lawful { is_lawful (kind_of op) result ≡ true }
+    {
+        let asked = Asked::of(&op);
+        let answer = self.answer(alloc, op, moment);
+        self.tally.note(asked, Status::of(&answer));
+        answer
+    }
+
+    /// The same, without counting it.
+    #[inline(always)]
+    #[tactic(auto, unfolding(mc_item::specs::Kind::is_lawful, mc_item::specs::Kind::kind_of))]
+    fn answer(&mut self, alloc: Global, op: Op, moment: u64) -> Answer
         ensures step { Steps self.old op moment result self.new }
         ensures lawful { is_lawful (kind_of op) result ≡ true }
     {
@@ -149,6 +165,18 @@ impl Shard {
         ensures room { (state : State) → IsShard self.now state → result ≤ state.budget }
     {
         self.items.cost()
+    }
+
+    /// What it was asked so far, and how often each came to what.
+    pub fn tally(&self) -> Tally
+        ensures { result ≡ self.now.tally }
+    {
+        self.tally
+    }
+
+    /// How many items went to make room for others.
+    pub fn evicted(&self) -> u64 {
+        self.items.evicted()
     }
 
     /// Moves the time to the moment, unless that is past, and runs a flush that is due.
