@@ -98,7 +98,7 @@ impl Shard {
             given,
             index: index as u64,
             shards: shards as u64,
-            tally: Tally::NOTHING,
+            tally: Tally::new(),
         })
     }
 

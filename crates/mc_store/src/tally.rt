@@ -1,5 +1,5 @@
 //! How often a shard was asked for what, and what came of it: what who runs the server sees of its commands.
-ghost use Rattle.std.specs.Prelude.{◌≡◌};
+ghost use Rattle.std.specs.Prelude.{◌≡◌, ◌<◌};
 ghost use Rattle.mc_store.specs.Tally.{asked_of, counting, status_of};
 
 use mc_command::{Direction, StoreMode};
@@ -41,27 +41,15 @@ pub enum Status {
     Refused,
 }
 
-/// How often each status came.
-#[derive(Clone, Copy, Debug, PartialEq, Eq)]
-pub struct Results {
-    pub hits: u64,
-    pub misses: u64,
-    pub bad_values: u64,
-    pub no_memory: u64,
-    pub refused: u64,
-}
+/// So many kinds are counted, and so many statuses of each.
+const KINDS: usize = 8;
 
-/// What a shard was asked since it began, each kind by what came of it. A number that is reached stays at 2^64 - 1.
+const STATUSES: usize = 5;
+
+/// How often a shard was asked for each kind, and what came of it, since it began. A count starts anew after 2^64 - 1.
 #[derive(Clone, Copy, Debug, PartialEq, Eq)]
 pub struct Tally {
-    pub get: Results,
-    pub set: Results,
-    pub cas: Results,
-    pub touch: Results,
-    pub delete: Results,
-    pub incr: Results,
-    pub decr: Results,
-    pub flush: Results,
+    counts: [u64; KINDS * STATUSES],
 }
 
 impl Asked {
@@ -120,52 +108,29 @@ impl Status {
     }
 }
 
-impl Results {
-    const NONE: Results = Results {
-        hits: 0,
-        misses: 0,
-        bad_values: 0,
-        no_memory: 0,
-        refused: 0,
-    };
+impl Tally {
+    /// Nothing was asked.
+    pub const fn new() -> Tally {
+        Tally {
+            counts: [0; KINDS * STATUSES],
+        }
+    }
 
-    fn note(&mut self, status: Status) {
-        let count = match status {
-            Status::Hit => &mut self.hits,
-            Status::Miss => &mut self.misses,
-            Status::BadValue => &mut self.bad_values,
-            Status::NoMemory => &mut self.no_memory,
-            Status::Refused => &mut self.refused,
-        };
-        *count = count.saturating_add(1);
+    /// How often this was asked and came to that.
+    pub fn count(&self, asked: Asked, status: Status) -> u64 {
+        self.counts[place_of(asked, status)]
+    }
+
+    /// Counts what was asked, and what came of it.
+    pub(crate) fn note(&mut self, asked: Asked, status: Status) {
+        let count = &mut self.counts[place_of(asked, status)];
+        *count = count.wrapping_add(1);
     }
 }
 
-impl Tally {
-    /// Nothing was asked.
-    pub const NOTHING: Tally = Tally {
-        get: Results::NONE,
-        set: Results::NONE,
-        cas: Results::NONE,
-        touch: Results::NONE,
-        delete: Results::NONE,
-        incr: Results::NONE,
-        decr: Results::NONE,
-        flush: Results::NONE,
-    };
-
-    /// Counts what was asked, and what came of it.
-    pub fn note(&mut self, asked: Asked, status: Status) {
-        let results = match asked {
-            Asked::Get => &mut self.get,
-            Asked::Set => &mut self.set,
-            Asked::Cas => &mut self.cas,
-            Asked::Touch => &mut self.touch,
-            Asked::Delete => &mut self.delete,
-            Asked::Incr => &mut self.incr,
-            Asked::Decr => &mut self.decr,
-            Asked::Flush => &mut self.flush,
-        };
-        results.note(status);
-    }
+/// Where a kind and a status are counted.
+fn place_of(asked: Asked, status: Status) -> usize
+    ensures { result < 40 }
+{
+    asked as usize * STATUSES + status as usize
 }

@@ -1,3 +1,4 @@
+use Rattle.mc_store.specs.Shard.{IsShard}
 use Rattle.mc_store.proofs.shard.Shard.run.Goals as goal
 
 pub returns-clause-step : goal.returns-clause-step
