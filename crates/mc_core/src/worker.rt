@@ -5,7 +5,7 @@ ghost use Rattle.std.specs.List.{AllByRecursion};
 ghost use Rattle.std.specs.Option.{option_map};
 ghost use Rattle.mc_ring.specs.Ends.{AreSameEnds};
 ghost use Rattle.mc_ring.specs.Made.{IsLane, IsUnused, LooksAtBoth};
-ghost use Rattle.mc_store.specs.Shard.{IsShard, held_of};
+ghost use Rattle.mc_store.specs.Shard.{IsShard};
 ghost use Rattle.mc_store.specs.State.{State};
 ghost use Rattle.mc_core.specs.Desk.{Goes, HasEnded, HasRun, RunsNoMore};
 ghost use Rattle.mc_core.specs.Turns.{FindsNothing, Gives, Grows, Turned};
@@ -102,11 +102,9 @@ impl Worker {
         })
     }
 
-    /// Its shard.
-    pub fn shard(&self) -> &Shard
-        ensures { held_of result.now ≡ self.now.shard }
-    {
-        &self.shard
+    /// Shows its shard to the gate.
+    pub fn show<G: Gate>(&self, gate: &G) {
+        gate.after(self.ends.number(), &self.shard);
     }
 
     /// How many seats it serves.

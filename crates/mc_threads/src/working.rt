@@ -59,8 +59,9 @@ impl<G: Gate + Drop> Working<G> {
         })
     }
 
-    /// Serves the seats that called, and those whose lanes may hold more, and rouses the seats that it gave a reply to. Whether
-    /// there was anything to do. Of each block of seats a word has a bit for each seat that called, the lowest for the first.
+    /// Serves the seats that called, and those whose lanes may hold more, and rouses the seats that it gave a reply to; then it
+    /// shows its shard to the gate. Whether there was anything to do. Of each block of seats a word has a bit for each seat that
+    /// called, the lowest for the first.
     pub fn turn(&mut self, called: &[u64]) -> bool
         ensures { Goes self.old.worker self.new.worker }
     {
@@ -69,6 +70,9 @@ impl<G: Gate + Drop> Working<G> {
             if self.serve_block(block, *called) {
                 busy = true;
             }
+        }
+        if busy {
+            self.worker.show(&*self.gate);
         }
         busy
     }
