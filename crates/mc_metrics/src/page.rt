@@ -1,0 +1,187 @@
+//! The page that shows the last minutes.
+ghost use Rattle.std.specs.Prelude.{◌≤◌};
+
+use crate::history::KEPT;
+use crate::reading::Reading;
+use mc_watch::Totals;
+use std::alloc::{AllocError, Global};
+use std::fmt;
+
+/// A sample is taken so often, in seconds.
+pub(crate) const SAMPLE_SECONDS: u64 = 5;
+
+/// So wide is a step of a curve, and so high the whole of it, in units of the drawing.
+const STEP: usize = 5;
+
+const HEIGHT: u64 = 100;
+
+/// What comes before the curves.
+const HEAD: &str = "<!doctype html>
+<html lang=\"en\">
+<head>
+<meta charset=\"utf-8\">
+<meta name=\"viewport\" content=\"width=device-width, initial-scale=1\">
+<meta http-equiv=\"refresh\" content=\"5\">
+<title>mcd</title>
+<style>
+body { font: 16px/1.4 sans-serif; margin: 1rem auto; max-width: 70rem; padding: 0 1rem; color: #222; background: #fff }
+main { display: grid; grid-template-columns: repeat(auto-fit, minmax(18rem, 1fr)); gap: 1rem }
+figure { margin: 0; border: 1px solid #bbb; padding: .5rem }
+svg { width: 100%; height: 6rem; display: block }
+polyline { fill: none; stroke: #0a58a6; stroke-width: 2; vector-effect: non-scaling-stroke }
+</style>
+</head>
+<body>
+";
+
+/// A curve of the last minutes.
+#[derive(Drop)]
+struct Curve {
+    title: &'static str,
+    points: Vec<u64>,
+}
+
+impl Curve {
+    /// The values of the samples.
+    fn of_values<F: Fn(&Totals) -> u64>(
+        alloc: Global,
+        title: &'static str,
+        samples: &[Totals],
+        value: F,
+    ) -> Result<Curve, AllocError>
+        requires { F.IsAlwaysCallable value }
+    {
+        let mut points = Vec::with_capacity(alloc, samples.len())?;
+        for sample in samples {
+            points.push(value(sample))?;
+        }
+        Ok(Curve { title, points })
+    }
+
+    /// How much the values of the samples grew, a second.
+    fn of_growth<F: Fn(&Totals) -> u64>(
+        alloc: Global,
+        title: &'static str,
+        samples: &[Totals],
+        value: F,
+    ) -> Result<Curve, AllocError>
+        requires { F.IsAlwaysCallable value }
+    {
+        let mut points = Vec::with_capacity(alloc, samples.len())?;
+        let mut before = None;
+        for sample in samples {
+            let now = value(sample);
+            if let Some(before) = before {
+                points.push(now.saturating_sub(before) / SAMPLE_SECONDS)?;
+            }
+            before = Some(now);
+        }
+        Ok(Curve { title, points })
+    }
+
+    fn greatest(&self) -> u64 {
+        let mut greatest = 0;
+        for point in &self.points {
+            greatest = greatest.max(*point);
+        }
+        greatest
+    }
+
+    fn last(&self) -> u64 {
+        match self.points.last() {
+            Some(point) => *point,
+            None => 0,
+        }
+    }
+
+    /// Writes it as a figure. The newest point stands at the right.
+    fn write<W: fmt::Write>(&self, out: &mut W) -> fmt::Result {
+        let greatest = self.greatest();
+        let title = self.title;
+        let last = self.last();
+        let width = STEP * (KEPT - 1);
+        write!(
+            out,
+            "<figure><figcaption>{title}: {last} (at most {greatest})</figcaption>"
+        )?;
+        write!(
+            out,
+            "<svg viewBox=\"0 -2 {width} 104\" preserveAspectRatio=\"none\" role=\"img\" aria-label=\"{title}\"><polyline points=\""
+        )?;
+        let skipped = KEPT.saturating_sub(self.points.len());
+        for (place, point) in self.points.iter().enumerate() {
+            let x = place.saturating_add(skipped).saturating_mul(STEP);
+            let y = HEIGHT - height_of(*point, greatest);
+            write!(out, "{x},{y} ")?;
+        }
+        write!(out, "\"/></svg></figure>\n")
+    }
+}
+
+/// How high a point stands, where the greatest one stands highest.
+fn height_of(point: u64, greatest: u64) -> u64
+    ensures { result ≤ HEIGHT }
+{
+    if greatest == 0 {
+        return 0;
+    }
+    (point.saturating_mul(HEIGHT) / greatest).min(HEIGHT)
+}
+
+/// Writes the page: what is known now, and the curves of the samples.
+pub fn write_page<W: fmt::Write>(
+    alloc: Global,
+    out: &mut W,
+    reading: &Reading,
+    samples: &[Totals],
+) -> fmt::Result {
+    out.write_str(HEAD)?;
+    write_now(out, reading)?;
+    let Ok(curves) = curves_of(alloc, samples) else {
+        return Err(fmt::Error);
+    };
+    write!(out, "<main>\n")?;
+    for curve in &curves {
+        curve.write(out)?;
+    }
+    write!(out, "</main>\n</body>\n</html>\n")
+}
+
+/// Writes what is known now.
+fn write_now<W: fmt::Write>(out: &mut W, reading: &Reading) -> fmt::Result {
+    let version = reading.facts.version;
+    let shards = reading.facts.shards;
+    let seats = reading.facts.seats;
+    let uptime = reading.uptime;
+    let open = reading.totals.open();
+    let accepted = reading.totals.accepted;
+    write!(out, "<h1>mcd {version}</h1>\n")?;
+    write!(
+        out,
+        "<p>{open} of {seats} connections open, {accepted} since the start {uptime} seconds ago; {shards} shards. "
+    )?;
+    write!(
+        out,
+        "The curves show the last ten minutes. <a href=\"/metrics\">All metrics</a></p>\n"
+    )
+}
+
+/// The curves of the page.
+fn curves_of(alloc: Global, samples: &[Totals]) -> Result<Vec<Curve>, AllocError> {
+    let mut curves = Vec::with_capacity(alloc, 5)?;
+    curves.push(Curve::of_values(alloc, "Connections", samples, |totals| totals.open())?)?;
+    curves.push(Curve::of_growth(alloc, "Connections a second", samples, |totals| {
+        totals.accepted
+    })?)?;
+    curves.push(Curve::of_growth(
+        alloc,
+        "Commands of ended connections a second",
+        samples,
+        |totals| { totals.commands },
+    )?)?;
+    curves.push(Curve::of_growth(alloc, "Bytes read a second", samples, |totals| totals.read)?)?;
+    curves.push(Curve::of_growth(alloc, "Bytes written a second", samples, |totals| {
+        totals.written
+    })?)?;
+    Ok(curves)
+}

@@ -1,0 +1,135 @@
+//! What the threads of a server count.
+use crate::counter::Counter;
+use crossbeam_utils::CachePadded;
+use std::alloc::{AllocError, Global};
+use std::sync::Arc;
+
+/// What a thread counts that serves connections.
+#[derive(Drop)]
+pub struct SeatCounts {
+    /// Connections that have ended, those that broke among them.
+    pub ended: Counter,
+    /// Connections that broke or were idle for too long.
+    pub broken: Counter,
+    /// Commands of the connections that have ended.
+    pub commands: Counter,
+    /// Bytes that were read.
+    pub read: Counter,
+    /// Bytes that were written.
+    pub written: Counter,
+}
+
+/// What the thread counts that accepts connections.
+#[derive(Drop)]
+pub struct EntranceCounts {
+    /// Connections that were accepted.
+    pub accepted: Counter,
+    /// Accepts that failed.
+    pub failed: Counter,
+}
+
+/// What all threads of a server have counted together. It was read counter by counter, while they went on.
+#[derive(Clone, Copy, Debug, Default, PartialEq, Eq)]
+pub struct Totals {
+    /// Connections that were accepted.
+    pub accepted: u64,
+    /// Accepts that failed.
+    pub failed: u64,
+    /// Connections that have ended, those that broke among them.
+    pub ended: u64,
+    /// Connections that broke or were idle for too long.
+    pub broken: u64,
+    /// Commands of the connections that have ended.
+    pub commands: u64,
+    /// Bytes that were read.
+    pub read: u64,
+    /// Bytes that were written.
+    pub written: u64,
+}
+
+/// What the threads of a server count: each its own, apart from the others in memory.
+#[derive(Drop)]
+pub struct Counts {
+    entrance: Arc<CachePadded<EntranceCounts>, Global>,
+    threads: Vec<Arc<CachePadded<SeatCounts>, Global>>,
+}
+
+impl SeatCounts {
+    fn new() -> SeatCounts {
+        SeatCounts {
+            ended: Counter::new(),
+            broken: Counter::new(),
+            commands: Counter::new(),
+            read: Counter::new(),
+            written: Counter::new(),
+        }
+    }
+}
+
+impl Totals {
+    /// How many connections are open.
+    pub fn open(&self) -> u64 {
+        self.accepted.saturating_sub(self.ended)
+    }
+
+    fn add(&mut self, counts: &SeatCounts) {
+        self.ended = self.ended.saturating_add(counts.ended.get());
+        self.broken = self.broken.saturating_add(counts.broken.get());
+        self.commands = self.commands.saturating_add(counts.commands.get());
+        self.read = self.read.saturating_add(counts.read.get());
+        self.written = self.written.saturating_add(counts.written.get());
+    }
+}
+
+impl Counts {
+    /// Nothing was counted yet, by so many threads that serve and the one that accepts.
+    pub fn new(alloc: Global, threads: usize) -> Result<Counts, AllocError> {
+        let entrance = EntranceCounts {
+            accepted: Counter::new(),
+            failed: Counter::new(),
+        };
+        let mut counts = Counts {
+            entrance: Arc::new(alloc, CachePadded::new(entrance))?,
+            threads: Vec::with_capacity(alloc, threads)?,
+        };
+        for _ in 0..threads {
+            let thread = Arc::new(alloc, CachePadded::new(SeatCounts::new()))?;
+            counts.threads.push(thread)?;
+        }
+        Ok(counts)
+    }
+
+    /// The same counts, for one more.
+    pub fn share(&self, alloc: Global) -> Result<Counts, AllocError> {
+        let mut threads = Vec::with_capacity(alloc, self.threads.len())?;
+        for thread in &self.threads {
+            threads.push(Arc::try_clone(thread)?)?;
+        }
+        Ok(Counts {
+            entrance: Arc::try_clone(&self.entrance)?,
+            threads,
+        })
+    }
+
+    /// What the thread counts that accepts connections.
+    pub fn entrance(&self) -> Result<Arc<CachePadded<EntranceCounts>, Global>, AllocError> {
+        Arc::try_clone(&self.entrance)
+    }
+
+    /// What the thread of this number counts; nothing where there is none.
+    pub fn thread(&self, number: usize) -> Option<Arc<CachePadded<SeatCounts>, Global>> {
+        Arc::try_clone(self.threads.get(number)?).ok()
+    }
+
+    /// What all threads have counted so far. The connections that ended are read first, so that no more have ended than were
+    /// accepted.
+    pub fn totals(&self) -> Totals {
+        let mut totals = Totals::default();
+        for thread in &self.threads {
+            totals.add(thread);
+        }
+        totals.accepted = self.entrance.accepted.get();
+        totals.failed = self.entrance.failed.get();
+        totals
+    }
+}
