@@ -1,4 +1,6 @@
 //! What the threads of a server count.
+ghost use Rattle.std.specs.Prelude.{◌≡◌, ◌-◌, ◌≤◌, IfOk, length};
+
 use crate::counter::Counter;
 use crossbeam_utils::CachePadded;
 use std::alloc::{AllocError, Global};
@@ -68,11 +70,20 @@ impl SeatCounts {
 
 impl Totals {
     /// How many connections are open.
-    pub fn open(&self) -> u64 {
+    pub fn open(&self) -> u64
+        ensures { result ≡ self.now.accepted - self.now.ended }
+    {
         self.accepted.saturating_sub(self.ended)
     }
 
-    fn add(&mut self, counts: &SeatCounts) {
+    fn add(&mut self, counts: &SeatCounts)
+        // Another thread's counts only add to what there is.
+        ensures ended { self.old.ended ≤ self.new.ended }
+        ensures broken { self.old.broken ≤ self.new.broken }
+        ensures commands { self.old.commands ≤ self.new.commands }
+        ensures read { self.old.read ≤ self.new.read }
+        ensures written { self.old.written ≤ self.new.written }
+    {
         self.ended = self.ended.saturating_add(counts.ended.get());
         self.broken = self.broken.saturating_add(counts.broken.get());
         self.commands = self.commands.saturating_add(counts.commands.get());
@@ -83,7 +94,9 @@ impl Totals {
 
 impl Counts {
     /// Nothing was counted yet, by so many threads that serve and the one that accepts.
-    pub fn new(alloc: Global, threads: usize) -> Result<Counts, AllocError> {
+    pub fn new(alloc: Global, threads: usize) -> Result<Counts, AllocError>
+        ensures { IfOk result (λ counts. length counts.threads.items ≡ threads) }
+    {
         let entrance = EntranceCounts {
             accepted: Counter::new(),
             failed: Counter::new(),
@@ -100,7 +113,9 @@ impl Counts {
     }
 
     /// The same counts, for one more.
-    pub fn share(&self, alloc: Global) -> Result<Counts, AllocError> {
+    pub fn share(&self, alloc: Global) -> Result<Counts, AllocError>
+        ensures { IfOk result (λ shared. length shared.threads.items ≡ length self.now.threads.items) }
+    {
         let mut threads = Vec::with_capacity(alloc, self.threads.len())?;
         for thread in &self.threads {
             threads.push(Arc::try_clone(thread)?)?;

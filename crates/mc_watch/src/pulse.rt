@@ -48,7 +48,9 @@ pub struct Pulse {
 
 impl Pulse {
     /// Of a connection that begins now, and that may be idle for so many seconds.
-    pub fn begin(seconds: Seconds, limit: u64) -> Pulse {
+    pub fn begin(seconds: Seconds, limit: u64) -> Pulse
+        ensures { result.limit ≡ limit }
+    {
         let last = seconds.passed();
         Pulse {
             seconds,
@@ -58,7 +60,9 @@ impl Pulse {
     }
 
     /// It moves bytes now.
-    pub fn beat(&mut self) {
+    pub fn beat(&mut self)
+        ensures { self.new.limit ≡ self.old.limit }
+    {
         self.last = self.seconds.passed();
     }
 

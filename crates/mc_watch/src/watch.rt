@@ -1,4 +1,6 @@
 //! What is watched of the connections of a server, and of each of its seats.
+ghost use Rattle.std.specs.Prelude.{◌≡◌, None, false, true, IfOk};
+
 use crate::counts::{Counts, EntranceCounts, SeatCounts};
 use crate::event::{Event, Manner};
 use crate::meter::Meter;
@@ -49,7 +51,9 @@ pub struct EntranceWatch {
 
 impl Patience {
     /// The same, for one more.
-    pub fn share(&self) -> Result<Patience, AllocError> {
+    pub fn share(&self) -> Result<Patience, AllocError>
+        ensures { IfOk result (λ shared. shared.limit ≡ self.now.limit) }
+    {
         Ok(Patience {
             seconds: self.seconds.share()?,
             limit: self.limit,
@@ -108,7 +112,12 @@ impl Watch {
 
 impl SeatWatch {
     /// A connection of this peer is served from now on. What it measures of itself.
-    pub fn open(&mut self, peer: SocketAddr) -> Meter {
+    pub fn open(&mut self, peer: SocketAddr) -> Meter
+        ensures read { result.read ≡ 0 }
+        ensures written { result.written ≡ 0 }
+        // Where nobody says how long a connection may be idle, it may be for good.
+        ensures timeless { self.old.patience ≡ None → result.pulse ≡ None }
+    {
         let seat = self.seat;
         self.peer = Some(peer);
         self.reporter.tell(Event::Opened { peer, seat });
@@ -146,7 +155,9 @@ impl SeatWatch {
         Arc::try_clone(self.counts.as_ref()?).ok()
     }
 
-    fn pulse(&self) -> Option<Pulse> {
+    fn pulse(&self) -> Option<Pulse>
+        ensures { self.now.patience ≡ None → result ≡ None }
+    {
         let patience = self.patience.as_ref()?;
         Some(Pulse::begin(patience.seconds.share().ok()?, patience.limit))
     }
@@ -170,7 +181,11 @@ impl EntranceWatch {
 }
 
 /// How a connection ended.
-fn manner_of(meter: &Meter, broke: bool) -> Manner {
+fn manner_of(meter: &Meter, broke: bool) -> Manner
+    ensures ended { broke ≡ false → result ≡ Manner.Ended }
+    ensures broken { result ≡ Manner.Ended → broke ≡ false }
+    ensures timeless { broke ≡ true → meter.now.pulse ≡ None → result ≡ Manner.Broke }
+{
     if !broke {
         Manner::Ended
     } else if meter.is_idle() {
