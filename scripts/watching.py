@@ -92,23 +92,13 @@ def dead_connections_free_their_seats():
                 line.close()
 
 
-def lines_of(server):
-    """What the server has told on standard error, once it is ended."""
-    server.process.kill()
-    return server.process.stderr.read().decode().splitlines()
-
-
 def told_of(server, wanted):
     """The next lines on standard error, so many."""
     found = []
     while len(found) < wanted:
         ready, _, _ = select.select([server.process.stderr], [], [], 30)
         equal(bool(ready), True)
-        # Unbuffered: a line that was read ahead would not be seen by select.
-        line = bytearray()
-        while not line.endswith(b"\n"):
-            line += os.read(server.process.stderr.fileno(), 1)
-        found.append(line.decode().rstrip())
+        found.append(server.process.stderr.readline().decode().rstrip())
     return found
 
 

@@ -17,4 +17,4 @@ pub use page::write_page;
 pub use pages::Pages;
 pub use reading::{Facts, Reading};
 pub use server::MetricsServer;
-pub use text::write_metrics;
+pub use text::metrics_of;

@@ -1,10 +1,11 @@
 //! What is answered to a request.
-ghost use Rattle.std.specs.Prelude.{◌≡◌};
+ghost use Rattle.std.specs.Prelude.{◌≡◌, IfOk, string_bytes};
+ghost use Rattle.mc_metrics.specs.Answers.{IsAnswer, IsTextAt, status_at, target_of};
 
 use crate::history::History;
 use crate::page::write_page;
 use crate::reading::{Facts, Reading};
-use crate::text::write_metrics;
+use crate::text::metrics_of;
 use bytes::Bytes;
 use http::{HeaderValue, Request, StatusCode, header};
 use http_server::{Response, Service};
@@ -25,12 +26,24 @@ enum Target {
 }
 
 impl Target {
-    fn of(path: &str) -> Target {
-        match path.as_bytes() {
-            b"/metrics" => Target::Metrics,
-            b"/healthz" => Target::Health,
-            b"/" => Target::Page,
+    fn of(path: &str) -> Target
+        ensures { result ≡ target_of path.now }
+    {
+        match path {
+            "/metrics" => Target::Metrics,
+            "/healthz" => Target::Health,
+            "/" => Target::Page,
             _ => Target::Nothing,
+        }
+    }
+
+    /// The status that answers a request for it.
+    fn status(self) -> StatusCode
+        ensures { result ≡ status_at self }
+    {
+        match self {
+            Target::Metrics | Target::Health | Target::Page => StatusCode::OK,
+            Target::Nothing => StatusCode::NOT_FOUND,
         }
     }
 
@@ -82,7 +95,10 @@ impl Pages {
     }
 
     /// What is known now.
-    fn reading(&self) -> Reading {
+    fn reading(&self) -> Reading
+        ensures facts { result.facts ≡ self.now.facts }
+        ensures uptime { result.uptime ≡ self.now.uptime }
+    {
         Reading {
             facts: self.facts,
             totals: self.counts.totals(),
@@ -90,12 +106,10 @@ impl Pages {
         }
     }
 
-    fn metrics(&self) -> Result<String, AllocError> {
-        let mut text = String::new(self.alloc);
-        match write_metrics(&mut text, &self.reading()) {
-            Ok(()) => Ok(text),
-            Err(_) => Err(AllocError),
-        }
+    fn metrics(&self) -> Result<String, AllocError>
+        ensures { IfOk result (λ text. IsTextAt Target.Metrics self.now.facts self.now.uptime (string_bytes text)) }
+    {
+        metrics_of(self.alloc, &self.reading())
     }
 
     fn page(&self) -> Result<String, AllocError> {
@@ -108,7 +122,9 @@ impl Pages {
     }
 
     /// The text at the target.
-    fn answer(&self, target: Target) -> Result<Bytes, AllocError> {
+    fn answer(&self, target: Target) -> Result<Bytes, AllocError>
+        ensures { IfOk result (λ body. IsTextAt target self.now.facts self.now.uptime body) }
+    {
         match target {
             Target::Metrics => Ok(Bytes::from_vec(self.metrics()?.into_bytes())?),
             Target::Page => Ok(Bytes::from_vec(self.page()?.into_bytes())?),
@@ -119,7 +135,7 @@ impl Pages {
 }
 
 impl Service for Pages {
-    ghost answers = { λ old request response new. new ≡ old };
+    ghost answers = { λ old request response new. (new ≡ old) × IsAnswer old.facts old.uptime request response };
 
     fn call(
         &mut self,
@@ -132,9 +148,7 @@ impl Service for Pages {
             return response.add_header(header::ALLOW, HeaderValue::from_static("GET, HEAD"));
         }
         let target = Target::of(request.uri().path());
-        if target == Target::Nothing {
-            response.status = StatusCode::NOT_FOUND;
-        }
+        response.status = target.status();
         let body = self.answer(target)?;
         response.add_header(header::CONTENT_TYPE, target.kind())?;
         response.body.push(body)

@@ -1,151 +1,125 @@
 //! The metrics as Prometheus reads them (its text format, version 0.0.4).
+ghost use Rattle.std.specs.Prelude.{◌≡◌, Some, IfOk, string_bytes};
+ghost use Rattle.mc_metrics.specs.Metrics.{connections_text, counter_text, gauge_text, metrics_text, server_text};
+
 use crate::reading::Reading;
+use mc_watch::Totals;
+use std::alloc::{AllocError, Global};
 use std::fmt;
 
-/// Whether a metric only grows.
-#[derive(Clone, Copy, Debug, PartialEq, Eq)]
-enum Kind {
-    /// It only grows.
-    Counter,
-    /// It grows and falls.
-    Gauge,
+/// A metric that grows and falls: its name, what it tells, and its value.
+#[derive(Drop)]
+struct Gauge(&'static str, &'static str, u64);
+
+/// The same of one that only grows.
+#[derive(Drop)]
+struct Counter(&'static str, &'static str, u64);
+
+/// What is told of the server as a whole.
+#[derive(Drop)]
+struct OfServer<'a>(&'a Reading);
+
+/// What is told of its connections.
+#[derive(Drop)]
+struct OfConnections<'a>(&'a Totals);
+
+/// All metrics of a reading.
+#[derive(Drop)]
+struct Metrics<'a> {
+    reading: &'a Reading,
 }
 
-/// A number that is told.
-#[derive(Clone, Copy, Debug, PartialEq, Eq)]
-struct Metric {
-    name: &'static str,
-    kind: Kind,
-    help: &'static str,
-    value: u64,
+/// The text of all metrics. Those with names that memcached's exporter has mean the same.
+pub fn metrics_of(alloc: Global, reading: &Reading) -> Result<String, AllocError>
+    ensures { IfOk result (λ text. string_bytes text ≡ metrics_text reading.now) }
+{
+    let metrics = Metrics { reading };
+    format!(in alloc; "{metrics}")
 }
 
-impl fmt::Display for Kind {
+impl fmt::Display for Gauge {
+    ghost output = { λ gauge. Some (gauge_text gauge.0.now gauge.1.now gauge.2) };
+
     fn fmt<W: fmt::Write>(&self, f: &mut fmt::Formatter<W>) -> fmt::Result {
-        f.write_str(match self {
-            Kind::Counter => "counter",
-            Kind::Gauge => "gauge",
-        })
-    }
-}
-
-impl fmt::Display for Metric {
-    fn fmt<W: fmt::Write>(&self, f: &mut fmt::Formatter<W>) -> fmt::Result {
-        let Metric {
-            name,
-            kind,
-            help,
-            value,
-        } = self;
+        let Gauge(name, help, value) = self;
         write!(
             f,
-            "# HELP {name} {help}\n# TYPE {name} {kind}\n{name} {value}\n"
+            "# HELP {name} {help}\n# TYPE {name} gauge\n{name} {value}\n"
         )
     }
 }
 
-/// Writes all metrics. Those with names that memcached's exporter has mean the same.
-pub fn write_metrics<W: fmt::Write>(out: &mut W, reading: &Reading) -> fmt::Result {
-    write_version(out, reading.facts.version)?;
-    for metric in &about_the_server(reading) {
-        write!(out, "{metric}")?;
+impl fmt::Display for Counter {
+    ghost output = { λ counter. Some (counter_text counter.0.now counter.1.now counter.2) };
+
+    fn fmt<W: fmt::Write>(&self, f: &mut fmt::Formatter<W>) -> fmt::Result {
+        let Counter(name, help, value) = self;
+        write!(
+            f,
+            "# HELP {name} {help}\n# TYPE {name} counter\n{name} {value}\n"
+        )
     }
-    for metric in &about_connections(reading) {
-        write!(out, "{metric}")?;
+}
+
+impl fmt::Display for OfServer<'_> {
+    ghost output = { λ told. Some (server_text told.0.now) };
+
+    fn fmt<W: fmt::Write>(&self, f: &mut fmt::Formatter<W>) -> fmt::Result {
+        let OfServer(reading) = self;
+        let facts = &reading.facts;
+        let up = Gauge("memcached_up", "Whether the server runs.", 1);
+        let uptime = "For how many seconds the server has run.";
+        let uptime = Gauge("memcached_uptime_seconds", uptime, reading.uptime);
+        let limit = "What the items of all shards may cost together, in bytes.";
+        let limit = Gauge("memcached_limit_bytes", limit, facts.limit_bytes);
+        let threads = "How many threads serve connections and own items.";
+        let threads = Gauge("memcached_threads", threads, facts.shards);
+        let seats = "How many connections are served at a time.";
+        let seats = Gauge("memcached_max_connections", seats, facts.seats);
+        write!(f, "{up}{uptime}{limit}{threads}{seats}")
     }
-    Ok(())
 }
 
-/// Writes the version, which is a label of a metric that is always 1.
-fn write_version<W: fmt::Write>(out: &mut W, version: &str) -> fmt::Result {
-    write!(
-        out,
-        "# HELP memcached_version The version of the server.\n# TYPE memcached_version gauge\nmemcached_version{{version=\"{version}\"}} 1\n"
-    )
+impl fmt::Display for OfConnections<'_> {
+    ghost output = { λ told. Some (connections_text told.0.now) };
+
+    fn fmt<W: fmt::Write>(&self, f: &mut fmt::Formatter<W>) -> fmt::Result {
+        let OfConnections(totals) = self;
+        let open = "How many connections are open.";
+        let open = Gauge("memcached_current_connections", open, totals.open());
+        let accepted = "How many connections were accepted.";
+        let accepted = Counter("memcached_connections_total", accepted, totals.accepted);
+        let broken = "How many connections failed, or were idle for too long.";
+        let broken = Counter("mcd_connections_broken_total", broken, totals.broken);
+        let failed = Counter(
+            "mcd_accepts_failed_total",
+            "How many accepts failed.",
+            totals.failed,
+        );
+        let commands = "Commands of the connections that have ended.";
+        let commands = Counter("mcd_commands_total", commands, totals.commands);
+        let read = "Bytes read of all connections.";
+        let read = Counter("memcached_read_bytes_total", read, totals.read);
+        let written = "Bytes written to all connections.";
+        let written = Counter("memcached_written_bytes_total", written, totals.written);
+        write!(
+            f,
+            "{open}{accepted}{broken}{failed}{commands}{read}{written}"
+        )
+    }
 }
 
-/// What is told of the server as a whole.
-fn about_the_server(reading: &Reading) -> [Metric; 5] {
-    let facts = &reading.facts;
-    [
-        Metric {
-            name: "memcached_up",
-            kind: Kind::Gauge,
-            help: "Whether the server runs.",
-            value: 1,
-        },
-        Metric {
-            name: "memcached_uptime_seconds",
-            kind: Kind::Gauge,
-            help: "For how many seconds the server has run.",
-            value: reading.uptime,
-        },
-        Metric {
-            name: "memcached_limit_bytes",
-            kind: Kind::Gauge,
-            help: "What the items of all shards may cost together, in bytes.",
-            value: facts.limit_bytes,
-        },
-        Metric {
-            name: "memcached_threads",
-            kind: Kind::Gauge,
-            help: "How many threads serve connections and own items.",
-            value: facts.shards,
-        },
-        Metric {
-            name: "memcached_max_connections",
-            kind: Kind::Gauge,
-            help: "How many connections are served at a time.",
-            value: facts.seats,
-        },
-    ]
-}
+impl fmt::Display for Metrics<'_> {
+    ghost output = { λ metrics. Some (metrics_text metrics.reading.now) };
 
-/// What is told of its connections.
-fn about_connections(reading: &Reading) -> [Metric; 7] {
-    let totals = &reading.totals;
-    [
-        Metric {
-            name: "memcached_current_connections",
-            kind: Kind::Gauge,
-            help: "How many connections are open.",
-            value: totals.open(),
-        },
-        Metric {
-            name: "memcached_connections_total",
-            kind: Kind::Counter,
-            help: "How many connections were accepted.",
-            value: totals.accepted,
-        },
-        Metric {
-            name: "mcd_connections_broken_total",
-            kind: Kind::Counter,
-            help: "How many connections failed, or were idle for too long.",
-            value: totals.broken,
-        },
-        Metric {
-            name: "mcd_accepts_failed_total",
-            kind: Kind::Counter,
-            help: "How many accepts failed.",
-            value: totals.failed,
-        },
-        Metric {
-            name: "mcd_commands_total",
-            kind: Kind::Counter,
-            help: "Commands of the connections that have ended.",
-            value: totals.commands,
-        },
-        Metric {
-            name: "memcached_read_bytes_total",
-            kind: Kind::Counter,
-            help: "Bytes read of all connections.",
-            value: totals.read,
-        },
-        Metric {
-            name: "memcached_written_bytes_total",
-            kind: Kind::Counter,
-            help: "Bytes written to all connections.",
-            value: totals.written,
-        },
-    ]
+    fn fmt<W: fmt::Write>(&self, f: &mut fmt::Formatter<W>) -> fmt::Result {
+        let reading = self.reading;
+        let version = reading.facts.version;
+        let server = OfServer(reading);
+        let connections = OfConnections(&reading.totals);
+        write!(
+            f,
+            "# HELP memcached_version The version of the server.\n# TYPE memcached_version gauge\nmemcached_version{{version=\"{version}\"}} 1\n{server}{connections}"
+        )
+    }
 }
