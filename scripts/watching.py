@@ -8,6 +8,7 @@ prometheus, too where it is installed. The last line is `watching: N passed, M f
 """
 import os
 import re
+import resource
 import select
 import shutil
 import socket
@@ -23,6 +24,10 @@ from served import MCD, MIB, Line, Server, Tally, bounded, equal, needs_program,
 
 LIMIT_SECONDS = 300
 NO_OP, NO_OP_REPLY = b"mn\r\n", b"MN\r\n"
+
+# As many dead connections as there may be seats, or as many as files may be open here: each is one of ours, and one of the server's.
+MOST_FILES = resource.getrlimit(resource.RLIMIT_NOFILE)[1]
+DEAD = 4096 if MOST_FILES == resource.RLIM_INFINITY else min(4096, MOST_FILES - 256)
 
 # With a limit of one second a connection is closed after one to three, and a busy machine may take longer.
 LATEST = 10
@@ -82,11 +87,15 @@ def one_that_takes_nothing_is_closed():
 
 
 def dead_connections_free_their_seats():
-    with Server("--idle-timeout", 1, "--seats", 64) as server:
-        dead = [Line(server.port) for _ in range(64)]
+    resource.setrlimit(resource.RLIMIT_NOFILE, (MOST_FILES, MOST_FILES))
+    # They are all there before the first one is given up.
+    with Server("--idle-timeout", 5, "--seats", DEAD) as server:
+        dead = [Line(server.port) for _ in range(DEAD)]
         try:
-            with Line(server.port, timeout=LATEST) as line:
+            with Line(server.port, timeout=60) as line:
+                began = time.monotonic()
                 line.ask(NO_OP, NO_OP_REPLY)
+                return f"{DEAD} of them; the next one waited {time.monotonic() - began:.1f} s"
         finally:
             for line in dead:
                 line.close()

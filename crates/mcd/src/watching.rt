@@ -1,4 +1,6 @@
 //! What is watched while the program serves TCP, as the command line says, and the threads that tell it.
+ghost use Rattle.std.specs.Prelude.{◌≡◌, ◌*◌, ◌-◌, ◌^◌, min};
+
 use crate::version::VERSION;
 use mc_metrics::{Facts, MetricsServer, Pages, address_of};
 use mc_options::Limits;
@@ -34,7 +36,6 @@ pub enum NotWatching {
 }
 
 impl From<AllocError> for NotWatching {
-    ghost use Rattle.std.specs.Prelude.{◌≡◌};
     ghost use Rattle.mcd.specs.declared.watching.NotWatching.TheVariants.{Memory};
 
     ghost from_gives = { λ _ fault. fault ≡ Memory };
@@ -198,7 +199,11 @@ impl Watching {
 }
 
 /// What is told of the server beside what it counts.
-fn facts_of(seats: usize, limits: Limits) -> Facts {
+fn facts_of(seats: usize, limits: Limits) -> Facts
+    ensures shards { result.shards ≡ limits.shards }
+    ensures seats { result.seats ≡ seats }
+    ensures limit { result.limit_bytes ≡ min (limits.shards * limits.bytes) (2 ^ 64 - 1) }
+{
     let shards = limits.shards as u64;
     Facts {
         version: VERSION,
