@@ -224,7 +224,7 @@ def each_counter_follows_a_conversation():
             values = server.values()
             return [values[name] for name in names]
         values = server.values()
-        equal([values[f"memcached_{it}"] for it in ("up", "limit_bytes", "threads", "max_connections")], [1, 3 * MIB, 3, 9])
+        equal([values[it] for it in ("memcached_up", "memcached_limit_bytes", "memcached_max_connections", "mcd_shards")], [1, 3 * MIB, 9, 3])
         equal(found(), [0, 0, 0, 0, 0, 0, 0])
         with Line(server.port) as one, Line(server.port) as other:
             one.ask(asked, answered)

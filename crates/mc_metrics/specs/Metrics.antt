@@ -20,7 +20,7 @@ server_text reading =
     gauge_text (codes "memcached_up") (codes "Whether the server runs.") 1
     ++ (gauge_text (codes "memcached_uptime_seconds") (codes "For how many seconds the server has run.") reading.uptime
     ++ (gauge_text (codes "memcached_limit_bytes") (codes "What the items of all shards may cost together, in bytes.") reading.facts.limit_bytes
-    ++ (gauge_text (codes "memcached_threads") (codes "How many threads serve connections and own items.") reading.facts.shards
+    ++ (gauge_text (codes "mcd_shards") (codes "How many shards there are, a thread each.") reading.facts.shards
     ++ gauge_text (codes "memcached_max_connections") (codes "How many connections are served at a time.") reading.facts.seats)))
 
 -- those that are open are those that were accepted and have not ended

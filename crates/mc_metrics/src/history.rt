@@ -1,4 +1,6 @@
 //! What was counted in the last minutes.
+ghost use Rattle.std.specs.Prelude.{◌≤◌, length};
+
 use mc_watch::Totals;
 use std::alloc::{AllocError, Global};
 
@@ -20,7 +22,9 @@ impl History {
     }
 
     /// One sample more; the oldest goes where there are enough.
-    pub fn add(&mut self, sample: Totals) {
+    pub fn add(&mut self, sample: Totals)
+        ensures { length self.old.samples.items ≤ KEPT → length self.new.samples.items ≤ KEPT }
+    {
         if self.samples.len() >= KEPT {
             self.samples.remove(0);
         }

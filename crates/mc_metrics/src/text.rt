@@ -72,11 +72,14 @@ impl fmt::Display for OfServer<'_> {
         let uptime = Gauge("memcached_uptime_seconds", uptime, reading.uptime);
         let limit = "What the items of all shards may cost together, in bytes.";
         let limit = Gauge("memcached_limit_bytes", limit, facts.limit_bytes);
-        let threads = "How many threads serve connections and own items.";
-        let threads = Gauge("memcached_threads", threads, facts.shards);
+        let shards = Gauge(
+            "mcd_shards",
+            "How many shards there are, a thread each.",
+            facts.shards,
+        );
         let seats = "How many connections are served at a time.";
         let seats = Gauge("memcached_max_connections", seats, facts.seats);
-        write!(f, "{up}{uptime}{limit}{threads}{seats}")
+        write!(f, "{up}{uptime}{limit}{shards}{seats}")
     }
 }
 
