@@ -1,7 +1,6 @@
 -- The totals of the reading.
 use Rattle.std.proofs.Common.{◌≡◌, ap, ◌∙◌}
 use Rattle.std.proofs.lemmas.Result.{IfOk-weaker}
-use Rattle.mc_metrics.specs.declared.reading.Reading.{Reading}
 use Rattle.mc_metrics.specs.Metrics.{metrics_text}
 use Rattle.mc_metrics.proofs.pages.Pages.metrics.Goals as goal
 
