@@ -52,7 +52,8 @@ class Server:
     """A running mcd with these options, on a port that the system chose. It ends with the `with` block."""
 
     def __init__(self, *options):
-        self.process = started([MCD, "--listen", "127.0.0.1:0", *map(str, options)], stderr=subprocess.PIPE)
+        # Unbuffered: who waits for a further line by select misses none that was read ahead.
+        self.process = started([MCD, "--listen", "127.0.0.1:0", *map(str, options)], stderr=subprocess.PIPE, bufsize=0)
         ready, _, _ = select.select([self.process.stderr], [], [], 30)
         told = self.process.stderr.readline().decode() if ready else ""
         found = re.fullmatch(r"listening 127\.0\.0\.1:(\d+)\n", told)

@@ -1,26 +1,26 @@
 -- The calls of the program, each with the options that it has.
-use Rattle.std.specs.Prelude.{ℕ, ◌≡◌, ◌≤◌, true, false, Bool, List, [], ◌∷◌, Option, Some, None, Ok, Err, Result, bytes_eq, codes, find, is_some, unwrap_or, if◌then◌else◌}
+use Rattle.std.specs.Prelude.{ℕ, ◌≡◌, ◌≤◌, true, false, Bool, List, [], ◌∷◌, Option, Some, None, Ok, Err, Result, bytes_eq, codes, find, is_some, option_map, unwrap_or, if◌then◌else◌}
 use Rattle.clap.specs.Words.{first_of}
 use Rattle.mc_options.specs.declared.options.Limits.{Limits}
 use Rattle.mc_options.specs.declared.options.Options.{Options}
 use Rattle.mc_options.specs.declared.options.Options.TheVariants.{Listen, Replay, Stdio, Version}
 use Rattle.mc_options.specs.Program.{rows_in}
 use Rattle.mc_options.specs.Wrong.{HasItems, NotOfReplay, NotOfStdio, NotOfTcp, Wrong}
-use Rattle.mc_options.specs.Numbers.{AreWithin, and_then, connections_by, limits_by, moment_by, seats_by}
+use Rattle.mc_options.specs.Numbers.{AreWithin, and_then, connections_by, idle_by, limits_by, moment_by, seats_by}
 
 -- what the program is called to do
 pub data Call : Type 0 where
   TellsVersion : Call
   RunsSchedule : (file : List ℕ) → Call
   ServesLine : (at : Option ℕ) (limits : Limits) → Call
-  ServesTcp : (address : List ℕ) (seats : ℕ) (connections : Option ℕ) (limits : Limits) → Call
+  ServesTcp : (address : List ℕ) (seats : ℕ) (connections idle : Option ℕ) (verbose : Bool) (metrics : Option (List ℕ)) (limits : Limits) → Call
 
 -- the call as the program has it
 abbrev pub call_of : Options → Call
 call_of Version = TellsVersion
 call_of (Replay file) = RunsSchedule file.now
 call_of (Stdio at limits) = ServesLine at limits
-call_of (Listen address seats connections limits) = ServesTcp address.now seats connections limits
+call_of (Listen address seats connections idle verbose metrics limits) = ServesTcp address.now seats connections idle verbose (option_map (λ text. text.now) metrics) limits
 
 -- The option is given.
 abbrev pub is_given : (List ℕ → Option (List ℕ)) → List ℕ → Bool
@@ -41,10 +41,11 @@ is_flag given name = is_true (given name)
 -- the options that `--replay` doesn't have, those that `--stdio` doesn't have, and those that serving TCP doesn't have
 abbrev pub other_than_replay : List (List ℕ)
 other_than_replay =
-    codes "at" ∷ codes "listen" ∷ codes "shards" ∷ codes "seats" ∷ codes "bytes" ∷ codes "memory" ∷ codes "value-limit" ∷ codes "window" ∷ codes "connections" ∷ []
+    codes "at" ∷ codes "listen" ∷ codes "shards" ∷ codes "seats" ∷ codes "bytes" ∷ codes "memory" ∷ codes "value-limit" ∷ codes "window" ∷ codes "connections"
+    ∷ codes "idle-timeout" ∷ codes "metrics" ∷ []
 
 abbrev pub other_than_stdio : List (List ℕ)
-other_than_stdio = codes "listen" ∷ codes "seats" ∷ codes "connections" ∷ []
+other_than_stdio = codes "listen" ∷ codes "seats" ∷ codes "connections" ∷ codes "idle-timeout" ∷ codes "metrics" ∷ []
 
 abbrev pub other_than_tcp : List (List ℕ)
 other_than_tcp = codes "at" ∷ []
@@ -54,18 +55,22 @@ abbrev pub unless_foreign : (List ℕ → Wrong) → Option (List ℕ) → Resul
 unless_foreign wrong None call = call
 unless_foreign wrong (Some name) call = Err (wrong name)
 
--- the schedule in the file is run, where no other option is given
-abbrev pub unless_stdio : (List ℕ → Option (List ℕ)) → List ℕ → Result Call Wrong
-unless_stdio given file = if is_flag given (codes "stdio") then Err (NotOfReplay (codes "stdio")) else Ok (RunsSchedule file)
+-- the call, where this option without a value, which is of another one, is not given
+abbrev pub unless_flag : (List ℕ → Wrong) → (List ℕ → Option (List ℕ)) → List ℕ → Result Call Wrong → Result Call Wrong
+unless_flag wrong given name call = if is_flag given name then Err (wrong name) else call
 
+-- the schedule in the file is run, where no other option is given
 abbrev pub replay_by : (List ℕ → Option (List ℕ)) → List ℕ → Result Call Wrong
-replay_by given file = unless_foreign NotOfReplay (first_given given other_than_replay) (unless_stdio given file)
+replay_by given file =
+    unless_foreign NotOfReplay (first_given given other_than_replay)
+    (unless_flag NotOfReplay given (codes "stdio") (unless_flag NotOfReplay given (codes "verbose") (Ok (RunsSchedule file))))
 
 -- one line is served over standard input and output
+abbrev pub line_by : (List ℕ → Option (List ℕ)) → Result Call Wrong
+line_by given = and_then (λ at. and_then (λ limits. Ok (ServesLine at limits)) (limits_by given)) (moment_by given)
+
 abbrev pub stdio_by : (List ℕ → Option (List ℕ)) → Result Call Wrong
-stdio_by given =
-    unless_foreign NotOfStdio (first_given given other_than_stdio)
-    (and_then (λ at. and_then (λ limits. Ok (ServesLine at limits)) (limits_by given)) (moment_by given))
+stdio_by given = unless_foreign NotOfStdio (first_given given other_than_stdio) (unless_flag NotOfStdio given (codes "verbose") (line_by given))
 
 -- the address to listen on
 abbrev pub address_by : (List ℕ → Option (List ℕ)) → List ℕ
@@ -75,8 +80,9 @@ address_by given = unwrap_or (given (codes "listen")) (codes "127.0.0.1:11211")
 abbrev pub tcp_by : (List ℕ → Option (List ℕ)) → Result Call Wrong
 tcp_by given =
     unless_foreign NotOfTcp (first_given given other_than_tcp)
-    (and_then (λ seats. and_then (λ connections. and_then (λ limits. Ok (ServesTcp (address_by given) seats connections limits))
-    (limits_by given)) (connections_by given)) (seats_by given))
+    (and_then (λ seats. and_then (λ connections. and_then (λ idle. and_then
+    (λ limits. Ok (ServesTcp (address_by given) seats connections idle (is_flag given (codes "verbose")) (given (codes "metrics")) limits))
+    (limits_by given)) (idle_by given)) (connections_by given)) (seats_by given))
 
 -- a file's schedule is run, or one line or TCP is served
 abbrev pub served_by : (List ℕ → Option (List ℕ)) → Option (List ℕ) → Result Call Wrong
@@ -103,4 +109,4 @@ abbrev pub MayServe : Options → Type 0
 MayServe Version = Unit {0}
 MayServe (Replay file) = Unit {0}
 MayServe (Stdio at limits) = AreWithin limits
-MayServe (Listen address seats connections limits) = (1 ≤ seats) × (seats ≤ 4096) × AreWithin limits
+MayServe (Listen address seats connections idle verbose metrics limits) = (1 ≤ seats) × (seats ≤ 4096) × AreWithin limits

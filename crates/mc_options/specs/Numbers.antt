@@ -80,6 +80,10 @@ seats_by given = number_given (codes "seats") 1 1024 4096 (given (codes "seats")
 abbrev pub connections_by : (List ℕ → Option (List ℕ)) → Result (Option ℕ) Wrong
 connections_by given = number_if_given (codes "connections") 1 4294967295 (given (codes "connections"))
 
+-- for how many seconds a connection may move no byte, if it is limited
+abbrev pub idle_by : (List ℕ → Option (List ℕ)) → Result (Option ℕ) Wrong
+idle_by given = number_if_given (codes "idle-timeout") 1 31536000 (given (codes "idle-timeout"))
+
 -- what every moment is, if it is given
 abbrev pub moment_by : (List ℕ → Option (List ℕ)) → Result (Option ℕ) Wrong
 moment_by given = number_if_given (codes "at") 0 18446744073709551615 (given (codes "at"))

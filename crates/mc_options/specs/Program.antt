@@ -24,8 +24,11 @@ limit_rules =
     option_rule (codes "shards") ∷ option_rule (codes "seats") ∷ option_rule (codes "bytes") ∷ option_rule (codes "memory")
     ∷ option_rule (codes "value-limit") ∷ option_rule (codes "window") ∷ option_rule (codes "connections") ∷ option_rule (codes "items") ∷ []
 
+abbrev pub watch_rules : List Rule
+watch_rules = option_rule (codes "idle-timeout") ∷ flag_rule (codes "verbose") ∷ option_rule (codes "metrics") ∷ []
+
 unfoldable pub program : App
-program = with_rules (with_rules (new_app (codes "mcd")) call_rules) limit_rules
+program = with_rules (with_rules (with_rules (new_app (codes "mcd")) call_rules) limit_rules) watch_rules
 
 -- what may be wrong with the words as options of the program; nothing where they are
 unfoldable pub word_faults : List (List ℕ) → Kinds

@@ -4,7 +4,7 @@ ghost use Rattle.clap.specs.Words.{FailsBy, first_value, found_of, rows_of};
 ghost use Rattle.mc_options.specs.Program.{rows_in, word_faults};
 ghost use Rattle.mc_options.specs.Wrong.{wrong_of};
 ghost use Rattle.mc_options.specs.Numbers.{AreWithin, budget_of, bytes_of, digits_of, limits_by, number_given, number_if_given, size_given, size_in, unit_of};
-ghost use Rattle.mc_options.specs.Calls.{MayServe, Spells, call_by, call_of, first_given, given_in, is_flag, is_given, replay_by, stdio_by, tcp_by};
+ghost use Rattle.mc_options.specs.Calls.{MayServe, Spells, call_by, call_of, first_given, given_in, is_flag, is_given, line_by, replay_by, stdio_by, tcp_by};
 ghost use Rattle.mc_options.specs.Faults.{IsFaultOf, IsOfOptions};
 
 use crate::fault::OptionFault;
@@ -28,6 +28,9 @@ const DEFAULT_BUDGET: usize = 16_777_216;
 
 /// The most connections after which the program can be told to end.
 const MOST_CONNECTIONS: usize = 4_294_967_295;
+
+/// The longest time that a connection may be told to be idle, in seconds: a year.
+const MOST_IDLE: u64 = 31_536_000;
 
 /// The address to listen on where nothing else is said.
 const DEFAULT_ADDRESS: &str = "127.0.0.1:11211";
@@ -55,6 +58,12 @@ pub enum Options<'a> {
         seats: usize,
         /// After so many connections the program ends, if it does.
         connections: Option<u64>,
+        /// A connection that moves no byte for so many seconds is given up, if one is.
+        idle_timeout: Option<u64>,
+        /// Whether each connection is told on standard error.
+        verbose: bool,
+        /// Where the server's metrics are told, if they are: an address and a port, or a port.
+        metrics: Option<&'a str>,
         limits: Limits,
     },
     /// It serves one connection over standard input and output.
@@ -130,12 +139,17 @@ fn replay_in<'a>(matches: &ArgMatches<'a>, file: &'a str) -> Result<Options<'a>,
         "value-limit",
         "window",
         "connections",
+        "idle-timeout",
+        "metrics",
     ];
     if let Some(option) = first_given(matches, others) {
         return Err(OptionFault::NotOfReplay { option });
     }
     if is_flag(matches, "stdio") {
         return Err(OptionFault::NotOfReplay { option: "stdio" });
+    }
+    if is_flag(matches, "verbose") {
+        return Err(OptionFault::NotOfReplay { option: "verbose" });
     }
     Ok(Options::Replay { file })
 }
@@ -146,9 +160,22 @@ fn stdio_in<'a>(matches: &ArgMatches<'a>) -> Result<Options<'a>, OptionFault<'a>
     ensures within { IfOk result MayServe }
     ensures refused { IfErr result (λ fault. IsOfOptions fault × (stdio_by (first_value (found_of matches.now)) ≡ Err (wrong_of fault))) }
 {
-    if let Some(option) = first_given(matches, &["listen", "seats", "connections"]) {
+    let others = &["listen", "seats", "connections", "idle-timeout", "metrics"];
+    if let Some(option) = first_given(matches, others) {
         return Err(OptionFault::NotOfStdio { option });
     }
+    if is_flag(matches, "verbose") {
+        return Err(OptionFault::NotOfStdio { option: "verbose" });
+    }
+    line_in(matches)
+}
+
+/// What the one line is served with.
+fn line_in<'a>(matches: &ArgMatches<'a>) -> Result<Options<'a>, OptionFault<'a>>
+    ensures given { IfOk result (λ options. line_by (first_value (found_of matches.now)) ≡ Ok (call_of options)) }
+    ensures within { IfOk result MayServe }
+    ensures refused { IfErr result (λ fault. IsOfOptions fault × (line_by (first_value (found_of matches.now)) ≡ Err (wrong_of fault))) }
+{
     let at = number_if_given("at", matches.get_str("at"), 0, u64::MAX)?;
     let limits = limits_in(matches)?;
     Ok(Options::Stdio { at, limits })
@@ -168,12 +195,17 @@ fn listen_in<'a>(matches: &ArgMatches<'a>) -> Result<Options<'a>, OptionFault<'a
     let most = MOST_CONNECTIONS as u64;
     let connections = matches.get_str("connections");
     let connections = number_if_given("connections", connections, 1, most)?;
+    let idle = matches.get_str("idle-timeout");
+    let idle_timeout = number_if_given("idle-timeout", idle, 1, MOST_IDLE)?;
     let limits = limits_in(matches)?;
     let address = matches.get_str("listen").unwrap_or(DEFAULT_ADDRESS);
     Ok(Options::Listen {
         address,
         seats,
         connections,
+        idle_timeout,
+        verbose: is_flag(matches, "verbose"),
+        metrics: matches.get_str("metrics"),
         limits,
     })
 }

@@ -1,7 +1,7 @@
 //! The options of the program, as its help shows them.
 ghost use Rattle.std.specs.Prelude.{◌≡◌, codes, IfOk};
 ghost use Rattle.clap.specs.Words.{app_of, with_rule};
-ghost use Rattle.mc_options.specs.Program.{flag_rule, limit_rules, option_rule, program, with_rules};
+ghost use Rattle.mc_options.specs.Program.{call_rules, flag_rule, limit_rules, option_rule, program, watch_rules, with_rules};
 
 use clap::{Arg, ArgAction, Command};
 use std::alloc::{AllocError, Global};
@@ -11,8 +11,9 @@ const CALLS: &str = "\
 mcd [--listen ADDRESS] [--seats N] [--connections N] [limits]   TCP
 mcd --stdio [--at SECONDS] [limits]                             one connection
 mcd --replay FILE                                               a schedule
-Limits are --shards, --bytes or --memory, --value-limit and --window. Defaults
-stand in []. Behind a number of bytes k, m and g stand for 1024 each.";
+Limits are --shards, --bytes or --memory, --value-limit and --window. With TCP
+go --idle-timeout, --verbose and --metrics too. Defaults stand in []. Behind a
+number of bytes k, m and g stand for 1024 each.";
 
 /// The program with its options.
 #[tactic(auto, unfolding(crate::specs::Program::program))]
@@ -20,6 +21,15 @@ pub fn program_options<'a>(alloc: Global) -> Result<Command<'a>, AllocError>
     ensures { IfOk result (λ command. app_of command ≡ program) }
 {
     let command = Command::new(alloc, "mcd").after_help(CALLS);
+    let command = with_calls(alloc, command)?;
+    let command = with_limits(alloc, command)?;
+    with_watch(alloc, command)
+}
+
+/// The program with the options that say how it is called.
+fn with_calls<'a>(alloc: Global, command: Command<'a>) -> Result<Command<'a>, AllocError>
+    ensures { IfOk result (λ called. app_of called ≡ with_rules (app_of command.entry) call_rules) }
+{
     let listen = "Where to listen [127.0.0.1:11211]";
     let command = with_value(alloc, command, "listen", "ADDRESS", listen)?;
     let stdio = "Serves one connection over standard input and output";
@@ -29,8 +39,7 @@ pub fn program_options<'a>(alloc: Global) -> Result<Command<'a>, AllocError>
     let at = "Every moment is this, in seconds since 1970";
     let command = with_value(alloc, command, "at", "SECONDS", at)?;
     let version = "Tells the program's version and toolchain";
-    let command = with_flag(alloc, command, "version", version)?;
-    with_limits(alloc, command)
+    with_flag(alloc, command, "version", version)
 }
 
 /// The program with the options that take numbers.
@@ -52,6 +61,18 @@ fn with_limits<'a>(alloc: Global, command: Command<'a>) -> Result<Command<'a>, A
     let connections = "Ends after so many connections, 1 to 4294967295";
     let command = with_value(alloc, command, "connections", "N", connections)?;
     with_items(alloc, command)
+}
+
+/// The program with the options of who watches it.
+fn with_watch<'a>(alloc: Global, command: Command<'a>) -> Result<Command<'a>, AllocError>
+    ensures { IfOk result (λ watched. app_of watched ≡ with_rules (app_of command.entry) watch_rules) }
+{
+    let idle = "Closes what moves no byte for so long, 1 to 31536000";
+    let command = with_value(alloc, command, "idle-timeout", "SECONDS", idle)?;
+    let verbose = "Tells each connection on standard error";
+    let command = with_flag(alloc, command, "verbose", verbose)?;
+    let metrics = "Tells metrics by HTTP there, [127.0.0.1:]PORT";
+    with_value(alloc, command, "metrics", "ADDRESS", metrics)
 }
 
 /// The program with an option that is given or not.

@@ -1,10 +1,11 @@
 //! Where connections come in: a thread of its own takes them from the listener, and hands each to a free seat.
 use crate::free_seats::FreeSeats;
 use mc_wake::{Marked, Patience, Sleeper, Wakers};
+use mc_watch::{EntranceWatch, SeatWatch, Watch};
 use mio::net::TcpStream;
 use rtrb::{Consumer, Producer, RingBuffer};
 use std::alloc::{AllocError, Global};
-use std::net::TcpListener;
+use std::net::{SocketAddr, TcpListener};
 use std::sync::atomic::{AtomicBool, Ordering};
 use std::sync::{Arc, Wait};
 use std::time::Duration;
@@ -79,16 +80,25 @@ impl Bell {
     }
 }
 
+/// A connection that has come in, and whose it is.
+#[derive(Drop)]
+pub(crate) struct Caller {
+    pub(crate) stream: TcpStream,
+    pub(crate) peer: SocketAddr,
+}
+
 /// The way of connections to a seat.
 #[derive(Drop)]
 pub(crate) struct Way {
     /// The number of the seat.
     pub(crate) seat: usize,
     /// The connection that comes next.
-    pub(crate) come: Consumer<TcpStream>,
+    pub(crate) come: Consumer<Caller>,
     pub(crate) bell: Bell,
     /// What wakes the seats.
     pub(crate) seats: Wakers,
+    /// What is watched of its connections.
+    pub(crate) watch: SeatWatch,
 }
 
 /// The listener, and the ways from it to the seats.
@@ -102,8 +112,9 @@ pub(crate) struct Entrance {
     bell: Bell,
     free: FreeSeats,
     /// The way to each seat.
-    ways: Vec<Producer<TcpStream>>,
+    ways: Vec<Producer<Caller>>,
     seats: Wakers,
+    watch: EntranceWatch,
 }
 
 impl Entrance {
@@ -114,6 +125,7 @@ impl Entrance {
         listener: TcpListener,
         connections: Option<u64>,
         sleepers: &[Sleeper],
+        watch: EntranceWatch,
     ) -> Result<Entrance, AllocError> {
         let free = FreeSeats::new(alloc, sleepers)?;
         let sleeper = Sleeper::new(alloc, AT_ONCE, free.seats(), 1, 1)?;
@@ -134,11 +146,12 @@ impl Entrance {
             free,
             ways: Vec::new(alloc),
             seats: Wakers::of(alloc, sleepers)?,
+            watch,
         })
     }
 
-    /// The way to the next seat: they are numbered from 0.
-    pub(crate) fn next_way(&mut self, alloc: Global) -> Result<Way, AllocError> {
+    /// The way to the next seat, of which is watched what that watch says: they are numbered from 0.
+    pub(crate) fn next_way(&mut self, alloc: Global, watch: &mut Watch) -> Result<Way, AllocError> {
         let (way, come) = RingBuffer::new(alloc, 1)?;
         let seat = self.ways.len();
         self.ways.push(way)?;
@@ -147,6 +160,7 @@ impl Entrance {
             come,
             bell: self.bell()?,
             seats: self.seats.share()?,
+            watch: watch.seat(seat, self.free.thread_of(seat))?,
         })
     }
 
@@ -170,11 +184,11 @@ impl Entrance {
             if !self.may_take() || !self.wait_for_seat(rt) {
                 return;
             }
-            let Ok(stream) = self.accept(rt) else {
+            let Ok(caller) = self.accept(rt) else {
                 self.bell.closing.has_failed.store(true, Ordering::SeqCst);
                 return;
             };
-            self.hand_over(stream);
+            self.hand_over(caller);
         }
     }
 
@@ -217,30 +231,36 @@ impl Entrance {
 
     /// Waits for a connection. A fault that passes, as too many open files or a peer that went away, is waited out. What is
     /// written to the connection goes out at once (TCP_NODELAY).
-    fn accept<R: time::Clock>(&self, rt: &R) -> io::Result<TcpStream> {
+    fn accept<R: time::Clock>(&mut self, rt: &R) -> io::Result<Caller> {
         for _ in 0..u64::MAX {
             match self.listener.accept() {
-                Ok((stream, _)) => {
+                Ok((stream, peer)) => {
                     if let Some(stream) = prepared(stream) {
-                        return Ok(stream);
+                        self.watch.accepted();
+                        return Ok(Caller { stream, peer });
                     }
                 }
-                Err(fault) if is_lasting(&fault) => return Err(fault),
-                Err(_) => thread::sleep(rt, Duration::from_millis(PAUSE_MILLIS)),
+                Err(fault) => {
+                    self.watch.failed(fault.raw_os_error());
+                    if is_lasting(&fault) {
+                        return Err(fault);
+                    }
+                    thread::sleep(rt, Duration::from_millis(PAUSE_MILLIS));
+                }
             }
         }
         Err(io::Error::from(io::ErrorKind::Interrupted))
     }
 
     /// Hands the connection to a free seat of the thread that has the most.
-    fn hand_over(&mut self, stream: TcpStream) {
+    fn hand_over(&mut self, caller: Caller) {
         self.note_free();
         let Some(seat) = self.free.take() else {
             return;
         };
         if let Some(way) = self.ways.get_mut(seat) {
             // A seat that is free has taken what came before.
-            let _ = way.push(stream);
+            let _ = way.push(caller);
         }
         self.seats.rouse(seat);
     }

@@ -31,6 +31,14 @@ impl FreeSeats {
         self.threads.len()
     }
 
+    /// The thread of the seat; the first one where there is no such seat.
+    pub(crate) fn thread_of(&self, seat: usize) -> usize {
+        match self.threads.get(seat) {
+            Some(thread) => *thread,
+            None => 0,
+        }
+    }
+
     /// The seat is free. It must not be told twice before it was taken: there is room for each seat once.
     pub(crate) fn add(&mut self, seat: usize) {
         let Some(thread) = self.threads.get(seat) else {

@@ -19,6 +19,7 @@ mod tcp_door;
 mod tcp_line;
 mod trail;
 mod vectored;
+mod warden;
 
 pub use door::{Arrival, Door};
 pub use mc_server::Sizes;

@@ -10,10 +10,12 @@ use crate::entrance::Entrance;
 use crate::refusal::ServeRefusal;
 use crate::serving::serve;
 use crate::tcp_door::TcpDoor;
+use crate::warden::Warden;
 use mc_core::OpenGate;
 use mc_seat::Clock;
 use mc_server::Sizes;
 use mc_wake::{Patience, Sleeper};
+use mc_watch::Watch;
 use std::alloc::{AllocError, Global};
 use std::net::{Net, TcpListener};
 use std::random::RandomSource;
@@ -30,8 +32,8 @@ const AT_ONCE: Patience = Patience {
 
 /// Serves the connections that come in by the listener, each by one of so many seats, until so many have ended, or for good.
 /// There is a thread for each shard, which serves its share of the seats too, and one that accepts; connections beyond the seats
-/// wait to be accepted. It gives how many connections have ended, a count that stays at its greatest value. `Bind`: an accept
-/// failed for good.
+/// wait to be accepted. It gives how many connections have ended, a count that stays at its greatest value. What is watched of
+/// them is told to the watch; a connection that is idle for longer than it allows breaks. `Bind`: an accept failed for good.
 pub fn serve_tcp<
     R: Threads + Wait + RandomSource + time::Clock + Net + Copy + Send + Drop + 'static,
     K: Clock + Copy + Send + Drop + 'static,
@@ -43,6 +45,7 @@ pub fn serve_tcp<
     sizes: Sizes,
     connections: Option<u64>,
     clock: K,
+    watch: Watch,
 ) -> Result<u64, ServeRefusal>
     requires { MayServe seats sizes }
     // One log explains what was read of all connections, what was written to them and what the shards did.
@@ -51,15 +54,19 @@ pub fn serve_tcp<
     let Ok(sleepers) = polling_sleepers(rt, alloc, seats, sizes.shards) else {
         return Err(ServeRefusal::Thread);
     };
-    let mut entrance = Entrance::new(alloc, listener, connections, &sleepers)?;
-    let doors = doors_to(rt, alloc, &mut entrance, seats)?;
+    let mut watch = watch;
+    let mut entrance = Entrance::new(alloc, listener, connections, &sleepers, watch.entrance()?)?;
+    let doors = doors_to(rt, alloc, &mut entrance, seats, &mut watch)?;
     let bell = entrance.bell()?;
+    let warden = Warden::start(rt, alloc, &watch, &sleepers)?;
     let own = *rt;
     let Ok(accepting) = thread::spawn(rt, move || entrance.run(&own)) else {
+        warden.dismiss(rt);
         return Err(ServeRefusal::Thread);
     };
     let served = serve(rt, alloc, doors, sleepers, sizes, OpenGate, clock);
     bell.dismiss();
+    warden.dismiss(rt);
     accepting.join(rt);
     let back = served?;
     count_ended(back)
@@ -89,13 +96,14 @@ fn doors_to<R: time::Clock + Copy + Drop>(
     alloc: Global,
     entrance: &mut Entrance,
     seats: usize,
+    watch: &mut Watch,
 ) -> Result<Vec<TcpDoor<R>>, AllocError>
     ensures count { IfOk result (λ doors. length doors.items ≡ seats) }
     ensures new { IfOk result (λ doors. AllByRecursion (λ door. told_tcp door.is_out door.gone.items door.is_over ≡ Told None None [] false) doors.items) }
 {
     let mut doors = Vec::with_capacity(alloc, seats)?;
     for _ in 0..seats {
-        doors.push(TcpDoor::new(*rt, entrance.next_way(alloc)?))?;
+        doors.push(TcpDoor::new(*rt, entrance.next_way(alloc, watch)?))?;
     }
     Ok(doors)
 }

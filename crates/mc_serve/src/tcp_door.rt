@@ -1,10 +1,10 @@
 //! The door of one seat over TCP.
-ghost use Rattle.std.specs.Prelude.{◌≡◌, ◌^◌, ◌-◌, [], None, false, length, min};
-ghost use Rattle.mc_serve.specs.Tcp.{told_tcp};
+ghost use Rattle.std.specs.Prelude.{◌≡◌, ◌^◌, ◌-◌, [], None, false, IfSome, length, min};
+ghost use Rattle.mc_serve.specs.Tcp.{new_line, sight_of, told_tcp};
 ghost use Rattle.mc_serve.specs.Told.{Told};
 
 use crate::door::{Arrival, Door};
-use crate::entrance::Way;
+use crate::entrance::{Caller, Way};
 use crate::lingering::{Lingering, Lingers};
 use crate::tcp_line::TcpLine;
 use http_server::Log;
@@ -79,14 +79,18 @@ impl<R: time::Clock> TcpDoor<R> {
     }
 
     /// The connection that was handed to the seat, if one was.
-    fn next(&mut self) -> Option<TcpStream>
+    fn next(&mut self) -> Option<TcpLine<TcpStream>>
+        ensures new { IfSome result (λ line. sight_of line ≡ new_line) }
         ensures told { told_tcp self.new.is_out self.new.gone.items self.new.is_over ≡ told_tcp self.old.is_out self.old.gone.items self.old.is_over }
     {
-        let mut stream = self.way.come.pop().ok()?;
+        let Caller { mut stream, peer } = self.way.come.pop().ok()?;
         self.told_free = false;
-        // What can't be registered could never be read from: it is closed at once.
-        self.way.seats.register(self.way.seat, &mut stream).ok()?;
-        Some(stream)
+        if self.way.seats.register(self.way.seat, &mut stream).is_err() {
+            // It could never be read from: it is closed at once.
+            self.way.watch.turn_away();
+            return None;
+        }
+        Some(TcpLine::polled(stream, self.way.watch.open(peer)))
     }
 
     /// Tells the entrance that the seat is free, once.
@@ -111,9 +115,9 @@ impl<R: time::Clock> Door for TcpDoor<R> {
         }
         // Looked at first: a connection that was handed over before the entrance closed is found then.
         let is_last = self.way.bell.is_over();
-        if let Some(stream) = self.next() {
+        if let Some(line) = self.next() {
             self.is_out = true;
-            return Arrival::Came(TcpLine::polled(stream));
+            return Arrival::Came(line);
         }
         if is_last {
             self.is_over = true;
@@ -135,6 +139,7 @@ impl<R: time::Clock> Door for TcpDoor<R> {
             self.ended = self.ended.saturating_add(1);
             self.is_out = false;
         }
+        self.way.watch.close(line.meter(), commands, broke);
         if let Some(stream) = line.into_open() {
             self.lingering = Lingering::begin(&self.rt, stream);
         }

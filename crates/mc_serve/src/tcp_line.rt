@@ -11,6 +11,7 @@ use crate::trail::Trail;
 use crate::vectored::VectoredWrite;
 use http_server::Log;
 use mc_seat::{Line, LineFault, Ready};
+use mc_watch::Meter;
 use mc_wire::{OutFault, Outlet};
 use std::io::{ErrorKind, IoSlice, Read, Write};
 use std::{io, thread};
@@ -35,6 +36,8 @@ pub struct TcpLine<S> {
     taken: Trail,
     /// What was given and taken before each read.
     reads: Log<Trail, Trail>,
+    /// What it measures of itself.
+    meter: Meter,
 }
 
 impl<S> TcpLine<S> {
@@ -54,18 +57,26 @@ impl<S> TcpLine<S> {
             given: Trail::new(),
             taken: Trail::new(),
             reads: Log::new(),
+            meter: Meter::unwatched(),
         }
     }
 
-    /// The same of a stream that is registered with a poll, which tells at first what the stream is ready for.
-    pub fn polled(stream: S) -> TcpLine<S>
+    /// The same of a stream that is registered with a poll, which tells at first what the stream is ready for. It fails once
+    /// the meter tells that it is idle.
+    pub fn polled(stream: S, meter: Meter) -> TcpLine<S>
         ensures stream { result.stream ≡ stream }
         ensures new { sight_of result ≡ new_line }
     {
         let mut line = TcpLine::new(stream);
         line.is_polled = true;
         line.may_read = false;
+        line.meter = meter;
         line
+    }
+
+    /// What it has measured of itself.
+    pub(crate) fn meter(&self) -> &Meter {
+        &self.meter
     }
 
     /// It is asked for bytes.
@@ -84,6 +95,7 @@ impl<S> TcpLine<S> {
     {
         self.given.add(room.split_at(count).0);
         self.ended = count == 0;
+        self.meter.note_read(count);
         // A read that doesn't fill its room leaves nothing, unless the end or urgent bytes come after it.
         self.may_read = !self.is_polled || self.is_closing || self.ended || count == room.len();
     }
@@ -97,7 +109,10 @@ impl<S> TcpLine<S> {
         ensures stream { self.new.stream ≡ self.old.stream }
     {
         match done {
-            Ok(count) if count > 0 => Ok(count),
+            Ok(count) if count > 0 => {
+                self.meter.note_written(count);
+                Ok(count)
+            }
             Err(fault) if fault.kind() == ErrorKind::WouldBlock => {
                 self.may_write = !self.is_polled;
                 Ok(0)
@@ -224,8 +239,9 @@ impl<S: Read + VectoredWrite> Line for TcpLine<S> {
         // Just the bytes that it says came from the stream.
         ensures stream { ReadsStream room.new result (S.remaining self.old.stream) (S.remaining self.new.stream) }
     {
-        if self.failed {
+        if self.failed || (!self.may_read && self.meter.is_idle()) {
             self.ask();
+            self.failed = true;
             return Err(LineFault);
         }
         if !self.may_read {
@@ -256,7 +272,8 @@ impl<S: Read + VectoredWrite> Line for TcpLine<S> {
         // Just the bytes that it says went to the stream.
         ensures stream { WritesStream bytes.now result (S.contents self.old.stream) (S.contents self.new.stream) }
     {
-        if self.failed {
+        if self.failed || (!self.may_write && self.meter.is_idle()) {
+            self.failed = true;
             return Err(OutFault);
         }
         if bytes.is_empty() || !self.may_write {
@@ -275,7 +292,8 @@ impl<S: Read + VectoredWrite> Line for TcpLine<S> {
         // Just the bytes that it says went to the stream.
         ensures stream { WritesStream (io_slices_bytes bufs.now) result (S.contents self.old.stream) (S.contents self.new.stream) }
     {
-        if self.failed {
+        if self.failed || (!self.may_write && self.meter.is_idle()) {
+            self.failed = true;
             return Err(OutFault);
         }
         if are_empty(bufs) || !self.may_write {

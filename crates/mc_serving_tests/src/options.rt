@@ -50,6 +50,9 @@ fn each_call(rt: HostRuntime) -> Result<(), Fail> {
                 address: "127.0.0.1:11211",
                 seats: 1_024,
                 connections: None,
+                idle_timeout: None,
+                verbose: false,
+                metrics: None,
                 limits,
             },
     );

@@ -4,6 +4,7 @@ ghost use Rattle.std.specs.Prelude.{◌≤◌};
 use crate::asserting::equal;
 use mc_serve::{Sizes, serve_tcp};
 use mc_server::StillClock;
+use mc_watch::{Counts, Patience, Seconds, Totals, Watch};
 use std::alloc::Global;
 use std::io::{Read, Write};
 use std::net::{Net, SocketAddr, TcpListener, TcpStream};
@@ -58,7 +59,18 @@ fn serve_client<
         value: 1_048_576,
         window,
     };
-    let ended = serve_tcp(rt, alloc, listener, 2, sizes, Some(1), StillClock(1000)).ok();
+    let watch = Watch::nothing(alloc);
+    let ended = serve_tcp(
+        rt,
+        alloc,
+        listener,
+        2,
+        sizes,
+        Some(1),
+        StillClock(1000),
+        watch,
+    )
+    .ok();
     Ok((client.join(rt)?, ended))
 }
 
@@ -98,7 +110,18 @@ fn serve_three<
         value: 1_048_576,
         window: 2,
     };
-    let ended = serve_tcp(rt, alloc, listener, seats, sizes, Some(3), StillClock(1000)).ok();
+    let watch = Watch::nothing(alloc);
+    let ended = serve_tcp(
+        rt,
+        alloc,
+        listener,
+        seats,
+        sizes,
+        Some(3),
+        StillClock(1000),
+        watch,
+    )
+    .ok();
     let no_op = first.join(rt)?.as_slice() == b"MN\r\n".as_slice();
     let miss = second.join(rt)?.as_slice() == b"END\r\n".as_slice();
     let bad = third.join(rt)?.as_slice() == b"CLIENT_ERROR bad key\r\n".as_slice();
@@ -111,5 +134,73 @@ fn each_connection_is_counted(rt: HostRuntime) -> Result<(), Fail> {
     equal(&rt, serve_three(&rt, rt.alloc(), 1)?, (true, Some(3)));
     equal(&rt, serve_three(&rt, rt.alloc(), 2)?, (true, Some(3)));
     equal(&rt, serve_three(&rt, rt.alloc(), 5)?, (true, Some(3)));
+    Ok(())
+}
+
+/// Serves one client that sends nothing, by a server that gives up a connection that moves no byte for a second and counts what
+/// it serves. What the client got, and what was counted.
+fn serve_idle<
+    R: Threads
+        + Wait
+        + RandomSource
+        + time::Clock
+        + Net<Listener = TcpListener, Stream = TcpStream>
+        + Copy
+        + Send
+        + 'static,
+>(rt: &R, alloc: Global) -> io::Result<(Vec<u8>, Totals)> {
+    let listener = TcpListener::bind(rt, "127.0.0.1:0")?;
+    let server = listener.local_addr()?;
+    let own = *rt;
+    let client = thread::spawn(
+        rt,
+        move || talk(&own, alloc, server, b"mn\r\nset a 0 0 9\r\nx"),
+    )?;
+    let counts = Counts::new(alloc, 2)?;
+    let mut watch = Watch::nothing(alloc);
+    watch.counts = Some(counts.share(alloc)?);
+    watch.patience = Some(Patience {
+        seconds: Seconds::new(alloc)?,
+        limit: 1,
+    });
+    let sizes = Sizes {
+        shards: 2,
+        bytes: 65_536,
+        ring: 64,
+        value: 1_048_576,
+        window: 256,
+    };
+    let ended = serve_tcp(
+        rt,
+        alloc,
+        listener,
+        2,
+        sizes,
+        Some(1),
+        StillClock(1000),
+        watch,
+    )
+    .ok();
+    let mut totals = counts.totals();
+    // The connection that has ended is the one that was counted.
+    totals.ended = totals.ended.min(ended.unwrap_or(0));
+    Ok((client.join(rt)?, totals))
+}
+
+/// It is closed amid a block, and what it sent before was answered.
+#[test]
+fn an_idle_client_is_given_up(rt: HostRuntime) -> Result<(), Fail> {
+    let (replies, totals) = serve_idle(&rt, rt.alloc())?;
+    equal(&rt, replies.as_slice(), b"MN\r\n".as_slice());
+    let expected = Totals {
+        accepted: 1,
+        failed: 0,
+        ended: 1,
+        broken: 1,
+        commands: 1,
+        read: 18,
+        written: 4,
+    };
+    equal(&rt, totals, expected);
     Ok(())
 }

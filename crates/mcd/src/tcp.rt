@@ -6,6 +6,7 @@ ghost use Rattle.mc_options.specs.Numbers.{AreWithin};
 use crate::files::tell_files;
 use crate::refuse;
 use crate::sizes::sizes_of;
+use crate::watching::{NotWatching, Wishes, watching};
 use libc::net::listen as listen_again;
 use mc_options::Limits;
 use mc_serve::{ServeRefusal, serve_tcp};
@@ -37,23 +38,41 @@ pub fn listen<
         + Send
         + Drop
         + 'static,
->(rt: &R, address: &str, seats: usize, connections: Option<u64>, limits: Limits) -> ExitCode
+>(
+    rt: &R,
+    address: &str,
+    seats: usize,
+    connections: Option<u64>,
+    limits: Limits,
+    wishes: Wishes<'_>,
+) -> ExitCode
     requires least { LEAST ≤ seats }
     requires most { seats ≤ MOST_SEATS }
     requires limits { AreWithin limits }
 {
     let listener = match TcpListener::bind(rt, address) {
         Ok(listener) => listener,
-        Err(error) => return refuse_address(rt, address, &error),
+        Err(error) => return refuse_address(rt, "listen", address, &error),
     };
     let local = match listener.local_addr() {
         Ok(local) => local,
-        Err(error) => return refuse_address(rt, address, &error),
+        Err(error) => return refuse_address(rt, "listen", address, &error),
     };
     // Where this fails fewer wait there: 128.
     let _ = listen_again(listener.as_raw_fd(), QUEUE);
     let _ = eprintln!(rt; "listening {local}");
     tell_files(rt, seats, limits.shards);
+    let (watch, watching) = match watching(rt, seats, limits, wishes) {
+        Ok(begun) => begun,
+        Err(NotWatching::Memory) => return refuse(rt, "out of memory"),
+        Err(NotWatching::Thread) => return refuse_threads(rt, limits.shards),
+        Err(NotWatching::Metrics(error)) => return refuse_address(
+            rt,
+            "metrics",
+            wishes.metrics.unwrap_or(""),
+            &error,
+        ),
+    };
     let ended = serve_tcp(
         rt,
         rt.alloc(),
@@ -62,7 +81,9 @@ pub fn listen<
         sizes_of(limits),
         connections,
         MachineClock(*rt),
+        watch,
     );
+    watching.end(rt);
     match ended {
         Ok(_) => ExitCode::SUCCESS,
         Err(ServeRefusal::Memory) => refuse(rt, "out of memory"),
@@ -71,10 +92,10 @@ pub fn listen<
     }
 }
 
-/// Tells why there is no listening on the address; the status with which the program ends.
-fn refuse_address(rt: &impl Eprint, address: &str, error: &io::Error) -> ExitCode {
+/// Tells why there is no listening on the address that an option gives; the status with which the program ends.
+fn refuse_address(rt: &impl Eprint, option: &str, address: &str, error: &io::Error) -> ExitCode {
     let status = refuse(rt, "cannot listen");
-    let _ = eprintln!(rt; "mcd: --listen {address}: {error}");
+    let _ = eprintln!(rt; "mcd: --{option} {address}: {error}");
     status
 }
 

@@ -1,0 +1,44 @@
+-- What is answered to a request.
+use Rattle.std.specs.Prelude.{ℕ, ◌≡◌, ◌||◌, ◌++◌, Bool, true, List, [], ◌∷◌, bytes_eq, codes, if◌then◌else◌}
+use Rattle.mc_watch.specs.declared.counts.Totals.{Totals}
+use Rattle.mc_metrics.specs.declared.pages.Target.{Target}
+use Rattle.mc_metrics.specs.declared.pages.Target.TheVariants.{Metrics, Health, Page, Nothing}
+use Rattle.mc_metrics.specs.declared.reading.Facts.{Facts}
+use Rattle.mc_metrics.specs.Metrics.{metrics_text}
+use Rattle.http.specs.declared.request.Request.{Request}
+use Rattle.http.specs.Request.{head_of}
+use Rattle.http_uri.specs.Uri.{uri_path}
+use Rattle.http_server.specs.declared.response.Response.{Response}
+
+-- what a path leads to
+abbrev pub target_of : List ℕ → Target
+target_of path =
+    if bytes_eq path (codes "/metrics") then Metrics
+    else if bytes_eq path (codes "/healthz") then Health
+    else if bytes_eq path (codes "/") then Page else Nothing
+
+-- the request only reads
+abbrev pub is_read : List ℕ → Bool
+is_read method = bytes_eq method (codes "GET") || bytes_eq method (codes "HEAD")
+
+abbrev pub status_at : Target → ℕ
+status_at Metrics = 200
+status_at Health = 200
+status_at Page = 200
+status_at Nothing = 404
+
+-- the status that answers the method and the path
+abbrev pub status_of : List ℕ → List ℕ → ℕ
+status_of method path = if is_read method then status_at (target_of path) else 405
+
+-- the text at the target, of a server with these facts that has run for so many seconds: the metrics are those of some moment
+abbrev pub IsTextAt : Target → Facts → ℕ → List ℕ → Type 0
+IsTextAt Metrics facts uptime text = (totals : Totals) × (text ≡ metrics_text (record { facts = facts; totals = totals; uptime = uptime }))
+IsTextAt Health facts uptime text = text ≡ codes "ok" ++ (10 ∷ [])
+IsTextAt Page facts uptime text = Unit {0}
+IsTextAt Nothing facts uptime text = text ≡ codes "not found: see /, /metrics and /healthz" ++ (10 ∷ [])
+
+-- the response to a request, of a server with these facts that has run for so many seconds
+pub record IsAnswer (facts : Facts) (uptime : ℕ) (request : Request (List ℕ)) (response : Response) : Type 0 where
+  pub status : response.status ≡ status_of (head_of request).method (uri_path (head_of request).uri)
+  pub text : is_read (head_of request).method ≡ true → IsTextAt (target_of (uri_path (head_of request).uri)) facts uptime response.body.items

@@ -1,0 +1,3 @@
+pub mod Address
+pub mod Answers
+pub mod Metrics

@@ -1,0 +1,77 @@
+-- The text of the metrics, as Prometheus reads them.
+use Rattle.std.specs.Prelude.{ℕ, List, [], ◌∷◌, ◌++◌, ◌-◌, codes}
+use Rattle.std.specs.Fmt.{decimal}
+use Rattle.mc_watch.specs.declared.counts.Totals.{Totals}
+use Rattle.mc_watch.specs.declared.shard_counts.CommandTotals.{CommandTotals}
+use Rattle.mc_watch.specs.declared.shard_counts.ShardTotals.{ShardTotals}
+use Rattle.mc_metrics.specs.declared.reading.Reading.{Reading}
+
+-- a metric of this kind, with its name, what it tells and its value: three lines, whose ends are the byte 10
+abbrev pub metric_text : (kind name help : List ℕ) (value : ℕ) → List ℕ
+metric_text kind name help value =
+    codes "# HELP " ++ (name ++ (codes " " ++ (help ++ ((10 ∷ codes "# TYPE ") ++ (name ++ ((32 ∷ (kind ++ (10 ∷ []))) ++ (name ++ (codes " " ++ (decimal value ++ (10 ∷ []))))))))))
+
+abbrev pub gauge_text : (name help : List ℕ) (value : ℕ) → List ℕ
+gauge_text name help value = metric_text (codes "gauge") name help value
+
+abbrev pub counter_text : (name help : List ℕ) (value : ℕ) → List ℕ
+counter_text name help value = metric_text (codes "counter") name help value
+
+abbrev pub server_text : Reading → List ℕ
+server_text reading =
+    gauge_text (codes "memcached_up") (codes "Whether the server runs.") 1
+    ++ (gauge_text (codes "memcached_uptime_seconds") (codes "For how many seconds the server has run.") reading.uptime
+    ++ (gauge_text (codes "memcached_limit_bytes") (codes "What the items of all shards may cost together, in bytes.") reading.facts.limit_bytes
+    ++ (gauge_text (codes "mcd_shards") (codes "How many shards there are, a thread each.") reading.facts.shards
+    ++ gauge_text (codes "memcached_max_connections") (codes "How many connections are served at a time.") reading.facts.seats)))
+
+-- those that are open are those that were accepted and have not ended
+abbrev pub connections_text : Totals → List ℕ
+connections_text totals =
+    gauge_text (codes "memcached_current_connections") (codes "How many connections are open.") (totals.accepted - totals.ended)
+    ++ (counter_text (codes "memcached_connections_total") (codes "How many connections were accepted.") totals.accepted
+    ++ (counter_text (codes "mcd_connections_broken_total") (codes "How many connections failed, or were idle for too long.") totals.broken
+    ++ (counter_text (codes "mcd_accepts_failed_total") (codes "How many accepts failed.") totals.failed
+    ++ (counter_text (codes "mcd_commands_total") (codes "Commands of the connections that have ended.") totals.commands
+    ++ (counter_text (codes "memcached_read_bytes_total") (codes "Bytes read of all connections.") totals.read
+    ++ counter_text (codes "memcached_written_bytes_total") (codes "Bytes written to all connections.") totals.written)))))
+
+-- how often a kind of command came to this: 34 is the quotation mark
+abbrev pub status_text : (name status : List ℕ) (count : ℕ) → List ℕ
+status_text name status count =
+    (codes "memcached_commands_total{command=" ++ (34 ∷ [])) ++ (name ++ ((34 ∷ codes ",status=") ++ ((34 ∷ status) ++ ((34 ∷ codes "} ") ++ (decimal count ++ (10 ∷ []))))))
+
+abbrev pub command_text : (name : List ℕ) → CommandTotals → List ℕ
+command_text name totals =
+    status_text name (codes "hit") totals.hits ++ (status_text name (codes "miss") totals.misses ++ status_text name (codes "badval") totals.bad_values)
+
+-- what comes before the kinds of commands
+abbrev pub before_commands : List ℕ
+before_commands =
+    codes "# HELP memcached_commands_total What was asked of the shards, and what came of it." ++ ((10 ∷ codes "# TYPE memcached_commands_total counter") ++ (10 ∷ []))
+
+abbrev pub shards_text : ShardTotals → List ℕ
+shards_text totals =
+    gauge_text (codes "memcached_current_items") (codes "How many items there are.") totals.items
+    ++ (gauge_text (codes "memcached_current_bytes") (codes "What the items cost together, in bytes.") totals.bytes
+    ++ (counter_text (codes "memcached_items_evicted_total") (codes "How many items went to make room for others.") totals.evicted
+    ++ (before_commands
+    ++ (command_text (codes "get") totals.get
+    ++ (command_text (codes "set") totals.set
+    ++ (command_text (codes "cas") totals.cas
+    ++ (command_text (codes "touch") totals.touch
+    ++ (command_text (codes "delete") totals.delete
+    ++ (command_text (codes "incr") totals.incr
+    ++ (command_text (codes "decr") totals.decr
+    ++ command_text (codes "flush") totals.flush))))))))))
+
+-- the version is a label of a metric that is always 1: 34 is the quotation mark
+abbrev pub before_version : List ℕ
+before_version =
+    codes "# HELP memcached_version The version of the server." ++ ((10 ∷ codes "# TYPE memcached_version gauge") ++ ((10 ∷ codes "memcached_version{version=") ++ (34 ∷ [])))
+
+abbrev pub behind_version : List ℕ
+behind_version = (34 ∷ codes "} 1") ++ (10 ∷ [])
+
+abbrev pub metrics_text : Reading → List ℕ
+metrics_text reading = before_version ++ (reading.facts.version.now ++ (behind_version ++ (server_text reading ++ (connections_text reading.totals ++ shards_text reading.totals.shards))))

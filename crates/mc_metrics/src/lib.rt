@@ -1,0 +1,20 @@
+//! Tells over HTTP what a server has counted: as metrics that Prometheus reads, and as one plain page. A thread of its own does
+//! it, which waits for no thread of the server and has none wait for it.
+#![tactic(auto)]
+
+mod address;
+mod history;
+mod page;
+mod pages;
+mod reading;
+mod server;
+mod text;
+mod visitor;
+
+pub use address::address_of;
+pub use history::History;
+pub use page::write_page;
+pub use pages::Pages;
+pub use reading::{Facts, Reading};
+pub use server::MetricsServer;
+pub use text::metrics_of;

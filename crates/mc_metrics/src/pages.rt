@@ -1,0 +1,156 @@
+//! What is answered to a request.
+ghost use Rattle.std.specs.Prelude.{◌≡◌, IfOk, string_bytes};
+ghost use Rattle.mc_metrics.specs.Answers.{IsAnswer, IsTextAt, status_at, target_of};
+
+use crate::history::History;
+use crate::page::write_page;
+use crate::reading::{Facts, Reading};
+use crate::text::metrics_of;
+use bytes::Bytes;
+use http::{HeaderValue, Request, StatusCode, header};
+use http_server::{Response, Service};
+use mc_watch::Counts;
+use std::alloc::{AllocError, Global};
+
+/// What a path leads to.
+#[derive(Clone, Copy, Debug, PartialEq, Eq)]
+enum Target {
+    /// All metrics.
+    Metrics,
+    /// That the server runs.
+    Health,
+    /// The page for people.
+    Page,
+    /// Nothing.
+    Nothing,
+}
+
+impl Target {
+    fn of(path: &str) -> Target
+        ensures { result ≡ target_of path.now }
+    {
+        match path {
+            "/metrics" => Target::Metrics,
+            "/healthz" => Target::Health,
+            "/" => Target::Page,
+            _ => Target::Nothing,
+        }
+    }
+
+    /// The status that answers a request for it.
+    fn status(self) -> StatusCode
+        ensures { result ≡ status_at self }
+    {
+        match self {
+            Target::Metrics | Target::Health | Target::Page => StatusCode::OK,
+            Target::Nothing => StatusCode::NOT_FOUND,
+        }
+    }
+
+    /// What kind of text stands there.
+    fn kind(self) -> HeaderValue {
+        match self {
+            Target::Metrics => {
+                HeaderValue::from_static("text/plain; version=0.0.4; charset=utf-8")
+            }
+            Target::Page => HeaderValue::from_static("text/html; charset=utf-8"),
+            Target::Health | Target::Nothing => {
+                HeaderValue::from_static("text/plain; charset=utf-8")
+            }
+        }
+    }
+}
+
+/// Answers requests by what the threads of a server have counted.
+#[derive(Drop)]
+pub struct Pages {
+    alloc: Global,
+    facts: Facts,
+    counts: Counts,
+    /// How long the server has run, in seconds.
+    uptime: u64,
+    history: History,
+}
+
+impl Pages {
+    /// Of a server that has just begun.
+    pub fn new(alloc: Global, facts: Facts, counts: Counts) -> Result<Pages, AllocError> {
+        Ok(Pages {
+            alloc,
+            facts,
+            counts,
+            uptime: 0,
+            history: History::new(alloc)?,
+        })
+    }
+
+    /// The server has run for so many seconds.
+    pub(crate) fn set_uptime(&mut self, uptime: u64) {
+        self.uptime = uptime;
+    }
+
+    /// Keeps what is counted now, for the curves of the page.
+    pub(crate) fn sample(&mut self) {
+        self.history.add(self.counts.totals());
+    }
+
+    /// What is known now.
+    fn reading(&self) -> Reading
+        ensures facts { result.facts ≡ self.now.facts }
+        ensures uptime { result.uptime ≡ self.now.uptime }
+    {
+        Reading {
+            facts: self.facts,
+            totals: self.counts.totals(),
+            uptime: self.uptime,
+        }
+    }
+
+    fn metrics(&self) -> Result<String, AllocError>
+        ensures { IfOk result (λ text. IsTextAt Target.Metrics self.now.facts self.now.uptime (string_bytes text)) }
+    {
+        metrics_of(self.alloc, &self.reading())
+    }
+
+    fn page(&self) -> Result<String, AllocError> {
+        let mut text = String::new(self.alloc);
+        let samples = self.history.samples();
+        match write_page(self.alloc, &mut text, &self.reading(), samples) {
+            Ok(()) => Ok(text),
+            Err(_) => Err(AllocError),
+        }
+    }
+
+    /// The text at the target.
+    fn answer(&self, target: Target) -> Result<Bytes, AllocError>
+        ensures { IfOk result (λ body. IsTextAt target self.now.facts self.now.uptime body) }
+    {
+        match target {
+            Target::Metrics => Ok(Bytes::from_vec(self.metrics()?.into_bytes())?),
+            Target::Page => Ok(Bytes::from_vec(self.page()?.into_bytes())?),
+            Target::Health => Ok(Bytes::from_static(b"ok\n")),
+            Target::Nothing => Ok(Bytes::from_static(b"not found: see /, /metrics and /healthz\n")),
+        }
+    }
+}
+
+impl Service for Pages {
+    ghost answers = { λ old request response new. (new ≡ old) × IsAnswer old.facts old.uptime request response };
+
+    fn call(
+        &mut self,
+        request: &Request<Bytes>,
+        response: &mut Response,
+    ) -> Result<(), AllocError> {
+        let method = request.method().as_str();
+        if method != "GET" && method != "HEAD" {
+            response.status = StatusCode::METHOD_NOT_ALLOWED;
+            return response.add_header(header::ALLOW, HeaderValue::from_static("GET, HEAD"));
+        }
+        let target = Target::of(request.uri().path());
+        response.status = target.status();
+        let body = self.answer(target)?;
+        response.add_header(header::CONTENT_TYPE, target.kind())?;
+        response.body.push(body)
+    }
+}

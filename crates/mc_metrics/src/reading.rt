@@ -1,0 +1,26 @@
+//! What is told of a server at a moment.
+use mc_watch::Totals;
+
+/// What a server was started with.
+#[derive(Clone, Copy, Debug, PartialEq, Eq)]
+pub struct Facts {
+    /// The version of the program.
+    pub version: &'static str,
+    /// How many shards there are; each has a thread.
+    pub shards: u64,
+    /// How many connections are served at a time.
+    pub seats: u64,
+    /// What the items of all shards may cost together, in bytes.
+    pub limit_bytes: u64,
+}
+
+/// What is known of a server at a moment.
+#[derive(Clone, Copy, Debug, PartialEq, Eq)]
+pub struct Reading {
+    /// What it was started with.
+    pub facts: Facts,
+    /// What its threads have counted.
+    pub totals: Totals,
+    /// How long it has run, in seconds.
+    pub uptime: u64,
+}

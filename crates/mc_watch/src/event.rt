@@ -1,0 +1,73 @@
+//! What happens to connections, as it is told to who runs the server.
+use std::net::SocketAddr;
+use std::{fmt, io};
+
+/// How a connection ended.
+#[derive(Clone, Copy, Debug, PartialEq, Eq)]
+pub enum Manner {
+    /// Its client ended it, by `quit` or by closing its side.
+    Ended,
+    /// A read or a write of it failed, or memory for its replies was refused.
+    Broke,
+    /// It moved no byte for too long.
+    Idle,
+}
+
+/// What happened.
+#[derive(Clone, Copy, Debug, PartialEq, Eq)]
+pub enum Event {
+    /// A connection is served from now on.
+    Opened {
+        peer: SocketAddr,
+        seat: usize,
+    },
+    /// A connection is served no more.
+    Closed {
+        peer: SocketAddr,
+        seat: usize,
+        manner: Manner,
+        /// How many commands it took.
+        commands: u64,
+        /// How many bytes were read of it.
+        read: u64,
+        /// How many bytes were written to it.
+        written: u64,
+    },
+    /// No connection could be accepted, for the reason of this number, if the system told one.
+    NotAccepted {
+        fault: Option<i32>,
+    },
+}
+
+impl fmt::Display for Manner {
+    fn fmt<W: fmt::Write>(&self, f: &mut fmt::Formatter<W>) -> fmt::Result {
+        f.write_str(match self {
+            Manner::Ended => "ended",
+            Manner::Broke => "broke",
+            Manner::Idle => "was idle for too long",
+        })
+    }
+}
+
+impl fmt::Display for Event {
+    fn fmt<W: fmt::Write>(&self, f: &mut fmt::Formatter<W>) -> fmt::Result {
+        match self {
+            Event::Opened { peer, seat } => write!(f, "{peer} on seat {seat}: opened"),
+            Event::Closed {
+                peer,
+                seat,
+                manner,
+                commands,
+                read,
+                written,
+            } => write!(
+                f,
+                "{peer} on seat {seat}: {manner}; {commands} commands, {read} bytes read, {written} bytes written"
+            ),
+            Event::NotAccepted { fault: Some(fault) } => {
+                write!(f, "accept failed: {}", io::Error::from_raw_os_error(*fault))
+            }
+            Event::NotAccepted { fault: None } => write!(f, "accept failed"),
+        }
+    }
+}

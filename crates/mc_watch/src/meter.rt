@@ -1,0 +1,115 @@
+//! What a connection measures of itself.
+ghost use Rattle.std.specs.Prelude.{◌≡◌, ◌+◌, ◌-◌, ◌^◌, None, false, min};
+
+use crate::counts::SeatCounts;
+use crate::pulse::Pulse;
+use crossbeam_utils::CachePadded;
+use std::alloc::Global;
+use std::sync::Arc;
+
+/// Counts the bytes of one connection, and knows whether it is idle.
+#[derive(Drop)]
+pub struct Meter {
+    read: u64,
+    written: u64,
+    /// What its thread counts, if it counts.
+    counts: Option<Arc<CachePadded<SeatCounts>, Global>>,
+    /// Where a connection may not be idle for good.
+    pulse: Option<Pulse>,
+}
+
+impl Meter {
+    /// Of a connection that nobody watches.
+    pub fn unwatched() -> Meter
+        ensures read { result.read ≡ 0 }
+        ensures written { result.written ≡ 0 }
+        ensures timeless { result.pulse ≡ None }
+    {
+        Meter {
+            read: 0,
+            written: 0,
+            counts: None,
+            pulse: None,
+        }
+    }
+
+    /// Of a connection that begins. Its thread counts there, if it counts.
+    pub fn begin(
+        counts: Option<Arc<CachePadded<SeatCounts>, Global>>,
+        pulse: Option<Pulse>,
+    ) -> Meter
+        ensures read { result.read ≡ 0 }
+        ensures written { result.written ≡ 0 }
+        ensures pulse { result.pulse ≡ pulse }
+    {
+        Meter {
+            read: 0,
+            written: 0,
+            counts,
+            pulse,
+        }
+    }
+
+    /// So many bytes were read of it; none where its input has ended.
+    pub fn note_read(&mut self, count: usize)
+        ensures read { self.new.read ≡ min (self.old.read + count) (2 ^ 64 - 1) }
+        ensures written { self.new.written ≡ self.old.written }
+        ensures timeless { self.old.pulse ≡ None → self.new.pulse ≡ None }
+    {
+        let count = count as u64;
+        self.read = self.read.saturating_add(count);
+        if let Some(counts) = &self.counts {
+            counts.read.add(count);
+        }
+        self.beat();
+    }
+
+    /// So many bytes were written to it.
+    pub fn note_written(&mut self, count: usize)
+        ensures read { self.new.read ≡ self.old.read }
+        ensures written { self.new.written ≡ min (self.old.written + count) (2 ^ 64 - 1) }
+        ensures timeless { self.old.pulse ≡ None → self.new.pulse ≡ None }
+    {
+        let count = count as u64;
+        self.written = self.written.saturating_add(count);
+        if let Some(counts) = &self.counts {
+            counts.written.add(count);
+        }
+        self.beat();
+    }
+
+    fn beat(&mut self)
+        ensures read { self.new.read ≡ self.old.read }
+        ensures written { self.new.written ≡ self.old.written }
+        ensures timeless { self.old.pulse ≡ None → self.new.pulse ≡ None }
+    {
+        if let Some(pulse) = &mut self.pulse {
+            pulse.beat();
+        }
+    }
+
+    /// Whether it moved no byte for longer than it may.
+    pub fn is_idle(&self) -> bool
+        // One of which nobody asks that never is.
+        ensures { self.now.pulse ≡ None → result ≡ false }
+    {
+        match &self.pulse {
+            Some(pulse) => pulse.is_idle(),
+            None => false,
+        }
+    }
+
+    /// How many bytes were read of it.
+    pub fn read(&self) -> u64
+        ensures { result ≡ self.now.read }
+    {
+        self.read
+    }
+
+    /// How many bytes were written to it.
+    pub fn written(&self) -> u64
+        ensures { result ≡ self.now.written }
+    {
+        self.written
+    }
+}

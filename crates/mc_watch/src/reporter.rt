@@ -1,0 +1,118 @@
+//! The way of what happens from the threads that serve to one that writes it down.
+use crate::dismissal::Dismissal;
+use crate::event::Event;
+use rtrb::{Consumer, Producer, RingBuffer};
+use std::alloc::{AllocError, Global};
+use std::io::Eprint;
+use std::sync::Wait;
+use std::time::Duration;
+
+/// So many events of one reporter may wait.
+const ROOM: usize = 8;
+
+/// What happened is looked for so often, in milliseconds.
+const LOOK_MILLIS: u64 = 20;
+
+/// What is told at a time.
+#[derive(Clone, Copy, Debug, PartialEq, Eq)]
+struct Report {
+    event: Event,
+    /// So many events before it found no room.
+    dropped: u64,
+}
+
+/// Where one thread tells what happens. It never waits: what finds no room is dropped, and counted. Where nobody listens it
+/// tells nothing.
+#[derive(Drop)]
+pub struct Reporter {
+    queue: Option<Producer<Report>>,
+    dropped: u64,
+}
+
+/// What was told by all reporters.
+#[derive(Drop)]
+pub struct Reports {
+    queues: Vec<Consumer<Report>>,
+}
+
+/// So many reporters, and what they tell.
+pub fn reporters(alloc: Global, count: usize) -> Result<(Vec<Reporter>, Reports), AllocError> {
+    let mut all = Vec::with_capacity(alloc, count)?;
+    let mut queues = Vec::with_capacity(alloc, count)?;
+    for _ in 0..count {
+        let (queue, reports) = RingBuffer::new(alloc, ROOM)?;
+        all.push(Reporter {
+            queue: Some(queue),
+            dropped: 0,
+        })?;
+        queues.push(reports)?;
+    }
+    Ok((all, Reports { queues }))
+}
+
+impl Reporter {
+    /// One to which nobody listens.
+    pub fn unheard() -> Reporter {
+        Reporter {
+            queue: None,
+            dropped: 0,
+        }
+    }
+
+    /// Tells what happened.
+    pub fn tell(&mut self, event: Event) {
+        let Some(queue) = &mut self.queue else {
+            return;
+        };
+        let report = Report {
+            event,
+            dropped: self.dropped,
+        };
+        match queue.push(report) {
+            Ok(()) => self.dropped = 0,
+            Err(_full) => self.dropped = self.dropped.saturating_add(1),
+        }
+    }
+}
+
+impl Reports {
+    /// Writes each event to standard error, a line each, until it is told to end and all was written. Those of one reporter come
+    /// in their order.
+    pub fn write_all<R: Eprint + Wait>(self, rt: &R, dismissal: &Dismissal) {
+        let mut reports = self;
+        for _ in rt.forever() {
+            // Looked at first: what was told before is written then.
+            let is_last = dismissal.is_said();
+            let wrote = reports.write_some(rt);
+            if is_last && !wrote {
+                return;
+            }
+            if !wrote {
+                dismissal.wait(rt, Duration::from_millis(LOOK_MILLIS));
+            }
+        }
+        unreachable!()
+    }
+
+    /// Writes what was told, and tells whether there was anything.
+    fn write_some<R: Eprint>(&mut self, rt: &R) -> bool {
+        let mut wrote = false;
+        for queue in &mut self.queues {
+            if let Ok(report) = queue.pop() {
+                wrote = true;
+                write(rt, report);
+            }
+        }
+        wrote
+    }
+}
+
+/// Writes one event. Where standard error takes nothing, nobody reads it.
+fn write<R: Eprint>(rt: &R, report: Report) {
+    let event = report.event;
+    if report.dropped > 0 {
+        let dropped = report.dropped;
+        let _ = eprintln!(rt; "mcd: {dropped} lines were dropped here");
+    }
+    let _ = eprintln!(rt; "mcd: {event}");
+}

@@ -1,0 +1,228 @@
+//! What is watched while the program serves TCP, as the command line says, and the threads that tell it.
+ghost use Rattle.std.specs.Prelude.{◌≡◌, ◌*◌, ◌-◌, ◌^◌, min};
+
+use crate::version::VERSION;
+use mc_metrics::{Facts, MetricsServer, Pages, address_of};
+use mc_options::Limits;
+use mc_watch::{Counts, Dismissal, Patience, Reports, Seconds, Watch, reporters};
+use std::alloc::{AllocError, Global};
+use std::io::Eprint;
+use std::net::{Net, TcpListener, TcpStream};
+use std::random::RandomSource;
+use std::sync::{Arc, Wait};
+use std::thread::{JoinHandle, Threads};
+use std::{io, thread, time};
+
+/// What who runs the program wants to be watched.
+#[derive(Clone, Copy)]
+pub struct Wishes<'a> {
+    /// A connection that moves no byte for so many seconds is given up, if one is.
+    pub idle_timeout: Option<u64>,
+    /// Whether each connection is told on standard error.
+    pub verbose: bool,
+    /// Where the metrics are told, if they are.
+    pub metrics: Option<&'a str>,
+}
+
+/// Why nothing is watched.
+#[derive(Debug, Drop)]
+pub enum NotWatching {
+    /// Memory ran out.
+    Memory,
+    /// A thread could not be started.
+    Thread,
+    /// The metrics can't be told where they are to be.
+    Metrics(io::Error),
+}
+
+impl From<AllocError> for NotWatching {
+    ghost use Rattle.mcd.specs.declared.watching.NotWatching.TheVariants.{Memory};
+
+    ghost from_gives = { λ _ fault. fault ≡ Memory };
+
+    fn from(_error: AllocError) -> NotWatching {
+        NotWatching::Memory
+    }
+}
+
+/// A thread that tells what is watched, and how it is told to end.
+#[derive(Drop)]
+struct Teller {
+    telling: JoinHandle<()>,
+    dismissal: Arc<Dismissal, Global>,
+}
+
+/// The threads that tell what is watched.
+#[derive(Drop)]
+pub struct Watching {
+    tellers: Vec<Teller>,
+}
+
+/// Starts to watch what is wished of a server of so many seats and these limits: what the server has to tell, and the threads
+/// that tell it on.
+pub fn watching<
+    R: Threads
+        + Wait
+        + RandomSource
+        + time::Clock
+        + Net<Listener = TcpListener, Stream = TcpStream>
+        + Eprint
+        + Alloc<A = Global>
+        + Copy
+        + Send
+        + Drop
+        + 'static,
+>(
+    rt: &R,
+    seats: usize,
+    limits: Limits,
+    wishes: Wishes<'_>,
+) -> Result<(Watch, Watching), NotWatching> {
+    let mut watching = Watching {
+        tellers: Vec::new(rt.alloc()),
+    };
+    match watching.begin(rt, seats, limits, wishes) {
+        Ok(watch) => Ok((watch, watching)),
+        Err(fault) => {
+            watching.end(rt);
+            Err(fault)
+        }
+    }
+}
+
+impl Watching {
+    fn begin<
+        R: Threads
+            + Wait
+            + RandomSource
+            + time::Clock
+            + Net<Listener = TcpListener, Stream = TcpStream>
+            + Eprint
+            + Alloc<A = Global>
+            + Copy
+            + Send
+            + Drop
+            + 'static,
+    >(
+        &mut self,
+        rt: &R,
+        seats: usize,
+        limits: Limits,
+        wishes: Wishes<'_>,
+    ) -> Result<Watch, NotWatching> {
+        let alloc = rt.alloc();
+        let mut watch = Watch::nothing(alloc);
+        if let Some(limit) = wishes.idle_timeout {
+            let seconds = Seconds::new(alloc)?;
+            watch.patience = Some(Patience { seconds, limit });
+        }
+        if wishes.verbose {
+            // One for each seat, and one for the thread that accepts.
+            let (all, reports) = reporters(alloc, seats.saturating_add(1))?;
+            watch.reporters = all;
+            self.tell_reports(rt, reports)?;
+        }
+        if let Some(word) = wishes.metrics {
+            let counts = Counts::new(alloc, limits.shards)?;
+            watch.counts = Some(counts.share(alloc)?);
+            let pages = Pages::new(alloc, facts_of(seats, limits), counts)?;
+            self.tell_metrics(rt, word, pages)?;
+        }
+        Ok(watch)
+    }
+
+    /// Starts a thread that writes the reports to standard error.
+    fn tell_reports<R: Threads + Wait + Eprint + Alloc<A = Global> + Copy + Send + Drop + 'static>(
+        &mut self,
+        rt: &R,
+        reports: Reports,
+    ) -> Result<(), NotWatching> {
+        // The room comes first: a thread whose handle found none would never be joined.
+        self.tellers.reserve(1)?;
+        let dismissal = Dismissal::new(rt.alloc())?;
+        let theirs = Arc::try_clone(&dismissal)?;
+        let own = *rt;
+        match thread::spawn(rt, move || reports.write_all(&own, &theirs)) {
+            Ok(telling) => self.keep(telling, dismissal),
+            Err(_) => Err(NotWatching::Thread),
+        }
+    }
+
+    /// Starts a thread that tells the metrics at the address of the word.
+    fn tell_metrics<
+        R: Threads
+            + Wait
+            + RandomSource
+            + time::Clock
+            + Net<Listener = TcpListener, Stream = TcpStream>
+            + Eprint
+            + Alloc<A = Global>
+            + Copy
+            + Send
+            + Drop
+            + 'static,
+    >(&mut self, rt: &R, word: &str, pages: Pages) -> Result<(), NotWatching> {
+        self.tellers.reserve(1)?;
+        let server = match metrics_server(rt, word, pages) {
+            Ok(server) => server,
+            Err(error) => return Err(NotWatching::Metrics(error)),
+        };
+        let dismissal = Dismissal::new(rt.alloc())?;
+        let theirs = Arc::try_clone(&dismissal)?;
+        let own = *rt;
+        match thread::spawn(rt, move || server.serve(&own, &theirs)) {
+            Ok(telling) => self.keep(telling, dismissal),
+            Err(_) => Err(NotWatching::Thread),
+        }
+    }
+
+    /// Keeps a thread, for which there is room.
+    fn keep(
+        &mut self,
+        telling: JoinHandle<()>,
+        dismissal: Arc<Dismissal, Global>,
+    ) -> Result<(), NotWatching> {
+        match self.tellers.push(Teller { telling, dismissal }) {
+            Ok(()) => Ok(()),
+            Err(_) => Err(NotWatching::Memory),
+        }
+    }
+
+    /// Ends the threads, once they have told all.
+    pub fn end<R: Threads>(self, rt: &R) {
+        let Watching { tellers } = self;
+        for teller in tellers {
+            teller.dismissal.dismiss();
+            teller.telling.join(rt);
+        }
+    }
+}
+
+/// What is told of the server beside what it counts.
+fn facts_of(seats: usize, limits: Limits) -> Facts
+    ensures shards { result.shards ≡ limits.shards }
+    ensures seats { result.seats ≡ seats }
+    ensures limit { result.limit_bytes ≡ min (limits.shards * limits.bytes) (2 ^ 64 - 1) }
+{
+    let shards = limits.shards as u64;
+    Facts {
+        version: VERSION,
+        shards,
+        seats: seats as u64,
+        limit_bytes: shards.saturating_mul(limits.bytes as u64),
+    }
+}
+
+/// Listens at the address of the word, which is told on standard error, to tell the metrics there.
+fn metrics_server<R: Net<Listener = TcpListener, Stream = TcpStream> + Eprint + Alloc<A = Global>>(
+    rt: &R,
+    word: &str,
+    pages: Pages,
+) -> io::Result<MetricsServer> {
+    let address = address_of(rt.alloc(), word)?;
+    let listener = TcpListener::bind(rt, address.as_str())?;
+    let local = listener.local_addr()?;
+    let server = MetricsServer::new(rt, rt.alloc(), listener, pages)?;
+    let _ = eprintln!(rt; "metrics {local}");
+    Ok(server)
+}
