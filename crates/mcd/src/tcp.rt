@@ -6,7 +6,7 @@ ghost use Rattle.mc_options.specs.Numbers.{AreWithin};
 use crate::files::tell_files;
 use crate::refuse;
 use crate::sizes::sizes_of;
-use crate::watching::{NotWatching, Wishes, watching};
+use crate::watching::{NotWatching, Wishes, start_watching};
 use libc::net::listen as listen_again;
 use mc_options::Limits;
 use mc_serve::{ServeRefusal, serve_tcp};
@@ -62,7 +62,7 @@ pub fn listen<
     let _ = listen_again(listener.as_raw_fd(), QUEUE);
     let _ = eprintln!(rt; "listening {local}");
     tell_files(rt, seats, limits.shards);
-    let (watch, watching) = match watching(rt, seats, limits, wishes) {
+    let (watch, watching) = match start_watching(rt, seats, limits, wishes) {
         Ok(begun) => begun,
         Err(NotWatching::Memory) => return refuse(rt, "out of memory"),
         Err(NotWatching::Thread) => return refuse_threads(rt, limits.shards),

@@ -60,7 +60,7 @@ pub struct Watching {
 
 /// Starts to watch what is wished of a server of so many seats and these limits: what the server has to tell, and the threads
 /// that tell it on.
-pub fn watching<
+pub fn start_watching<
     R: Threads
         + Wait
         + RandomSource
