@@ -13,6 +13,7 @@ mod refusal;
 mod seats;
 mod serving;
 mod settling;
+mod shard_watch;
 mod sitting;
 mod tcp;
 mod tcp_door;

@@ -9,9 +9,9 @@ ghost use Rattle.mc_serve.specs.Told.{Told};
 use crate::entrance::Entrance;
 use crate::refusal::ServeRefusal;
 use crate::serving::serve;
+use crate::shard_watch::ShardWatch;
 use crate::tcp_door::TcpDoor;
 use crate::warden::Warden;
-use mc_core::OpenGate;
 use mc_seat::Clock;
 use mc_server::Sizes;
 use mc_wake::{Patience, Sleeper};
@@ -58,13 +58,16 @@ pub fn serve_tcp<
     let mut entrance = Entrance::new(alloc, listener, connections, &sleepers, watch.entrance()?)?;
     let doors = doors_to(rt, alloc, &mut entrance, seats, &mut watch)?;
     let bell = entrance.bell()?;
+    let gate = ShardWatch {
+        shards: watch.shards(alloc)?,
+    };
     let warden = Warden::start(rt, alloc, &watch, &sleepers)?;
     let own = *rt;
     let Ok(accepting) = thread::spawn(rt, move || entrance.run(&own)) else {
         warden.dismiss(rt);
         return Err(ServeRefusal::Thread);
     };
-    let served = serve(rt, alloc, doors, sleepers, sizes, OpenGate, clock);
+    let served = serve(rt, alloc, doors, sleepers, sizes, gate, clock);
     bell.dismiss();
     warden.dismiss(rt);
     accepting.join(rt);
