@@ -77,8 +77,8 @@ impl<D: Door + Drop> Sitting<D> {
         })
     }
 
-    /// Goes a step further: asks the door for a line, begins to serve it, serves the line that is out, or closes a lane. The line is told first
-    /// what its socket is ready for, if something is known of that.
+    /// Goes a step further: asks the door for a line, begins to serve the line that is out, serves it on, or closes a lane. The
+    /// line is told first what its socket is ready for, if something is known of that.
     pub(crate) fn step<K: Clock>(
         &mut self,
         ready: Option<Ready>,
@@ -124,11 +124,16 @@ impl<D: Door + Drop> Sitting<D> {
             SitsBeginning shards limit (K.may_answer clock.now) sat (D.told self.old.door) (D.Line.sight line) self.old.session →
             SeatStands (λ line. D.Line.sight line) shards limit (K.may_answer clock.now) sat (D.told self.new.door) self.new.session self.new.phase }
     {
-        self.phase = match self.session.begin(clock) {
-            Ok(()) => Phase::Serving(line),
-            Err(_refused) => Phase::Came(line),
-        };
-        Stepped::Did
+        match self.session.begin(clock) {
+            Ok(()) => {
+                self.phase = Phase::Serving(line);
+                Stepped::Did
+            }
+            Err(_refused) => {
+                self.phase = Phase::Came(line);
+                Stepped::Did
+            }
+        }
     }
 
     /// Serves the line that is out a step further, and gives it back once it was served.

@@ -17,7 +17,7 @@ returns-in-Came g c shards limit sat stands =
 pub returns-in-Serving : goal.returns-in-Serving
 returns-in-Serving g c shards limit sat stands =
     let is = sym c.replace.ensures.value ∙ c.in-Serving.is in
-    c.serve.ensures shards limit sat (rw c.roused.ensures (rw is at stands))
+    c.serve.ensures shards limit sat (rw c.roused-in-Serving.ensures (rw is at stands))
 
 pub returns-in-Closing : goal.returns-in-Closing
 returns-in-Closing g c shards limit sat stands =
