@@ -1,5 +1,5 @@
 -- A seat's steps, one by one.
-use Rattle.std.proofs.Common.{◌≡◌, ℕ, ◌+◌, Bool, true, false, List, [], length, refl, sym, subst, ◌∙◌, arith}
+use Rattle.std.proofs.Common.{◌≡◌, ℕ, ◌+◌, Bool, true, false, List, [], length, Some, refl, sym, subst, ◌∙◌, arith}
 use Rattle.std.specs.Prelude.{◌↔◌, ◌≤◌, IsTrue}
 use Rattle.mc_wire.specs.Outlet.{Sight}
 use Rattle.mc_ring.specs.Lane.{Near}
@@ -9,16 +9,18 @@ use Rattle.mc_conn.specs.Conn.{IsConn}
 use Rattle.mc_conn.specs.Told.{IsAtRest, IsOver, Told as ConnTold}
 use Rattle.mc_seat.specs.LineServed.{LineServed}
 use Rattle.mc_server.specs.Explains.{LineTold}
+use Rattle.mc_threads.specs.declared.service.Service.{Service}
 use Rattle.mc_threads.specs.declared.session.Session.{Session}
 use Rattle.mc_threads.specs.Serving.{EndsAll, IsIdle}
 use Rattle.mc_threads.specs.Ending.{EndsFirst, EndsOne, StandsStill}
+use Rattle.mc_threads.specs.Service.{WasServedBy}
 use Rattle.mc_threads.specs.Session.{HasServed, IsServing, IsVacant, MayStep}
 use Rattle.mc_threads.proofs.Ending.{ends_all, ends_next, ends_none, ends_still}
-use Rattle.mc_threads.proofs.Serving.{can_settle}
+use Rattle.mc_threads.proofs.Sessions.{SomeAnd, may_serve, some_and}
 use Rattle.mc_serve.specs.Told.{DoorTold, IsDone, IsFree, IsNext, closed, let_in, took_back}
 use Rattle.mc_serve.specs.declared.sitting.Phase.{Phase}
 use Rattle.mc_serve.specs.declared.sitting.Phase.TheVariants as phase
-use Rattle.mc_serve.specs.Seats.{CanStep, ClosesOn, LineFits, SeatAt, SeatServes, SeatStands, ServesDoor, ServesLine, SitsClosing, SitsFree, SitsServing, seat_at}
+use Rattle.mc_serve.specs.Seats.{CanStep, ClosesOn, LineFits, SeatAt, SeatServes, SeatStands, ServesDoor, ServesLine, SitsBeginning, SitsClosing, SitsFree, SitsServing, seat_at}
 use Rattle.mc_serve.proofs.Chain.{OneMore, one_more, passes_none}
 
 module _ (shards limit : ℕ) (may_answer : ℕ → Type 0) where
@@ -31,24 +33,33 @@ module _ (shards limit : ℕ) (may_answer : ℕ → Type 0) where
   stays_free sat door door' session same sits = let S : DoorTold → Type 0 = λ d. SitsFree shards limit may_answer sat d session in subst S (sym same) sits
 
   -- A line came in.
-  pub comes_in : (sat : SeatAt) (door door' : DoorTold) (begin : Sight) (session session' : Session) → IsNext begin door → door' ≡ let_in begin door
+  pub comes_in : (sat : SeatAt) (door door' : DoorTold) (begin : Sight) (session : Session) → IsNext begin door → door' ≡ let_in begin door → SitsFree shards limit may_answer sat door session → SitsBeginning shards limit may_answer sat door' begin session
+  comes_in sat door door' begin session next came sits = record { before = door; sits = sits; next = next; came = came }
+
+  -- The line that came in begins to be served.
+  pub begins : (sat : SeatAt) (door : DoorTold) (begin : Sight) (session session' : Session)
       → ((limit window : ℕ) (line : Sight) → IsVacant limit window session → IsServing (length session.courier.ends.lanes) limit may_answer line line session.courier.ends session')
-      → SitsFree shards limit may_answer sat door session → SitsServing shards limit may_answer sat door' begin session'
-  comes_in sat door door' begin session session' next came serves sits =
+      → SitsBeginning shards limit may_answer sat door begin session → SitsServing shards limit may_answer sat door begin session'
+  begins sat door begin session session' serves came =
+      let sits = came.sits in
       let S : ℕ → Type 0 = λ n. IsServing n limit may_answer begin begin session.courier.ends session' in
       record {
         free = sits.free;
         lines = sits.lines;
-        before = door;
+        before = came.before;
         begin = begin;
         ends = session.courier.ends;
         passed = sits.passed;
-        next = next;
-        came = came;
+        next = came.next;
+        came = came.came;
         lines_are = sits.lines_are;
         width = sits.width;
         serving = subst S sits.width (serves limit sits.window begin sits.vacant);
       }
+
+  -- The line waits, with the session as it was.
+  pub still_begins : (sat : SeatAt) (door : DoorTold) (begin : Sight) (session session' : Session) → session' ≡ session → SitsBeginning shards limit may_answer sat door begin session → SitsBeginning shards limit may_answer sat door begin session'
+  still_begins sat door begin session session' same came = let S : Session → Type 0 = λ s. SitsBeginning shards limit may_answer sat door begin s in subst S (sym same) came
 
   -- No line comes any more.
   pub comes_none : (sat : SeatAt) (door door' : DoorTold) (session : Session) → door' ≡ closed door → IsDone door → SitsFree shards limit may_answer sat door session → SitsClosing shards limit may_answer 0 sat door' session.courier.ends
@@ -98,33 +109,34 @@ module _ (shards limit : ℕ) (may_answer : ℕ → Type 0) where
 
   -- what renewing a session does
   pub record Renews (another : Bool) (old new : Session) : Type 0 where
-    pub when : (told : ConnTold) → IsConn old.conn told → IsTrue another ↔ (IsAtRest told × IsOver told)
-    pub vacant : IsTrue another → (told : ConnTold) → IsConn old.conn told → told.shards ≡ length old.courier.ends.lanes → IsIdle old.courier.under_way.items → IsVacant told.limit told.window new
+    pub when : (service : Service) (told : ConnTold) → old.service ≡ Some service → IsConn service.conn told → IsTrue another ↔ (IsAtRest told × IsOver told)
+    pub vacant : IsTrue another → (service : Service) (told : ConnTold) → old.service ≡ Some service → IsConn service.conn told → told.shards ≡ length old.courier.ends.lanes → IsIdle old.courier.under_way.items → IsVacant told.limit told.window new
     pub ends : new.courier.ends ≡ old.courier.ends
 
   -- The line that was out was served and went back, and the session was renewed, or can't be.
   module _ (sat : SeatAt) (door door' : DoorTold) (now now' : Sight) (commands : ℕ) (broke another : Bool) (session session' last : Session)
       (goes : (begin : Sight) (before : Ends Near) → IsServing shards limit may_answer begin now before session → HasServed shards limit may_answer begin now' before session' commands broke)
       (back : door' ≡ took_back now' commands broke door) (renews : Renews another session' last) (sits : SitsServing shards limit may_answer sat door now session) where
-    abbrev ended : HasServed shards limit may_answer sits.begin now' sits.ends session' commands broke
-    ended = goes sits.begin sits.ends sits.serving
+    -- what the line was served by
+    abbrev by : SomeAnd session'.service (λ service. WasServedBy shards limit may_answer sits.begin now' sits.ends session'.courier service commands broke)
+    by = some_and session'.service (λ service. WasServedBy shards limit may_answer sits.begin now' sits.ends session'.courier service commands broke) (goes sits.begin sits.ends sits.serving)
 
     abbrev line : LineTold
     line = record { begin = sits.begin; now = now'; commands = commands; broke = broke }
 
     abbrev this : ServesLine shards limit may_answer line sits.ends last.courier.ends
-    this = record { conn = session'.conn; served = renewed sits.begin now' sits.ends session'.courier.ends last.courier.ends session'.conn commands broke renews.ends ended.served }
+    this = record { conn = by.some.conn; served = renewed sits.begin now' sits.ends session'.courier.ends last.courier.ends by.some.conn commands broke renews.ends by.holds.served }
 
     abbrev more : OneMore shards limit may_answer sat (seat_at door' last.courier.ends) another
     more = one_more shards limit may_answer sat (seat_at door' last.courier.ends) sits.lines line sits.before door sits.ends another sits.free sits.passed sits.next sits.came back sits.lines_are this
-        (λ stopped fits. (let served = ended.served in let again : IsTrue another = (renews.when served.told served.conn_is).1 (served.rest fits, served.over) in absurd (cc)))
+        (λ stopped fits. (let served = by.holds.served in let again : IsTrue another = (renews.when by.some served.told by.is served.conn_is).1 (served.rest fits, served.over) in absurd (cc)))
 
     wide : length session'.courier.ends.lanes ≡ shards
-    wide = ended.served.exchanges.same.count ∙ sits.width
+    wide = by.holds.served.exchanges.same.count ∙ sits.width
 
     pub serves_another : another ≡ true → SitsFree shards limit may_answer sat door' last
     serves_another is =
-        let served = ended.served in
+        let served = by.holds.served in
         let V : ℕ → Type 0 = λ n. IsVacant n served.told.window last in
         record {
           free = sits.free;
@@ -133,7 +145,7 @@ module _ (shards limit : ℕ) (may_answer : ℕ → Type 0) where
           lines_are = more.lines_are;
           width = rw renews.ends wide;
           window = served.told.window;
-          vacant = subst V served.limit_is (renews.vacant is served.told served.conn_is (served.shards_is ∙ sym wide) ended.idle);
+          vacant = subst V served.limit_is (renews.vacant is by.some served.told by.is served.conn_is (served.shards_is ∙ sym wide) by.holds.idle);
         }
 
     pub serves_no_more : another ≡ false → SitsClosing shards limit may_answer 0 sat door' last.courier.ends
@@ -148,6 +160,7 @@ module _ (shards limit : ℕ) (may_answer : ℕ → Type 0) where
       → ((served : Ends Near) → EndsFirst count served old.courier.ends → ClosesOn served now new.courier.ends)
       → SitsClosing shards limit may_answer count sat door old.courier.ends → SeatStands sight shards limit may_answer sat door new now
   closes_on sight sat count door old new phase.Free closes sits = absurd (closes sits.served sits.closed)
+  closes_on sight sat count door old new (phase.Came line) closes sits = absurd (closes sits.served sits.closed)
   closes_on sight sat count door old new (phase.Serving line) closes sits = absurd (closes sits.served sits.closed)
   closes_on sight sat count door old new (phase.Closing more) closes sits = record { served = sits.served; serves = sits.serves; closed = closes sits.served sits.closed }
   closes_on sight sat count door old new phase.Over closes sits =
@@ -157,6 +170,7 @@ module _ (shards limit : ℕ) (may_answer : ℕ → Type 0) where
   -- A seat that stands may go a step further.
   pub can_step : {L : Type 0} (sight : L → Sight) (sat : SeatAt) (door : DoorTold) (session : Session) (now : Phase L) → SeatStands sight shards limit may_answer sat door session now → CanStep now session
   can_step sight sat door session phase.Free stands = tt
-  can_step sight sat door session (phase.Serving line) stands = can_settle shards limit may_answer stands.begin _ stands.ends _ _ _ _ _ _ stands.serving.stopped
+  can_step sight sat door session (phase.Came line) stands = tt
+  can_step sight sat door session (phase.Serving line) stands = may_serve shards limit may_answer stands.begin (sight line) stands.ends session.courier session.service stands.serving
   can_step sight sat door session (phase.Closing count) stands = tt
   can_step sight sat door session phase.Over stands = tt

@@ -76,6 +76,14 @@ pub record SitsFree (shards limit : ℕ) (may_answer : ℕ → Type 0) (sat : Se
   pub window : ℕ
   pub vacant : IsVacant limit window session
 
+-- Lines of the door were served, and one came in, which is out and so now; nothing was done with it yet.
+pub record SitsBeginning (shards limit : ℕ) (may_answer : ℕ → Type 0) (sat : SeatAt) (door : DoorTold) (now : Sight) (session : Session) : Type 0 where
+  -- the door before the line came in
+  pub before : DoorTold
+  pub sits : SitsFree shards limit may_answer sat before session
+  pub next : IsNext now before
+  pub came : door ≡ let_in now before
+
 -- Lines of the door were served, and the one that is out is being served; it is so now.
 pub record SitsServing (shards limit : ℕ) (may_answer : ℕ → Type 0) (sat : SeatAt) (door : DoorTold) (now : Sight) (session : Session) : Type 0 where
   pub free : IsFree sat.door
@@ -100,6 +108,7 @@ pub record SitsClosing (shards limit : ℕ) (may_answer : ℕ → Type 0) (count
 -- How a seat stands between two steps, since it began like this.
 abbrev pub SeatStands : {L : Type 0} → (L → Sight) → ℕ → ℕ → (ℕ → Type 0) → SeatAt → DoorTold → Session → Phase L → Type 0
 SeatStands sight shards limit may_answer sat door session phase.Free = SitsFree shards limit may_answer sat door session
+SeatStands sight shards limit may_answer sat door session (phase.Came line) = SitsBeginning shards limit may_answer sat door (sight line) session
 SeatStands sight shards limit may_answer sat door session (phase.Serving line) = SitsServing shards limit may_answer sat door (sight line) session
 SeatStands sight shards limit may_answer sat door session (phase.Closing count) = SitsClosing shards limit may_answer count sat door session.courier.ends
 SeatStands sight shards limit may_answer sat door session phase.Over = SeatServes shards limit may_answer sat (seat_at door session.courier.ends)
@@ -112,9 +121,10 @@ pub record HasSatDown {L : Type 0} (shards limit : ℕ) (door : DoorTold) (sessi
   pub window : ℕ
   pub vacant : IsVacant limit window session
 
--- Where a line is out, the session serves it.
+-- Where a line is served, the session serves it.
 abbrev pub CanStep : {L : Type 0} → Phase L → Session → Type 0
 CanStep phase.Free session = Unit {0}
+CanStep (phase.Came line) session = Unit {0}
 CanStep (phase.Serving line) session = MayStep session
 CanStep (phase.Closing count) session = Unit {0}
 CanStep phase.Over session = Unit {0}
@@ -122,6 +132,7 @@ CanStep phase.Over session = Unit {0}
 -- One lane more was closed, or none; or all of them were closed before.
 abbrev pub ClosesOn : {L : Type 0} → Ends Near → Phase L → Ends Near → Type 0
 ClosesOn served phase.Free ends = ⊥
+ClosesOn served (phase.Came line) ends = ⊥
 ClosesOn served (phase.Serving line) ends = ⊥
 ClosesOn served (phase.Closing count) ends = EndsFirst count served ends
 ClosesOn served phase.Over ends = EndsAll served ends

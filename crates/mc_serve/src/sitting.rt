@@ -4,7 +4,7 @@ ghost use Rattle.mc_ring.specs.Ends.{Ends};
 ghost use Rattle.mc_ring.specs.Lane.{Near};
 ghost use Rattle.mc_threads.specs.Ending.{EndsFirst};
 ghost use Rattle.mc_threads.specs.Session.{IsVacant, MayStep};
-ghost use Rattle.mc_serve.specs.Seats.{CanStep, ClosesOn, SeatAt, SeatStands, SitsFree, SitsServing};
+ghost use Rattle.mc_serve.specs.Seats.{CanStep, ClosesOn, SeatAt, SeatStands, SitsBeginning, SitsFree, SitsServing};
 ghost use Rattle.mc_serve.specs.declared.sitting.Phase.TheVariants as phase;
 
 use crate::door::{Arrival, Door};
@@ -33,7 +33,9 @@ pub enum Stepped {
 pub enum Phase<L> {
     /// No line is out.
     Free,
-    /// This line is out.
+    /// This line is out, and waits for the memory that it is served by.
+    Came(L),
+    /// This line is out, and is served.
     Serving(L),
     /// No line comes any more, and the first so many lanes were closed.
     Closing(usize),
@@ -75,8 +77,8 @@ impl<D: Door + Drop> Sitting<D> {
         })
     }
 
-    /// Goes a step further: asks the door for a line, serves the line that is out, or closes a lane. The line is told first
-    /// what its socket is ready for, if something is known of that.
+    /// Goes a step further: asks the door for a line, begins to serve the line that is out, serves it on, or closes a lane. The
+    /// line is told first what its socket is ready for, if something is known of that.
     pub(crate) fn step<K: Clock>(
         &mut self,
         ready: Option<Ready>,
@@ -90,6 +92,7 @@ impl<D: Door + Drop> Sitting<D> {
     {
         match mem::replace(&mut self.phase, Phase::Over) {
             Phase::Free => self.accept(clock),
+            Phase::Came(line) => self.begin(roused(line, ready), clock),
             Phase::Serving(line) => self.serve(roused(line, ready), clock, rooms),
             Phase::Closing(count) => self.close(count),
             Phase::Over => Stepped::Waits,
@@ -103,17 +106,31 @@ impl<D: Door + Drop> Sitting<D> {
             SeatStands (λ line. D.Line.sight line) shards limit (K.may_answer clock.now) sat (D.told self.new.door) self.new.session self.new.phase }
     {
         match self.door.accept() {
-            Arrival::Came(line) => {
-                self.session.begin(clock);
-                self.phase = Phase::Serving(line);
-                Stepped::Did
-            }
+            Arrival::Came(line) => self.begin(line, clock),
             Arrival::NotYet => {
                 self.phase = Phase::Free;
                 Stepped::Waits
             }
             Arrival::Over => {
                 self.phase = Phase::Closing(0);
+                Stepped::Did
+            }
+        }
+    }
+
+    /// Begins to serve the line that is out. Where memory for it is refused the line waits, and the next step asks again.
+    fn begin<K: Clock>(&mut self, line: D::Line, clock: &K) -> Stepped
+        ensures { (shards limit : ℕ) (sat : SeatAt) →
+            SitsBeginning shards limit (K.may_answer clock.now) sat (D.told self.old.door) (D.Line.sight line) self.old.session →
+            SeatStands (λ line. D.Line.sight line) shards limit (K.may_answer clock.now) sat (D.told self.new.door) self.new.session self.new.phase }
+    {
+        match self.session.begin(clock) {
+            Ok(()) => {
+                self.phase = Phase::Serving(line);
+                Stepped::Did
+            }
+            Err(_refused) => {
+                self.phase = Phase::Came(line);
                 Stepped::Did
             }
         }

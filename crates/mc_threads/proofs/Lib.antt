@@ -5,3 +5,4 @@ pub mod Carrying
 pub mod Ending
 pub mod Serving
 pub mod Writing
+pub mod Sessions

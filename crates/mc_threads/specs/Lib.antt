@@ -2,5 +2,6 @@ pub mod Workers
 pub mod Working
 pub mod Serving
 pub mod Ending
+pub mod Service
 pub mod Session
 pub mod internal

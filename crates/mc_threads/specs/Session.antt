@@ -1,44 +1,33 @@
 -- A seat that serves lines step by step, one after another.
-use Rattle.std.specs.Prelude.{ℕ, ◌≡◌, Bool, [], length}
-use Rattle.mc_wire.specs.Outlet.{Sight, took}
+use Rattle.std.specs.Prelude.{ℕ, ◌≡◌, Bool, Option, Some, None, IsSomeAnd, length}
+use Rattle.mc_wire.specs.Outlet.{Sight}
 use Rattle.mc_ring.specs.Lane.{Near}
 use Rattle.mc_ring.specs.Ends.{Ends}
-use Rattle.mc_conn.specs.Conn.{IsConn}
-use Rattle.mc_conn.specs.Told.{told_nothing}
-use Rattle.mc_seat.specs.LineServed.{LineServed}
-use Rattle.mc_seat.specs.Lines.{HasGrown}
-use Rattle.mc_seat.specs.Later.{text_in}
+use Rattle.mc_threads.specs.declared.service.Service.{Service}
 use Rattle.mc_threads.specs.declared.session.Session.{Session}
 use Rattle.mc_threads.specs.declared.session.Stepped.{Stepped}
 use Rattle.mc_threads.specs.declared.session.Stepped.TheVariants as stepped
 use Rattle.mc_threads.specs.Serving.{IsIdle}
-use Rattle.mc_threads.specs.internal.Carrying.{MayCarry}
-use Rattle.mc_threads.specs.internal.Turns.{Stops, Turns}
+use Rattle.mc_threads.specs.Service.{IsNew, IsServedBy, MayServe, WasServedBy}
+
+-- The room for a line is as new, or is made for so many shards, for values up to the limit and with this window.
+abbrev pub IsReady : ℕ → ℕ → ℕ → Session → Option Service → Type 0
+IsReady shards limit window session None = (session.shards ≡ shards) × (session.limit ≡ limit) × (session.window ≡ window)
+IsReady shards limit window session (Some service) = IsNew shards limit window service
 
 -- It serves no line, and may begin to serve one, for values up to the limit and with this window.
 pub record IsVacant (limit window : ℕ) (session : Session) : Type 0 where
-  pub conn_is : IsConn session.conn (told_nothing (length session.courier.ends.lanes) limit window)
+  pub ready : IsReady (length session.courier.ends.lanes) limit window session session.service
   pub idle : IsIdle session.courier.under_way.items
-  pub none_read : session.seat.unread ≡ []
-  pub none_waits : text_in session.unwritten ≡ []
-
-abbrev pub MayBegin : Session → Type 0
-MayBegin session = (limit window : ℕ) × IsVacant limit window session
-
--- It serves a line of which no further command was taken, by what is seen of the line once it took the replies that wait.
-abbrev pub HasStopped : ℕ → ℕ → (ℕ → Type 0) → Sight → Sight → Ends Near → Session → Type 0
-HasStopped shards limit may_answer begin now before session =
-    Stops shards limit may_answer begin now before session.courier.ends session.courier.under_way.items session.seat.unread session.conn session.commands session.stop
 
 -- It serves a line, which began so and is so now, since its ends were as before.
-pub record IsServing (shards limit : ℕ) (may_answer : ℕ → Type 0) (begin now : Sight) (before : Ends Near) (session : Session) : Type 0 where
-  pub stopped : HasStopped shards limit may_answer begin (took (text_in session.unwritten) now) before session
-  pub grown : HasGrown begin now
+abbrev pub IsServing : ℕ → ℕ → (ℕ → Type 0) → Sight → Sight → Ends Near → Session → Type 0
+IsServing shards limit may_answer begin now before session = IsSomeAnd session.service (IsServedBy shards limit may_answer begin now before session.courier)
 
 -- It has served the line, and nothing is under way.
-pub record HasServed (shards limit : ℕ) (may_answer : ℕ → Type 0) (begin now : Sight) (before : Ends Near) (session : Session) (commands : ℕ) (broke : Bool) : Type 0 where
-  pub served : LineServed shards limit may_answer begin now before session.courier.ends session.conn commands broke
-  pub idle : IsIdle session.courier.under_way.items
+abbrev pub HasServed : ℕ → ℕ → (ℕ → Type 0) → Sight → Sight → Ends Near → Session → ℕ → Bool → Type 0
+HasServed shards limit may_answer begin now before session commands broke =
+    IsSomeAnd session.service (λ service. WasServedBy shards limit may_answer begin now before session.courier service commands broke)
 
 -- What a step says of the line.
 abbrev pub StepSays : Stepped → ℕ → ℕ → (ℕ → Type 0) → Sight → Sight → Ends Near → Session → Type 0
@@ -48,14 +37,4 @@ StepSays (stepped.Ended served) shards limit may_answer begin now before session
 
 -- It serves some line.
 abbrev pub MayStep : Session → Type 0
-MayStep session = MayCarry session.courier.ends session.courier.under_way.items session.conn
-
--- It serves a line of which commands may be taken.
-abbrev pub MayTake : ℕ → ℕ → (ℕ → Type 0) → Sight → Sight → Ends Near → Session → Type 0
-MayTake shards limit may_answer begin now before session =
-    Turns shards limit may_answer begin now before session.courier.ends session.courier.under_way.items session.seat.unread session.conn session.commands
-
--- The commands of the line were taken, as far as there are any.
-abbrev pub TakesFor : (ℕ → Type 0) → Session → Session → Type 0
-TakesFor may_answer old new =
-    (shards limit : ℕ) (begin now : Sight) (before : Ends Near) → MayTake shards limit may_answer begin now before old → HasStopped shards limit may_answer begin now before new
+MayStep session = IsSomeAnd session.service (MayServe session.courier)

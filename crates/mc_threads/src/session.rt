@@ -1,11 +1,12 @@
-//! A seat serves a line step by step. No step waits for a shard.
-ghost use Rattle.std.specs.Prelude.{◌≡◌, ◌<◌, ◌≤◌, ◌↔◌, ℕ, [], false, IfOk, IsTrue, length};
+//! A seat serves lines step by step, one after another.
+ghost use Rattle.std.specs.Prelude.{◌≡◌, ◌<◌, ◌≤◌, ◌↔◌, ℕ, Some, IfOk, IsTrue, OnErr, OnOk, length};
 ghost use Rattle.std.specs.Bool.{OnFalse, OnTrue};
+ghost use Rattle.mc_wire.specs.declared.TheConstants.{GREATEST_VALUE_LIMIT};
 
 use crate::courier::Courier;
-use mc_conn::{Conn, Taken};
+use crate::service::Service;
 use mc_ring::SeatEnds;
-use mc_seat::{Clock, Line, Rooms, Seat, Served, Turn, Unwritten};
+use mc_seat::{Clock, Line, Rooms, Served};
 use mc_wake::Wakers;
 use mc_wire::GREATEST_VALUE_LIMIT;
 use std::alloc::{AllocError, Global};
@@ -21,19 +22,21 @@ pub enum Stepped {
     Ended(Served),
 }
 
-/// What a seat needs to serve lines, one after another, and how far it is with the one that it serves.
+/// What a seat needs to serve lines, one after another. Until the first line comes it has its ends of the lanes alone; the room
+/// that a line is served in is made then, and kept for the lines that follow.
 #[derive(Drop)]
 pub struct Session {
     alloc: Global,
     pub(crate) courier: Courier,
-    conn: Conn,
-    seat: Seat,
-    /// Replies that were handed out, and which the line didn't take yet.
-    pub(crate) unwritten: Unwritten,
-    /// How many commands of the line were taken.
-    commands: u64,
-    /// Why no further command was.
-    stop: Taken,
+    /// What the room is made for.
+    shards: usize,
+    limit: usize,
+    window: usize,
+    /// What lines are served by, once the first has come.
+    service: Option<Service>,
+    ghost some_shards: { 0 < shards },
+    ghost small_values: { limit ≤ GREATEST_VALUE_LIMIT },
+    ghost some_commands: { 0 < window },
 }
 
 impl Session {
@@ -41,11 +44,12 @@ impl Session {
     ghost use Rattle.mc_ring.specs.Lane.{Near};
     ghost use Rattle.mc_ring.specs.Ends.{Ends};
     ghost use Rattle.mc_conn.specs.Conn.{IsConn};
-    ghost use Rattle.mc_conn.specs.Told.{Told, IsAtRest, IsOver, told_nothing};
-    ghost use Rattle.mc_seat.specs.Later.{text_in};
+    ghost use Rattle.mc_conn.specs.Told.{Told, IsAtRest, IsOver};
+    ghost use Rattle.mc_threads.specs.declared.service.Service.{Service};
     ghost use Rattle.mc_threads.specs.Ending.{EndsOne, StandsStill};
     ghost use Rattle.mc_threads.specs.Serving.{AreCalled, IsIdle};
-    ghost use Rattle.mc_threads.specs.Session.{IsVacant, IsServing, MayStep, StepSays, TakesFor};
+    ghost use Rattle.mc_threads.specs.Service.{IsNew};
+    ghost use Rattle.mc_threads.specs.Session.{IsVacant, IsServing, MayStep, StepSays};
 
     /// A seat that serves no line yet, over new ends of its lanes, whose rings have so many places. The wakers are those of the
     /// shards.
@@ -63,53 +67,45 @@ impl Session {
         ensures vacant { IfOk result (λ session. IsVacant limit window session) }
         ensures ends { IfOk result (λ session. session.courier.ends ≡ ends) }
     {
-        let Ok(conn) = Conn::new(alloc, ends.shards(), limit, window) else {
-            return Err(AllocError);
-        };
-        let seat = Seat::new(alloc);
+        let count = ends.shards();
         let courier = Courier::new(alloc, ends, shards, places)?;
         Ok(Session {
             alloc,
             courier,
-            conn,
-            seat,
-            unwritten: Unwritten::new(alloc),
-            commands: 0,
-            stop: Taken::NeedMore,
+            shards: count,
+            limit,
+            window,
+            service: None,
         })
     }
 
-    /// Begins to serve a line.
-    pub fn begin<K: Clock>(&mut self, clock: &K)
-        ensures serving { (limit window : ℕ) (line : Sight) → IsVacant limit window self.old →
-            IsServing (length self.old.courier.ends.lanes) limit (K.may_answer clock.now) line line self.old.courier.ends self.new }
+    /// Begins to serve a line. Where memory for its room is refused nothing has changed, and it may be tried again.
+    pub fn begin<K: Clock>(&mut self, clock: &K) -> Result<(), AllocError>
+        ensures serving { OnOk result ((limit window : ℕ) (line : Sight) → IsVacant limit window self.old →
+            IsServing (length self.old.courier.ends.lanes) limit (K.may_answer clock.now) line line self.old.courier.ends self.new) }
+        ensures refused { OnErr result (self.new ≡ self.old) }
         ensures ends { self.new.courier.ends ≡ self.old.courier.ends }
     {
-        self.commands = 0;
-        self.take_all(clock);
+        let mut service = self.take_service()?;
+        service.take_all(clock);
+        self.service = Some(service);
+        Ok(())
     }
 
-    /// Takes commands of the line as long as there are any, and the window has room for them.
-    fn take_all<K: Clock>(&mut self, clock: &K)
-        ensures takes { TakesFor (K.may_answer clock.now) self.old self.new }
-        ensures ends { self.new.courier.ends ≡ self.old.courier.ends }
-        ensures unwritten { text_in self.new.unwritten ≡ text_in self.old.unwritten }
+    /// Takes out what lines are served by; where no line has come yet, it is made.
+    fn take_service(&mut self) -> Result<Service, AllocError>
+        ensures new { IfOk result (λ service. (limit window : ℕ) → IsVacant limit window self.old →
+            IsNew (length self.old.courier.ends.lanes) limit window service) }
+        ensures refused { OnErr result (self.new ≡ self.old) }
+        ensures courier { self.new.courier ≡ self.old.courier }
     {
-        for _ in 0..u64::MAX {
-            match self.conn.take(self.alloc, clock.now()) {
-                Taken::Opened(ticket) => self.commands = ticket.0.saturating_add(1),
-                stop => {
-                    self.stop = stop;
-                    return;
-                }
-            }
+        match self.service.take() {
+            Some(service) => Ok(service),
+            None => Service::new(self.alloc, self.shards, self.limit, self.window),
         }
-        self.stop = Taken::Full;
     }
 
-    /// Serves the line a step further: sends what there is room for and takes in what has come; and where every reply has come,
-    /// hands them out, and reads on once the line took them all. Nothing waits here. Where memory for replies that the line
-    /// doesn't take at once is refused, the line is given up. The rooms are those of the thread, to read into.
+    /// Serves the line a step further, as [`Service::step`] does.
     pub fn step<L: Line, K: Clock>(&mut self, line: &mut L, clock: &K, rooms: &mut Rooms) -> Stepped
         requires { MayStep self.old }
         ensures says { (shards limit : ℕ) (begin : Sight) (before : Ends Near) →
@@ -118,60 +114,25 @@ impl Session {
         // Where it waits, each shard of which replies are awaited was called after the last piece was sent.
         ensures called { result ≡ Stepped.Waits → AreCalled self.new.courier.shards self.new.courier.under_way.items }
     {
-        if self.courier.carry(&mut self.conn) {
-            return Stepped::Did;
-        }
-        if !self.courier.is_settled() {
-            return Stepped::Waits;
-        }
-        if let Err(_refused) = self.conn.hand(&mut self.unwritten) {
-            line.give_up();
-            return self.ended(true);
-        }
-        match self.unwritten.flush(line) {
-            Ok(true) => {}
-            Ok(false) => return Stepped::Waits,
-            Err(_fault) => {
-                self.conn.broken();
-                return self.ended(true);
-            }
-        }
-        match self
-            .seat
-            .go_on_reading(&mut self.conn, line, self.stop, rooms)
-        {
-            Turn::Goes => {
-                self.take_all(clock);
-                Stepped::Did
-            }
-            Turn::Waits => Stepped::Waits,
-            Turn::Ends => self.ended(false),
-            Turn::Broke => self.ended(true),
-        }
-    }
-
-    /// What became of the line.
-    fn ended(&self, broke: bool) -> Stepped
-        ensures { result ≡ Stepped.Ended (record { commands = self.now.commands; broke = broke }) }
-    {
-        Stepped::Ended(Served {
-            commands: self.commands,
-            broke,
-        })
+        let Some(service) = &mut self.service else {
+            unreachable!()
+        };
+        service.step(&mut self.courier, line, clock, rooms)
     }
 
     /// Makes it ready for the next line, in the same room, where the last one has ended and nothing is under way; tells whether
     /// it did.
     pub fn renew(&mut self) -> bool
-        ensures when { (told : Told) → IsConn self.old.conn told → IsTrue result ↔ (IsAtRest told × IsOver told) }
-        ensures new { IsTrue result → (told : Told) → IsConn self.old.conn told → IsConn self.new.conn (told_nothing told.shards told.limit told.window) }
-        ensures vacant { IsTrue result → (told : Told) → IsConn self.old.conn told → told.shards ≡ length self.old.courier.ends.lanes →
-            IsIdle self.old.courier.under_way.items → IsVacant told.limit told.window self.new }
+        ensures when { (service : Service) (told : Told) → self.old.service ≡ Some service → IsConn service.conn told →
+            IsTrue result ↔ (IsAtRest told × IsOver told) }
+        ensures vacant { IsTrue result → (service : Service) (told : Told) → self.old.service ≡ Some service → IsConn service.conn told →
+            told.shards ≡ length self.old.courier.ends.lanes → IsIdle self.old.courier.under_way.items → IsVacant told.limit told.window self.new }
         ensures ends { self.new.courier.ends ≡ self.old.courier.ends }
     {
-        self.seat.renew();
-        self.unwritten.clear();
-        self.conn.renew()
+        let Some(service) = &mut self.service else {
+            return true;
+        };
+        service.renew()
     }
 
     /// How many shards there are.

@@ -4,7 +4,7 @@ use Rattle.mc_serve.proofs.sitting.Sitting.accept.Goals as goal
 
 pub returns-in-Came : goal.returns-in-Came
 returns-in-Came g c shards limit sat sits =
-    comes_in shards limit (g.K.Clock.may_answer c.args.clock.now) sat _ _ _ c.args.self.now.session c.begin.new.self c.in-Came.ensures.0 c.in-Came.ensures.1 c.begin.ensures.serving sits
+    c.begin.ensures shards limit sat (comes_in shards limit (g.K.Clock.may_answer c.args.clock.now) sat _ _ _ c.args.self.now.session c.in-Came.ensures.0 c.in-Came.ensures.1 sits)
 
 pub returns-in-NotYet : goal.returns-in-NotYet
 returns-in-NotYet g c shards limit sat sits = stays_free shards limit (g.K.Clock.may_answer c.args.clock.now) sat _ _ c.args.self.now.session c.in-NotYet.ensures sits

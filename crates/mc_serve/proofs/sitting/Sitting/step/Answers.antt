@@ -9,10 +9,15 @@ serve-requires g c = rw (sym c.replace.ensures.value ∙ c.in-Serving.is) at c.r
 pub returns-in-Free : goal.returns-in-Free
 returns-in-Free g c shards limit sat stands = c.accept.ensures shards limit sat (rw (sym c.replace.ensures.value ∙ c.in-Free.is) at stands)
 
+pub returns-in-Came : goal.returns-in-Came
+returns-in-Came g c shards limit sat stands =
+    let is = sym c.replace.ensures.value ∙ c.in-Came.is in
+    c.begin.ensures shards limit sat (rw c.roused.ensures (rw is at stands))
+
 pub returns-in-Serving : goal.returns-in-Serving
 returns-in-Serving g c shards limit sat stands =
     let is = sym c.replace.ensures.value ∙ c.in-Serving.is in
-    c.serve.ensures shards limit sat (rw c.roused.ensures (rw is at stands))
+    c.serve.ensures shards limit sat (rw c.roused-in-Serving.ensures (rw is at stands))
 
 pub returns-in-Closing : goal.returns-in-Closing
 returns-in-Closing g c shards limit sat stands =

@@ -1,14 +1,8 @@
 -- Nothing was taken of the line yet.
-use Rattle.std.proofs.Common.{◌∙◌, arith}
-use Rattle.mc_threads.proofs.Serving.{turns_first}
-use Rattle.mc_threads.proofs.Writing.{stops_none_waits}
+use Rattle.mc_threads.proofs.Sessions.{begins_new}
 use Rattle.mc_threads.proofs.session.Session.begin.Goals as goal
 
 pub returns-clause-serving : goal.returns-clause-serving
 returns-clause-serving g c limit window line vacant =
-    let may_answer = g.K.Clock.may_answer c.args.clock.now in
-    let stopped = c.take_all.ensures.takes _ limit line line _ (turns_first may_answer line _ _ _ _ limit window c.args.self.now.courier.each_shard vacant.idle vacant.none_read vacant.conn_is) in
-    record {
-      stopped = stops_none_waits _ _ _ _ _ _ _ _ _ _ _ _ _ (c.take_all.ensures.unwritten ∙ vacant.none_waits) stopped;
-      grown = omega arith;
-    }
+    let made = c.in_ok-service.ensures in
+    rw made.courier (begins_new (g.K.Clock.may_answer c.args.clock.now) line limit window c.args.self.now.courier _ _ vacant.idle (made.new limit window vacant) c.take_all.ensures.takes c.take_all.ensures.unwritten)

@@ -1,0 +1,74 @@
+-- A session and what it serves a line by.
+use Rattle.std.proofs.Common.{◌≡◌, ℕ, ◌∙◌, Option, Some, None, refl, sym, subst, length, arith}
+use Rattle.std.specs.Prelude.{IsSomeAnd}
+use Rattle.mc_wire.specs.Outlet.{Sight}
+use Rattle.mc_ring.specs.Lane.{Near}
+use Rattle.mc_ring.specs.Ends.{Ends}
+use Rattle.mc_threads.specs.declared.courier.Courier.{Courier}
+use Rattle.mc_threads.specs.declared.service.Service.{Service}
+use Rattle.mc_threads.specs.declared.session.Session.{Session}
+use Rattle.mc_threads.specs.declared.session.Stepped.{Stepped}
+use Rattle.mc_threads.specs.declared.session.Stepped.TheVariants as stepped
+use Rattle.mc_seat.specs.Later.{text_in}
+use Rattle.mc_threads.specs.Service.{IsNew, IsServedBy, MayServe, ServiceSays, TakesFor, WasServedBy}
+use Rattle.mc_threads.specs.Serving.{IsIdle}
+use Rattle.mc_threads.specs.Session.{IsReady, IsVacant, StepSays}
+use Rattle.mc_threads.specs.internal.Turns.{Turns}
+use Rattle.mc_threads.proofs.Serving.{can_settle, turns_first}
+use Rattle.mc_threads.proofs.Writing.{stops_none_waits}
+
+-- There is something, of which this holds.
+pub record SomeAnd {A : Type 0} (o : Option A) (P : A → Type 0) : Type 0 where
+  pub some : A
+  pub is : o ≡ Some some
+  pub holds : P some
+
+pub some_and : {A : Type 0} (o : Option A) (P : A → Type 0) → IsSomeAnd o P → SomeAnd o P
+some_and (Some x) P holds = record { some = x; is = refl; holds = holds }
+some_and None P holds = absurd holds
+
+some_so : {A : Type 0} (o : Option A) (x : A) (P : A → Type 0) → o ≡ Some x → P x → IsSomeAnd o P
+some_so {A} o x P is holds = let S : Option A → Type 0 = λ it. IsSomeAnd it P in subst S (sym is) holds
+
+pub some_is : {A : Type 0} (o : Option A) (x : A) (P : A → Type 0) → o ≡ Some x → IsSomeAnd o P → P x
+some_is {A} o x P is holds = let S : Option A → Type 0 = λ it. IsSomeAnd it P in subst S is holds
+
+-- What a step says of the line is so of the session.
+pub steps_on : (stepped : Stepped) (shards limit : ℕ) (may_answer : ℕ → Type 0) (begin now : Sight) (before : Ends Near) (session : Session) (service : Service) → session.service ≡ Some service → ServiceSays stepped shards limit may_answer begin now before session.courier service → StepSays stepped shards limit may_answer begin now before session
+steps_on stepped.Did shards limit may_answer begin now before session service is says = some_so session.service service (IsServedBy shards limit may_answer begin now before session.courier) is says
+steps_on stepped.Waits shards limit may_answer begin now before session service is says = some_so session.service service (IsServedBy shards limit may_answer begin now before session.courier) is says
+steps_on (stepped.Ended served) shards limit may_answer begin now before session service is says =
+    some_so session.service service (λ it. WasServedBy shards limit may_answer begin now before session.courier it served.commands served.broke) is says
+
+-- What is served may be served on.
+pub may_serve : (shards limit : ℕ) (may_answer : ℕ → Type 0) (begin now : Sight) (before : Ends Near) (courier : Courier) (o : Option Service) → IsSomeAnd o (IsServedBy shards limit may_answer begin now before courier) → IsSomeAnd o (MayServe courier)
+may_serve shards limit may_answer begin now before courier (Some service) served = can_settle shards limit may_answer begin _ before _ _ _ _ _ _ served.stopped
+may_serve shards limit may_answer begin now before courier None served = absurd served
+
+-- Where no room was made yet, one that is made for the session's sizes is as new.
+pub made_new : (limit window : ℕ) (session : Session) (service : Service) → session.service ≡ None → IsNew session.shards session.limit session.window service → IsVacant limit window session → IsNew (length session.courier.ends.lanes) limit window service
+made_new limit window session service none made vacant =
+    let shards = length session.courier.ends.lanes in
+    let R : Option Service → Type 0 = λ o. IsReady shards limit window session o in
+    let sized = subst R none vacant.ready in
+    let S : ℕ → Type 0 = λ n. IsNew n session.limit session.window service in
+    let L : ℕ → Type 0 = λ n. IsNew shards n session.window service in
+    let W : ℕ → Type 0 = λ n. IsNew shards limit n service in
+    subst W sized.2 (subst L sized.1 (subst S sized.0 made))
+
+-- Where there is a room, it is as new.
+pub kept_new : (limit window : ℕ) (session : Session) (service : Service) → session.service ≡ Some service → IsVacant limit window session → IsNew (length session.courier.ends.lanes) limit window service
+kept_new limit window session service some vacant = let R : Option Service → Type 0 = λ o. IsReady (length session.courier.ends.lanes) limit window session o in subst R some vacant.ready
+
+-- Commands were taken of a line that begins.
+pub begins_new : (may_answer : ℕ → Type 0) (line : Sight) (limit window : ℕ) (courier : Courier) (service after : Service) → IsIdle courier.under_way.items → IsNew (length courier.ends.lanes) limit window service
+    → TakesFor may_answer service after → text_in after.unwritten ≡ text_in service.unwritten → IsServedBy (length courier.ends.lanes) limit may_answer line line courier.ends courier after
+begins_new may_answer line limit window courier service after idle new takes same =
+    let ends = courier.ends in
+    let ways = courier.under_way.items in
+    let T : ℕ → Type 0 = λ n. Turns (length ends.lanes) limit may_answer line line ends ends ways service.seat.unread service.conn n in
+    let turns = subst T (sym new.none_taken) (turns_first may_answer line ends ways service.seat.unread service.conn limit window courier.each_shard idle new.none_read new.conn_is) in
+    record {
+      stopped = stops_none_waits _ _ _ _ _ _ _ _ _ _ _ _ _ (same ∙ new.none_waits) (takes (length ends.lanes) limit line line ends ends ways turns);
+      grown = omega arith;
+    }
