@@ -16,7 +16,7 @@ use std::sync::Wait;
 use std::thread;
 
 /// So many pieces, or replies, a ring of the program holds.
-pub const DEFAULT_RING: usize = 64;
+pub const DEFAULT_RING: usize = 20;
 
 /// How large a server is.
 #[derive(Clone, Copy, Debug, PartialEq, Eq)]
