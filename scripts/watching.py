@@ -240,6 +240,59 @@ def each_counter_follows_a_conversation():
         equal(1 <= server.values()["memcached_uptime_seconds"] - before <= 10, True)
 
 
+# What is asked, what is answered, and which counts that moves: the kind of command and what came of it.
+ASKED = [
+    (b"set a 0 0 1\r\n7\r\n", b"STORED\r\n", "set hit"),
+    (b"add a 0 0 1\r\nx\r\n", b"NOT_STORED\r\n", "set miss"),
+    (b"ms b 1\r\nx\r\n", b"HD\r\n", "set hit"),
+    (b"get a\r\n", b"VALUE a 0 1\r\n7\r\nEND\r\n", "get hit"),
+    (b"mg b\r\n", b"HD\r\n", "get hit"),
+    (b"mg nothing\r\n", b"EN\r\n", "get miss"),
+    (b"get nothing\r\n", b"END\r\n", "get miss"),
+    (b"cas a 0 0 1 999999\r\nx\r\n", b"EXISTS\r\n", "cas badval"),
+    (b"cas nothing 0 0 1 1\r\nx\r\n", b"NOT_FOUND\r\n", "cas miss"),
+    (b"ms b 1 C999999\r\nx\r\n", b"EX\r\n", "cas badval"),
+    (b"touch a 0\r\n", b"TOUCHED\r\n", "touch hit"),
+    (b"gat 0 nothing\r\n", b"END\r\n", "touch miss"),
+    (b"incr a 1\r\n", b"8\r\n", "incr hit"),
+    (b"incr nothing 1\r\n", b"NOT_FOUND\r\n", "incr miss"),
+    (b"ma a MD\r\n", b"HD\r\n", "decr hit"),
+    (b"decr nothing 1\r\n", b"NOT_FOUND\r\n", "decr miss"),
+    (b"md b\r\n", b"HD\r\n", "delete hit"),
+    (b"delete b\r\n", b"NOT_FOUND\r\n", "delete miss"),
+]
+
+
+def each_command_is_counted_by_what_came_of_it():
+    with Watched("--shards", 1) as server, Line(server.port) as line:
+        def found():
+            told = re.findall(r'^memcached_commands_total\{command="(\w+)",status="(\w+)"\} (\d+)$', server.metrics(), re.M)
+            return {f"{command} {status}": int(count) for command, status, count in told if count != "0"}
+        wanted = {}
+        for asked, answered, counted in ASKED:
+            line.ask(asked, answered)
+            wanted[counted] = wanted.get(counted, 0) + 1
+            eventually(found, wanted)
+        line.ask(b"flush_all\r\n", b"OK\r\n")
+        eventually(found, {**wanted, "flush hit": 1})
+
+
+def items_and_evictions_are_told():
+    """Items of 16 bytes of key, 100 of value and 64 beside them, in two shards of 1 MiB."""
+    names = ["memcached_current_items", "memcached_current_bytes", "memcached_items_evicted_total", "mcd_out_of_memory_total"]
+    with Watched("--shards", 2, "--bytes", "1m") as server, Line(server.port) as line:
+        def found():
+            values = server.values()
+            return [values[name] for name in names]
+        line.ask(b"".join(set_of(b"key:%012d" % it, b"v" * 100) for it in range(1000)), 1000 * b"STORED\r\n")
+        eventually(found, [1000, 180_000, 0, 0])
+        line.ask(b"delete key:%012d\r\n" % 7, b"DELETED\r\n")
+        eventually(found, [999, 179_820, 0, 0])
+        line.ask(b"".join(set_of(b"key:%012d" % it, b"v" * 100) for it in range(1000, 20000)), 19000 * b"STORED\r\n")
+        fits = MIB // 180
+        eventually(found, [2 * fits, 2 * fits * 180, 19_999 - 2 * fits, 0])
+
+
 def the_version_is_the_programs():
     told = subprocess.run([MCD, "--version"], capture_output=True, text=True, check=True).stdout
     with Watched() as server:
@@ -259,7 +312,7 @@ def the_other_pages():
     with Watched() as server:
         equal((server.get("/healthz")[0], server.get("/healthz")[2]), (200, b"ok\n"))
         status, headers, body = server.get("/")
-        equal((status, headers["Content-Type"], body.count(b"<svg"), b"<script" in body), (200, "text/html; charset=utf-8", 5, False))
+        equal((status, headers["Content-Type"], body.count(b"<svg"), b"<script" in body), (200, "text/html; charset=utf-8", 8, False))
         equal(server.get("/metrics", "HEAD")[::2], (200, b""))
         equal((server.get("/nothing")[0], server.get("/metrics", "POST")[0]), (404, 405))
 
@@ -328,6 +381,7 @@ CHECKS = [
     an_idle_client_is_closed, one_that_never_sent_is_closed, one_that_sends_stays, none_is_closed_unasked, one_amid_a_block_is_closed,
     one_that_takes_nothing_is_closed, dead_connections_free_their_seats, each_connection_is_told, one_that_breaks_is_told,
     one_that_is_idle_is_told, what_finds_no_room_is_counted, an_accept_that_fails_is_told, each_counter_follows_a_conversation,
+    each_command_is_counted_by_what_came_of_it, items_and_evictions_are_told,
     the_version_is_the_programs, promtool_reads_the_text, the_other_pages, it_is_told_to_this_machine_alone, a_taken_address_is_told,
     bad_http_harms_nobody,
 ]

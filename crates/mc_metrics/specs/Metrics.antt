@@ -50,12 +50,16 @@ abbrev pub before_commands : List ℕ
 before_commands =
     codes "# HELP memcached_commands_total What was asked of the shards, and what came of it." ++ ((10 ∷ codes "# TYPE memcached_commands_total counter") ++ (10 ∷ []))
 
-abbrev pub shards_text : ShardTotals → List ℕ
-shards_text totals =
+abbrev pub items_text : ShardTotals → List ℕ
+items_text totals =
     gauge_text (codes "memcached_current_items") (codes "How many items there are.") totals.items
     ++ (gauge_text (codes "memcached_current_bytes") (codes "What the items cost together, in bytes.") totals.bytes
     ++ (counter_text (codes "memcached_items_evicted_total") (codes "How many items went to make room for others.") totals.evicted
-    ++ (before_commands
+    ++ counter_text (codes "mcd_out_of_memory_total") (codes "Commands for which no memory was left.") totals.out_of_memory))
+
+abbrev pub commands_text : ShardTotals → List ℕ
+commands_text totals =
+    before_commands
     ++ (command_text (codes "get") totals.get
     ++ (command_text (codes "set") totals.set
     ++ (command_text (codes "cas") totals.cas
@@ -63,7 +67,7 @@ shards_text totals =
     ++ (command_text (codes "delete") totals.delete
     ++ (command_text (codes "incr") totals.incr
     ++ (command_text (codes "decr") totals.decr
-    ++ command_text (codes "flush") totals.flush))))))))))
+    ++ command_text (codes "flush") totals.flush)))))))
 
 -- the version is a label of a metric that is always 1: 34 is the quotation mark
 abbrev pub before_version : List ℕ
@@ -74,4 +78,4 @@ abbrev pub behind_version : List ℕ
 behind_version = (34 ∷ codes "} 1") ++ (10 ∷ [])
 
 abbrev pub metrics_text : Reading → List ℕ
-metrics_text reading = before_version ++ (reading.facts.version.now ++ (behind_version ++ (server_text reading ++ (connections_text reading.totals ++ shards_text reading.totals.shards))))
+metrics_text reading = before_version ++ (reading.facts.version.now ++ (behind_version ++ (server_text reading ++ (connections_text reading.totals ++ (items_text reading.totals.shards ++ commands_text reading.totals.shards)))))

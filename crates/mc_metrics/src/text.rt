@@ -1,6 +1,6 @@
 //! The metrics as Prometheus reads them (its text format, version 0.0.4).
 ghost use Rattle.std.specs.Prelude.{◌≡◌, Some, IfOk, string_bytes};
-ghost use Rattle.mc_metrics.specs.Metrics.{command_text, connections_text, counter_text, gauge_text, metrics_text, server_text, shards_text, status_text};
+ghost use Rattle.mc_metrics.specs.Metrics.{command_text, commands_text, connections_text, counter_text, gauge_text, items_text, metrics_text, server_text, status_text};
 
 use crate::reading::Reading;
 use mc_watch::{CommandTotals, ShardTotals, Totals};
@@ -31,9 +31,13 @@ struct OfStatus(&'static str, &'static str, u64);
 #[derive(Drop)]
 struct OfCommand(&'static str, CommandTotals);
 
-/// What is told of the shards.
+/// What is told of what the shards hold.
 #[derive(Drop)]
-struct OfShards<'a>(&'a ShardTotals);
+struct OfItems<'a>(&'a ShardTotals);
+
+/// What is told of what the shards were asked.
+#[derive(Drop)]
+struct OfCommands<'a>(&'a ShardTotals);
 
 /// All metrics of a reading.
 #[derive(Drop)]
@@ -148,17 +152,28 @@ impl fmt::Display for OfCommand {
     }
 }
 
-impl fmt::Display for OfShards<'_> {
-    ghost output = { λ told. Some (shards_text told.0.now) };
+impl fmt::Display for OfItems<'_> {
+    ghost output = { λ told. Some (items_text told.0.now) };
 
     fn fmt<W: fmt::Write>(&self, f: &mut fmt::Formatter<W>) -> fmt::Result {
-        let OfShards(totals) = self;
+        let OfItems(totals) = self;
         let items = "How many items there are.";
         let items = Gauge("memcached_current_items", items, totals.items);
         let bytes = "What the items cost together, in bytes.";
         let bytes = Gauge("memcached_current_bytes", bytes, totals.bytes);
         let evicted = "How many items went to make room for others.";
         let evicted = Counter("memcached_items_evicted_total", evicted, totals.evicted);
+        let refused = "Commands for which no memory was left.";
+        let refused = Counter("mcd_out_of_memory_total", refused, totals.out_of_memory);
+        write!(f, "{items}{bytes}{evicted}{refused}")
+    }
+}
+
+impl fmt::Display for OfCommands<'_> {
+    ghost output = { λ told. Some (commands_text told.0.now) };
+
+    fn fmt<W: fmt::Write>(&self, f: &mut fmt::Formatter<W>) -> fmt::Result {
+        let OfCommands(totals) = self;
         let get = OfCommand("get", totals.get);
         let set = OfCommand("set", totals.set);
         let cas = OfCommand("cas", totals.cas);
@@ -169,7 +184,7 @@ impl fmt::Display for OfShards<'_> {
         let flush = OfCommand("flush", totals.flush);
         write!(
             f,
-            "{items}{bytes}{evicted}# HELP memcached_commands_total What was asked of the shards, and what came of it.\n# TYPE memcached_commands_total counter\n{get}{set}{cas}{touch}{delete}{incr}{decr}{flush}"
+            "# HELP memcached_commands_total What was asked of the shards, and what came of it.\n# TYPE memcached_commands_total counter\n{get}{set}{cas}{touch}{delete}{incr}{decr}{flush}"
         )
     }
 }
@@ -182,10 +197,11 @@ impl fmt::Display for Metrics<'_> {
         let version = reading.facts.version;
         let server = OfServer(reading);
         let connections = OfConnections(&reading.totals);
-        let shards = OfShards(&reading.totals.shards);
+        let items = OfItems(&reading.totals.shards);
+        let commands = OfCommands(&reading.totals.shards);
         write!(
             f,
-            "# HELP memcached_version The version of the server.\n# TYPE memcached_version gauge\nmemcached_version{{version=\"{version}\"}} 1\n{server}{connections}{shards}"
+            "# HELP memcached_version The version of the server.\n# TYPE memcached_version gauge\nmemcached_version{{version=\"{version}\"}} 1\n{server}{connections}{items}{commands}"
         )
     }
 }

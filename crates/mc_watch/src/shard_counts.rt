@@ -25,6 +25,8 @@ pub struct ShardTotals {
     pub bytes: u64,
     /// Items that went to make room for others.
     pub evicted: u64,
+    /// Commands for which no memory was left, of all kinds.
+    pub out_of_memory: u64,
     pub get: CommandTotals,
     pub set: CommandTotals,
     pub cas: CommandTotals,
@@ -81,6 +83,7 @@ impl ShardTotals {
             items: self.items.saturating_add(other.items),
             bytes: self.bytes.saturating_add(other.bytes),
             evicted: self.evicted.saturating_add(other.evicted),
+            out_of_memory: self.out_of_memory.saturating_add(other.out_of_memory),
             get: self.get.and(other.get),
             set: self.set.and(other.set),
             cas: self.cas.and(other.cas),
@@ -167,7 +170,15 @@ impl ShardCounts {
 
     /// What was shown last.
     pub fn totals(&self) -> ShardTotals {
+        let mut totals = self.read();
+        totals.out_of_memory = totals.all().no_memory;
+        totals
+    }
+
+    /// The same, without what all kinds of commands have together.
+    fn read(&self) -> ShardTotals {
         ShardTotals {
+            out_of_memory: 0,
             items: self.items.get(),
             bytes: self.bytes.get(),
             evicted: self.evicted.get(),
