@@ -18,7 +18,7 @@ import sys
 import tempfile
 
 TOP = pathlib.Path(__file__).resolve().parent.parent
-sys.path.insert(0, str(TOP / "scripts"))
+sys.path.insert(0, str(TOP / "tools"))
 
 from served import MCD, Line, Tally, bounded, equal, needs_program, started  # noqa: E402
 

@@ -8,7 +8,7 @@
 //!                                                     what each asked and was answered is printed, with when
 //!
 //! Of a load it prints how many commands were taken, how many lines went wrong, how long it took, and what the system told of
-//! the processor time before and after (proc_pid_stat(5)). `bench/lines.py` makes figures of that.
+//! the processor time before and after (proc_pid_stat(5)). `tools/bench/lines.py` makes figures of that.
 #![tactic(auto)]
 
 mod asking;

@@ -1,0 +1,176 @@
+#!/usr/bin/env python3
+"""Checks that no connection waits for ever beside another one (docs/PROOFS.md): a client that awaits each reply, beside one that
+sends commands without end, and beside some that hardly read their replies.
+
+    tools/bench/fairness.py [--rounds N] [--commands N]     5 rounds of 3000 commands where nothing else is said
+
+Both ask the same shard, so that its worker has a full lane beside one with a single piece. In each round the client's 99th
+percentile is taken alone and beside the load; the median of the rounds beside the load is at most ten times the median of those
+alone, and each of its replies comes and is its own. The load must be one: it has at least so many replies a second. Where the
+machine is busy with other work, the system's time slices come between: so the rounds are run up to three times, and the first
+time in which the bound holds decides. A wrong or a missing reply fails at once.
+
+Then the same beside eight clients that ask for values of 64 KiB and read a few bytes now and then: their replies wait, and take
+nothing from the others. The bound is three times, though on a quiet machine it is hardly more than alone.
+The last line is `fairness: N passed, M failed`.
+"""
+import argparse
+import multiprocessing
+import pathlib
+import signal
+import socket
+import statistics
+import sys
+import time
+
+sys.path.insert(0, str(pathlib.Path(__file__).resolve().parent.parent))
+
+from served import Line, Server, Tally, bounded, needs_program  # noqa: E402
+
+LIMIT_SECONDS = 300
+
+# How many times as long the 99th percentile may be beside the load.
+MOST_TIMES = 10
+
+# How often the rounds are run until the bound holds.
+ATTEMPTS = 3
+
+# The load is one only where it has so many replies a second.
+LEAST_RATE = 20_000
+
+# The same beside clients that hardly read.
+MOST_TIMES_UNREAD = 3
+
+# So many clients hardly read.
+SLOW = 8
+
+KEY = b"fairness"
+STORED, VALUE = b"set %s 0 0 5\r\nvalue\r\n" % KEY, b"VALUE %s 0 5\r\nvalue\r\nEND\r\n" % KEY
+ASKED = b"get %s\r\n" % KEY
+LARGE = b"set large 0 0 65536\r\n%s\r\n" % (b"l" * 65536)
+BATCH = 4096
+
+
+def sends_without_end(port, replies, ends):
+    """Sends gets as fast as they are taken, and reads the replies as they come. It never waits for its last command."""
+    signal.signal(signal.SIGTERM, signal.SIG_DFL)
+    line = socket.create_connection(("127.0.0.1", port))
+    line.setblocking(False)
+    batch, rest, count = ASKED * BATCH, b"", 0
+    while not ends.is_set():
+        if not rest:
+            rest = batch
+        moved = False
+        try:
+            rest = rest[line.send(rest):]
+            moved = True
+        except BlockingIOError:
+            pass
+        try:
+            count += len(line.recv(1 << 18))
+            moved = True
+        except BlockingIOError:
+            pass
+        if not moved:
+            time.sleep(0.0001)
+        replies.value = count // len(VALUE)
+
+
+def hardly_reads(port, replies, ends):
+    """Asks for large values, and reads a few bytes of the replies a hundred times a second, each time of all its connections."""
+    signal.signal(signal.SIGTERM, signal.SIG_DFL)
+    lines = [socket.create_connection(("127.0.0.1", port)) for _ in range(SLOW)]
+    for line in lines:
+        line.send(b"get large\r\n" * 200)
+    while not ends.is_set():
+        for line in lines:
+            replies.value += len(line.recv(512))
+        time.sleep(0.01)
+
+
+def percentile(times):
+    """The 99th of a hundred, in microseconds."""
+    return sorted(times)[len(times) * 99 // 100] / 1000
+
+
+def asks(line, commands):
+    """Awaits the reply to each of so many commands, and gives how long each took, in nanoseconds."""
+    times = []
+    for _ in range(commands):
+        began = time.perf_counter_ns()
+        line.send(ASKED)
+        found = line.read(len(VALUE))
+        times.append(time.perf_counter_ns() - began)
+        if found != VALUE:
+            raise AssertionError(f"{found!r:.80} in place of the value")
+    return times
+
+
+def beside(port, commands, others):
+    """The client's 99th percentile beside the others, and how much a second they had of their replies meanwhile."""
+    replies, ends = multiprocessing.Value("Q", 0), multiprocessing.Event()
+    load = multiprocessing.Process(target=others, args=(port, replies, ends), daemon=True)
+    load.start()
+    try:
+        with Line(port) as line:
+            asks(line, 200)
+            before, began = replies.value, time.perf_counter()
+            taken = percentile(asks(line, commands))
+            return taken, (replies.value - before) / (time.perf_counter() - began)
+    finally:
+        ends.set()
+        load.join(10)
+        load.kill()
+
+
+def alone(port, commands):
+    with Line(port) as line:
+        asks(line, 200)
+        return percentile(asks(line, commands))
+
+
+def measured(port, given, others):
+    """The medians of the rounds: the client's 99th percentile alone and beside the others, and what they had a second."""
+    pairs = []
+    for number in range(given.rounds):
+        quiet, (loaded, rate) = alone(port, given.commands), beside(port, given.commands, others)
+        print(f"round {number}: 99 of 100 within {quiet:.0f} µs alone, {loaded:.0f} µs beside {rate:,.0f} a second", flush=True)
+        pairs.append((quiet, loaded, rate))
+    return [statistics.median(column) for column in zip(*pairs)]
+
+
+def beside_a_load(tally, port, given):
+    for _ in range(ATTEMPTS):
+        quiet, loaded, rate = measured(port, given, sends_without_end)
+        if rate >= LEAST_RATE and loaded <= MOST_TIMES * quiet:
+            break
+    tally.tell(rate >= LEAST_RATE, f"the load has {rate:,.0f} replies a second, at least {LEAST_RATE:,}")
+    tally.tell(loaded <= MOST_TIMES * quiet, f"beside it a reply takes {loaded / quiet:.1f} times as long as alone, at most {MOST_TIMES} ({loaded:.0f} and {quiet:.0f} µs)")
+
+
+def beside_slow_readers(tally, port, given):
+    for _ in range(ATTEMPTS):
+        quiet, loaded, _rate = measured(port, given, hardly_reads)
+        if loaded <= MOST_TIMES_UNREAD * quiet:
+            break
+    tally.tell(loaded <= MOST_TIMES_UNREAD * quiet, f"beside {SLOW} that hardly read a reply takes {loaded / quiet:.1f} times as long as alone, at most {MOST_TIMES_UNREAD} ({loaded:.0f} and {quiet:.0f} µs)")
+
+
+def main():
+    parser = argparse.ArgumentParser(description=__doc__.splitlines()[0])
+    parser.add_argument("--rounds", type=int, default=5)
+    parser.add_argument("--commands", type=int, default=3000)
+    given = parser.parse_args()
+    bounded(LIMIT_SECONDS)
+    needs_program()
+    tally = Tally("fairness")
+    with Server("--seats", 2 + SLOW, "--shards", 1) as server:
+        with Line(server.port) as line:
+            line.ask(STORED + LARGE, b"STORED\r\n" * 2)
+        beside_a_load(tally, server.port, given)
+        beside_slow_readers(tally, server.port, given)
+    return tally.done()
+
+
+if __name__ == "__main__":
+    sys.exit(main())

@@ -1,0 +1,306 @@
+#!/usr/bin/env python3
+"""Checks that what clients see of a key is linearizable: one order in time explains all replies (docs/PROTOCOL.md).
+
+    tools/bench/linearizable.py [--commands N] [--seed N] [--port PORT | --memory]     300000 commands where nothing else is said
+
+Sixty connections write and read few keys, each awaiting its reply, and note by one clock when each command began and ended.
+Some keys are registers (set, add, gets, cas, delete), some are counters (set, incr, add, delete). `linearizable_checker.py`
+then decides for each key whether some order explains what was seen. Then faults are put into the recorded histories, and the
+checker must refuse each. With --port a server that already runs there is asked, in place of one that is started; its keys must
+be absent. With --memory the connections are lines over memory that the threads of `mc_trials history` serve, and their clock
+is one counter. The last line is `linearizable: N passed, M failed`.
+"""
+import argparse
+import multiprocessing
+import pathlib
+import random
+import select
+import signal
+import socket
+import subprocess
+import sys
+import time
+
+sys.path.insert(0, str(pathlib.Path(__file__).resolve().parent.parent))
+
+from linearizable_checker import Call, Refused, check, rule_of, values_of_uniques  # noqa: E402
+from served import TOP, WITH_US, Server, Tally, bounded, needs_program  # noqa: E402
+
+LIMIT_SECONDS = 300
+CONNECTIONS = 60
+PROCESSES = 2
+REGISTERS, COUNTERS = 10, 6
+SHARDS = 2
+
+# The program that serves lines over memory.
+TRIALS = TOP / "crates/mc_trials/out/mc_trials"
+
+# How often each command is chosen, of a register and of a counter.
+OF_REGISTER = ("get",) * 6 + ("gets",) * 4 + ("set",) * 4 + ("cas",) * 4 + ("add",) * 2 + ("delete",) * 2
+OF_COUNTER = ("get",) * 6 + ("incr",) * 8 + ("set",) * 2 + ("add",) * 2 + ("delete",) * 1
+
+
+class Client:
+    """A connection with one command under way, and what it has seen."""
+
+    def __init__(self, port, number, chance):
+        self.socket = socket.create_connection(("127.0.0.1", port))
+        self.socket.setsockopt(socket.IPPROTO_TCP, socket.TCP_NODELAY, 1)
+        self.number, self.chance, self.count = number, chance, 0
+        self.uniques = {}  # the cas unique that this client saw last, of each key
+        self.came = b""
+        self.calls = []  # the key and the call
+
+    def fresh(self, is_counter):
+        """A value that no client stores twice. Those of counters lie far apart."""
+        self.count += 1
+        stamp = self.number * 1_000_000 + self.count
+        return str(stamp * 1_000_000) if is_counter else f"v{stamp}"
+
+    def choose(self):
+        place = self.chance.randrange(REGISTERS + COUNTERS)
+        is_counter = place >= REGISTERS
+        kind = self.chance.choice(OF_COUNTER if is_counter else OF_REGISTER)
+        if kind == "cas" and place not in self.uniques:
+            kind = "gets"
+        given = None
+        if kind in ("set", "add"):
+            given = self.fresh(is_counter)
+        elif kind == "cas":
+            given = (self.uniques[place], self.fresh(is_counter))
+        elif kind == "incr":
+            given = self.chance.randrange(1, 1000)
+        return place, kind, given
+
+    def begin(self):
+        """Sends a command. It began before its first byte left."""
+        self.place, self.kind, self.given = self.choose()
+        text = text_of(self.place, self.kind, self.given)
+        self.began = time.monotonic_ns()
+        self.socket.sendall(text)
+
+    def take(self):
+        """Reads what came; True where the reply is whole. It ended after its last byte came."""
+        got = self.socket.recv(4096)
+        if not got:
+            raise AssertionError("lost: the connection ends")
+        self.came += got
+        if not self.came.endswith(b"END\r\n" if self.kind in ("get", "gets") else b"\r\n"):
+            return False
+        ended, reply = time.monotonic_ns(), reply_of(self.kind, self.came)
+        self.came = b""
+        if self.kind == "gets" and reply:
+            self.uniques[self.place] = reply[1]
+        self.calls.append((self.place, Call(self.began, ended, self.number, self.kind, self.given, reply)))
+        return True
+
+
+def text_of(place, kind, given):
+    key = f"linear-{place}"
+    if kind == "cas":
+        unique, value = given
+        return f"cas {key} 0 0 {len(value)} {unique}\r\n{value}\r\n".encode()
+    if kind in ("set", "add"):
+        return f"{kind} {key} 0 0 {len(given)}\r\n{given}\r\n".encode()
+    return (f"incr {key} {given}\r\n" if kind == "incr" else f"{kind} {key}\r\n").encode()
+
+
+def reply_of(kind, came):
+    """A value, a value with its unique, None where the key is absent, or the word that was told."""
+    words = came.decode().split()
+    if kind in ("get", "gets"):
+        return None if words == ["END"] else words[4] if kind == "get" else (words[5], words[4])
+    if kind == "incr":
+        return None if words == ["NOT_FOUND"] else words[0]
+    return words[0]
+
+
+def drive(port, first, count, commands, seed):
+    """So many connections of one process, which await each reply, until so many commands are answered."""
+    chance = random.Random(seed + first)
+    clients = {}
+    poll = select.epoll()
+    for number in range(first, first + count):
+        client = Client(port, number, chance)
+        clients[client.socket.fileno()] = client
+        poll.register(client.socket, select.EPOLLIN)
+    for client in clients.values():
+        client.begin()
+    left, open_ones = commands - count, count
+    while open_ones:
+        for number, _ in poll.poll(30) or [(None, None)]:
+            if number is None:
+                raise AssertionError("lost: no reply comes")
+            client = clients[number]
+            if client.take():
+                if left > 0:
+                    left -= 1
+                    client.begin()
+                else:
+                    open_ones -= 1
+    return [call for client in clients.values() for call in client.calls]
+
+
+def as_worker():
+    """A process of a pool ends where it is told to, without a word."""
+    signal.signal(signal.SIGTERM, signal.SIG_DFL)
+
+
+def recorded(port, commands, seed):
+    """The history of each key, of the connections of all processes."""
+    share, each = CONNECTIONS // PROCESSES, commands // PROCESSES
+    with multiprocessing.Pool(PROCESSES, as_worker) as pool:
+        parts = pool.starmap(drive, [(port, number * share, share, each, seed) for number in range(PROCESSES)])
+    return by_key(call for part in parts for call in part)
+
+
+def by_key(calls):
+    """The history of each key, of calls with their keys."""
+    histories = [[] for _ in range(REGISTERS + COUNTERS)]
+    for place, call in calls:
+        histories[place].append(call)
+    return histories
+
+
+def told_in_memory(commands, seed):
+    """The history of each key, of lines over memory."""
+    words = ["history", CONNECTIONS, SHARDS, commands // CONNECTIONS, seed]
+    ran = subprocess.run([*WITH_US, TRIALS, *map(str, words)], capture_output=True, text=True, timeout=LIMIT_SECONDS)
+    if ran.returncode != 0 or not ran.stdout.startswith("line 0\n"):
+        raise AssertionError(f"mc_trials ends with {ran.returncode}: {ran.stdout[:80]}{ran.stderr[:200]}")
+    return by_key(calls_told(ran.stdout.splitlines()))
+
+
+def calls_told(rows):
+    """The calls, with their keys, of which the rows tell: `line NUMBER`, then each call of that line."""
+    for row in rows:
+        asked, bar, reply = row.partition("|")
+        began, *words = asked.split()
+        if not bar:
+            client = int(words[0])
+            continue
+        ended, kind, key, *words = words
+        given = {"set": words[-1:], "add": words[-1:], "incr": map(int, words), "cas": [tuple(words[-2:])]}.get(kind, [None])
+        call = Call(int(began), int(ended), client, kind, *given, reply_of(kind, reply.encode()))
+        yield int(key.removeprefix("linear-")), call
+
+
+# Faults, put into a history that was recorded. Each gives a history that no order explains, or None where there is no place
+# for it.
+
+def writers(history):
+    """The call that stored each value."""
+    values = values_of_uniques(history)
+    rules = ((call, rule_of(call, values)) for call in history)
+    return {rule.then: call for call, rule in rules if rule.changes and rule.then is not None}
+
+
+def replaced(history, call, **changed):
+    return [one._replace(**changed) if one is call else one for one in history]
+
+
+def old_value_after_a_set(history):
+    """A set is answered before its piece ran: a get that begins after the reply still reads the value before it."""
+    stored_by = writers(history)
+    stores = sorted((call for call in history if call.kind == "set"), key=lambda call: call.begin)
+    for call in history:
+        before = stored_by.get(call.reply) if call.kind == "get" and call.reply else None
+        for store in stores if before else []:
+            if before.end < store.begin and store.begin + 1 < call.begin < store.end:
+                return replaced(history, store, end=call.begin - 1)
+    return None
+
+
+def older_item(history):
+    """A get is answered from an older item, after a newer one was stored and read."""
+    stored_by = writers(history)
+    newest_end = sorted(stored_by.items(), key=lambda entry: entry[1].end)
+    for call in history:
+        now = stored_by.get(call.reply) if call.kind == "get" and call.reply else None
+        if now and now.end < call.begin:
+            for value, store in newest_end:
+                if store.end >= now.begin:
+                    break
+                return replaced(history, call, reply=value)
+    return None
+
+
+def found_after_a_delete(history):
+    """A delete is answered before it is done: a get that begins after the reply still finds the value."""
+    stored_by = writers(history)
+    gone = [call for call in history if call.kind == "delete" and call.reply == "DELETED"]
+    for delete in gone:
+        for call in history:
+            before = stored_by.get(call.reply) if call.kind == "get" and call.reply else None
+            if before and before.end < delete.begin and delete.begin + 1 < call.begin < delete.end:
+                return replaced(history, delete, end=call.begin - 1)
+    return None
+
+
+def lost_count(history):
+    """An incr is lost: two of them tell the same number."""
+    counts = [call for call in history if call.kind == "incr" and call.reply]
+    for call in counts:
+        for other in counts:
+            if other is not call and int(other.reply) - other.given == int(call.reply):
+                return replaced(history, other, reply=str(int(other.reply) - call.given))
+    return None
+
+
+FAULTS = (old_value_after_a_set, older_item, found_after_a_delete, lost_count)
+
+
+def refusal(history):
+    """Why the checker refuses the history; None where it doesn't."""
+    try:
+        check(history)
+    except Refused as why:
+        return str(why)
+    return None
+
+
+def tell_faults(tally, histories):
+    """Each fault is put into the first history that has a place for it. Without it these histories are linearizable."""
+    for fault in FAULTS:
+        altered = next((found for found in map(fault, histories) if found), None)
+        why = altered and refusal(altered)
+        tally.tell(bool(why), f"the fault '{fault.__name__.replace('_', ' ')}' is refused: {why or ('not refused' if altered else 'no place for it')}")
+
+
+def run(tally, given, record, *where):
+    began = time.monotonic()
+    histories = record(*where, given.commands, given.seed)
+    took = time.monotonic() - began
+    with multiprocessing.Pool(initializer=as_worker) as pool:
+        found = pool.map(refusal, histories)
+    total = sum(map(len, histories))
+    print(f"{total} commands in {took:.1f} s, checked in {time.monotonic() - began - took:.1f} s")
+    for place, why in enumerate(found):
+        name = f"{'counter' if place >= REGISTERS else 'register'} {place}: {len(histories[place])} commands"
+        tally.tell(not why, f"{name} are linearizable" if not why else f"{name}: {why}")
+    tally.tell(total >= given.commands - CONNECTIONS, f"{total} commands are answered")
+    tell_faults(tally, [history for history, why in zip(histories, found) if not why])
+
+
+def main():
+    parser = argparse.ArgumentParser(description=__doc__.splitlines()[0])
+    parser.add_argument("--commands", type=int, default=300_000)
+    parser.add_argument("--seed", type=int, default=1)
+    parser.add_argument("--port", type=int)
+    parser.add_argument("--memory", action="store_true")
+    given = parser.parse_args()
+    bounded(LIMIT_SECONDS)
+    tally = Tally("linearizable")
+    if given.memory:
+        run(tally, given, told_in_memory)
+    elif given.port:
+        run(tally, given, recorded, given.port)
+    else:
+        needs_program()
+        with Server("--seats", CONNECTIONS, "--shards", SHARDS) as server:
+            run(tally, given, recorded, server.port)
+    return tally.done()
+
+
+if __name__ == "__main__":
+    sys.exit(main())

@@ -1,0 +1,76 @@
+#!/usr/bin/env python3
+"""Draws how the crates stand on one another, from crates.txt, and sees that docs/ARCHITECTURE.md shows it so and names each.
+
+    tools/checks/crates.py            prints the picture
+    tools/checks/crates.py --write    puts it into docs/ARCHITECTURE.md
+    tools/checks/crates.py --check    fails where that page has another picture, or has no row for a crate
+
+A crate stands on those that an arrow leads to, and on all that these stand on; crates of the kit are left out. Each line is one
+layer higher than what its crates stand on.
+"""
+import pathlib
+import re
+import sys
+
+TOP = pathlib.Path(__file__).resolve().parent.parent.parent
+PAGE = TOP / "docs/ARCHITECTURE.md"
+BEGIN, END = "<!-- tools/checks/crates.py -->\n", "<!-- end -->\n"
+
+
+def read():
+    """Each crate of the repository with those of the repository that its line names."""
+    lines = [line for line in (TOP / "crates.txt").read_text().splitlines() if line.strip() and not line.startswith("#")]
+    named = {line.split(":")[0].split()[0]: line.split(":")[1].split() for line in lines}
+    return {name: {it for it in below if it in named} for name, below in named.items()}
+
+
+def all_below(crates, name):
+    """All crates that this one stands on, also by way of others."""
+    found = set()
+    for it in crates[name]:
+        found |= {it} | all_below(crates, it)
+    return found
+
+
+def reduced(crates):
+    """Each crate with those alone that it doesn't stand on by way of another."""
+    return {name: sorted(it for it in below if not any(it in all_below(crates, other) for other in below)) for name, below in crates.items()}
+
+
+def height(crates, name):
+    return 1 + max((height(crates, it) for it in crates[name]), default=-1)
+
+
+def picture():
+    crates = read()
+    below = reduced(crates)
+    layers = {}
+    for name in sorted(crates):
+        layers.setdefault(height(crates, name), []).append(name)
+    lines = [f"{name} -> {', '.join(below[name])}" if below[name] else name for layer in sorted(layers, reverse=True) for name in layers[layer]]
+    widest = max(len(line.split(" -> ")[0]) for line in lines)
+    rows = [f"{line.split(' -> ')[0]:>{widest}}" + (f" ──> {line.split(' -> ')[1]}" if " -> " in line else "") for line in lines]
+    return "```\n" + "\n".join(rows) + "\n```\n"
+
+
+def main():
+    if sys.argv[1:] not in ([], ["--write"], ["--check"]):
+        sys.exit(__doc__)
+    page = PAGE.read_text()
+    head, _, rest = page.partition(BEGIN)
+    drawn, _, tail = rest.partition(END)
+    if sys.argv[1:] == ["--write"]:
+        PAGE.write_text(head + BEGIN + picture() + END + tail)
+    elif sys.argv[1:] == []:
+        print(picture(), end="")
+    else:
+        rows = {name for line in page.splitlines() if line.startswith("| `") for name in re.findall(r"`(\w+)`", line.split("|")[1])}
+        missing = sorted(set(read()) - rows)
+        if drawn != picture() or missing:
+            print("docs/ARCHITECTURE.md shows other crates than crates.txt: run tools/checks/crates.py --write", *[f"and add a row for {name}" for name in missing], sep="\n")
+            return 1
+    return 0
+
+
+if __name__ == "__main__":
+    sys.exit(main())

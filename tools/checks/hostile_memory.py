@@ -1,0 +1,147 @@
+"""How much memory clients can make the server take. The bounds are those of the table in docs/SECURITY.md.
+
+Beside the faults of tools/checks/seen_to_fail.py two were built into the program itself. A form that takes 768 bytes more for each key
+let `lines_of_32766_keys_are_bounded` find 2,266 MiB and `the_sum_holds_for_all_together` 658; a shard that keeps the items that
+were replaced let `unread_replies_hold_what_they_show` find 50 MiB where all replies had been read.
+"""
+import re
+import time
+
+from served import MIB, TOP, Line, Server, equal, set_of
+
+SEATS = 64
+BUDGET = 4 * MIB
+SHARDS = 2
+VALUE_LIMIT = MIB
+
+
+def term(name):
+    """The number in the second column of a row of the table."""
+    text = (TOP / "docs/SECURITY.md").read_text()
+    return float(re.search(rf"^\| {name} \| ([\d.]+) ", text, re.M)[1])
+
+
+def served():
+    return Server("--seats", SEATS, "--shards", SHARDS, "--bytes", BUDGET)
+
+
+def grown(server, sends):
+    """How much more is resident at most once each of 64 connections has sent its bytes; and they are all still there."""
+    before, lines = server.resident(), [Line(server.port) for _ in range(SEATS)]
+    for number, line in enumerate(lines):
+        line.send(sends(number))
+    wait_until_still(server)
+    most = server.most_resident() - before
+    for line in lines:
+        line.reset()
+    return most
+
+
+def wait_until_still(server):
+    """Until no processor time was taken for a while, and at most 20 seconds."""
+    until, before = time.monotonic() + 20, -1
+    while server.cpu_seconds() != before and time.monotonic() < until:
+        before = server.cpu_seconds()
+        time.sleep(0.3)
+
+
+def within(most, bound):
+    if most > bound:
+        raise AssertionError(f"{most / MIB:.1f} MiB, and at most {bound / MIB:.1f} were meant")
+    return f"{most / MIB:.1f} of {bound / MIB:.1f} MiB"
+
+
+def an_idle_server_is_small():
+    with Server("--seats", 64, "--shards", 16) as server:
+        wait_until_still(server)
+        return within(server.most_resident(), term("program") * MIB)
+
+
+def lines_without_end_are_bounded():
+    with served() as server:
+        return within(grown(server, lambda _: b"k" * 65_535), SEATS * term("line") * MIB)
+
+
+def announced_gigabytes_are_not_held():
+    with served() as server:
+        return within(grown(server, lambda _: b"set k 0 0 4294967295\r\n" + b"v" * 200_000), SEATS * term("line") * MIB)
+
+
+def values_but_for_a_byte_are_bounded():
+    with served() as server:
+        bound = SEATS * (term("line") * MIB + term("value") * VALUE_LIMIT)
+        return within(grown(server, lambda number: b"set k%d 0 0 %d\r\n" % (number, VALUE_LIMIT) + b"v" * (VALUE_LIMIT + 1)), bound)
+
+
+def lines_of_32766_keys_are_bounded():
+    with served() as server:
+        with Line(server.port) as line:
+            line.ask(set_of(b"k", b"x" * 1000), b"STORED\r\n")
+        return within(grown(server, lambda _: b"get" + b" k" * 32_766 + b"\n"), SEATS * (term("line") + term("commands") + term("text")) * MIB)
+
+
+def fill(line, budget):
+    """Stores the smallest items that there are, twice as many as there is room for."""
+    count, most = 2 * budget // 69, 10_000
+    for first in range(0, count, most):
+        line.ask(b"".join(b"ms %04x 1 q\r\n1\r\n" % number for number in range(first, first + most)) + b"mn\r\n", b"MN\r\n")
+
+
+def small_items_take_few_times_their_cost():
+    with Server("--seats", 16, "--shards", SHARDS, "--bytes", BUDGET) as server, Line(server.port) as line:
+        before = server.resident()
+        fill(line, SHARDS * BUDGET)
+        return within(server.most_resident() - before, term("items") * SHARDS * BUDGET)
+
+
+def waiting(server, stores, keys, turn, asked):
+    """A connection that asked for items of 1 MiB each, which are new for it, and reads nothing."""
+    for key in keys:
+        stores.ask(set_of(key, bytes([65 + turn]) * MIB), b"STORED\r\n")
+    line = Line(server.port)
+    line.send(asked)
+    wait_until_still(server)
+    return line
+
+
+def unread_replies_hold_what_they_show():
+    """Items that were replaced since they were fetched stay until their replies are read, and they are right; then they go."""
+    keys = [b"v%d" % number for number in range(6)]
+    with Server("--seats", 16, "--shards", SHARDS, "--bytes", BUDGET) as server, Line(server.port) as stores:
+        before = server.resident()
+        lines = [waiting(server, stores, keys, turn, b"get " + b" ".join(keys) + b"\r\n") for turn in range(8)]
+        told = within(server.most_resident() - before, (1 + 8) * SHARDS * BUDGET + 9 * term("line") * MIB)
+        for turn, line in enumerate(lines):
+            wanted = b"".join(b"VALUE %s 0 %d\r\n%s\r\n" % (key, MIB, bytes([65 + turn]) * MIB) for key in keys) + b"END\r\n"
+            equal(line.read(len(wanted)), wanted)
+            line.close()
+        wait_until_still(server)
+        within(server.resident() - before, 4 * SHARDS * BUDGET)
+        return told
+
+
+def the_sum_holds_for_all_together():
+    """Each seat but one holds a line of as many keys as there may be, whose reply shows items that were replaced since and isn't
+    read. Then the smallest items fill the shards."""
+    seats, values = 16, [b"v%d" % number for number in range(6)]
+    asked = b"get " + b" ".join(values) + b" k" * 32_740 + b"\r\n"
+    with Server("--seats", seats, "--shards", SHARDS, "--bytes", BUDGET) as server, Line(server.port) as stores:
+        lines = [waiting(server, stores, values, turn, asked) for turn in range(seats - 1)]
+        fill(stores, SHARDS * BUDGET)
+        told = within(server.most_resident(), bound_of(seats, SHARDS * BUDGET))
+        for line in lines:
+            line.reset()
+        return told
+
+
+def bound_of(seats, budgets):
+    """The sum of docs/SECURITY.md."""
+    seat = (term("line") + term("commands") + term("text")) * MIB + term("value") * VALUE_LIMIT + budgets
+    return term("program") * MIB + term("items") * budgets + seats * seat
+
+
+CHECKS = [
+    an_idle_server_is_small, lines_without_end_are_bounded, announced_gigabytes_are_not_held, values_but_for_a_byte_are_bounded,
+    lines_of_32766_keys_are_bounded, small_items_take_few_times_their_cost,
+    unread_replies_hold_what_they_show, the_sum_holds_for_all_together,
+]

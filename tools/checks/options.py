@@ -1,0 +1,327 @@
+#!/usr/bin/env python3
+"""Runs the program with each of its options, and says where an option is ignored, or a fault told otherwise than it must be.
+
+    tools/checks/options.py [NAME ..]      all checks, or those whose names have one of these words in them
+
+What is expected follows from the rules of docs/PROTOCOL.md: what an item costs, on which shard a key lies, which cas uniques
+a shard gives. Each row gives another output where its option is ignored. The last line is `options: N passed, M failed`.
+"""
+import os
+import pathlib
+import random
+import subprocess
+import sys
+import tempfile
+import time
+
+sys.path.insert(0, str(pathlib.Path(__file__).resolve().parent.parent))
+
+from replay_model import place  # noqa: E402
+from served import MCD, MIB, Line, Server, Tally, bounded, equal, hit_of, needs_program, set_of, started  # noqa: E402
+
+LIMIT_SECONDS = 300
+TOO_LARGE = b"SERVER_ERROR object too large for cache\r\n"
+STORED = b"STORED\r\n"
+
+# So long it takes at most until what must not happen would have happened, in seconds.
+A_WHILE = 0.5
+
+
+def over_stdio(options, given):
+    ran = subprocess.run([MCD, "--stdio", "--at", "1000", *options], input=given, capture_output=True, timeout=60)
+    equal((ran.returncode, ran.stderr), (0, b""))
+    return ran.stdout
+
+
+def over_tcp(options, given, length):
+    """The first bytes of the output, so many."""
+    with Server(*options) as server, Line(server.port) as line:
+        line.send(given)
+        return line.read(length)
+
+
+def row(options, given, wanted):
+    """The input must give this output by both ways to serve."""
+    equal(over_stdio(options.split(), given), wanted)
+    equal(over_tcp(options.split(), given, len(wanted)), wanted)
+
+
+def a_value_limit_of_1024():
+    given = set_of(b"a", b"x" * 1024) + b"append a 0 0 1\r\nx\r\n" + set_of(b"a", b"x" * 1025) + b"mn\r\n"
+    for size in ("1024", "1k"):
+        row(f"--value-limit {size}", given, STORED + 2 * TOO_LARGE + b"MN\r\n")
+
+
+def values_of_2_mib():
+    """Their bytes don't repeat, so that one that is written twice, left out or exchanged is seen."""
+    value = random.Random(1).randbytes(2 * MIB)
+    given = set_of(b"a", value) + 2 * b"get a\r\n" + b"mn\r\n"
+    row("--value-limit 4194304", given, STORED + 2 * hit_of(b"a", value) + b"MN\r\n")
+    row("--value-limit 4m", set_of(b"a", value) + b"mn\r\n", STORED + b"MN\r\n")
+
+
+def sets_of(count, keys):
+    return b"".join(set_of(key, b"v" * count) for key in keys)
+
+
+def values_of(count, keys):
+    return b"".join(b"VALUE %s 0 %d\r\n%s\r\n" % (key, count, b"v" * count) for key in keys) + b"END\r\n"
+
+
+def a_budget_of_1024():
+    """An item costs its key, its value and 64: two of 300 bytes fit beside each other, the third drives out the first."""
+    given = sets_of(300, [b"a", b"c", b"e"]) + b"get a c e\r\n" + sets_of(960, [b"a"]) + sets_of(959, [b"a"]) + b"get a c e\r\n"
+    wanted = 3 * STORED + values_of(300, [b"c", b"e"]) + TOO_LARGE + STORED + values_of(959, [b"a"])
+    for options in ("--bytes 1024", "--bytes 1k", "--memory 2048", "--memory 2k", "--shards 2 --memory 2049"):
+        row(options, given, wanted)
+
+
+def one_mebibyte_more(options):
+    """A value of 1 MiB less 65 and one byte costs the budget of 1 MiB with a key of one byte; a byte more is too large."""
+    row(options, set_of(b"a", b"v" * (MIB - 65)) + b"mn\r\n", STORED + b"MN\r\n")
+    row(options, set_of(b"a", b"v" * (MIB - 64)) + b"mn\r\n", TOO_LARGE + b"MN\r\n")
+
+
+def a_budget_of_1_mib():
+    for options in ("--bytes 1m", "--memory 2m", "--memory 3m --shards 3"):
+        one_mebibyte_more(options)
+
+
+def uniques(shards, keys):
+    """What sets of these keys and a `gets` of each give: shard s of S gives the uniques s+1, s+1+S, s+1+2S and so on."""
+    given, told = {}, b""
+    for key in keys:
+        shard = place(key, shards)
+        told += b"VALUE %s 0 1 %d\r\nx\r\nEND\r\n" % (key, shard + 1 + shards * given.get(shard, 0))
+        given[shard] = given.get(shard, 0) + 1
+    return told
+
+
+def each_number_of_shards():
+    # In this order no two numbers of shards give the same uniques.
+    keys = [b"a", b"c", b"e", b"b", b"d", b"f", b"g"]
+    given = b"".join(set_of(key, b"x") for key in keys) + b"".join(b"gets %s\r\n" % key for key in keys)
+    told = {shards: uniques(shards, keys) for shards in (1, 2, 3, 16)}
+    equal(len(set(told.values())), len(told))
+    for shards, wanted in told.items():
+        row(f"--shards {shards}", given, len(keys) * STORED + wanted)
+
+
+def two_seats():
+    """The third client waits until one of the two seats is free."""
+    with Server("--seats", 2) as server:
+        with Line(server.port) as first, Line(server.port) as second, Line(server.port, timeout=A_WHILE) as third:
+            for line in (first, second):
+                line.ask(b"mn\r\n", b"MN\r\n")
+            third.send(b"mn\r\n")
+            try:
+                raise AssertionError(f"a third client is served beside two: {third.read(4)!r}")
+            except TimeoutError:
+                pass
+            first.close()
+            third.socket.settimeout(60)
+            equal(third.read(4), b"MN\r\n")
+
+
+# A client that asks for these and doesn't read holds up the server amid the first reply, which no buffer on the way has room for.
+HELD_UP = b"get a\r\nget b\r\nget c\r\n"
+LARGE = 8 * MIB
+
+# What is stored for it: `a` for good, `b` and `c` for two seconds.
+SHORT_LIVED = set_of(b"a", b"v" * LARGE) + b"set b 0 2 1\r\nx\r\nset c 0 2 1\r\ny\r\n"
+
+
+def replies_by_window(window):
+    """Commands are taken as long as the window has room: what is taken before the first reply is out finds `b` and `c` alive."""
+    alive = [hit_of(key, value) if place < window else b"END\r\n" for place, (key, value) in enumerate([(b"b", b"x"), (b"c", b"y")], 1)]
+    return hit_of(b"a", b"v" * LARGE) + b"".join(alive)
+
+
+def held_up_over_tcp(options, wanted):
+    with Server(*options) as server, Line(server.port, room=4096) as line:
+        line.ask(SHORT_LIVED, 3 * STORED)
+        line.send(HELD_UP)
+        time.sleep(3.2)
+        equal(line.read(len(wanted)) == wanted, True)
+
+
+def held_up_over_stdio(options, wanted):
+    process = started([MCD, "--stdio", *options], stdin=subprocess.PIPE, stdout=subprocess.PIPE)
+    try:
+        process.stdin.write(SHORT_LIVED)
+        process.stdin.flush()
+        equal(process.stdout.read(len(3 * STORED)), 3 * STORED)
+        process.stdin.write(HELD_UP)
+        process.stdin.flush()
+        time.sleep(3.2)
+        equal(process.communicate(timeout=30)[0] == wanted, True)
+    finally:
+        process.kill()
+        process.wait()
+
+
+def each_window():
+    for window in (1, 2, 256):
+        options = ["--value-limit", "8m", "--bytes", "64m", "--window", str(window)]
+        wanted = replies_by_window(window)
+        held_up_over_tcp(options, wanted)
+        held_up_over_stdio(options, wanted)
+
+
+def the_clock_goes_on():
+    """Without `--at` an item that lives a second is gone after two."""
+    process = started([MCD, "--stdio"], stdin=subprocess.PIPE, stdout=subprocess.PIPE)
+    try:
+        process.stdin.write(b"set a 0 1 1\r\nx\r\nset b 0 0 1\r\ny\r\n")
+        process.stdin.flush()
+        equal(process.stdout.read(len(2 * STORED)), 2 * STORED)
+        time.sleep(2.1)
+        out, _ = process.communicate(b"get a\r\nget b\r\n", timeout=30)
+        equal(out, b"END\r\n" + hit_of(b"b", b"y"))
+    finally:
+        process.kill()
+        process.wait()
+
+
+def the_clock_tells_the_year():
+    """An expiry as a second since 1970: one in a thousand seconds is to come, one of a thousand seconds ago is past."""
+    now = int(time.time())
+    given = b"set a 0 %d 1\r\nx\r\nset b 0 %d 1\r\ny\r\nget a\r\nget b\r\n" % (now + 1000, now - 1000)
+    ran = subprocess.run([MCD, "--stdio"], input=given, capture_output=True, timeout=30)
+    equal((ran.returncode, ran.stdout), (0, 2 * STORED + hit_of(b"a", b"x") + b"END\r\n"))
+
+
+def ended(words, **streams):
+    ran = subprocess.run([MCD, *words], **{"stdin": subprocess.DEVNULL, "stdout": subprocess.PIPE, **streams}, stderr=subprocess.PIPE, timeout=30)
+    return ran.returncode, ran.stdout, ran.stderr.decode()
+
+
+WITH_STDIO = "--stdio, which takes --at, --shards, --bytes, --memory, --value-limit and --window"
+NUMBER = "takes a number from {0} to {1}, not '{2}'"
+SIZE = "takes a number of bytes from {0} to {1}, or one of k, m and g (1024 each) behind a number, not '{2}'"
+ITEMS = "there is no option --items: --bytes says what the items of a shard may cost together"
+
+# Calls, and what is told of them behind `mcd: `.
+FAULTS = [
+    ("--items 5", ITEMS), ("--items 5 --replay x --shards 2", ITEMS),
+    *((f"--replay x --{name} 2", f"--{name} doesn't go with --replay, which takes no other option")
+      for name in ("at", "listen", "shards", "seats", "bytes", "memory", "value-limit", "window", "connections", "idle-timeout", "metrics")),
+    ("--replay x --stdio", "--stdio doesn't go with --replay, which takes no other option"),
+    ("--replay x --verbose", "--verbose doesn't go with --replay, which takes no other option"),
+    *((f"--stdio --{name} 2", f"--{name} doesn't go with {WITH_STDIO}") for name in ("listen", "seats", "connections", "idle-timeout", "metrics")),
+    ("--stdio --verbose", f"--verbose doesn't go with {WITH_STDIO}"),
+    ("--at 5", "--at goes with --stdio alone"), ("--at 5 --seats 4097", "--at goes with --stdio alone"),
+    ("--bytes 64k --memory 1m", "--bytes and --memory don't go together: --bytes is for each shard, --memory for all of them"),
+    ("--seats 4097", "--seats " + NUMBER.format(1, 4096, "4097")), ("--seats 2k", "--seats " + NUMBER.format(1, 4096, "2k")),
+    ("--shards 0", "--shards " + NUMBER.format(1, 16, "0")), ("--window 4097", "--window " + NUMBER.format(1, 4096, "4097")),
+    ("--connections 0", "--connections " + NUMBER.format(1, 4294967295, "0")),
+    ("--idle-timeout 0", "--idle-timeout " + NUMBER.format(1, 31536000, "0")),
+    ("--idle-timeout 31536001", "--idle-timeout " + NUMBER.format(1, 31536000, "31536001")),
+    ("--stdio --at x", "--at " + NUMBER.format(0, 18446744073709551615, "x")),
+    ("--bytes 1023", "--bytes " + SIZE.format(1024, 1073741824, "1023")),
+    ("--bytes 2g", "--bytes " + SIZE.format(1024, 1073741824, "2g")),
+    ("--bytes 1kk", "--bytes " + SIZE.format(1024, 1073741824, "1kk")),
+    ("--bytes 18014398509481985k", "--bytes " + SIZE.format(1024, 1073741824, "18014398509481985k")),
+    ("--memory 2047", "--memory " + SIZE.format(2048, 2147483648, "2047")),
+    ("--memory 4g --shards 3", "--memory " + SIZE.format(3072, 3221225472, "4g")),
+    ("--value-limit 9m", "--value-limit " + SIZE.format(1024, 8388608, "9m")),
+]
+
+
+def each_fault_of_the_command_line():
+    for call, text in FAULTS:
+        equal((call, *ended(call.split())), (call, 2, b"", f"mcd: {text}\n"))
+
+
+# Calls of which a word is no option, or an option stands there in another way than it may; and what the text must name.
+WORDS = [
+    ("--nope", "--nope"), ("nope", "nope"), ("--stdio nope", "nope"), ("--seats 1 --seats 2", "--seats"), ("--stdio --stdio", "--stdio"),
+    ("--listen", "--listen"), ("--replay", "--replay"), ("--stdio --at", "--at"), ("--shards", "--shards"), ("--stdio=yes", "yes"),
+]
+
+
+def each_fault_of_a_word():
+    for call, word in WORDS:
+        status, out, told = ended(call.split())
+        equal((call, status, out, told[:7], word in told.splitlines()[0]), (call, 2, b"", "error: ", True))
+
+
+def what_cannot_be_read_is_told():
+    status, out, told = ended(["--replay", "no-such-file"])
+    first, second = told.splitlines()
+    equal((status, out, first), (1, b"", "mcd: cannot read the file"))
+    equal(second.startswith("mcd: --replay no-such-file: "), True)
+    equal("No such file" in second, True)
+
+
+def what_cannot_be_written_is_told():
+    with tempfile.NamedTemporaryFile("w", suffix=".schedule") as file, open("/dev/full", "wb") as full:
+        file.write("sim 1 1 1024 1\nopen 0\n")
+        file.flush()
+        for words in (["--replay", file.name], ["--version"]):
+            equal((words[0], *ended(words, stdout=full)), (words[0], 1, None, "mcd: cannot write\n"))
+
+
+def a_taken_address_is_told():
+    with Server() as server:
+        address = f"127.0.0.1:{server.port}"
+        status, out, told = ended(["--listen", address])
+        first, second = told.splitlines()
+        equal((status, out, first), (1, b"", "mcd: cannot listen"))
+        equal(second.startswith(f"mcd: --listen {address}: Address already in use"), True)
+
+
+def limited(limit, *words):
+    """The words of a call under a limit of the system."""
+    return ["sh", "-c", f'ulimit {limit}; exec "$0" "$@"', MCD, "--listen", "127.0.0.1:0", *words]
+
+
+def few_open_files_are_told():
+    """Where fewer may be open than all seats need, the program says so and goes on."""
+    process = started(limited("-n 20", "--seats", "30"), stderr=subprocess.PIPE)
+    try:
+        port = int(process.stderr.readline().rpartition(b":")[2])
+        equal(process.stderr.readline(), b"mcd: --seats 30 needs 41 open files, and 20 are allowed (ulimit -n)\n")
+        with Line(port) as line:
+            line.ask(b"mn\r\n", b"MN\r\n")
+    finally:
+        process.kill()
+        process.wait()
+        process.stderr.close()
+
+
+def ended_under(limit, *words):
+    """The status of a call under a limit, and what it tells last."""
+    ran = subprocess.run(limited(limit, *words), stdin=subprocess.DEVNULL, stderr=subprocess.PIPE, timeout=30)
+    return ran.returncode, ran.stderr.decode().splitlines()[-2:]
+
+
+def what_the_system_refuses_is_told():
+    """Without the open files that the threads need, and without memory."""
+    equal(ended_under("-n 8", "--shards", "16"),
+          (1, ["mcd: cannot start a thread", "mcd: --shards 16 needs a thread for each, and three open files"]))
+    status, told = ended_under("-v 100000", "--shards", "16", "--seats", "4096")
+    equal((status, told[-1]), (1, "mcd: out of memory"))
+
+
+CHECKS = [
+    a_value_limit_of_1024, values_of_2_mib, a_budget_of_1024, a_budget_of_1_mib, each_number_of_shards, two_seats,
+    each_window, the_clock_goes_on, the_clock_tells_the_year, each_fault_of_the_command_line, each_fault_of_a_word,
+    what_cannot_be_read_is_told, what_cannot_be_written_is_told, a_taken_address_is_told, few_open_files_are_told,
+    what_the_system_refuses_is_told,
+]
+
+
+def main():
+    needs_program()
+    bounded(LIMIT_SECONDS)
+    os.chdir(tempfile.gettempdir())
+    tally = Tally("options")
+    for check in CHECKS:
+        if not sys.argv[1:] or any(name in check.__name__ for name in sys.argv[1:]):
+            tally.run(check)
+    return tally.done()
+
+
+if __name__ == "__main__":
+    sys.exit(main())

@@ -1,0 +1,142 @@
+#!/usr/bin/env python3
+"""Runs each test that is written for it with its first allocation refused, then with its second, and so on, until a
+run meets no refusal.
+
+    tools/checks/refused_allocations.py        after `rt ci`, or after `rt test` in the crates below
+
+The tests of what takes no memory are run so with all allocations from the first on refused, then with all from the
+second on, and so on: in the last such run every call that they test finds none. It fails where such a run fails, and
+where a test makes fewer allocations than it must: then the test no longer goes where memory is taken. The programs of
+the tests are those that were just built, crates/NAME/out/NAME_tests.
+
+Then the program itself, crates/mcd/out/mcd, is run so over one line, with a window of one, so that the allocations of a command
+come before those of the next. Where one is refused before anything was read, the program tells so and ends; later on, the reply
+of just one command is the memory line, the other replies are those of the same line without that command, and a later allocation
+is never that of an earlier command. Each command that needs memory has its turn. Where the program asks again, or does without,
+all replies are as with memory.
+"""
+import os
+import pathlib
+import subprocess
+import sys
+import tempfile
+
+TOP = pathlib.Path(__file__).resolve().parent.parent.parent
+
+# Each test that holds whichever allocation is refused, and how many allocations it makes at least.
+TESTS = [
+    ("mc_protocol_tests", "wire::memory_is_the_only_other_fault", 2),
+    ("mc_protocol_tests", "command::a_line_without_memory_is_given_up", 25),
+    ("mc_protocol_tests", "reader::a_refused_allocation_gives_up_one_command", 8),
+    ("mc_protocol_tests", "store::memory_may_be_refused_once", 50),
+    ("mc_connection_tests", "split::a_refused_allocation_refuses_one_plan", 30),
+    ("mc_connection_tests", "join::a_hit_copies_no_value", 5),
+    ("mc_connection_tests", "conn::a_refused_allocation_gives_up_one_command", 4),
+    ("mc_serving_tests", "sim::a_refused_allocation_gives_up_one_command", 40),
+    ("mc_serving_tests", "sim::a_worker_takes_no_memory", 8),
+    ("mc_serving_tests", "settle::a_refused_allocation_stops_it", 40),
+    ("mc_serving_tests", "line::a_refused_allocation", 40),
+    ("mc_serving_tests", "start::a_refused_start", 20),
+]
+
+# The tests of what takes no memory once all that it needs was made, and how many allocations that takes at least.
+WITHOUT_MEMORY = [
+    ("mc_protocol_tests", "wire::faults_of_words_take_no_memory", 0),
+    ("mc_serving_tests", "without_memory::words_numbers_and_items", 4),
+    ("mc_serving_tests", "without_memory::lines_without_a_key_and_skipped_blocks", 1),
+    ("mc_serving_tests", "without_memory::operations_on_a_present_key", 10),
+    ("mc_serving_tests", "without_memory::rings_that_have_room", 4),
+    ("mc_serving_tests", "without_memory::a_connection_whose_commands_are_taken", 8),
+]
+
+# What the program is run over: each command, and whether it takes memory.
+COMMANDS = [
+    (b"set a 7 0 2\r\nhi\r\n", True), (b"get a b\r\n", True), (b"append a 0 0 1\r\ny\r\n", True), (b"incr a 1\r\n", True),
+    (b"ms c 1 c\r\nz\r\n", True), (b"mg c v\r\n", True), (b"flush_all\r\n", True), (b"mn\r\n", False), (b"get a\r\n", True),
+]
+CALL = [TOP / "crates/mcd/out/mcd", "--stdio", "--at", "1000", "--window", "1", "--shards", "2", "--bytes", "1024"]
+MEMORY_LINE = b"SERVER_ERROR out of memory\r\n"
+
+# No test makes as many allocations as this: one that seems to never ends.
+MOST = 5_000
+SECONDS = 60
+REFUSED = b"an allocation was refused"
+
+
+def shim(folder):
+    """The library that refuses, built from its C source."""
+    made = folder / "refuse_nth.so"
+    subprocess.run(["cc", "-O1", "-shared", "-fPIC", "-o", made, TOP / "tools/checks/refuse_nth.c", "-ldl"], check=True)
+    return made
+
+
+def runs(program, test, refusing):
+    """Runs the test with each allocation refused in turn, and gives how many it makes, or what failed."""
+    for nth in range(1, MOST):
+        environment = {**os.environ, **refusing, "REFUSE_NTH": str(nth)}
+        ran = subprocess.run([program, test], capture_output=True, timeout=SECONDS, env=environment)
+        if ran.returncode != 0:
+            said = (ran.stdout + ran.stderr).decode(errors="replace").strip()
+            return nth, f"fails with its allocation {nth} refused: {said[-300:]}"
+        if REFUSED not in ran.stderr:
+            return nth - 1, None
+    return MOST, f"still allocates after {MOST} allocations"
+
+
+def replies_to(commands, environment=None):
+    """What the program answers to these commands, and how it ends: its status, and what it tells."""
+    ran = subprocess.run(CALL, input=b"".join(commands) + b"quit\r\n", capture_output=True, timeout=SECONDS, env=environment)
+    return ran.stdout, ran.returncode, ran.stderr.replace(REFUSED + b"\n", b""), REFUSED in ran.stderr
+
+
+def given_up(place):
+    """What the program answers where the command of this place found no memory."""
+    commands = [command for command, _ in COMMANDS]
+    before = replies_to(commands[:place])[0]
+    without = replies_to(commands[:place] + commands[place + 1 :])[0]
+    return before + MEMORY_LINE + without.removeprefix(before)
+
+
+def program_runs(refusing):
+    """Runs the program with each allocation refused in turn, and gives how many it makes, or what failed."""
+    wanted = {given_up(place): place for place, (_, takes) in enumerate(COMMANDS) if takes}
+    whole = replies_to([it for it, _ in COMMANDS])[:3]
+    met = [-1]
+    for nth in range(1, MOST):
+        found, status, told, was_refused = replies_to([it for it, _ in COMMANDS], {**os.environ, **refusing, "REFUSE_NTH": str(nth)})
+        if not was_refused:
+            missed = sorted(set(wanted.values()) - set(met))
+            fault = f"never meets a refusal at the commands {missed}" if missed else None
+            return nth - 1, fault if (found, status, told) == whole else f"answers {found!r:.200} with all allocations"
+        if (found, status, told) == whole:
+            continue
+        place = -1 if (found, status, told) == (b"", 1, b"mcd: out of memory\n") else wanted.get(found)
+        if place is None or place < met[-1] or place >= 0 and (status, told) != (0, b""):
+            return nth, f"ends with {status} and {told!r:.80} and answers {found!r:.200} with its allocation {nth} refused"
+        met.append(place)
+    return MOST, f"still allocates after {MOST} allocations"
+
+
+def main():
+    passed, failed = 0, 0
+    with tempfile.TemporaryDirectory() as folder:
+        alone = {"LD_PRELOAD": str(shim(pathlib.Path(folder)))}
+        rest = {**alone, "REFUSE_REST": "1"}
+        plans = [(alone, "", *test) for test in TESTS] + [(rest, " and all behind it", *test) for test in WITHOUT_MEMORY]
+        for refusing, behind, crate, test, least in plans:
+            count, fault = runs(TOP / f"crates/{crate}/out/{crate}_tests", test, refusing)
+            if fault is None and count < least:
+                fault = f"makes {count} allocations, and should make at least {least}"
+            print(f"{crate}: {test}: " + (fault or f"holds with each of its {count} allocations{behind} refused"))
+            failed += fault is not None
+            passed += fault is None
+        count, fault = program_runs(alone)
+        print("mcd: " + (fault or f"answers as it must with each of its {count} allocations refused"))
+        failed += fault is not None
+        passed += fault is None
+    print(f"allocations: {passed} passed, {failed} failed")
+    return 1 if failed else 0
+
+
+if __name__ == "__main__":
+    sys.exit(main())

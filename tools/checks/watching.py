@@ -1,0 +1,405 @@
+#!/usr/bin/env python3
+"""Tries what is there for who runs the server: idle connections that are closed, a line for each connection, and metrics.
+
+    tools/checks/watching.py [NAME ..]      all checks, or those whose names have one of these words in them
+
+What is expected is counted here from what the clients send and get. The text of the metrics is read by promtool, of Debian's
+prometheus, too where it is installed. The last line is `watching: N passed, M failed`.
+"""
+import os
+import pathlib
+import re
+import resource
+import select
+import shutil
+import socket
+import subprocess
+import sys
+import tempfile
+import threading
+import time
+import urllib.error
+import urllib.request
+
+sys.path.insert(0, str(pathlib.Path(__file__).resolve().parent.parent))
+
+from served import MCD, MIB, Line, Server, Tally, bounded, equal, needs_program, set_of, started  # noqa: E402
+
+LIMIT_SECONDS = 300
+NO_OP, NO_OP_REPLY = b"mn\r\n", b"MN\r\n"
+
+# As many dead connections as there may be seats, or as many as files may be open here: each is one of ours, and one of the server's.
+MOST_FILES = resource.getrlimit(resource.RLIMIT_NOFILE)[1]
+DEAD = 4096 if MOST_FILES == resource.RLIM_INFINITY else min(4096, MOST_FILES - 256)
+
+# With a limit of one second a connection is closed after one to three, and a busy machine may take longer.
+LATEST = 10
+
+
+def seconds_until_closed(line):
+    """How long it takes until the server closes the connection, which gives nothing before."""
+    began = time.monotonic()
+    line.socket.settimeout(LATEST)
+    try:
+        equal(line.rest(), b"")
+    except ConnectionResetError:
+        pass
+    return time.monotonic() - began
+
+
+def an_idle_client_is_closed():
+    with Server("--idle-timeout", 1) as server, Line(server.port) as line:
+        line.ask(NO_OP, NO_OP_REPLY)
+        took = seconds_until_closed(line)
+        equal(0.9 < took, True)
+        return f"after {took:.1f} s"
+
+
+def one_that_never_sent_is_closed():
+    with Server("--idle-timeout", 1) as server, Line(server.port) as line:
+        seconds_until_closed(line)
+
+
+def one_that_sends_stays():
+    with Server("--idle-timeout", 2) as server, Line(server.port) as line:
+        for _ in range(20):
+            line.ask(NO_OP, NO_OP_REPLY)
+            time.sleep(0.4)
+
+
+def none_is_closed_unasked():
+    with Server() as server, Line(server.port) as line:
+        time.sleep(4)
+        line.ask(NO_OP, NO_OP_REPLY)
+
+
+def one_amid_a_block_is_closed():
+    with Server("--idle-timeout", 1) as server, Line(server.port) as line:
+        line.send(b"set a 0 0 10\r\nhalf")
+        seconds_until_closed(line)
+
+
+def one_that_takes_nothing_is_closed():
+    """Its replies find no room on the way; the seat is free all the same."""
+    with Server("--idle-timeout", 1, "--seats", 1, "--value-limit", "8m", "--memory", "64m") as server:
+        with Line(server.port, room=4096) as line:
+            line.ask(set_of(b"a", b"v" * (8 * MIB)), b"STORED\r\n")
+            line.send(8 * b"get a\r\n")
+            with Line(server.port, timeout=LATEST) as other:
+                other.ask(NO_OP, NO_OP_REPLY)
+
+
+def dead_connections_free_their_seats():
+    resource.setrlimit(resource.RLIMIT_NOFILE, (MOST_FILES, MOST_FILES))
+    # They are all there before the first one is given up.
+    with Server("--idle-timeout", 5, "--seats", DEAD) as server:
+        dead = [Line(server.port) for _ in range(DEAD)]
+        try:
+            with Line(server.port, timeout=60) as line:
+                began = time.monotonic()
+                line.ask(NO_OP, NO_OP_REPLY)
+                return f"{DEAD} of them; the next one waited {time.monotonic() - began:.1f} s"
+        finally:
+            for line in dead:
+                line.close()
+
+
+def told_of(server, wanted):
+    """The next lines on standard error, so many."""
+    found = []
+    while len(found) < wanted:
+        ready, _, _ = select.select([server.process.stderr], [], [], 30)
+        equal(bool(ready), True)
+        found.append(server.process.stderr.readline().decode().rstrip())
+    return found
+
+
+def each_connection_is_told():
+    with Server("--verbose", "--seats", 1) as server:
+        with Line(server.port) as line:
+            port = line.socket.getsockname()[1]
+            line.ask(b"set a 0 0 1\r\nx\r\nget a\r\n", b"STORED\r\nVALUE a 0 1\r\nx\r\nEND\r\n")
+            line.send(b"quit\r\n")
+            equal(line.rest(), b"")
+        equal(told_of(server, 2), [
+            f"mcd: 127.0.0.1:{port} on seat 0: opened",
+            f"mcd: 127.0.0.1:{port} on seat 0: ended; 3 commands, 29 bytes read, 29 bytes written",
+        ])
+
+
+def one_that_breaks_is_told():
+    with Server("--verbose", "--seats", 1) as server:
+        line = Line(server.port)
+        port = line.socket.getsockname()[1]
+        line.ask(NO_OP, NO_OP_REPLY)
+        line.reset()
+        equal(told_of(server, 2)[1], f"mcd: 127.0.0.1:{port} on seat 0: broke; 1 commands, 4 bytes read, 4 bytes written")
+
+
+def one_that_is_idle_is_told():
+    with Server("--verbose", "--idle-timeout", 1, "--seats", 1) as server, Line(server.port) as line:
+        port = line.socket.getsockname()[1]
+        line.ask(NO_OP, NO_OP_REPLY)
+        equal(told_of(server, 2)[1],
+              f"mcd: 127.0.0.1:{port} on seat 0: was idle for too long; 1 commands, 4 bytes read, 4 bytes written")
+
+
+def what_finds_no_room_is_counted():
+    """Nobody reads standard error: the server goes on, and says later how many lines were dropped."""
+    rounds = 2000
+    with Server("--verbose", "--seats", 1) as server:
+        for _ in range(rounds):
+            with Line(server.port) as line:
+                line.ask(NO_OP + b"quit\r\n", NO_OP_REPLY)
+                equal(line.rest(), b"")
+        told, dropped = 0, 0
+        while told + dropped < 2 * rounds:
+            for line in told_of(server, 1):
+                found = re.fullmatch(r"mcd: (\d+) lines were dropped here", line)
+                told, dropped = told + (not found), dropped + int(found[1] if found else 0)
+            if told + dropped < 2 * rounds and not select.select([server.process.stderr], [], [], 1)[0]:
+                # What was dropped last is told with the next line.
+                with Line(server.port) as line:
+                    line.ask(NO_OP, NO_OP_REPLY)
+                rounds += 1
+        equal(dropped > 0, True)
+        return f"{told} told, {dropped} dropped"
+
+
+def an_accept_that_fails_is_told():
+    words = ["prlimit", "--nofile=24:24", MCD, "--listen", "127.0.0.1:0", "--verbose", "--seats", "64"]
+    process = started(words, stderr=subprocess.PIPE)
+    lines = []
+    try:
+        port = int(re.fullmatch(rb"listening 127\.0\.0\.1:(\d+)\n", process.stderr.readline())[1])
+        lines = [Line(port) for _ in range(40)]
+        for told in process.stderr:
+            if told == b"mcd: accept failed: Too many open files (os error 24)\n":
+                return
+        raise AssertionError("no failed accept is told")
+    finally:
+        process.kill()
+        process.wait()
+        process.stderr.close()
+        for line in lines:
+            line.close()
+
+
+class Watched(Server):
+    """A server that tells its metrics, on a port that the system chose."""
+
+    def __init__(self, *options, where="0"):
+        super().__init__("--metrics", where, *options)
+        found = re.fullmatch(r"metrics 127\.0\.0\.1:(\d+)", told_of(self, 1)[0])
+        self.metrics_port = int(found[1])
+
+    def get(self, path, method="GET"):
+        asked = urllib.request.Request(f"http://127.0.0.1:{self.metrics_port}{path}", method=method)
+        try:
+            with urllib.request.urlopen(asked, timeout=30) as answer:
+                return answer.status, answer.headers, answer.read()
+        except urllib.error.HTTPError as error:
+            return error.code, error.headers, error.read()
+
+    def metrics(self):
+        status, headers, body = self.get("/metrics")
+        equal((status, headers["Content-Type"]), (200, "text/plain; version=0.0.4; charset=utf-8"))
+        return body.decode()
+
+    def values(self):
+        return {name: int(value) for name, value in re.findall(r"^([a-z_]+) (\d+)$", self.metrics(), re.M)}
+
+
+def eventually(check, wanted):
+    """The server counts a connection that has ended a moment after its client sees it."""
+    deadline = time.monotonic() + 30
+    while (found := check()) != wanted and time.monotonic() < deadline:
+        time.sleep(0.05)
+    equal(found, wanted)
+
+
+def each_counter_follows_a_conversation():
+    asked, answered = b"set a 0 0 1\r\nx\r\nget a\r\n", b"STORED\r\nVALUE a 0 1\r\nx\r\nEND\r\n"
+    names = ["memcached_current_connections", "memcached_connections_total", "memcached_read_bytes_total",
+             "memcached_written_bytes_total", "mcd_commands_total", "mcd_connections_broken_total", "mcd_accepts_failed_total"]
+    with Watched("--shards", 3, "--bytes", "1m", "--seats", 9) as server:
+        def found():
+            values = server.values()
+            return [values[name] for name in names]
+        values = server.values()
+        equal([values[it] for it in ("memcached_up", "memcached_limit_bytes", "memcached_max_connections", "mcd_shards")], [1, 3 * MIB, 9, 3])
+        equal(found(), [0, 0, 0, 0, 0, 0, 0])
+        with Line(server.port) as one, Line(server.port) as other:
+            one.ask(asked, answered)
+            other.ask(asked, answered)
+            eventually(found, [2, 2, 2 * len(asked), 2 * len(answered), 0, 0, 0])
+        eventually(found, [0, 2, 2 * len(asked), 2 * len(answered), 4, 0, 0])
+        line = Line(server.port)
+        line.ask(NO_OP, NO_OP_REPLY)
+        line.reset()
+        eventually(found, [0, 3, 2 * len(asked) + 4, 2 * len(answered) + 4, 5, 1, 0])
+        before = server.values()["memcached_uptime_seconds"]
+        time.sleep(2)
+        equal(1 <= server.values()["memcached_uptime_seconds"] - before <= 10, True)
+
+
+# What is asked, what is answered, and which counts that moves: the kind of command and what came of it.
+ASKED = [
+    (b"set a 0 0 1\r\n7\r\n", b"STORED\r\n", "set hit"),
+    (b"add a 0 0 1\r\nx\r\n", b"NOT_STORED\r\n", "set miss"),
+    (b"ms b 1\r\nx\r\n", b"HD\r\n", "set hit"),
+    (b"get a\r\n", b"VALUE a 0 1\r\n7\r\nEND\r\n", "get hit"),
+    (b"mg b\r\n", b"HD\r\n", "get hit"),
+    (b"mg nothing\r\n", b"EN\r\n", "get miss"),
+    (b"get nothing\r\n", b"END\r\n", "get miss"),
+    (b"cas a 0 0 1 999999\r\nx\r\n", b"EXISTS\r\n", "cas badval"),
+    (b"cas nothing 0 0 1 1\r\nx\r\n", b"NOT_FOUND\r\n", "cas miss"),
+    (b"ms b 1 C999999\r\nx\r\n", b"EX\r\n", "cas badval"),
+    (b"touch a 0\r\n", b"TOUCHED\r\n", "touch hit"),
+    (b"gat 0 nothing\r\n", b"END\r\n", "touch miss"),
+    (b"incr a 1\r\n", b"8\r\n", "incr hit"),
+    (b"incr nothing 1\r\n", b"NOT_FOUND\r\n", "incr miss"),
+    (b"ma a MD\r\n", b"HD\r\n", "decr hit"),
+    (b"decr nothing 1\r\n", b"NOT_FOUND\r\n", "decr miss"),
+    (b"md b\r\n", b"HD\r\n", "delete hit"),
+    (b"delete b\r\n", b"NOT_FOUND\r\n", "delete miss"),
+]
+
+
+def each_command_is_counted_by_what_came_of_it():
+    with Watched("--shards", 1) as server, Line(server.port) as line:
+        def found():
+            told = re.findall(r'^memcached_commands_total\{command="(\w+)",status="(\w+)"\} (\d+)$', server.metrics(), re.M)
+            return {f"{command} {status}": int(count) for command, status, count in told if count != "0"}
+        wanted = {}
+        for asked, answered, counted in ASKED:
+            line.ask(asked, answered)
+            wanted[counted] = wanted.get(counted, 0) + 1
+            eventually(found, wanted)
+        line.ask(b"flush_all\r\n", b"OK\r\n")
+        eventually(found, {**wanted, "flush hit": 1})
+
+
+def items_and_evictions_are_told():
+    """Items of 16 bytes of key, 100 of value and 64 beside them, in two shards of 1 MiB."""
+    names = ["memcached_current_items", "memcached_current_bytes", "memcached_items_evicted_total", "mcd_out_of_memory_total"]
+    with Watched("--shards", 2, "--bytes", "1m") as server, Line(server.port) as line:
+        def found():
+            values = server.values()
+            return [values[name] for name in names]
+        line.ask(b"".join(set_of(b"key:%012d" % it, b"v" * 100) for it in range(1000)), 1000 * b"STORED\r\n")
+        eventually(found, [1000, 180_000, 0, 0])
+        line.ask(b"delete key:%012d\r\n" % 7, b"DELETED\r\n")
+        eventually(found, [999, 179_820, 0, 0])
+        line.ask(b"".join(set_of(b"key:%012d" % it, b"v" * 100) for it in range(1000, 20000)), 19000 * b"STORED\r\n")
+        fits = MIB // 180
+        eventually(found, [2 * fits, 2 * fits * 180, 19_999 - 2 * fits, 0])
+
+
+def the_version_is_the_programs():
+    told = subprocess.run([MCD, "--version"], capture_output=True, text=True, check=True).stdout
+    with Watched() as server:
+        equal(f'memcached_version{{version="{told.split()[1]}"}} 1\n' in server.metrics(), True)
+
+
+def promtool_reads_the_text():
+    if not shutil.which("promtool"):
+        return "left out: no promtool here"
+    with Watched() as server:
+        ran = subprocess.run(["promtool", "check", "metrics"], input=server.metrics(), capture_output=True, text=True, timeout=60)
+        equal((ran.returncode, ran.stdout, ran.stderr), (0, "", ""))
+    return None
+
+
+def the_other_pages():
+    with Watched() as server:
+        equal((server.get("/healthz")[0], server.get("/healthz")[2]), (200, b"ok\n"))
+        status, headers, body = server.get("/")
+        equal((status, headers["Content-Type"], body.count(b"<svg"), b"<script" in body), (200, "text/html; charset=utf-8", 8, False))
+        equal(server.get("/metrics", "HEAD")[::2], (200, b""))
+        equal((server.get("/nothing")[0], server.get("/metrics", "POST")[0]), (404, 405))
+
+
+def it_is_told_to_this_machine_alone():
+    for where in ("0", ":0", "127.0.0.1:0"):
+        with Watched(where=where) as server:
+            equal(server.get("/healthz")[0], 200)
+
+
+def a_taken_address_is_told():
+    with Watched() as server:
+        ran = subprocess.run([MCD, "--listen", "127.0.0.1:0", "--metrics", str(server.metrics_port)], capture_output=True, text=True, timeout=30)
+        told = ran.stderr.splitlines()
+        equal((ran.returncode, told[-2]), (1, "mcd: cannot listen"))
+        equal(told[-1].startswith(f"mcd: --metrics {server.metrics_port}: Address already in use"), True)
+
+
+def slowest_of(server, stop):
+    """The longest that one command took until told to stop, in seconds."""
+    slowest = 0
+    with Line(server.port) as line:
+        while not stop.is_set():
+            began = time.monotonic()
+            line.ask(NO_OP, NO_OP_REPLY)
+            slowest = max(slowest, time.monotonic() - began)
+    return slowest
+
+
+def bad_http(port):
+    """Half requests, no requests, headers without end, and many connections that stay open."""
+    kept = []
+    for sent in (b"GET /metr", b"\0\xff" * 500, b"GET / HTTP/1.1\r\nHost: x\r\n", b"POST / HTTP/1.1\r\nContent-Length: 99999999\r\n\r\nx"):
+        kept.append(socket.create_connection(("127.0.0.1", port)))
+        kept[-1].sendall(sent)
+    with socket.create_connection(("127.0.0.1", port)) as large:
+        try:
+            large.sendall(b"GET / HTTP/1.1\r\nX: " + b"a" * MIB)
+            large.settimeout(10)
+            large.recv(1 << 16)
+        except (ConnectionResetError, BrokenPipeError):
+            pass
+    kept += [socket.create_connection(("127.0.0.1", port)) for _ in range(1000)]
+    return kept
+
+
+def bad_http_harms_nobody():
+    with Watched() as server:
+        stop, found = threading.Event(), []
+        asking = threading.Thread(target=lambda: found.append(slowest_of(server, stop)))
+        asking.start()
+        kept = []
+        try:
+            kept = bad_http(server.metrics_port)
+            equal(server.get("/healthz")[0], 200)
+        finally:
+            stop.set()
+            asking.join()
+            for it in kept:
+                it.close()
+        equal((server.is_running(), found[0] < 1), (True, True))
+        return f"a command took {found[0] * 1000:.0f} ms at most"
+
+
+CHECKS = [
+    an_idle_client_is_closed, one_that_never_sent_is_closed, one_that_sends_stays, none_is_closed_unasked, one_amid_a_block_is_closed,
+    one_that_takes_nothing_is_closed, dead_connections_free_their_seats, each_connection_is_told, one_that_breaks_is_told,
+    one_that_is_idle_is_told, what_finds_no_room_is_counted, an_accept_that_fails_is_told, each_counter_follows_a_conversation,
+    each_command_is_counted_by_what_came_of_it, items_and_evictions_are_told,
+    the_version_is_the_programs, promtool_reads_the_text, the_other_pages, it_is_told_to_this_machine_alone, a_taken_address_is_told,
+    bad_http_harms_nobody,
+]
+
+
+def main():
+    needs_program()
+    bounded(LIMIT_SECONDS)
+    os.chdir(tempfile.gettempdir())
+    tally = Tally("watching")
+    for check in CHECKS:
+        if not sys.argv[1:] or any(name in check.__name__ for name in sys.argv[1:]):
+            tally.run(check)
+    return tally.done()
+
+
+if __name__ == "__main__":
+    sys.exit(main())

@@ -1,0 +1,326 @@
+#!/usr/bin/env python3
+"""Sends the same random commands to mcd and to memcached 1.6, and compares their replies one by one.
+
+    tools/clients/beside_memcached.py [--seed N] [--commands N] [--as-installed]
+
+Classic and meta commands on a few keys, well formed and not, each followed by a `mg` of a key that nothing lies under, so that
+the end of its reply is known. A difference that docs/PROTOCOL.md names is counted under its name there, and its keys are removed
+on both servers, so that it has no later effect. Any other difference is shown, and fails: forty commands of a stream of 3,000
+did, before their differences stood on that page. Uniques count differently on the two servers and are
+compared by whether they are there; seconds may differ by one, since the servers' clocks don't tick together.
+
+memcached is Debian's package; where it isn't there and can't be had, nothing is compared, and the last line says so.
+"""
+import argparse
+import collections
+import random
+import re
+import shutil
+import socket
+import sys
+
+from run import free_port, install, is_up, say, skip, told
+from served import TOP, Server, bounded, needs_program, started
+
+KEYS = [b"apple", b"pear", b"n1", b"n2", b"key:with:colons", b"\xc3\xa4pfel"]
+ENCODED = {b"YXBwbGU=": b"apple", b"cGVhcg==": b"pear", b"bjE=": b"n1"}
+TOO_LARGE = 1024 * 1024 + 1
+# No item lies under this key: the reply to this command ends that of the command before it.
+FENCE, FENCE_REPLY = b"mg nothing Othe-end\r\n", b"EN Othe-end\r\n"
+ALL_SECONDS = 280
+
+
+class Peer:
+    """A connection to one of the two servers, with what it last told of each key's unique."""
+
+    def __init__(self, port):
+        self.socket = socket.create_connection(("127.0.0.1", port), timeout=20)
+        self.socket.setsockopt(socket.IPPROTO_TCP, socket.TCP_NODELAY, 1)
+        self.kept = b""
+
+    def ask(self, text):
+        """What the server answers to it: all that comes before the reply to the fence."""
+        self.socket.sendall(text + FENCE)
+        while not self.kept.endswith(FENCE_REPLY):
+            got = self.socket.recv(1 << 20)
+            if not got:
+                break
+            self.kept += got
+        reply, self.kept = self.kept.removesuffix(FENCE_REPLY), b""
+        return reply
+
+    def unique(self, key):
+        """The unique of the item under this key, or one that no item has."""
+        shown = re.fullmatch(rb"HD c(\d+)\r\n", self.ask(b"mg " + key + b" c\r\n"))
+        return shown[1] if shown else b"4000000000"
+
+
+class Maker:
+    """Makes random commands. A command is given as a function of a peer, since uniques differ."""
+
+    def __init__(self, seed):
+        self.random = random.Random(seed)
+
+    def one_of(self, *choices):
+        return self.random.choice(choices)
+
+    def key(self):
+        return self.random.choice(KEYS)
+
+    def number(self):
+        return self.one_of(b"0", b"1", b"7", b"99", b"18446744073709551615", str(self.random.randrange(1 << 32)).encode())
+
+    def exptime(self):
+        return self.one_of(b"0", b"0", b"0", b"1000", b"2592000", b"-1", b"2592001", b"4000000000", b"4294967295")
+
+    def value(self):
+        return self.one_of(b"", b"5", b"10", b"99", b"abc", b"18446744073709551615", b"x" * self.random.randrange(1, 200), b"a\r\nb")
+
+    def noreply(self):
+        return self.one_of(b"", b"", b"", b" noreply")
+
+    def command(self):
+        """A command and the keys that it names."""
+        kinds = [(12, self.stores), (2, self.compares), (12, self.gets), (4, self.counts), (3, self.removes), (3, self.touches), (1, self.flushes),
+                 (12, self.meta_gets), (10, self.meta_stores), (6, self.meta_removes), (6, self.meta_counts), (3, self.broken), (1, self.is_too_large)]
+        make = self.random.choices([kind for _, kind in kinds], [weight for weight, _ in kinds])[0]
+        return make()
+
+    def stores(self):
+        key, value = self.key(), self.value()
+        name = self.one_of(b"set", b"set", b"set", b"add", b"replace", b"append", b"prepend")
+        flags = self.one_of(b"0", b"5", b"4294967295")
+        line = b" ".join([name, key, flags, self.exptime(), str(len(value)).encode()]) + self.noreply()
+        behind = self.one_of(*[b"\r\n"] * 9, b"xy")
+        return [key], lambda peer: line + b"\r\n" + value + behind
+
+    def compares(self):
+        key, value, right, last = self.key(), self.value(), self.one_of(True, False), self.noreply()
+        head = b"cas " + key + b" 3 0 " + str(len(value)).encode() + b" "
+        return [key], lambda peer: head + (peer.unique(key) if right else b"4000000001") + last + b"\r\n" + value + b"\r\n"
+
+    def gets(self):
+        keys = [self.key() for _ in range(self.random.randrange(1, 4))]
+        name = self.one_of(b"get", b"gets", b"get", b"gat " + self.exptime(), b"gats " + self.exptime())
+        return keys, lambda peer: name + b" " + b" ".join(keys) + b"\r\n"
+
+    def counts(self):
+        key = self.key()
+        line = self.one_of(b"incr ", b"decr ") + key + b" " + self.number() + self.noreply()
+        return [key], lambda peer: line + b"\r\n"
+
+    def removes(self):
+        key = self.key()
+        line = b"delete " + key + self.one_of(b"", b"", b" 0") + self.noreply()
+        return [key], lambda peer: line + b"\r\n"
+
+    def touches(self):
+        key = self.key()
+        line = b"touch " + key + b" " + self.exptime() + self.noreply()
+        return [key], lambda peer: line + b"\r\n"
+
+    def flushes(self):
+        line = self.one_of(b"version", b"verbosity 1", b"verbosity 1 noreply", b"mn", b"flush_all -1 noreply")
+        return list(KEYS), lambda peer: line + b"\r\n"
+
+    def flags(self, letters, most):
+        """Some of these flags, each with a token where it takes one, in any order."""
+        tokens = {b"O": [b"77", b"o" * 31], b"N": [b"0", b"30"], b"R": [b"20", b"0"], b"T": [b"0", b"100", b"-1"], b"F": [b"0", b"9"],
+                  b"D": [b"1", b"10"], b"J": [b"0", b"13"]}
+        some = self.random.sample(letters, self.random.randrange(0, most))
+        return b"".join(b" " + it + self.one_of(*tokens.get(it, [b""])) for it in some)
+
+    def named(self):
+        """A key as a meta command has it, plain or in base64, with the flag that says so."""
+        if self.random.random() < 0.1:
+            text, key = self.random.choice(list(ENCODED.items()))
+            return key, text, b" b"
+        key = self.key()
+        return key, key, b""
+
+    def meta_gets(self):
+        key, text, form = self.named()
+        flags = self.flags([b"v", b"c", b"f", b"s", b"h", b"l", b"t", b"k", b"q", b"O", b"N", b"R", b"T"], 6)
+        return [key], lambda peer: b"mg " + text + form + flags + b"\r\n"
+
+    def meta_stores(self):
+        key, text, form = self.named()
+        value, mode = self.value(), self.one_of(b"", b"", b"", b" ME", b" MA", b" MP", b" MR", b" MS")
+        right = self.one_of(None, None, None, True, False)
+        flags = form + self.flags([b"k", b"O", b"q", b"c", b"F", b"T"], 5) + mode
+        behind = self.one_of(*[b"\r\n"] * 9, b"xy")
+
+        def made(peer):
+            compared = b"" if right is None else b" C" + (peer.unique(text + form) if right else b"4000000001")
+            return b"ms " + text + b" " + str(len(value)).encode() + flags + compared + b"\r\n" + value + behind
+
+        return [key], made
+
+    def meta_removes(self):
+        key, text, form = self.named()
+        right = self.one_of(None, None, True, False)
+        flags = form + self.flags([b"k", b"O", b"q", b"I", b"T"], 4)
+        return [key], lambda peer: b"md " + text + flags + (b"" if right is None else b" C" + (peer.unique(text + form) if right else b"4000000001")) + b"\r\n"
+
+    def meta_counts(self):
+        key, text, form = self.named()
+        flags = form + self.flags([b"k", b"O", b"q", b"v", b"c", b"t", b"D", b"N", b"J", b"T"], 6) + self.one_of(b"", b" MI", b" MD", b" M+", b" M-")
+        return [key], lambda peer: b"ma " + text + flags + b"\r\n"
+
+    def broken(self):
+        """Lines with a fault, none of which announces a block."""
+        key = self.key()
+        line = self.one_of(b"", b"nonsense", b"GET " + key, b"get", b"gat 0", b"delete", b"delete " + key + b" 7", b"incr " + key, b"incr " + key + b" x", b"incr " + key + b" -1",
+                           b"touch " + key, b"touch " + key + b" x", b"get " + b"k" * 251, b"delete " + b"k" * 251, b"incr " + b"k" * 251 + b" 1", b"set " + key, b"set", b"cas " + key + b" 0 0",
+                           b"verbosity", b"flush_all x", b"mg", b"mg " + key + b" v v", b"mg " + key + b" !", b"mg " + b"k" * 251 + b" v", b"md", b"ma", b"ms", b"ms " + key,
+                           b"ma " + key + b" Dx", b"ma " + key + b" MX", b"mg " + key + b" O" + b"o" * 33, b"mg YQ= b v", b"gets", b"set " + key + b" 0 0 x", b"ms " + key + b" x")
+        return [key], lambda peer: line + b"\r\n"
+
+    def is_too_large(self):
+        key = self.key()
+        name, last = self.one_of(b"set", b"set", b"add", b"replace", b"append"), self.noreply()
+        if self.random.random() < 0.3:
+            return [key], lambda peer: b"ms " + key + b" %d\r\n" % TOO_LARGE + b"v" * TOO_LARGE + b"\r\n"
+        return [key], lambda peer: name + b" " + key + b" 0 0 %d" % TOO_LARGE + last + b"\r\n" + b"v" * TOO_LARGE + b"\r\n"
+
+
+def comparable(reply):
+    """A reply without what differs by its nature: uniques, and the second in which it was given."""
+    lines = reply.split(b"\r\n")
+    return [re.sub(rb"^(VALUE \S+ \d+ \d+) \d+$", rb"\1 #", re.sub(rb"(?<= )c[1-9]\d*(?= |$)", b"c#", line)) for line in lines]
+
+
+def seconds(lines):
+    """The same lines without their times, and the times."""
+    times = [int(it) for line in lines for it in re.findall(rb"(?<= )t(-?\d+)(?= |$)", line)]
+    return [re.sub(rb"(?<= )t-?\d+(?= |$)", b"t", line) for line in lines], times
+
+
+def is_same(ours, theirs):
+    (mine, my_times), (others, other_times) = seconds(comparable(ours)), seconds(comparable(theirs))
+    return mine == others and len(my_times) == len(other_times) and all(abs(a - b) <= 1 for a, b in zip(my_times, other_times))
+
+
+# What docs/PROTOCOL.md names as a difference: its name there, what the command looks like, and what our reply and memcached's
+# look like. Where no replies stand, a later command may be the first to show it, so each such command counts.
+LONG_EXPTIME = rb"(?<= )(4000000000|4294967295)(?= |$)"
+FAULT = rb"(CLIENT_ERROR [^\r]*|ERROR)\r\n"
+NAMED = [
+    ("exptimes have 64 bits", rb"(set|add|replace|cas|touch|gats?) .*" + LONG_EXPTIME + b".*", None),
+    ("too large a value leaves the old one", rb"(set|add|replace|ms) .*\b%d\b.*" % TOO_LARGE, None),
+    ("too large to append", rb"(append|prepend) .*\b%d\b.*" % TOO_LARGE, None),
+    ("`T` beside `N`", rb"m[ga] .*( N.* T| T.* N).*", None),
+    ("`T` of a number that gets longer", rb"ma .* T.*", None),
+    ("a key that was stored in base64", rb"m[sga] .* b( .*)?", None),
+    ("`version`", rb"version", (rb"VERSION .*", rb"VERSION .*")),
+    ("faults are shown in spite of noreply", rb".* noreply", (FAULT, rb"")),
+    ("error texts", rb".*", (rb"CLIENT_ERROR [^\r]*\r\n", rb"CLIENT_ERROR [^\r]*\r\n")),
+    ("too few words", rb".*", (rb"CLIENT_ERROR bad command line format\r\n", rb"(ERROR|END)\r\n")),
+    ("`C` of `ms` in other modes", rb"ms .*M[APRE].* C.*", (rb"CLIENT_ERROR bad command line format\r\n", rb".*")),
+    ("`c` where `ms` stored nothing", rb"ms .* c.*", (rb"(EX|NF|NS)( [^\r]*)?\r\n", rb"(EX|NF|NS) [^\r]*c0.*\r\n")),
+    ("quiet `md` and `ma`", rb"m[da] .* q.*", (rb"", rb"(NF|HD).*\r\n")),
+    ("quiet `md` and `ma`", rb"ma .* q.*", (rb"VA .*", rb"")),
+    ("`t` beside `T` and `N`", rb"m[ga] .* t.*", (rb".* t-?\d+.*", rb".* t-?\d+.*")),
+    ("`R` beside `T`", rb"mg .*( R.* T| T.* R).*", (rb"(HD|VA).*", rb"(HD|VA).*")),
+]
+
+
+# Those of which the replies tell beside the command.
+NAMES = [*dict.fromkeys(name for name, _, _ in NAMED), "the order of marks", "what counts as a use", "numbers aren't padded"]
+
+
+def difference(asked, ours, theirs):
+    """The name of the first difference that this command and its replies show."""
+    line = asked.partition(b"\r\n")[0]
+    for name, command, replies in NAMED:
+        if re.fullmatch(command, line) and (replies is None or all(re.fullmatch(it, reply, re.DOTALL) for it, reply in zip(replies, (ours, theirs)))):
+            return name
+    if is_same(ours, in_our_order(theirs)):
+        return "the order of marks"
+    if is_same(without_use(ours), without_use(in_our_order(theirs))):
+        return "what counts as a use"
+    return None
+
+
+def in_our_order(reply):
+    """memcached's reply with its marks in the order of ours."""
+    return re.sub(rb" X W(?=\r)", b" W X", re.sub(rb" Z X(?=\r)", b" X Z", reply))
+
+
+def without_use(reply):
+    """A reply without what it tells of the item's last use."""
+    return re.sub(rb"(?<= )([hl])\d+(?=[ \r])", rb"\1", reply)
+
+
+def is_padded(theirs, keys):
+    """Whether memcached keeps a number under one of these keys with spaces behind it."""
+    return any(re.fullmatch(rb"VALUE \S+ \d+ \d+\r\n\d+ +\r\nEND\r\n", theirs.ask(b"get " + key + b"\r\n")) for key in keys)
+
+
+def differs_later(asked):
+    """The name of a difference that this command makes and that its own reply need not show."""
+    line = asked.partition(b"\r\n")[0]
+    return next((name for name, command, replies in NAMED if replies is None and re.fullmatch(command, line)), None)
+
+
+def main():
+    words = argparse.ArgumentParser(description=__doc__.splitlines()[0])
+    words.add_argument("--seed", type=int, default=1)
+    words.add_argument("--commands", type=int, default=20000)
+    words.add_argument("--as-installed", action="store_true")
+    asked = words.parse_args()
+    needs_program()
+    page = (TOP / "docs/PROTOCOL.md").read_text()
+    say(all(f"**{name}**" in page for name in NAMES), "docs/PROTOCOL.md names each difference")
+    if not asked.as_installed and not shutil.which("memcached"):
+        install(["memcached"])
+    if not shutil.which("memcached"):
+        skip("memcached isn't installed")
+        return told("beside memcached")
+    bounded(ALL_SECONDS)
+    port = free_port()
+    theirs = started(["memcached", "-u", "nobody", "-l", "127.0.0.1", "-p", str(port), "-m", "64", "-t", "1"])
+    try:
+        with Server() as ours:
+            if not is_up(port):
+                say(False, "memcached doesn't listen")
+            else:
+                compare(Peer(ours.port), Peer(port), asked)
+    finally:
+        theirs.kill()
+        theirs.wait()
+    return told("beside memcached")
+
+
+def compare(ours, theirs, asked):
+    maker, met, unnamed = Maker(asked.seed), collections.Counter(), 0
+    for _ in range(asked.commands):
+        keys, make = maker.command()
+        mine, other = make(ours), make(theirs)
+        my_reply, other_reply = ours.ask(mine), theirs.ask(other)
+        name = differs_later(mine)
+        if re.match(rb"(incr|decr|ma) ", mine):
+            if is_padded(theirs, keys):
+                name = "numbers aren't padded"
+            ours.ask(b"".join(b"get " + key + b"\r\n" for key in keys))
+        if name is None and is_same(my_reply, other_reply):
+            continue
+        name = name or difference(mine, my_reply, other_reply)
+        met[name] += 1
+        if name is None:
+            unnamed += 1
+            if unnamed <= 40:
+                print(f"  {shown(mine)} and memcached's {shown(other)}:\n      {shown(my_reply)}\n      {shown(other_reply)}")
+        for peer in (ours, theirs):
+            peer.ask(b"".join(b"delete " + key + b" noreply\r\n" for key in keys))
+    for name, count in met.most_common():
+        print(f"  {count:6} times: {name}")
+    say(unnamed == 0, f"{asked.commands} commands, {unnamed} replies that differ by nothing that docs/PROTOCOL.md names")
+
+
+def shown(text):
+    return repr(bytes(text[:120])) + (f" and {len(text) - 120} more" if len(text) > 120 else "")
+
+
+if __name__ == "__main__":
+    sys.exit(main())
