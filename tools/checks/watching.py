@@ -294,6 +294,10 @@ def items_and_evictions_are_told():
         line.ask(b"".join(set_of(b"key:%012d" % it, b"v" * 100) for it in range(1000, 20000)), 19000 * b"STORED\r\n")
         fits = MIB // 180
         eventually(found, [2 * fits, 2 * fits * 180, 19_999 - 2 * fits, 0])
+        by_shard = dict(re.findall(r'^(mcd_shard_\w+\{shard="\d"\}) (\d+)$', server.metrics(), re.M))
+        equal([by_shard[f'mcd_shard_{name}{{shard="{shard}"}}'] for name in ("items", "bytes", "out_of_memory_total") for shard in (0, 1)],
+              [str(it) for it in (fits, fits, fits * 180, fits * 180, 0, 0)])
+        equal(sum(int(by_shard[f'mcd_shard_evicted_total{{shard="{shard}"}}']) for shard in (0, 1)), 19_999 - 2 * fits)
 
 
 def the_version_is_the_programs():

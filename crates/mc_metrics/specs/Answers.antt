@@ -31,9 +31,13 @@ status_at Nothing = 404
 abbrev pub status_of : List ℕ → List ℕ → ℕ
 status_of method path = if is_read method then status_at (target_of path) else 405
 
--- the text at the target, of a server with these facts that has run for so many seconds: the metrics are those of some moment
+-- the metrics of a server with these facts that has run for so many seconds, as they were at some moment
+abbrev pub AreMetrics : Facts → ℕ → List ℕ → Type 0
+AreMetrics facts uptime text = (totals : Totals) × (text ≡ metrics_text (record { facts = facts; totals = totals; uptime = uptime }))
+
+-- the text at the target, of a server with these facts that has run for so many seconds: the metrics, and behind them those of each shard
 abbrev pub IsTextAt : Target → Facts → ℕ → List ℕ → Type 0
-IsTextAt Metrics facts uptime text = (totals : Totals) × (text ≡ metrics_text (record { facts = facts; totals = totals; uptime = uptime }))
+IsTextAt Metrics facts uptime text = (metrics shards : List ℕ) × AreMetrics facts uptime metrics × (text ≡ metrics ++ shards)
 IsTextAt Health facts uptime text = text ≡ codes "ok" ++ (10 ∷ [])
 IsTextAt Page facts uptime text = Unit {0}
 IsTextAt Nothing facts uptime text = text ≡ codes "not found: see /, /metrics and /healthz" ++ (10 ∷ [])

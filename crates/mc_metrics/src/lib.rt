@@ -3,6 +3,7 @@
 #![tactic(auto)]
 
 mod address;
+mod by_shard;
 mod history;
 mod page;
 mod pages;

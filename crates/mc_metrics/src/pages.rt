@@ -1,7 +1,8 @@
 //! What is answered to a request.
 ghost use Rattle.std.specs.Prelude.{◌≡◌, IfOk, string_bytes};
-ghost use Rattle.mc_metrics.specs.Answers.{IsAnswer, IsTextAt, status_at, target_of};
+ghost use Rattle.mc_metrics.specs.Answers.{AreMetrics, IsAnswer, IsTextAt, status_at, target_of};
 
+use crate::by_shard::by_shard;
 use crate::history::History;
 use crate::page::write_page;
 use crate::reading::{Facts, Reading};
@@ -106,10 +107,31 @@ impl Pages {
         }
     }
 
+    /// The metrics of all shards together.
     fn metrics(&self) -> Result<String, AllocError>
-        ensures { IfOk result (λ text. IsTextAt Target.Metrics self.now.facts self.now.uptime (string_bytes text)) }
+        ensures { IfOk result (λ text. AreMetrics self.now.facts self.now.uptime (string_bytes text)) }
     {
         metrics_of(self.alloc, &self.reading())
+    }
+
+    /// The metrics of each shard by itself.
+    fn shard_metrics(&self) -> Result<String, AllocError> {
+        let shards = self.counts.shards(self.alloc)?;
+        let mut totals = Vec::with_capacity(self.alloc, shards.len())?;
+        for shard in &shards {
+            totals.push(shard.totals())?;
+        }
+        by_shard(self.alloc, &totals)
+    }
+
+    /// All metrics.
+    fn all_metrics(&self) -> Result<String, AllocError>
+        ensures { IfOk result (λ text. IsTextAt Target.Metrics self.now.facts self.now.uptime (string_bytes text)) }
+    {
+        let mut text = self.metrics()?;
+        let shards = self.shard_metrics()?;
+        text.push_str(&shards)?;
+        Ok(text)
     }
 
     fn page(&self) -> Result<String, AllocError> {
@@ -126,8 +148,8 @@ impl Pages {
         ensures { IfOk result (λ body. IsTextAt target self.now.facts self.now.uptime body) }
     {
         match target {
-            Target::Metrics => Ok(Bytes::from_vec(self.metrics()?.into_bytes())?),
-            Target::Page => Ok(Bytes::from_vec(self.page()?.into_bytes())?),
+            Target::Metrics => Ok(Bytes::from_string(self.all_metrics()?)?),
+            Target::Page => Ok(Bytes::from_string(self.page()?)?),
             Target::Health => Ok(Bytes::from_static(b"ok\n")),
             Target::Nothing => Ok(Bytes::from_static(b"not found: see /, /metrics and /healthz\n")),
         }
