@@ -4,7 +4,7 @@ ghost use Rattle.std.specs.Prelude.{◌≤◌};
 use crate::asserting::equal;
 use mc_serve::{Sizes, serve_tcp};
 use mc_server::StillClock;
-use mc_watch::{Counts, Patience, Seconds, Totals, Watch};
+use mc_watch::{Counts, Patience, Seconds, ShardTotals, Totals, Watch};
 use std::alloc::Global;
 use std::io::{Read, Write};
 use std::net::{Net, SocketAddr, TcpListener, TcpStream};
@@ -200,6 +200,8 @@ fn an_idle_client_is_given_up(rt: HostRuntime) -> Result<(), Fail> {
         commands: 1,
         read: 18,
         written: 4,
+        // Nothing of it came to a shard.
+        shards: ShardTotals::default(),
     };
     equal(&rt, totals, expected);
     Ok(())
