@@ -5,7 +5,7 @@ _mcd() {
     case $before in
         --replay) mapfile -t COMPREPLY < <(compgen -f -- "$word") ;;
         --listen | --at | --shards | --seats | --bytes | --memory | --value-limit | --window | --connections) ;;
-        *) mapfile -t COMPREPLY < <(compgen -W "--listen --stdio --replay --at --version --shards --seats --bytes --memory --value-limit --window --connections --help" -- "$word") ;;
+        *) mapfile -t COMPREPLY < <(compgen -W "--listen --stdio --replay --at --version --shards --seats --bytes --memory --value-limit --window --drop-in --connections --help" -- "$word") ;;
     esac
 }
 complete -F _mcd mcd

@@ -11,8 +11,8 @@ const CALLS: &str = "\
 mcd [--listen ADDRESS] [--seats N] [--connections N] [limits]   TCP
 mcd --stdio [--at SECONDS] [limits]                             one connection
 mcd --replay FILE                                               a schedule
-Limits are --shards, --bytes or --memory, --value-limit and --window. Defaults
-stand in []. Behind a number of bytes k, m and g stand for 1024 each.";
+Limits are --shards, --bytes or --memory, --value-limit, --window and --drop-in.
+Defaults stand in []. Behind a number of bytes k, m and g stand for 1024 each.";
 
 /// The program with its options.
 #[tactic(auto, unfolding(crate::specs::Program::program))]
@@ -33,7 +33,7 @@ pub fn program_options<'a>(alloc: Global) -> Result<Command<'a>, AllocError>
     with_limits(alloc, command)
 }
 
-/// The program with the options that take numbers.
+/// The program with the options that say what the server is like.
 fn with_limits<'a>(alloc: Global, command: Command<'a>) -> Result<Command<'a>, AllocError>
     ensures { IfOk result (λ limited. app_of limited ≡ with_rules (app_of command.entry) limit_rules) }
 {
@@ -51,6 +51,8 @@ fn with_limits<'a>(alloc: Global, command: Command<'a>) -> Result<Command<'a>, A
     let command = with_value(alloc, command, "window", "N", window)?;
     let connections = "Ends after so many connections, 1 to 4294967295";
     let command = with_value(alloc, command, "connections", "N", connections)?;
+    let drop_in = "Follows memcached 1.6 where its rules differ";
+    let command = with_flag(alloc, command, "drop-in", drop_in)?;
     with_items(alloc, command)
 }
 

@@ -2,6 +2,7 @@
 ghost use Rattle.std.specs.Prelude.{◌≤◌};
 
 use crate::asserting::equal;
+use mc_command::Profile;
 use mc_serve::{Sizes, serve_tcp};
 use mc_server::StillClock;
 use std::alloc::Global;
@@ -52,6 +53,7 @@ fn serve_client<
     let own = *rt;
     let client = thread::spawn(rt, move || talk(&own, alloc, server, commands))?;
     let sizes = Sizes {
+        profile: Profile::Own,
         shards: 2,
         bytes: 65_536,
         ring,
@@ -92,6 +94,7 @@ fn serve_three<
     let second = thread::spawn(rt, move || talk(&own, alloc, server, b"get a\r\nquit\r\n"))?;
     let third = thread::spawn(rt, move || talk(&own, alloc, server, b"mg a b\r\nquit\r\n"))?;
     let sizes = Sizes {
+        profile: Profile::Own,
         shards: 2,
         bytes: 65_536,
         ring: 1,

@@ -1,8 +1,10 @@
 //! A seat serves a line step by step. No step waits for a shard.
+ghost use Rattle.mc_command.specs.declared.rules.Rules.{Rules};
 ghost use Rattle.std.specs.Prelude.{◌≡◌, ◌<◌, ◌≤◌, ◌↔◌, ℕ, [], false, IfOk, IsTrue, length};
 ghost use Rattle.std.specs.Bool.{OnFalse, OnTrue};
 
 use crate::courier::Courier;
+use mc_command::Rules;
 use mc_conn::{Conn, Taken};
 use mc_ring::SeatEnds;
 use mc_seat::{Clock, Line, Rooms, Seat, Served, Turn, Unwritten};
@@ -47,23 +49,23 @@ impl Session {
     ghost use Rattle.mc_threads.specs.Serving.{AreCalled, IsIdle};
     ghost use Rattle.mc_threads.specs.Session.{IsVacant, IsServing, MayStep, StepSays, TakesFor};
 
-    /// A seat that serves no line yet, over new ends of its lanes, whose rings have so many places. The wakers are those of the
-    /// shards.
+    /// A seat that serves no line yet, over new ends of its lanes, whose rings have so many places, by these rules. The wakers are those
+    /// of the shards.
     pub fn new(
         alloc: Global,
         ends: SeatEnds,
         shards: Wakers,
         places: usize,
-        limit: usize,
+        rules: Rules,
         window: usize,
     ) -> Result<Session, AllocError>
         requires some { 0 < length ends.lanes }
-        requires value { limit ≤ GREATEST_VALUE_LIMIT }
+        requires value { rules.value_limit ≤ GREATEST_VALUE_LIMIT }
         requires window { 0 < window }
-        ensures vacant { IfOk result (λ session. IsVacant limit window session) }
+        ensures vacant { IfOk result (λ session. IsVacant rules window session) }
         ensures ends { IfOk result (λ session. session.courier.ends ≡ ends) }
     {
-        let Ok(conn) = Conn::new(alloc, ends.shards(), limit, window) else {
+        let Ok(conn) = Conn::under(alloc, ends.shards(), rules, window) else {
             return Err(AllocError);
         };
         let seat = Seat::new(alloc);
@@ -81,8 +83,8 @@ impl Session {
 
     /// Begins to serve a line.
     pub fn begin<K: Clock>(&mut self, clock: &K)
-        ensures serving { (limit window : ℕ) (line : Sight) → IsVacant limit window self.old →
-            IsServing (length self.old.courier.ends.lanes) limit (K.may_answer clock.now) line line self.old.courier.ends self.new }
+        ensures serving { (rules : Rules) (window : ℕ) (line : Sight) → IsVacant rules window self.old →
+            IsServing (length self.old.courier.ends.lanes) rules (K.may_answer clock.now) line line self.old.courier.ends self.new }
         ensures ends { self.new.courier.ends ≡ self.old.courier.ends }
     {
         self.commands = 0;
@@ -112,9 +114,9 @@ impl Session {
     /// doesn't take at once is refused, the line is given up. The rooms are those of the thread, to read into.
     pub fn step<L: Line, K: Clock>(&mut self, line: &mut L, clock: &K, rooms: &mut Rooms) -> Stepped
         requires { MayStep self.old }
-        ensures says { (shards limit : ℕ) (begin : Sight) (before : Ends Near) →
-            IsServing shards limit (K.may_answer clock.now) begin (L.sight line.old) before self.old →
-            StepSays result shards limit (K.may_answer clock.now) begin (L.sight line.new) before self.new }
+        ensures says { (shards : ℕ) (rules : Rules) (begin : Sight) (before : Ends Near) →
+            IsServing shards rules (K.may_answer clock.now) begin (L.sight line.old) before self.old →
+            StepSays result shards rules (K.may_answer clock.now) begin (L.sight line.new) before self.new }
         // Where it waits, each shard of which replies are awaited was called after the last piece was sent.
         ensures called { result ≡ Stepped.Waits → AreCalled self.new.courier.shards self.new.courier.under_way.items }
     {
@@ -164,9 +166,9 @@ impl Session {
     /// it did.
     pub fn renew(&mut self) -> bool
         ensures when { (told : Told) → IsConn self.old.conn told → IsTrue result ↔ (IsAtRest told × IsOver told) }
-        ensures new { IsTrue result → (told : Told) → IsConn self.old.conn told → IsConn self.new.conn (told_nothing told.shards told.limit told.window) }
+        ensures new { IsTrue result → (told : Told) → IsConn self.old.conn told → IsConn self.new.conn (told_nothing told.shards told.rules told.window) }
         ensures vacant { IsTrue result → (told : Told) → IsConn self.old.conn told → told.shards ≡ length self.old.courier.ends.lanes →
-            IsIdle self.old.courier.under_way.items → IsVacant told.limit told.window self.new }
+            IsIdle self.old.courier.under_way.items → IsVacant told.rules told.window self.new }
         ensures ends { self.new.courier.ends ≡ self.old.courier.ends }
     {
         self.seat.renew();

@@ -6,10 +6,11 @@ use Rattle.mc_ring.specs.Ends.{Ends}
 use Rattle.mc_seat.specs.Later.{text_in}
 use Rattle.mc_threads.specs.Session.{MayTake}
 use Rattle.mc_threads.proofs.session.Session.take_all.Given as goal
+use Rattle.mc_command.specs.declared.rules.Rules.{Rules}
 
 abbrev pub invariant-loop : goal.invariant-loop
 invariant-loop g l = record {
-  takes : (shards limit : ℕ) (begin now : Sight) (before : Ends Near) → MayTake shards limit (g.K.Clock.may_answer l.fn.clock) begin now before l.fn.self → MayTake shards limit (g.K.Clock.may_answer l.fn.clock) begin now before l.self;
+  takes : (shards : ℕ) (rules : Rules) (begin now : Sight) (before : Ends Near) → MayTake shards rules (g.K.Clock.may_answer l.fn.clock) begin now before l.fn.self → MayTake shards rules (g.K.Clock.may_answer l.fn.clock) begin now before l.self;
   ends : l.self.courier.ends ≡ l.fn.self.courier.ends;
   unwritten : text_in l.self.unwritten ≡ text_in l.fn.self.unwritten;
 }
