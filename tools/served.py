@@ -11,6 +11,7 @@ import socket
 import struct
 import subprocess
 import sys
+import tempfile
 import time
 
 TOP = pathlib.Path(__file__).resolve().parent.parent
@@ -178,6 +179,19 @@ class Tally:
     def done(self):
         print(f"{self.what}: {self.passed} passed, {self.failed} failed", flush=True)
         return 1 if self.failed else 0
+
+
+def run_checks(what, checks, seconds):
+    """Runs those of the checks whose names have a word of the command line in them, or all, in a folder for temporary files, and
+    gives the status to end with. All together take at most so many seconds."""
+    needs_program()
+    bounded(seconds)
+    os.chdir(tempfile.gettempdir())
+    tally = Tally(what)
+    for check in checks:
+        if not sys.argv[1:] or any(name in check.__name__ for name in sys.argv[1:]):
+            tally.run(check)
+    return tally.done()
 
 
 def needs_program():

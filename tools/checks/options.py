@@ -6,7 +6,6 @@
 What is expected follows from the rules of docs/PROTOCOL.md: what an item costs, on which shard a key lies, which cas uniques
 a shard gives. Each row gives another output where its option is ignored. The last line is `options: N passed, M failed`.
 """
-import os
 import pathlib
 import random
 import subprocess
@@ -17,7 +16,7 @@ import time
 sys.path.insert(0, str(pathlib.Path(__file__).resolve().parent.parent))
 
 from replay_model import place  # noqa: E402
-from served import MCD, MIB, Line, Server, Tally, bounded, equal, hit_of, needs_program, set_of, started  # noqa: E402
+from served import MCD, MIB, Line, Server, equal, hit_of, run_checks, set_of, started  # noqa: E402
 
 LIMIT_SECONDS = 300
 TOO_LARGE = b"SERVER_ERROR object too large for cache\r\n"
@@ -312,16 +311,5 @@ CHECKS = [
 ]
 
 
-def main():
-    needs_program()
-    bounded(LIMIT_SECONDS)
-    os.chdir(tempfile.gettempdir())
-    tally = Tally("options")
-    for check in CHECKS:
-        if not sys.argv[1:] or any(name in check.__name__ for name in sys.argv[1:]):
-            tally.run(check)
-    return tally.done()
-
-
 if __name__ == "__main__":
-    sys.exit(main())
+    sys.exit(run_checks("options", CHECKS, LIMIT_SECONDS))

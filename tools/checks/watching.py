@@ -6,7 +6,6 @@
 What is expected is counted here from what the clients send and get. The text of the metrics is read by promtool, of Debian's
 prometheus, too where it is installed. The last line is `watching: N passed, M failed`.
 """
-import os
 import pathlib
 import re
 import resource
@@ -15,7 +14,6 @@ import shutil
 import socket
 import subprocess
 import sys
-import tempfile
 import threading
 import time
 import urllib.error
@@ -23,7 +21,7 @@ import urllib.request
 
 sys.path.insert(0, str(pathlib.Path(__file__).resolve().parent.parent))
 
-from served import MCD, MIB, Line, Server, Tally, bounded, equal, needs_program, set_of, started  # noqa: E402
+from served import MCD, MIB, Line, Server, equal, run_checks, set_of, started  # noqa: E402
 
 LIMIT_SECONDS = 300
 NO_OP, NO_OP_REPLY = b"mn\r\n", b"MN\r\n"
@@ -394,16 +392,5 @@ CHECKS = [
 ]
 
 
-def main():
-    needs_program()
-    bounded(LIMIT_SECONDS)
-    os.chdir(tempfile.gettempdir())
-    tally = Tally("watching")
-    for check in CHECKS:
-        if not sys.argv[1:] or any(name in check.__name__ for name in sys.argv[1:]):
-            tally.run(check)
-    return tally.done()
-
-
 if __name__ == "__main__":
-    sys.exit(main())
+    sys.exit(run_checks("watching", CHECKS, LIMIT_SECONDS))
