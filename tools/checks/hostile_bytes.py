@@ -41,13 +41,15 @@ def unescaped(text):
     return text.encode("latin-1")
 
 
-def rows():
-    """Each row: its name, the options that it is run with, its input and its output."""
+def rows(drop_in=False):
+    """Each row: its name, the options that it is run with, its input and its output; by memcached's rules or by the server's own."""
     for line in ROWS.read_text(encoding="latin-1").splitlines():
         if line and not line.startswith("#"):
-            name, moment, budget, given, wanted = line.split("\t")
+            name, moment, budget, given, wanted, *memcacheds = line.split("\t")
             budget, _, limit = budget.partition("/")
             options = ["--stdio", "--at", moment, "--bytes", budget, *(["--value-limit", limit] if limit else [])]
+            if drop_in:
+                options, wanted = [*options, "--drop-in"], memcacheds[0] if memcacheds else wanted
             yield name, options, unescaped(given), unescaped(wanted)
 
 

@@ -15,6 +15,7 @@ import time
 
 sys.path.insert(0, str(pathlib.Path(__file__).resolve().parent.parent))
 
+from hostile_bytes import rows, spoken  # noqa: E402
 from replay_model import place  # noqa: E402
 from served import MCD, MIB, Line, Server, equal, hit_of, run_checks, set_of, started  # noqa: E402
 
@@ -57,6 +58,29 @@ def values_of_2_mib():
     given = set_of(b"a", value) + 2 * b"get a\r\n" + b"mn\r\n"
     row("--value-limit 4194304", given, STORED + 2 * hit_of(b"a", value) + b"MN\r\n")
     row("--value-limit 4m", set_of(b"a", value) + b"mn\r\n", STORED + b"MN\r\n")
+
+
+# Inputs that the two rules read otherwise: what is answered by the server's own, and by memcached's.
+BOTH = [
+    (b"version\r\n", b"VERSION 1.6.0-sharded\r\n", b"VERSION 1.6.18\r\n"),
+    (b"set a 0 4294967295 1\r\nx\r\nmg a\r\n", STORED + b"HD\r\n", STORED + b"EN\r\n"),
+    (b"get\r\nmn\r\n", b"CLIENT_ERROR bad command line format\r\nMN\r\n", b"ERROR\r\nMN\r\n"),
+    (b"verbosity noreply\r\nmn\r\n", b"CLIENT_ERROR bad command line format\r\nMN\r\n", b"MN\r\n"),
+    (b"touch a 0 x\r\n", b"CLIENT_ERROR bad command line format\r\n", b"NOT_FOUND\r\n"),
+    (b"mg a P L\r\n", b"CLIENT_ERROR invalid flag\r\n", b"EN\r\n"),
+]
+
+
+def memcacheds_rules():
+    for given, own, memcacheds in BOTH:
+        row("", given, own)
+        row("--drop-in", given, memcacheds)
+
+
+def the_worked_rows_by_memcacheds_rules():
+    """Each row through the program; where one has a second output it is that of memcached's rules."""
+    for name, options, given, wanted in rows(drop_in=True):
+        equal((name, spoken(options, given)), (name, wanted))
 
 
 def sets_of(count, keys):
@@ -195,7 +219,7 @@ def ended(words, **streams):
     return ran.returncode, ran.stdout, ran.stderr.decode()
 
 
-WITH_STDIO = "--stdio, which takes --at, --shards, --bytes, --memory, --value-limit and --window"
+WITH_STDIO = "--stdio, which takes --at, --shards, --bytes, --memory, --value-limit, --window and --drop-in"
 NUMBER = "takes a number from {0} to {1}, not '{2}'"
 SIZE = "takes a number of bytes from {0} to {1}, or one of k, m and g (1024 each) behind a number, not '{2}'"
 ITEMS = "there is no option --items: --bytes says what the items of a shard may cost together"
@@ -205,8 +229,7 @@ FAULTS = [
     ("--items 5", ITEMS), ("--items 5 --replay x --shards 2", ITEMS),
     *((f"--replay x --{name} 2", f"--{name} doesn't go with --replay, which takes no other option")
       for name in ("at", "listen", "shards", "seats", "bytes", "memory", "value-limit", "window", "connections", "idle-timeout", "metrics")),
-    ("--replay x --stdio", "--stdio doesn't go with --replay, which takes no other option"),
-    ("--replay x --verbose", "--verbose doesn't go with --replay, which takes no other option"),
+    *((f"--replay x --{name}", f"--{name} doesn't go with --replay, which takes no other option") for name in ("stdio", "verbose", "drop-in")),
     *((f"--stdio --{name} 2", f"--{name} doesn't go with {WITH_STDIO}") for name in ("listen", "seats", "connections", "idle-timeout", "metrics")),
     ("--stdio --verbose", f"--verbose doesn't go with {WITH_STDIO}"),
     ("--at 5", "--at goes with --stdio alone"), ("--at 5 --seats 4097", "--at goes with --stdio alone"),
@@ -236,6 +259,7 @@ def each_fault_of_the_command_line():
 WORDS = [
     ("--nope", "--nope"), ("nope", "nope"), ("--stdio nope", "nope"), ("--seats 1 --seats 2", "--seats"), ("--stdio --stdio", "--stdio"),
     ("--listen", "--listen"), ("--replay", "--replay"), ("--stdio --at", "--at"), ("--shards", "--shards"), ("--stdio=yes", "yes"),
+    ("--drop-in --drop-in", "--drop-in"),
 ]
 
 
@@ -304,7 +328,7 @@ def what_the_system_refuses_is_told():
 
 
 CHECKS = [
-    a_value_limit_of_1024, values_of_2_mib, a_budget_of_1024, a_budget_of_1_mib, each_number_of_shards, two_seats,
+    memcacheds_rules, the_worked_rows_by_memcacheds_rules, a_value_limit_of_1024, values_of_2_mib, a_budget_of_1024, a_budget_of_1_mib, each_number_of_shards, two_seats,
     each_window, the_clock_goes_on, the_clock_tells_the_year, each_fault_of_the_command_line, each_fault_of_a_word,
     what_cannot_be_read_is_told, what_cannot_be_written_is_told, a_taken_address_is_told, few_open_files_are_told,
     what_the_system_refuses_is_told,

@@ -18,7 +18,8 @@ FORBIDDEN = [
     (re.compile(r"(?<![\w.~-])/(?:opt|work|tmp|root|home)/[a-z]"), "a path of a machine"),
     (re.compile(r"\.\./(?:\.\./)*(?:shared|\.library)\b"), "a folder beside the repository"),
     (re.compile(r"\b(?:scope|promises|requests|tables|protocol-corners|rattle-lessons)\.md\b"), "a paper that the reader doesn't have"),
-    (re.compile(r"\b(?:paper|demand|request|rule|corner|row|claim|issue|task|stage)s? #?\d+(?:\.\d+)*\b", re.I), "a rule by its number"),
+    # `SpellsFront rules 0 ..`: by these rules, behind no command.
+    (re.compile(r"\b(?!rules 0\b)(?:paper|demand|request|rule|corner|row|claim|issue|task|stage)s? #?\d+(?:\.\d+)*\b", re.I), "a rule by its number"),
     (re.compile(r"(?<!RFC \d{4}, )\bsections? \d+(?:\.\d+)*\b", re.I), "a section by its number (only of an RFC that is named, as in 'RFC 4648, section 4')"),
     (re.compile(r"\b(?:D1?\d|D2[01]|R1?\d\.\d|T[1-5])\b(?= |,|\.|:|\))"), "a rule by its number"),
 ]

@@ -1,20 +1,21 @@
 -- Flags in another order are lawful if they were, and each look-up in them finds the same.
-use Rattle.std.proofs.Common.{◌≡◌, ℕ, ◌+◌, ◌^◌, ◌==◌, ◌||◌, Bool, true, false, cond, List, [], ◌∷◌, ◌++◌, Option, Some, None, nat_lt, refl, sym, ap, ap₂, ◌∙◌, arith, Result, Ok, Err, IsPermutation}
+use Rattle.std.proofs.Common.{◌≡◌, ℕ, ◌+◌, ◌==◌, ◌||◌, Bool, true, false, cond, List, [], ◌∷◌, ◌++◌, Option, Some, None, nat_lt, refl, sym, ap, ap₂, ◌∙◌, arith, Result, Ok, Err, IsPermutation}
 use Rattle.std.specs.Prelude.{find}
 use Rattle.std.specs.List.{filter_map}
 use Rattle.std.specs.Option.{option_or}
 use Rattle.std.proofs.lemmas.Bool.{eqb-false, eqb-true, or_parts}
 use Rattle.std.proofs.lemmas.List.Sorted.{list_any-IsPermutation, IsPermutation-sym}
-use Rattle.mc_wire.specs.Number.{number_of}
 use Rattle.mc_command.specs.declared.command.Command.{Command}
-use Rattle.mc_command.specs.declared.line.Line.TheVariants.{Data, Skip}
+use Rattle.mc_command.specs.declared.line.Line.{Line}
+use Rattle.mc_command.specs.declared.line.Line.TheVariants.{Whole, Data, Refused, Skip}
 use Rattle.mc_command.specs.declared.meta.ReturnFlag.{ReturnFlag}
 use Rattle.mc_command.specs.declared.meta_flags.Asked.{Asked}
 use Rattle.mc_command.specs.declared.meta.MetaKind.{MetaKind}
 use Rattle.mc_command.specs.declared.meta.MetaKind.TheVariants.{Set}
 use Rattle.mc_command.specs.declared.refusal.Refusal.{Refusal}
 use Rattle.mc_command.specs.declared.refusal.Refusal.TheVariants.{InvalidFlag, DuplicateFlag, TooLarge}
-use Rattle.mc_command.specs.Blocks.{whole_line, block_line}
+use Rattle.mc_command.specs.Blocks.{block_count, block_line, whole_line}
+use Rattle.mc_command.specs.Hiding.{shown_line}
 use Rattle.mc_command.specs.Field.{then_of}
 use Rattle.mc_command.specs.FlagOrder.{with_flags, IsReordered, SameButOrder, before_flags}
 use Rattle.mc_command.specs.Meta.{has_letter, has_flag, shown_flag, flags_of, flag_refusal, flags_refusal, unless, meta_key_of, compare_refusal, set_by, asked_of, command_by, meta_command_of, meta_line_of}
@@ -23,6 +24,7 @@ use Rattle.mc_command.specs.Table.{line_of}
 use Rattle.mc_command.proofs.MetaCounts.{eq_comm}
 use Rattle.mc_command.proofs.MetaLookups.{has_flag-append}
 use Rattle.mc_command.proofs.Permuted.{along_permutation, IsPermutation-filter_map}
+use Rattle.mc_command.specs.declared.rules.Rules.{Rules}
 
 -- One flag after another is lawful: what that says of the two.
 
@@ -48,54 +50,54 @@ one_of true false first second rest apart = refl
 one_of false b first second rest apart = refl
 
 -- Flags are refused alike behind flags of the same letters.
-same_before : (name : MetaKind) (before other words : List (List ℕ)) → ((letter : ℕ) → has_flag letter before ≡ has_flag letter other) → flags_refusal name before words ≡ flags_refusal name other words
-same_before name before other [] same = refl
-same_before name before other ([] ∷ words) same = refl
-same_before name before other ((first ∷ token) ∷ words) same =
-    let one : flag_refusal name before (first ∷ token) ≡ flag_refusal name other (first ∷ token) = rw (same first) refl in
-    ap₂ option_or one (same_before name (before ++ (first ∷ token) ∷ []) (other ++ (first ∷ token) ∷ []) words (λ letter.
+same_before : (rules : Rules) (name : MetaKind) (before other words : List (List ℕ)) → ((letter : ℕ) → has_flag letter before ≡ has_flag letter other) → flags_refusal rules name before words ≡ flags_refusal rules name other words
+same_before rules name before other [] same = refl
+same_before rules name before other ([] ∷ words) same = refl
+same_before rules name before other ((first ∷ token) ∷ words) same =
+    let one : flag_refusal rules name before (first ∷ token) ≡ flag_refusal rules name other (first ∷ token) = rw (same first) refl in
+    ap₂ option_or one (same_before rules name (before ++ (first ∷ token) ∷ []) (other ++ (first ∷ token) ∷ []) words (λ letter.
     has_flag-append letter before first token ∙ (ap (λ stands. (first == letter) || stands) (same letter) ∙ sym (has_flag-append letter other first token))))
 
 -- If these flags are lawful behind some, so are those, and each look-up finds the same in both.
-abbrev Keeps : MetaKind → List (List ℕ) → List (List ℕ) → Type 0
-Keeps name words others = (before : List (List ℕ)) → flags_refusal name before words ≡ None →
-    (flags_refusal name before others ≡ None) × ((letter : ℕ) → find (has_letter letter) words ≡ find (has_letter letter) others)
+abbrev Keeps : Rules → MetaKind → List (List ℕ) → List (List ℕ) → Type 0
+Keeps rules name words others = (before : List (List ℕ)) → flags_refusal rules name before words ≡ None →
+    (flags_refusal rules name before others ≡ None) × ((letter : ℕ) → find (has_letter letter) words ≡ find (has_letter letter) others)
 
-keeps_skip : (name : MetaKind) (word : List ℕ) (words others : List (List ℕ)) → Keeps name words others → Keeps name (word ∷ words) (word ∷ others)
-keeps_skip name word words others keeps before passes =
-    let parts = both_none (flag_refusal name before word) (flags_refusal name (before ++ word ∷ []) words) passes in
+keeps_skip : (rules : Rules) (name : MetaKind) (word : List ℕ) (words others : List (List ℕ)) → Keeps rules name words others → Keeps rules name (word ∷ words) (word ∷ others)
+keeps_skip rules name word words others keeps before passes =
+    let parts = both_none (flag_refusal rules name before word) (flags_refusal rules name (before ++ word ∷ []) words) passes in
     let rest = keeps (before ++ word ∷ []) parts.1 in
     (ap₂ option_or parts.0 rest.0, λ letter. ap (λ later. cond (has_letter letter word) (Some word) later) (rest.1 letter))
 
-keeps_turn : (name : MetaKind) (one two : List ℕ) (words : List (List ℕ)) → Keeps name (one ∷ two ∷ words) (two ∷ one ∷ words)
-keeps_turn name [] two words before passes = absurd cc
-keeps_turn name (a ∷ token) [] words before passes =
-    let parts = both_none (flag_refusal name before (a ∷ token)) (Some InvalidFlag) passes in
+keeps_turn : (rules : Rules) (name : MetaKind) (one two : List ℕ) (words : List (List ℕ)) → Keeps rules name (one ∷ two ∷ words) (two ∷ one ∷ words)
+keeps_turn rules name [] two words before passes = absurd cc
+keeps_turn rules name (a ∷ token) [] words before passes =
+    let parts = both_none (flag_refusal rules name before (a ∷ token)) (Some InvalidFlag) passes in
     absurd (let bad : Some InvalidFlag ≡ None = parts.1 in cc)
-keeps_turn name (a ∷ token) (b ∷ other) words before passes =
+keeps_turn rules name (a ∷ token) (b ∷ other) words before passes =
     let one : List ℕ = a ∷ token in
     let two : List ℕ = b ∷ other in
-    let first = both_none (flag_refusal name before one) (flags_refusal name (before ++ one ∷ []) (two ∷ words)) passes in
-    let second = both_none (flag_refusal name (before ++ one ∷ []) two) (flags_refusal name ((before ++ one ∷ []) ++ two ∷ []) words) first.1 in
+    let first = both_none (flag_refusal rules name before one) (flags_refusal rules name (before ++ one ∷ []) (two ∷ words)) passes in
+    let second = both_none (flag_refusal rules name (before ++ one ∷ []) two) (flags_refusal rules name ((before ++ one ∷ []) ++ two ∷ []) words) first.1 in
     let free = fresh _ (has_flag a before) _ first.0 in
     let next = fresh _ (has_flag b (before ++ one ∷ [])) _ second.0 in
     let apart = or_parts (a == b) (has_flag b before) (sym (has_flag-append b before a token) ∙ next.0) in
     let a_behind : has_flag a (before ++ two ∷ []) ≡ false = has_flag-append a before b other ∙ rw (eq_comm b a, apart.0) free.0 in
-    let two_passes : flag_refusal name before two ≡ None = next.1 (has_flag b before) apart.1 in
-    let one_passes : flag_refusal name (before ++ two ∷ []) one ≡ None = free.1 (has_flag a (before ++ two ∷ [])) a_behind in
-    let rest : flags_refusal name ((before ++ two ∷ []) ++ one ∷ []) words ≡ None =
-    same_before name ((before ++ two ∷ []) ++ one ∷ []) ((before ++ one ∷ []) ++ two ∷ []) words (λ letter.
+    let two_passes : flag_refusal rules name before two ≡ None = next.1 (has_flag b before) apart.1 in
+    let one_passes : flag_refusal rules name (before ++ two ∷ []) one ≡ None = free.1 (has_flag a (before ++ two ∷ [])) a_behind in
+    let rest : flags_refusal rules name ((before ++ two ∷ []) ++ one ∷ []) words ≡ None =
+    same_before rules name ((before ++ two ∷ []) ++ one ∷ []) ((before ++ one ∷ []) ++ two ∷ []) words (λ letter.
     rw (has_flag-append letter (before ++ two ∷ []) a token, has_flag-append letter before b other, has_flag-append letter (before ++ one ∷ []) b other, has_flag-append letter before a token) (either (a == letter) (b == letter) (has_flag letter before))) ∙ second.1 in (
       ap₂ option_or two_passes (ap₂ option_or one_passes rest),
       λ letter. one_of (a == letter) (b == letter) one two (find (has_letter letter) words)
           (λ is also. omega (arith, eqb-true a letter is, eqb-true b letter also, eqb-false a b apart.0)),
     )
 
-keeps : (name : MetaKind) (words others : List (List ℕ)) → IsPermutation words others → Keeps name words others
-keeps name = along_permutation (Keeps name)
+keeps : (rules : Rules) (name : MetaKind) (words others : List (List ℕ)) → IsPermutation words others → Keeps rules name words others
+keeps rules name = along_permutation (Keeps rules name)
     (λ words before passes. (passes, λ letter. refl))
-    (keeps_skip name)
-    (keeps_turn name)
+    (keeps_skip rules name)
+    (keeps_turn rules name)
     (λ words others third h k before passes.
     let one = h before passes in
     let two = k before one.0 in
@@ -119,11 +121,11 @@ same_then : (read again : Result (List ℕ) Refusal) (one two : List ℕ → Res
 same_then (Ok key) again one two is same = rw (← is) (same key)
 same_then (Err refusal) again one two is same = rw (← is) tt
 
-with_others : (name : MetaKind) (key : List ℕ) (asked : Asked) (returned : List ReturnFlag) → IsPermutation asked.flags.returned returned →
-    SameAsked (command_by name key asked) (command_by name key (record asked { flags = with_flags asked.flags returned }))
-with_others Set key asked returned moved =
-    same_unless (compare_refusal (set_by key asked)) (compare_refusal (set_by key asked)) _ _ (λ none. (none, record { same = refl; moved = moved })) (λ none. none)
-with_others name key asked returned moved = record { same = refl; moved = moved }
+with_others : (rules : Rules) (name : MetaKind) (key : List ℕ) (asked : Asked) (returned : List ReturnFlag) → IsPermutation asked.flags.returned returned →
+    SameAsked (command_by rules name key asked) (command_by rules name key (record asked { flags = with_flags asked.flags returned }))
+with_others rules Set key asked returned moved =
+    same_unless (compare_refusal rules (set_by rules key asked)) (compare_refusal rules (set_by rules key asked)) _ _ (λ none. (none, record { same = refl; moved = moved })) (λ none. none)
+with_others rules name key asked returned moved = record { same = refl; moved = moved }
 
 module _ (words others : List (List ℕ)) (moved : IsPermutation words others) (found : (letter : ℕ) → find (has_letter letter) words ≡ find (has_letter letter) others) where
   stands : (letter : ℕ) → has_flag letter words ≡ has_flag letter others
@@ -132,19 +134,19 @@ module _ (words others : List (List ℕ)) (moved : IsPermutation words others) (
   asked_is : (name : MetaKind) → asked_of name others ≡ record (asked_of name words) { flags = with_flags (flags_of words) (filter_map shown_flag others) }
   asked_is name = rw (stands 98, stands 113, found 79, stands 118, stands 73, found 84, found 78, found 82, found 67, found 69, found 68, found 74, found 70, found 77) refl
 
-  pub same_keyed : (name : MetaKind) (word : List ℕ) →
-      SameAsked (then_of (meta_key_of (has_flag 98 words) word) (λ key. command_by name key (asked_of name words))) (then_of (meta_key_of (has_flag 98 others) word) (λ key. command_by name key (asked_of name others)))
-  same_keyed name word =
-      same_then _ _ (λ key. command_by name key (asked_of name words)) (λ key. command_by name key (asked_of name others)) (ap (λ base64. meta_key_of base64 word) (stands 98))
-      (λ key. rw (asked_is name) (with_others name key (asked_of name words) (filter_map shown_flag others) (IsPermutation-filter_map shown_flag words others moved)))
+  pub same_keyed : (rules : Rules) (name : MetaKind) (word : List ℕ) →
+      SameAsked (then_of (meta_key_of (has_flag 98 words) word) (λ key. command_by rules name key (asked_of name words))) (then_of (meta_key_of (has_flag 98 others) word) (λ key. command_by rules name key (asked_of name others)))
+  same_keyed rules name word =
+      same_then _ _ (λ key. command_by rules name key (asked_of name words)) (λ key. command_by rules name key (asked_of name others)) (ap (λ base64. meta_key_of base64 word) (stands 98))
+      (λ key. rw (asked_is name) (with_others rules name key (asked_of name words) (filter_map shown_flag others) (IsPermutation-filter_map shown_flag words others moved)))
 
-same_asked : (name : MetaKind) (word : List ℕ) (words others : List (List ℕ)) → IsPermutation words others → SameAsked (meta_command_of name word words) (meta_command_of name word others)
-same_asked name word words others moved =
-    same_unless (flags_refusal name [] words) (flags_refusal name [] others) _ _
+same_asked : (rules : Rules) (name : MetaKind) (word : List ℕ) (words others : List (List ℕ)) → IsPermutation words others → SameAsked (meta_command_of rules name word words) (meta_command_of rules name word others)
+same_asked rules name word words others moved =
+    same_unless (flags_refusal rules name [] words) (flags_refusal rules name [] others) _ _
     (λ none.
-    let kept = keeps name words others moved [] none in
-    (kept.0, same_keyed words others moved kept.1 name word))
-    (λ none. (keeps name others words (IsPermutation-sym words others moved) [] none).0)
+    let kept = keeps rules name words others moved [] none in
+    (kept.0, same_keyed words others moved kept.1 rules name word))
+    (λ none. (keeps rules name others words (IsPermutation-sym words others moved) [] none).0)
 
 -- Lines.
 
@@ -165,9 +167,17 @@ same_block limit None (Ok asked) (Ok other) same = tt
 same_block limit None (Err refusal) (Err other) same = tt
 same_block limit count asked other same = absurd same
 
+-- A meta line hides no fault.
+same_shown : (line other : Line) → SameButOrder line other → SameButOrder (shown_line false line) (shown_line false other)
+same_shown (Whole asked) (Whole other) same = same
+same_shown (Data asked count) (Data other counted) same = same
+same_shown (Refused refusal) (Refused other) same = same
+same_shown (Skip refusal count) (Skip other counted) same = same
+same_shown line other same = absurd same
+
 -- a meta line with its flags in another order
-pub flags_reordered : (limit : ℕ) (name : MetaKind) (key count : List ℕ) (flags others : List (List ℕ)) → IsPermutation flags others →
-    SameButOrder (line_of limit (before_flags name key count ++ flags)) (line_of limit (before_flags name key count ++ others))
+pub flags_reordered : (rules : Rules) (name : MetaKind) (key count : List ℕ) (flags others : List (List ℕ)) → IsPermutation flags others →
+    SameButOrder (line_of rules (before_flags name key count ++ flags)) (line_of rules (before_flags name key count ++ others))
 unfolding line_of name_of meta_line_of
-flags_reordered limit Set key count flags others moved = same_block limit (number_of (2 ^ 32) count) _ _ (same_asked Set key flags others moved)
-flags_reordered limit name key count flags others moved = same_whole _ _ (same_asked name key flags others moved)
+flags_reordered rules Set key count flags others moved = same_shown _ _ (same_block rules.value_limit (block_count rules count) _ _ (same_asked rules Set key flags others moved))
+flags_reordered rules name key count flags others moved = same_shown _ _ (same_whole _ _ (same_asked rules name key flags others moved))

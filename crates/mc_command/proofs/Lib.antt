@@ -1,8 +1,11 @@
 pub mod Behind
 pub mod Blocks
+pub mod Counts
 pub mod Fields
 pub mod FlagOrder
 pub mod GivingUp
+pub mod Halves
+pub mod Hidings
 pub mod KeyLists
 pub mod Lines
 pub mod MetaCounts
@@ -10,6 +13,7 @@ pub mod MetaLaws
 pub mod MetaLookups
 pub mod MetaWalks
 pub mod Permuted
+pub mod RowsBoth
 pub mod RowsClassic
 pub mod RowsFlagOrder
 pub mod RowsMeta

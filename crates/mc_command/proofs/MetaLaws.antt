@@ -16,6 +16,8 @@ use Rattle.mc_command.specs.Command.{refusal_takes_memory}
 use Rattle.mc_command.specs.Field.{Reads, then_of}
 use Rattle.mc_command.specs.Meta.{letters_of, is_among, has_flag, is_set, is_token, flag_refusal, flags_refusal, unless, decoded_key, meta_key_of, compare_refusal, set_by, asked_of, command_by, meta_command_of}
 use Rattle.mc_command.specs.declared.meta_flags.Asked.{Asked}
+use Rattle.mc_command.specs.Rules.{is_drop_in}
+use Rattle.mc_command.specs.declared.rules.Rules.{Rules}
 
 -- What refuses, if anything does, comes of a line that may have taken memory.
 abbrev IsOfLine : Option Refusal → Type 0
@@ -30,29 +32,30 @@ of_or : (first second : Option Refusal) → IsOfLine first → IsOfLine second �
 of_or None second f s = s
 of_or (Some refusal) second f s = f
 
-flag_refusal_of_line : (name : MetaKind) (before : List (List ℕ)) (word : List ℕ) → IsOfLine (flag_refusal name before word)
-flag_refusal_of_line name before [] = refl
-flag_refusal_of_line name before (letter ∷ token) =
-    of_cond (not (is_among (letters_of name) letter)) _ _ refl
+flag_refusal_of_line : (rules : Rules) (name : MetaKind) (before : List (List ℕ)) (word : List ℕ) → IsOfLine (flag_refusal rules name before word)
+flag_refusal_of_line rules name before [] = refl
+flag_refusal_of_line rules name before (letter ∷ token) =
+    of_cond (not (is_among (letters_of rules name) letter)) _ _ refl
     (of_cond (has_flag letter before) _ _ refl
     (of_cond (letter == 79 && nat_lt OPAQUE_LIMIT (length token)) _ _ refl
     (of_cond (is_token name letter token) _ _ tt refl)))
 
-flags_refusal_of_line : (name : MetaKind) (before words : List (List ℕ)) → IsOfLine (flags_refusal name before words)
-flags_refusal_of_line name before [] = tt
-flags_refusal_of_line name before (word ∷ words) =
-    of_or (flag_refusal name before word) (flags_refusal name (before ++ word ∷ []) words) (flag_refusal_of_line name before word) (flags_refusal_of_line name (before ++ word ∷ []) words)
+flags_refusal_of_line : (rules : Rules) (name : MetaKind) (before words : List (List ℕ)) → IsOfLine (flags_refusal rules name before words)
+flags_refusal_of_line rules name before [] = tt
+flags_refusal_of_line rules name before (word ∷ words) =
+    of_or (flag_refusal rules name before word) (flags_refusal rules name (before ++ word ∷ []) words) (flag_refusal_of_line rules name before word) (flags_refusal_of_line rules name (before ++ word ∷ []) words)
 
 given_up_unless : (refusal : Option Refusal) (asked : Result Command Refusal) → IsOfLine refusal → MayBeGivenUp asked → MayBeGivenUp (unless refusal asked)
 given_up_unless None asked of_line may = may
 given_up_unless (Some refusal) asked of_line may = of_line
 
-given_up_command : (name : MetaKind) (key : List ℕ) (asked : Asked) → MayBeGivenUp (command_by name key asked)
-given_up_command Get key asked = refl
-given_up_command Set key asked =
-    given_up_unless (compare_refusal (set_by key asked)) _ (of_cond (is_some asked.compare && not (is_set (set_by key asked).mode)) _ _ refl tt) refl
-given_up_command Delete key asked = refl
-given_up_command Arithmetic key asked = refl
+given_up_command : (rules : Rules) (name : MetaKind) (key : List ℕ) (asked : Asked) → MayBeGivenUp (command_by rules name key asked)
+given_up_command rules Get key asked = refl
+given_up_command rules Set key asked =
+    let set = set_by rules key asked in
+    given_up_unless (compare_refusal rules set) _ (of_cond (not (is_drop_in rules) && (is_some set.compare && not (is_set set.mode))) _ _ refl tt) refl
+given_up_command rules Delete key asked = refl
+given_up_command rules Arithmetic key asked = refl
 
 yields_meta_key : (base64 : Bool) (word : List ℕ) → Yields (meta_key_of base64 word)
 unfolding decoded_key
@@ -60,15 +63,15 @@ yields_meta_key true word = yields_or (base64_key word) BadKey refl
 yields_meta_key false word = yields_key word
 
 -- A meta line may be given up where memory runs out.
-pub meta_given_up : (name : MetaKind) (word : List ℕ) (words : List (List ℕ)) → MayBeGivenUp (meta_command_of name word words)
-meta_given_up name word words =
-    given_up_unless (flags_refusal name [] words) _ (flags_refusal_of_line name [] words)
-    (may_then _ _ (yields_meta_key (has_flag 98 words) word) (λ key. given_up_command name key (asked_of name words)))
+pub meta_given_up : (rules : Rules) (name : MetaKind) (word : List ℕ) (words : List (List ℕ)) → MayBeGivenUp (meta_command_of rules name word words)
+meta_given_up rules name word words =
+    given_up_unless (flags_refusal rules name [] words) _ (flags_refusal_of_line rules name [] words)
+    (may_then _ _ (yields_meta_key (has_flag 98 words) word) (λ key. given_up_command rules name key (asked_of name words)))
 
-asked_then : (name : MetaKind) (word : List ℕ) (words : List (List ℕ)) (asked : Asked) (key : List ℕ) (refusal : Option Refusal) → Ok asked ≡ unless refusal (Ok (asked_of name words)) → meta_key_of asked.flags.base64 word ≡ Ok key →
-    command_by name key asked ≡ unless refusal (then_of (meta_key_of (has_flag 98 words) word) (λ bytes. command_by name bytes (asked_of name words)))
-asked_then name word words asked key (Some refusal) said spelled = absurd cc
-asked_then name word words asked key None said spelled =
+asked_then : (rules : Rules) (name : MetaKind) (word : List ℕ) (words : List (List ℕ)) (asked : Asked) (key : List ℕ) (refusal : Option Refusal) → Ok asked ≡ unless refusal (Ok (asked_of name words)) → meta_key_of asked.flags.base64 word ≡ Ok key →
+    command_by rules name key asked ≡ unless refusal (then_of (meta_key_of (has_flag 98 words) word) (λ bytes. command_by rules name bytes (asked_of name words)))
+asked_then rules name word words asked key (Some refusal) said spelled = absurd cc
+asked_then rules name word words asked key None said spelled =
     let same : asked ≡ asked_of name words = cc in
     rw (same, rw same at spelled)
 
@@ -77,10 +80,10 @@ reads_same asked (Ok command) same = sym same
 reads_same asked (Err refusal) same = λ other. sym same
 
 -- flags and key as they were read make the command
-pub reads_command : (name : MetaKind) (word : List ℕ) (words : List (List ℕ)) (asked : Asked) (key : List ℕ) (read : Result Command Refusal) → Ok asked ≡ unless (flags_refusal name [] words) (Ok (asked_of name words)) →
-    meta_key_of asked.flags.base64 word ≡ Ok key → read ≡ command_by name key asked → Reads (meta_command_of name word words) read
-reads_command name word words asked key read said spelled made =
-    reads_same (meta_command_of name word words) read (made ∙ asked_then name word words asked key (flags_refusal name [] words) said spelled)
+pub reads_command : (rules : Rules) (name : MetaKind) (word : List ℕ) (words : List (List ℕ)) (asked : Asked) (key : List ℕ) (read : Result Command Refusal) → Ok asked ≡ unless (flags_refusal rules name [] words) (Ok (asked_of name words)) →
+    meta_key_of asked.flags.base64 word ≡ Ok key → read ≡ command_by rules name key asked → Reads (meta_command_of rules name word words) read
+reads_command rules name word words asked key read said spelled made =
+    reads_same (meta_command_of rules name word words) read (made ∙ asked_then rules name word words asked key (flags_refusal rules name [] words) said spelled)
 
 pub result_ok-ok_or : (value : Option ℕ) (refusal : Refusal) → result_ok (ok_or value refusal) ≡ value
 result_ok-ok_or None refusal = refl

@@ -15,16 +15,19 @@ use Rattle.mc_command.specs.declared.meta.MetaKind.{MetaKind}
 use Rattle.mc_command.specs.declared.meta.MetaKind.TheVariants.{Get, Set, Delete, Arithmetic}
 use Rattle.mc_command.specs.declared.refusal.Refusal.{Refusal}
 use Rattle.mc_command.specs.declared.refusal.Refusal.TheVariants.{BadFormat, InvalidFlag, DuplicateFlag, OpaqueTooLong}
+use Rattle.mc_command.specs.declared.rules.Profile.{Profile}
+use Rattle.mc_command.specs.declared.rules.Profile.TheVariants.{Own, DropIn}
+use Rattle.mc_command.specs.declared.rules.Rules.{Rules}
 use Rattle.mc_command.specs.Field.{then_of}
-use Rattle.mc_command.specs.Meta.{letters_of, is_among, has_flag, is_token, mode_of, direction_of, return_flag, flags_refusal, flag_refusal, unless, asked_of}
+use Rattle.mc_command.specs.Meta.{letters_by, letters_of, is_among, has_flag, is_token, mode_of, direction_of, return_flag, flags_refusal, flag_refusal, unless, asked_of}
 use Rattle.mc_command.specs.internal.FlagReading.{nothing_asked, flag_of, with_flag, with_shown, with_word, unseen}
 use Rattle.mc_command.proofs.MetaCounts.{eq_comm, small_among}
 use Rattle.mc_command.proofs.MetaLookups.{asked_next, asked_of-append, has_flag-append, with_shown_is}
 
 -- what is read from here on
-abbrev pub read_from : MetaKind → FlagReader → List (List ℕ) → Result Asked Refusal
-read_from name reader [] = Ok reader.asked
-read_from name reader (word ∷ words) = then_of (with_word name reader word) (λ more. read_from name more words)
+abbrev pub read_from : Rules → MetaKind → FlagReader → List (List ℕ) → Result Asked Refusal
+read_from rules name reader [] = Ok reader.asked
+read_from rules name reader (word ∷ words) = then_of (with_word rules name reader word) (λ more. read_from rules name more words)
 
 -- what refuses a flag for its token
 token_refusal : MetaKind → ℕ → List ℕ → Option Refusal
@@ -101,11 +104,18 @@ every_letter name letter =
     by_letter name 70 letter (said_read name 70 (number_of (2 ^ 32)) flag.ClientFlags (λ _. refl) (λ _. refl) (λ _ _ _ is. rw is refl)) (λ t70.
     said_bare name letter t98 t113 t118 t73 t79 t77 t84 t78 t82 t67 t69 t68 t74 t70))))))))))))))
 
-small_letter : (name : MetaKind) (letter : ℕ) → is_among (letters_of name) letter ≡ true → letter < 256
-small_letter Get letter among = small_among letter (letters_of Get) refl among
-small_letter Set letter among = small_among letter (letters_of Set) refl among
-small_letter Delete letter among = small_among letter (letters_of Delete) refl among
-small_letter Arithmetic letter among = small_among letter (letters_of Arithmetic) refl among
+small_by : (profile : Profile) (name : MetaKind) (letter : ℕ) → is_among (letters_by profile name) letter ≡ true → letter < 256
+small_by Own Get letter among = small_among letter (letters_by Own Get) refl among
+small_by Own Set letter among = small_among letter (letters_by Own Set) refl among
+small_by Own Delete letter among = small_among letter (letters_by Own Delete) refl among
+small_by Own Arithmetic letter among = small_among letter (letters_by Own Arithmetic) refl among
+small_by DropIn Get letter among = small_among letter (letters_by DropIn Get) refl among
+small_by DropIn Set letter among = small_among letter (letters_by DropIn Set) refl among
+small_by DropIn Delete letter among = small_among letter (letters_by DropIn Delete) refl among
+small_by DropIn Arithmetic letter among = small_among letter (letters_by DropIn Arithmetic) refl among
+
+small_letter : (rules : Rules) (name : MetaKind) (letter : ℕ) → is_among (letters_of rules name) letter ≡ true → letter < 256
+small_letter rules name letter among = small_by rules.profile name letter among
 
 -- The reader has read these flags.
 record HasRead (name : MetaKind) (reader : FlagReader) (before : List (List ℕ)) : Type 0 where
@@ -114,9 +124,9 @@ record HasRead (name : MetaKind) (reader : FlagReader) (before : List (List ℕ)
   asked : reader.asked ≡ asked_of name before
 
 -- what one flag more gives
-data Step (name : MetaKind) (reader : FlagReader) (before : List (List ℕ)) (word : List ℕ) : Type 0 where
-  stops : (refusal : Refusal) → flag_refusal name before word ≡ Some refusal → with_word name reader word ≡ Err refusal → Step name reader before word
-  goes : (more : FlagReader) → flag_refusal name before word ≡ None → with_word name reader word ≡ Ok more → HasRead name more (before ++ word ∷ []) → Step name reader before word
+data Step (rules : Rules) (name : MetaKind) (reader : FlagReader) (before : List (List ℕ)) (word : List ℕ) : Type 0 where
+  stops : (refusal : Refusal) → flag_refusal rules name before word ≡ Some refusal → with_word rules name reader word ≡ Err refusal → Step rules name reader before word
+  goes : (more : FlagReader) → flag_refusal rules name before word ≡ None → with_word rules name reader word ≡ Ok more → HasRead name more (before ++ word ∷ []) → Step rules name reader before word
 
 has_read_more : (name : MetaKind) (reader : FlagReader) (before : List (List ℕ)) (letter : ℕ) (token : List ℕ) (flag : Flag) → HasRead name reader before → letter < 256 →
     with_shown (with_flag (asked_of name before) flag) (return_flag letter) ≡ asked_of name (before ++ (letter ∷ token) ∷ []) →
@@ -133,38 +143,38 @@ has_read_more name reader before letter token flag read small agrees =
       asked = rw read.asked agrees;
     }
 
-step : (name : MetaKind) (reader : FlagReader) (before : List (List ℕ)) (word : List ℕ) → HasRead name reader before → Step name reader before word
+step : (rules : Rules) (name : MetaKind) (reader : FlagReader) (before : List (List ℕ)) (word : List ℕ) → HasRead name reader before → Step rules name reader before word
 unfolding token_refusal
-step name reader before [] read = stops InvalidFlag refl refl
-step name reader before (letter ∷ token) read =
-    elim (cases_Bool (is_among (letters_of name) letter)) [
+step rules name reader before [] read = stops InvalidFlag refl refl
+step rules name reader before (letter ∷ token) read =
+    elim (cases_Bool (is_among (letters_of rules name) letter)) [
       | inr t ↦ stops InvalidFlag (rw t refl) (rw t refl)
       | inl t ↦ elim (cases_Bool (has_flag letter before)) [
         | inl stands ↦
-            let seen : get_or reader.seen letter false ≡ true = read.seen letter (small_letter name letter t) ∙ stands in
+            let seen : get_or reader.seen letter false ≡ true = read.seen letter (small_letter rules name letter t) ∙ stands in
             stops DuplicateFlag (rw (t, stands) refl) (rw (t, seen) refl)
         | inr fresh ↦
-            let seen : get_or reader.seen letter false ≡ false = read.seen letter (small_letter name letter t) ∙ fresh in
+            let seen : get_or reader.seen letter false ≡ false = read.seen letter (small_letter rules name letter t) ∙ fresh in
             elim (every_letter name letter token before fresh) [
               | refused refusal token_is flag_is ↦ stops refusal (rw (t, fresh) token_is) (rw (t, seen, flag_is) refl)
               | said flag token_is flag_is agrees ↦
                   goes (record { seen = set reader.seen letter true; asked = with_shown (with_flag reader.asked flag) (return_flag letter) })
                   (rw (t, fresh) token_is) (rw (t, seen, flag_is) refl)
-                  (has_read_more name reader before letter token flag read (small_letter name letter t) agrees)
+                  (has_read_more name reader before letter token flag read (small_letter rules name letter t) agrees)
             ]
       ]
     ]
 
-read_on : (name : MetaKind) (reader : FlagReader) (before words : List (List ℕ)) → HasRead name reader before →
-    read_from name reader words ≡ unless (flags_refusal name before words) (Ok (asked_of name (before ++ words)))
-read_on name reader before [] read = ap Ok (read.asked ∙ ap (asked_of name) (sym (append-nil before)))
-read_on name reader before (word ∷ words) read =
-    elim (step name reader before word read) [
+read_on : (rules : Rules) (name : MetaKind) (reader : FlagReader) (before words : List (List ℕ)) → HasRead name reader before →
+    read_from rules name reader words ≡ unless (flags_refusal rules name before words) (Ok (asked_of name (before ++ words)))
+read_on rules name reader before [] read = ap Ok (read.asked ∙ ap (asked_of name) (sym (append-nil before)))
+read_on rules name reader before (word ∷ words) read =
+    elim (step rules name reader before word read) [
       | stops refusal refusal_is word_is ↦ rw (refusal_is, word_is) refl
       | goes more refusal_is word_is has_read ↦
           rw (refusal_is, word_is)
-          (read_on name more (before ++ word ∷ []) words has_read ∙
-          ap (λ ws. unless (flags_refusal name (before ++ word ∷ []) words) (Ok (asked_of name ws))) (append_assoc before (word ∷ []) words))
+          (read_on rules name more (before ++ word ∷ []) words has_read ∙
+          ap (λ ws. unless (flags_refusal rules name (before ++ word ∷ []) words) (Ok (asked_of name ws))) (append_assoc before (word ∷ []) words))
     ]
 
 nothing_is : (name : MetaKind) → nothing_asked ≡ asked_of name []
@@ -173,24 +183,24 @@ nothing_is Set = refl
 nothing_is Delete = refl
 nothing_is Arithmetic = refl
 
-pub read_from_is : (name : MetaKind) (reader : FlagReader) (words : List (List ℕ)) → reader.seen ≡ unseen → reader.asked ≡ nothing_asked → read_from name reader words ≡ unless (flags_refusal name [] words) (Ok (asked_of name words))
-read_from_is name reader words seen asked = read_on name reader [] words (record {
+pub read_from_is : (rules : Rules) (name : MetaKind) (reader : FlagReader) (words : List (List ℕ)) → reader.seen ≡ unseen → reader.asked ≡ nothing_asked → read_from rules name reader words ≡ unless (flags_refusal rules name [] words) (Ok (asked_of name words))
+read_from_is rules name reader words seen asked = read_on rules name reader [] words (record {
   wide = rw seen (length-replicate 256 false);
   seen = λ letter below. rw seen (get_or-replicate 256 letter false false below);
   asked = asked ∙ nothing_is name;
 })
 
 -- no word is left
-pub read_whole : (name : MetaKind) (reader first : FlagReader) (left words : List (List ℕ)) → first.seen ≡ unseen → first.asked ≡ nothing_asked →
-    read_from name reader left ≡ read_from name first words → left ≡ [] → Ok reader.asked ≡ unless (flags_refusal name [] words) (Ok (asked_of name words))
-read_whole name reader first left words seen asked same_rest ended =
-    let e : read_from name reader [] ≡ read_from name first words = rw ended at same_rest in
-    e ∙ read_from_is name first words seen asked
+pub read_whole : (rules : Rules) (name : MetaKind) (reader first : FlagReader) (left words : List (List ℕ)) → first.seen ≡ unseen → first.asked ≡ nothing_asked →
+    read_from rules name reader left ≡ read_from rules name first words → left ≡ [] → Ok reader.asked ≡ unless (flags_refusal rules name [] words) (Ok (asked_of name words))
+read_whole rules name reader first left words seen asked same_rest ended =
+    let e : read_from rules name reader [] ≡ read_from rules name first words = rw ended at same_rest in
+    e ∙ read_from_is rules name first words seen asked
 
 -- the next word is refused
-pub read_refused : (name : MetaKind) (reader first : FlagReader) (left words : List (List ℕ)) (word : List ℕ) (later : List (List ℕ)) (refusal : Refusal) → first.seen ≡ unseen → first.asked ≡ nothing_asked →
-    read_from name reader left ≡ read_from name first words → left ≡ word ∷ later → with_word name reader word ≡ Err refusal → Err refusal ≡ unless (flags_refusal name [] words) (Ok (asked_of name words))
-read_refused name reader first left words word later refusal seen asked same_rest next stops_there =
-    let e : read_from name reader (word ∷ later) ≡ read_from name first words = rw next at same_rest in
+pub read_refused : (rules : Rules) (name : MetaKind) (reader first : FlagReader) (left words : List (List ℕ)) (word : List ℕ) (later : List (List ℕ)) (refusal : Refusal) → first.seen ≡ unseen → first.asked ≡ nothing_asked →
+    read_from rules name reader left ≡ read_from rules name first words → left ≡ word ∷ later → with_word rules name reader word ≡ Err refusal → Err refusal ≡ unless (flags_refusal rules name [] words) (Ok (asked_of name words))
+read_refused rules name reader first left words word later refusal seen asked same_rest next stops_there =
+    let e : read_from rules name reader (word ∷ later) ≡ read_from rules name first words = rw next at same_rest in
     let f = rw stops_there at e in
-    f ∙ read_from_is name first words seen asked
+    f ∙ read_from_is rules name first words seen asked

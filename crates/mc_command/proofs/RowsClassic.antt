@@ -17,6 +17,9 @@ use Rattle.mc_command.specs.Classic.{keys_of}
 use Rattle.mc_command.specs.Meta.{meta_line_of}
 use Rattle.mc_command.specs.Name.{name_of}
 use Rattle.mc_command.specs.Table.{line_of}
+use Rattle.mc_command.specs.Rules.{own}
+use Rattle.mc_command.specs.Field.{word_count_refusal}
+use Rattle.mc_command.specs.declared.rules.Profile.TheVariants.{Own}
 
 -- a line and what it is
 abbrev Rows : Type 0
@@ -24,7 +27,7 @@ Rows = List (List ℕ × Line)
 
 -- each line of the rows is what stands beside it
 abbrev AreSo : Rows → Type 0
-AreSo rows = map (λ row. line_of DEFAULT_VALUE_LIMIT (words_of row.0)) rows ≡ map (λ row. row.1) rows
+AreSo rows = map (λ row. line_of (own DEFAULT_VALUE_LIMIT) (words_of row.0)) rows ≡ map (λ row. row.1) rows
 
 -- these lines are all the same
 abbrev each_is : Line → List (List ℕ) → Rows
@@ -59,7 +62,7 @@ storage_rows : AreSo (
     ∷ (codes "set a 0 0 1048576", Data (stored a Set 0 (pos 0) false) 1048576)
     ∷ (codes "set " ++ letters 250 ++ codes " 0 0 2", Data (stored (letters 250) Set 0 (pos 0) false) 2)
     ∷ each_is (Data (stored a Set 5 (pos 0) false) 3) (map codes ("set a 5 0 3" ∷ "  set  a 5 0   3 " ∷ [])))
-unfolding line_of words_of name_of is_key number_of
+unfolding line_of words_of name_of is_key number_of word_count_refusal
 storage_rows = refl
 
 -- one fault
@@ -76,7 +79,7 @@ storage_faults : AreSo (
     ++ each_is (Skip BadFormat 3) (map codes ("cas a 0 0 1 noreply" ∷ []))
     ++ each_is (Skip BadFormat 4) (map codes ("set a x 0 2" ∷ "set a +1 0 2" ∷ "set a -1 0 2" ∷ "append a 4294967296 0 2" ∷ []))
     ++ each_is (Skip TooLarge 1048579) (map codes ("set a 0 0 1048577" ∷ "set a 0 0 1048577 noreply" ∷ [])))
-unfolding line_of words_of name_of is_key number_of
+unfolding line_of words_of name_of is_key number_of word_count_refusal
 storage_faults = refl
 
 -- two faults in one line: which one it is refused for
@@ -92,7 +95,7 @@ storage_orders : AreSo (
     ∷ (codes "set " ++ bad_key ++ codes " 0 0 1048577", Skip BadKey 1048579)
     ∷ (codes "set a 0 0 x y", Refused BadFormat)
     ∷ each_is (Skip BadFormat 1048579) (map codes ("set a x 0 1048577" ∷ "set a 0 0 1048577 x" ∷ [])))
-unfolding line_of words_of name_of is_key number_of
+unfolding line_of words_of name_of is_key number_of word_count_refusal
 storage_orders = refl
 
 retrieval_rows : AreSo (
@@ -109,7 +112,7 @@ retrieval_rows : AreSo (
     ∷ (codes "get" ++ 9 ∷ codes "a", Refused Unknown)
     ∷ each_is (Refused BadFormat) (map codes ("get" ∷ "gat" ∷ "gat 0" ∷ "gat x a" ∷ []))
     ++ each_is (Refused Unknown) (map codes ("" ∷ "   " ∷ "stats" ∷ [])))
-unfolding line_of words_of name_of is_key keys_of number_of
+unfolding line_of words_of name_of is_key keys_of number_of word_count_refusal
 retrieval_rows = refl
 
 change_rows : AreSo (
@@ -133,11 +136,11 @@ change_rows : AreSo (
     ++ each_is (Refused BadFormat) (map codes ("delete a noreply 0" ∷ "delete a noreply noreply" ∷ "incr a 18446744073709551616" ∷ []))
     ++ each_is (Refused BadFormat) (map codes ("incr a -1" ∷ "incr a" ∷ "incr a noreply" ∷ "incr a 1 x" ∷ "touch a x" ∷ "touch a" ∷ []))
     ++ each_is (Refused BadFormat) (map codes ("flush_all noreply noreply" ∷ "flush_all 1 2" ∷ "flush_all 1 noreply x" ∷ [])))
-unfolding line_of words_of name_of is_key keys_of number_of
+unfolding line_of words_of name_of is_key keys_of number_of word_count_refusal
 change_rows = refl
 
 other_rows : AreSo (
-    (codes "version x", Whole command.Version)
+    (codes "version x", Whole (command.Version Own))
     ∷ (codes "verbosity 1", Whole (command.Verbosity false))
     ∷ (codes "verbosity 1 noreply", Whole (command.Verbosity true))
     ∷ (codes "quit now", Whole command.Quit)
@@ -145,7 +148,7 @@ other_rows : AreSo (
     ∷ (codes "quitting", Refused Unknown)
     ∷ (codes "mn" ++ 13 ∷ [], Refused Unknown)
     ∷ each_is (Refused BadFormat) (map codes ("verbosity" ∷ "verbosity noreply" ∷ "verbosity 1 2" ∷ "verbosity 1 noreply x" ∷ [])))
-unfolding line_of words_of name_of is_key keys_of number_of
+unfolding line_of words_of name_of is_key keys_of number_of word_count_refusal
 other_rows = refl
 
 -- signs, leading zeros, and the most digits
@@ -169,7 +172,7 @@ number_rows : AreSo (
     ++ each_is (Refused BadFormat) (map codes ("decr a 18446744073709551616 noreply" ∷ "touch a -000000000000000000001" ∷ []))
     ++ each_is (Refused BadFormat) (map codes ("touch a 9223372036854775808" ∷ "touch a +1" ∷ "gats 18446744073709551615 a" ∷ []))
     ++ each_is (Refused BadFormat) (map codes ("flush_all -9223372036854775809" ∷ "verbosity 18446744073709551616" ∷ "verbosity -1" ∷ [])))
-unfolding line_of words_of name_of is_key keys_of number_of
+unfolding line_of words_of name_of is_key keys_of number_of word_count_refusal
 number_rows = refl
 
 -- `noreply` is a key in the place of one, and a bad word in any other place but its own
@@ -180,7 +183,7 @@ noreply_rows : AreSo (
     ∷ (codes "delete noreply", Whole (command.Delete (codes "noreply") false))
     ∷ (codes "incr noreply 1", Whole (command.Count (codes "noreply") Increment 1 false))
     ∷ (codes "touch noreply 0 noreply", Whole (command.Touch (codes "noreply") (pos 0) true))
-    ∷ (codes "version noreply", Whole command.Version)
+    ∷ (codes "version noreply", Whole (command.Version Own))
     ∷ (codes "quit noreply", Whole command.Quit)
     ∷ (codes "mn noreply", Whole command.MetaNoop)
     ∷ (codes "ms a 2 noreply", Skip InvalidFlag 4)
@@ -189,5 +192,5 @@ noreply_rows : AreSo (
     ++ each_is (Refused BadFormat) (map codes ("set a 0 0 noreply" ∷ "set a 0 0 noreply 1" ∷ "gat noreply a" ∷ "decr a noreply 1" ∷ []))
     ++ each_is (Refused BadFormat) (map codes ("touch a noreply" ∷ "flush_all noreply 5" ∷ "verbosity noreply noreply" ∷ []))
     ++ each_is (Refused InvalidFlag) (map codes ("mg a noreply" ∷ "md a noreply" ∷ "ma a noreply" ∷ [])))
-unfolding line_of words_of name_of is_key keys_of number_of meta_line_of
+unfolding line_of words_of name_of is_key keys_of number_of meta_line_of word_count_refusal
 noreply_rows = refl

@@ -15,9 +15,11 @@ use Rattle.mc_command.specs.FlagOrder.{before_flags}
 use Rattle.mc_command.specs.Meta.{meta_line_of}
 use Rattle.mc_command.specs.Name.{name_of}
 use Rattle.mc_command.specs.Table.{line_of}
+use Rattle.mc_command.specs.Rules.{own}
+use Rattle.mc_command.specs.Field.{word_count_refusal}
 
 abbrev line : List ℕ → Line
-line text = line_of DEFAULT_VALUE_LIMIT (words_of text)
+line text = line_of (own DEFAULT_VALUE_LIMIT) (words_of text)
 
 -- what stands before the flags
 heads : map words_of (codes "mg a k t" ∷ codes "ms a 2 k t" ∷ [])
@@ -30,11 +32,11 @@ abbrev got : List ReturnFlag → Line
 got returned = Whole (MetaGet (record { key = codes "a"; flags = record { base64 = false; quiet = true; returned = returned; opaque = codes "1" }; value = true; touch = None; vivify = None; recache = None }))
 
 gets : map line (codes "mg a k v O1 q t" ∷ codes "mg a t q O1 v k" ∷ []) ≡ got (Key ∷ Opaque ∷ TimeLeft ∷ []) ∷ got (TimeLeft ∷ Opaque ∷ Key ∷ []) ∷ []
-unfolding line_of name_of meta_line_of words_of number_of is_key
+unfolding line_of name_of meta_line_of words_of number_of is_key word_count_refusal
 gets = refl
 
 -- two faults: the one that comes first is told, and as many bytes are skipped
 faults : map line (codes "mg a b b ?" ∷ codes "mg a ? b b" ∷ codes "ms a 2 b b ?" ∷ codes "ms a 2 ? b b" ∷ [])
     ≡ Refused DuplicateFlag ∷ Refused InvalidFlag ∷ Skip DuplicateFlag 4 ∷ Skip InvalidFlag 4 ∷ []
-unfolding line_of name_of meta_line_of words_of number_of is_key
+unfolding line_of name_of meta_line_of words_of number_of is_key word_count_refusal
 faults = refl

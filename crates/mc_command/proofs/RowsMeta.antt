@@ -19,20 +19,22 @@ use Rattle.mc_command.specs.Field.{is_key}
 use Rattle.mc_command.specs.Meta.{decoded_key, mode_of, direction_of, meta_line_of}
 use Rattle.mc_command.specs.Name.{name_of}
 use Rattle.mc_command.specs.Table.{line_of}
+use Rattle.mc_command.specs.Rules.{own}
+use Rattle.mc_command.specs.Field.{word_count_refusal}
 
 -- lines of the four commands, by the text behind the name
 
 abbrev mg : List ℕ → Line
-mg text = meta_line_of DEFAULT_VALUE_LIMIT Get (words_of text)
+mg text = meta_line_of (own DEFAULT_VALUE_LIMIT) Get (words_of text)
 
 abbrev ms : List ℕ → Line
-ms text = meta_line_of DEFAULT_VALUE_LIMIT Set (words_of text)
+ms text = meta_line_of (own DEFAULT_VALUE_LIMIT) Set (words_of text)
 
 abbrev md : List ℕ → Line
-md text = meta_line_of DEFAULT_VALUE_LIMIT Delete (words_of text)
+md text = meta_line_of (own DEFAULT_VALUE_LIMIT) Delete (words_of text)
 
 abbrev ma : List ℕ → Line
-ma text = meta_line_of DEFAULT_VALUE_LIMIT Arithmetic (words_of text)
+ma text = meta_line_of (own DEFAULT_VALUE_LIMIT) Arithmetic (words_of text)
 
 abbrev no_flags : MetaFlags
 no_flags = record { base64 = false; quiet = false; returned = []; opaque = [] }
@@ -40,7 +42,7 @@ no_flags = record { base64 = false; quiet = false; returned = []; opaque = [] }
 -- no key, or no count: nothing is skipped
 few_words : map mg ([] ∷ codes "  " ∷ []) ++ map ms ([] ∷ codes "a" ∷ []) ++ map md ([] ∷ []) ++ map ma ([] ∷ [])
     ≡ replicate 6 (Refused BadFormat)
-unfolding meta_line_of words_of
+unfolding meta_line_of words_of word_count_refusal
 few_words = refl
 
 -- each command has letters of its own, and case counts
@@ -50,14 +52,14 @@ foreign_letters :
     ++ map ma (map codes ("a s" ∷ "a f" ∷ "a h" ∷ "a l" ∷ "a I" ∷ "a R1" ∷ "a F1" ∷ []))
     ++ map ms (map codes ("a 0 v" ∷ "a 0 t" ∷ "a 0 I" ∷ "a 0 N1" ∷ "a 0 R1" ∷ "a 0 D1" ∷ "a 0 J1" ∷ []))
     ≡ replicate 25 (Refused InvalidFlag) ++ replicate 7 (Skip InvalidFlag 2)
-unfolding meta_line_of words_of number_of
+unfolding meta_line_of words_of number_of word_count_refusal
 foreign_letters = refl
 
 -- over the flags the first fault decides, and within one flag the letter, the duplicate, the long token
 -- and the bad one, in this order
 first_faults : map mg (codes "a v v ?" ∷ codes "a ? v v" ∷ codes "a Tx ?" ∷ codes "a T1 Tx" ∷ codes "a vx vy" ∷ (codes "a O1 O" ++ replicate 33 120) ∷ (codes "a O" ++ replicate 33 120 ++ codes " v v") ∷ (codes "a N O" ++ replicate 33 120) ∷ [])
     ≡ Refused DuplicateFlag ∷ Refused InvalidFlag ∷ Refused BadFormat ∷ Refused DuplicateFlag ∷ Refused DuplicateFlag ∷ Refused DuplicateFlag ∷ Refused OpaqueTooLong ∷ Refused BadFormat ∷ []
-unfolding meta_line_of words_of number_of
+unfolding meta_line_of words_of number_of word_count_refusal
 first_faults = refl
 
 -- flags before the key, the key before the count, the count before the rest
@@ -66,7 +68,7 @@ faults_in_order :
     ++ map ms (codes "a x ?" ∷ codes "a x v" ∷ codes "a x O1 O2" ∷ (97 ∷ 127 ∷ codes " x") ∷ (97 ∷ 127 ∷ codes " 3") ∷ (97 ∷ 127 ∷ codes " 3 ?") ∷ (97 ∷ 127 ∷ codes " 1048577") ∷ codes "a x" ∷ codes "a x C1 ME" ∷ [])
     ≡ Refused InvalidFlag ∷ Refused DuplicateFlag ∷ Refused BadKey ∷ Refused BadKey
     ∷ Refused InvalidFlag ∷ Refused InvalidFlag ∷ Refused DuplicateFlag ∷ Refused BadKey ∷ Skip BadKey 5 ∷ Skip InvalidFlag 5 ∷ Skip BadKey 1048579 ∷ Refused BadFormat ∷ Refused BadFormat ∷ []
-unfolding meta_line_of words_of number_of is_key
+unfolding meta_line_of words_of number_of is_key word_count_refusal
 faults_in_order = refl
 
 -- flags that need a token and have none, or one out of range; signs, and one digit too many
@@ -79,13 +81,13 @@ bad_tokens :
     ++ map ms (map codes ("a 1 F" ∷ "a 1 F4294967296" ∷ "a 1 F-1" ∷ "a 1 C" ∷ "a 1 T" ∷ "a 1 M" ∷ "a 1 MX" ∷ "a 1 MI" ∷ []))
     ++ map ms (map codes ("a 1 MSS" ∷ "a 1 E" ∷ "a 1 Ex" ∷ "a 1 E000000000000000000001" ∷ []))
     ≡ replicate 30 (Refused BadFormat) ++ replicate 12 (Skip BadFormat 3)
-unfolding meta_line_of words_of number_of
+unfolding meta_line_of words_of number_of word_count_refusal
 bad_tokens = refl
 
 -- a readable count skips its block; a large value and `C` in another mode are refused last
 counts : map ms (codes "a 4294967296" ∷ codes "a -1" ∷ codes "a 000000000000000000001" ∷ codes "a 4294967295" ∷ codes "a 1048577" ∷ codes "a 1048577 C1 MA" ∷ codes "a 2 C1 Ma" ∷ codes "a 2 Me C1" ∷ codes "a 2 C1 MP" ∷ codes "a 2 C1 Mr" ∷ [])
     ≡ Refused BadFormat ∷ Refused BadFormat ∷ Refused BadFormat ∷ Skip TooLarge 4294967297 ∷ Skip TooLarge 1048579 ∷ Skip BadFormat 1048579 ∷ replicate 4 (Skip BadFormat 4)
-unfolding meta_line_of words_of number_of is_key
+unfolding meta_line_of words_of number_of is_key word_count_refusal
 counts = refl
 
 -- the limit is the most that a value may have, whatever limit is chosen
@@ -96,14 +98,14 @@ limits : map (λ limit. map (λ count. block_line limit (Some count) (Ok MetaNoo
     ∷ []
 limits = refl
 
-line_limits : map (λ text. line_of LEAST_VALUE_LIMIT (words_of text)) (map codes ("ms a 1025" ∷ "set a 0 0 1025" ∷ "cas a 0 0 1025 1" ∷ []))
-    ++ map (λ text. line_of GREATEST_VALUE_LIMIT (words_of text)) (map codes ("ms a 8388609" ∷ "set a 0 0 8388609" ∷ "cas a 0 0 8388609 1" ∷ []))
+line_limits : map (λ text. line_of (own LEAST_VALUE_LIMIT) (words_of text)) (map codes ("ms a 1025" ∷ "set a 0 0 1025" ∷ "cas a 0 0 1025 1" ∷ []))
+    ++ map (λ text. line_of (own GREATEST_VALUE_LIMIT) (words_of text)) (map codes ("ms a 8388609" ∷ "set a 0 0 8388609" ∷ "cas a 0 0 8388609 1" ∷ []))
     ≡ replicate 3 (Skip TooLarge 1027) ++ replicate 3 (Skip TooLarge 8388611)
-unfolding line_of name_of meta_line_of words_of number_of is_key
+unfolding line_of name_of meta_line_of words_of number_of is_key word_count_refusal
 line_limits = refl
 
 largest_value : ms (codes "a 1048576") ≡ Data (MetaSet (record { key = codes "a"; flags = no_flags; mode = mode.Set; compare = None; unique = None; client_flags = 0; exptime = pos 0; block = [] })) 1048576
-unfolding meta_line_of words_of number_of is_key
+unfolding meta_line_of words_of number_of is_key word_count_refusal
 largest_value = refl
 
 -- modes in either case, of one letter alone
@@ -125,7 +127,7 @@ whole_get : mg (codes "key s c O123 t k f h l q v T30 N-1 R60")
       vivify = Some (negsuc 0);
       recache = Some (pos 60);
     }))
-unfolding meta_line_of words_of number_of is_key
+unfolding meta_line_of words_of number_of is_key word_count_refusal
 whole_get = refl
 
 -- the order of flags decides the returned ones alone
@@ -138,7 +140,7 @@ other_order : map mg (codes "a v T1 k N2 t q" ∷ codes "a q N2 k T1 v t" ∷ co
       vivify = Some (pos 2);
       recache = None;
     })))
-unfolding meta_line_of words_of number_of is_key
+unfolding meta_line_of words_of number_of is_key word_count_refusal
 other_order = refl
 
 -- a token on a flag that takes none is ignored, `O` alone has the empty token, and 32 bytes are the most
@@ -146,23 +148,23 @@ tokens_ignored : map mg (codes "a vxyz kq O" ∷ (codes "a O" ++ replicate 32 12
     ≡ Whole (MetaGet (record { key = codes "a"; flags = record no_flags { returned = Key ∷ Opaque ∷ [] }; value = true; touch = None; vivify = None; recache = None }))
     ∷ Whole (MetaGet (record { key = codes "a"; flags = record no_flags { returned = Opaque ∷ []; opaque = replicate 32 120 }; value = false; touch = None; vivify = None; recache = None }))
     ∷ []
-unfolding meta_line_of words_of is_key
+unfolding meta_line_of words_of is_key word_count_refusal
 tokens_ignored = refl
 
 -- a key in base64, wherever `b` stands; canonical only, and of 1 to 186 bytes
 base64_keys : map mg (codes "YQ== k b" ∷ codes "YQ== b k" ∷ [])
     ≡ replicate 2 (Whole (MetaGet (record { key = codes "a"; flags = record { base64 = true; quiet = false; returned = Key ∷ []; opaque = [] }; value = false; touch = None; vivify = None; recache = None })))
-unfolding meta_line_of words_of decoded_key base64_bytes base64_on_literals
+unfolding meta_line_of words_of decoded_key base64_bytes base64_on_literals word_count_refusal
 base64_keys = refl
 
 base64_refused : map mg (codes "YR== b" ∷ codes "YQ b" ∷ codes "Y?== b" ∷ (replicate 252 65 ++ codes " b") ∷ []) ++ map ms (codes "YR== 2 b" ∷ codes "YR== x b" ∷ [])
     ≡ replicate 4 (Refused BadKey) ++ (Skip BadKey 4 ∷ Refused BadKey ∷ [])
-unfolding meta_line_of words_of number_of decoded_key base64_bytes base64_on_literals
+unfolding meta_line_of words_of number_of decoded_key base64_bytes base64_on_literals word_count_refusal
 base64_refused = refl
 
 -- without `b` the word itself is the key
 plain_key : md (codes "YQ==") ≡ Whole (MetaDelete (record { key = codes "YQ=="; flags = no_flags; compare = None; unique = None; invalidate = false; exptime = None }))
-unfolding meta_line_of words_of is_key
+unfolding meta_line_of words_of is_key word_count_refusal
 plain_key = refl
 
 whole_set : ms (codes "a 5 T30 s F7 C9 E77 c q Oxy MS")
@@ -176,12 +178,12 @@ whole_set : ms (codes "a 5 T30 s F7 C9 E77 c q Oxy MS")
       exptime = pos 30;
       block = [];
     })) 5
-unfolding meta_line_of words_of number_of is_key
+unfolding meta_line_of words_of number_of is_key word_count_refusal
 whole_set = refl
 
 whole_delete : md (codes "a T30 E0 I C5 q k")
     ≡ Whole (MetaDelete (record { key = codes "a"; flags = record { base64 = false; quiet = true; returned = Key ∷ []; opaque = [] }; compare = Some 5; unique = Some 0; invalidate = true; exptime = Some (pos 30) }))
-unfolding meta_line_of words_of number_of is_key
+unfolding meta_line_of words_of number_of is_key word_count_refusal
 whole_delete = refl
 
 whole_arithmetic : map ma (codes "a N60 J007 D3 Md T-1 v t c C18446744073709551615 E18446744073709551615" ∷ codes "a" ∷ [])
@@ -199,7 +201,7 @@ whole_arithmetic : map ma (codes "a N60 J007 D3 Md T-1 v t c C184467440737095516
     }))
     ∷ Whole (MetaArithmetic (record { key = codes "a"; flags = no_flags; value = false; compare = None; unique = None; direction = Increment; amount = 1; initial = 0; vivify = None; exptime = None }))
     ∷ []
-unfolding meta_line_of words_of number_of is_key
+unfolding meta_line_of words_of number_of is_key word_count_refusal
 whole_arithmetic = refl
 
 -- any fault of a flag before a bad key, and that before all that is told by the flags together or the count
@@ -208,17 +210,17 @@ flags_before_keys :
     ++ map ms ((97 ∷ 127 ∷ codes " 2 C1 MA") ∷ (97 ∷ 127 ∷ codes " x C1 MA") ∷ codes "YR== 2 b b" ∷ codes "YR== x b ?" ∷ codes "YR== 1048577 b" ∷ codes "YR== 4294967296 b" ∷ [])
     ≡ Refused BadFormat ∷ Refused OpaqueTooLong ∷ Refused DuplicateFlag ∷ Refused InvalidFlag
     ∷ Skip BadKey 4 ∷ Refused BadKey ∷ Skip DuplicateFlag 4 ∷ Refused InvalidFlag ∷ Skip BadKey 1048579 ∷ Refused BadKey ∷ []
-unfolding meta_line_of words_of number_of is_key decoded_key base64_bytes base64_on_literals
+unfolding meta_line_of words_of number_of is_key decoded_key base64_bytes base64_on_literals word_count_refusal
 flags_before_keys = refl
 
 -- the ends of the ranges of tokens, signs, and the most digits
 widest_tokens : map ma (codes "a D18446744073709551615 J00000000000000000007 N-9223372036854775808 T-0" ∷ [])
     ≡ Whole (MetaArithmetic (record { key = codes "a"; flags = no_flags; value = false; compare = None; unique = None; direction = Increment; amount = 18446744073709551615; initial = 7; vivify = Some (negsuc 9223372036854775807); exptime = Some (pos 0) })) ∷ []
-unfolding meta_line_of words_of number_of is_key
+unfolding meta_line_of words_of number_of is_key word_count_refusal
 widest_tokens = refl
 
 -- 186 bytes are the most that a word of base64 gives
 longest_base64 : md (replicate 248 65 ++ codes " b")
     ≡ Whole (MetaDelete (record { key = replicate 186 0; flags = record { base64 = true; quiet = false; returned = []; opaque = [] }; compare = None; unique = None; invalidate = false; exptime = None }))
-unfolding meta_line_of words_of decoded_key base64_bytes base64_on_literals
+unfolding meta_line_of words_of decoded_key base64_bytes base64_on_literals word_count_refusal
 longest_base64 = refl

@@ -4,7 +4,8 @@ use Rattle.mc_command.specs.declared.command.Command.{Command}
 use Rattle.mc_command.specs.declared.line.Line.TheVariants.{Data}
 use Rattle.mc_command.specs.Table.{line_of}
 use Rattle.mc_command.proofs.Blocks.{data_lawful}
+use Rattle.mc_command.specs.declared.rules.Rules.{Rules}
 
 -- the block that a line announces is no longer than a value may be
-pub data_small : (limit : ℕ) (words : List (List ℕ)) (asked : Command) (count : ℕ) → line_of limit words ≡ Data asked count → count ≤ limit
-data_small limit words asked count is = (data_lawful limit words asked count is).1
+pub data_small : (rules : Rules) (words : List (List ℕ)) (asked : Command) (count : ℕ) → line_of rules words ≡ Data asked count → count ≤ rules.value_limit
+data_small rules words asked count is = (data_lawful rules words asked count is).1

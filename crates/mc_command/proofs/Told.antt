@@ -8,8 +8,9 @@ use Rattle.mc_command.specs.Command.{can_give_up, is_memory, is_memory_refusal, 
 use Rattle.mc_command.specs.Line.{Says}
 use Rattle.mc_command.specs.Blocks.{whole_line, MayBeGivenUp}
 use Rattle.mc_command.specs.Classic.{verbosity_words}
-use Rattle.mc_command.specs.Field.{then_of}
-use Rattle.mc_command.proofs.Lines.{Yields, readings}
+use Rattle.mc_command.specs.Field.{then_of, word_count_refusal}
+use Rattle.mc_command.specs.declared.rules.Rules.{Rules}
+use Rattle.mc_command.proofs.Lines.{Yields, readings, takes_words}
 
 -- no refusal for memory that ran out
 abbrev pub Told : Result Command Refusal → Type 0
@@ -33,10 +34,13 @@ told_then : {A : Type 0} (read : Result A Refusal) (rest : A → Result Command 
 told_then (Ok value) rest yields told = told value
 told_then (Err refusal) rest yields told = no_memory refusal yields
 
-pub verbosity_told : (words : List (List ℕ)) → Told (verbosity_words words)
-verbosity_told (level ∷ []) = search (told_then, readings)
-verbosity_told (level ∷ noreply ∷ []) = search (told_then, readings)
-verbosity_told words = refl
+pub words_told : (rules : Rules) → is_memory (word_count_refusal rules) ≡ false
+words_told rules = no_memory (word_count_refusal rules) (takes_words rules)
+
+pub verbosity_told : (rules : Rules) (words : List (List ℕ)) → Told (verbosity_words rules words)
+verbosity_told rules (level ∷ []) = search (told_then, readings)
+verbosity_told rules (level ∷ noreply ∷ []) = search (told_then, readings)
+verbosity_told rules words = words_told rules
 
 -- a line without a block that is read as it stands
 pub says_told : (asked read : Result Command Refusal) → read ≡ asked → Told asked → Says (whole_line asked) (whole_line read)

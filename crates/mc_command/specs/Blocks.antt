@@ -1,11 +1,14 @@
 -- From what a line's words are to what the line is, with the block behind it or none.
-use Rattle.std.specs.Prelude.{ℕ, ◌+◌, Option, Some, None, nat_lt, if◌then◌else◌, Result, Ok, Err, IsTrue}
+use Rattle.std.specs.Prelude.{ℕ, ◌+◌, ◌-◌, ◌^◌, List, Option, Some, None, nat_lt, if◌then◌else◌, Result, Ok, Err, IsTrue}
 use Rattle.mc_command.specs.declared.command.Command.{Command}
 use Rattle.mc_command.specs.declared.refusal.Refusal.{Refusal}
 use Rattle.mc_command.specs.declared.refusal.Refusal.TheVariants.{BadFormat, TooLarge}
 use Rattle.mc_command.specs.declared.line.Line.{Line}
 use Rattle.mc_command.specs.declared.line.Line.TheVariants.{Whole, Data, Refused, Skip}
 use Rattle.mc_command.specs.Command.{can_give_up, refusal_takes_memory}
+use Rattle.mc_wire.specs.Number.{number_of}
+use Rattle.mc_command.specs.Rules.{is_drop_in}
+use Rattle.mc_command.specs.declared.rules.Rules.{Rules}
 
 -- a line that no block follows
 abbrev pub whole_line : Result Command Refusal → Line
@@ -25,6 +28,14 @@ block_line limit None (Err refusal) = Refused refusal
 abbrev pub MayBeGivenUp : Result Command Refusal → Type 0
 MayBeGivenUp (Ok command) = IsTrue (can_give_up command)
 MayBeGivenUp (Err refusal) = IsTrue (refusal_takes_memory refusal)
+
+-- A count is less than this. memcached refuses greater ones at once, since it adds 2 in 31 bits.
+abbrev pub count_bound : Rules → ℕ
+count_bound rules = if is_drop_in rules then 2 ^ 31 - 2 else 2 ^ 32
+
+-- the count of a block's bytes that a word gives, where it is readable
+abbrev pub block_count : Rules → List ℕ → Option ℕ
+block_count rules word = number_of (count_bound rules) word
 
 -- the bytes of a block with its line end, by its count
 abbrev pub bytes_with : Option ℕ → ℕ

@@ -5,7 +5,6 @@ use Rattle.std.specs.Prelude.{ℕ, ◌^◌, Bool, true, false, List, [], ◌∷�
 use Rattle.std.specs.Option.{option_and_then}
 use Rattle.std.specs.List.{list_all, slice_get}
 use Rattle.std.specs.Str.{bytes_eq}
-use Rattle.mc_wire.specs.Number.{number_of}
 use Rattle.mc_command.specs.declared.command.Command.{Command}
 use Rattle.mc_command.specs.declared.command.Command.TheVariants.{Store, Get, Delete, Count, Touch, FlushAll, Verbosity}
 use Rattle.mc_command.specs.declared.command.StoreMode.{StoreMode}
@@ -14,49 +13,60 @@ use Rattle.mc_command.specs.declared.command.Direction.{Direction}
 use Rattle.mc_command.specs.declared.refusal.Refusal.{Refusal}
 use Rattle.mc_command.specs.declared.refusal.Refusal.TheVariants.{BadFormat, BadKey}
 use Rattle.mc_command.specs.declared.line.Line.{Line}
-use Rattle.mc_command.specs.Field.{is_key, key_of, unsigned_of, signed_of, noreply_of, then_of}
-use Rattle.mc_command.specs.Blocks.{block_line}
+use Rattle.mc_command.specs.declared.rules.Rules.{Rules}
+use Rattle.mc_command.specs.Field.{exptime_of, is_key, is_noreply, key_of, last_word_of, noreply_of, then_of, unsigned_of, word_count_refusal}
+use Rattle.mc_command.specs.Rules.{is_drop_in}
+use Rattle.mc_command.specs.Blocks.{block_count, block_line}
 
--- The count of a block is the fifth word of its line, where that is a number of at most 4,294,967,295.
-abbrev pub count_in : List (List ℕ) → Option ℕ
-count_in words = option_and_then (number_of (2 ^ 32)) (slice_get words 3)
+-- The count of a block is the fifth word of its line, where that is readable.
+abbrev pub count_in : Rules → List (List ℕ) → Option ℕ
+count_in rules words = option_and_then (block_count rules) (slice_get words 3)
 
 -- a storage command, its block still empty
-abbrev pub storage_of : StoreMode → List ℕ → List ℕ → List ℕ → Option (List ℕ) → Result Command Refusal
-storage_of mode key flags exptime noreply =
+abbrev pub storage_of : Rules → StoreMode → List ℕ → List ℕ → List ℕ → Option (List ℕ) → Result Command Refusal
+storage_of rules mode key flags exptime noreply =
     then_of (key_of key) (λ key.
     then_of (unsigned_of (2 ^ 32) flags) (λ flags.
-    then_of (signed_of exptime) (λ exptime.
-    then_of (noreply_of noreply) (λ noreply.
+    then_of (exptime_of rules exptime) (λ exptime.
+    then_of (last_word_of rules noreply) (λ noreply.
     Ok (Store (record { key = key; mode = mode; flags = flags; exptime = exptime; noreply = noreply; block = [] }))))))
 
 -- set, add, replace, append and prepend: KEY flags E N [noreply]
-abbrev pub storage_words : StoreMode → List (List ℕ) → Result Command Refusal
-storage_words mode (key ∷ flags ∷ exptime ∷ count ∷ []) = storage_of mode key flags exptime None
-storage_words mode (key ∷ flags ∷ exptime ∷ count ∷ noreply ∷ []) = storage_of mode key flags exptime (Some noreply)
-storage_words mode words = Err BadFormat
+abbrev pub storage_words : Rules → StoreMode → List (List ℕ) → Result Command Refusal
+storage_words rules mode (key ∷ flags ∷ exptime ∷ count ∷ []) = storage_of rules mode key flags exptime None
+storage_words rules mode (key ∷ flags ∷ exptime ∷ count ∷ noreply ∷ []) = storage_of rules mode key flags exptime (Some noreply)
+storage_words rules mode words = Err (word_count_refusal rules)
 
-abbrev pub storage_line : ℕ → StoreMode → List (List ℕ) → Line
-storage_line limit mode words = block_line limit (count_in words) (storage_words mode words)
+abbrev pub storage_line : Rules → StoreMode → List (List ℕ) → Line
+storage_line rules mode words = block_line rules.value_limit (count_in rules words) (storage_words rules mode words)
 
 -- the storage command that a unique guards
-abbrev pub cas_of : List ℕ → List ℕ → List ℕ → List ℕ → Option (List ℕ) → Result Command Refusal
-cas_of key flags exptime unique noreply =
+abbrev pub cas_of : Rules → List ℕ → List ℕ → List ℕ → List ℕ → Option (List ℕ) → Result Command Refusal
+cas_of rules key flags exptime unique noreply =
     then_of (key_of key) (λ key.
     then_of (unsigned_of (2 ^ 32) flags) (λ flags.
-    then_of (signed_of exptime) (λ exptime.
+    then_of (exptime_of rules exptime) (λ exptime.
     then_of (unsigned_of (2 ^ 64) unique) (λ unique.
-    then_of (noreply_of noreply) (λ noreply.
+    then_of (last_word_of rules noreply) (λ noreply.
     Ok (Store (record { key = key; mode = Cas unique; flags = flags; exptime = exptime; noreply = noreply; block = [] })))))))
 
 -- cas: KEY flags E N U [noreply]
-abbrev pub cas_words : List (List ℕ) → Result Command Refusal
-cas_words (key ∷ flags ∷ exptime ∷ count ∷ unique ∷ []) = cas_of key flags exptime unique None
-cas_words (key ∷ flags ∷ exptime ∷ count ∷ unique ∷ noreply ∷ []) = cas_of key flags exptime unique (Some noreply)
-cas_words words = Err BadFormat
+abbrev pub cas_words : Rules → List (List ℕ) → Result Command Refusal
+cas_words rules (key ∷ flags ∷ exptime ∷ count ∷ unique ∷ []) = cas_of rules key flags exptime unique None
+cas_words rules (key ∷ flags ∷ exptime ∷ count ∷ unique ∷ noreply ∷ []) = cas_of rules key flags exptime unique (Some noreply)
+cas_words rules words = Err (word_count_refusal rules)
 
-abbrev pub cas_line : ℕ → List (List ℕ) → Line
-cas_line limit words = block_line limit (count_in words) (cas_words words)
+-- the count of the block of `cas`, by its word and the unique behind it; memcached awaits no block where the unique is
+-- missing
+abbrev pub count_before : Rules → Option (List ℕ) → Option (List ℕ) → Option ℕ
+count_before rules count None = if is_drop_in rules then None else option_and_then (block_count rules) count
+count_before rules count (Some unique) = option_and_then (block_count rules) count
+
+abbrev pub cas_count_in : Rules → List (List ℕ) → Option ℕ
+cas_count_in rules words = count_before rules (slice_get words 3) (slice_get words 4)
+
+abbrev pub cas_line : Rules → List (List ℕ) → Line
+cas_line rules words = block_line rules.value_limit (cas_count_in rules words) (cas_words rules words)
 
 -- keys, each of the words one
 unfoldable pub keys_of : List (List ℕ) → Result (List (List ℕ)) Refusal
@@ -67,14 +77,14 @@ abbrev pub retrieval_of : Bool → Option ℤ → List (List ℕ) → Result Com
 retrieval_of with_unique touch words = then_of (keys_of words) (λ keys. Ok (Get (record { keys = keys; touch = touch; with_unique = with_unique })))
 
 -- get and gets: KEY ..
-abbrev pub get_words : Bool → List (List ℕ) → Result Command Refusal
-get_words with_unique [] = Err BadFormat
-get_words with_unique (key ∷ keys) = retrieval_of with_unique None (key ∷ keys)
+abbrev pub get_words : Rules → Bool → List (List ℕ) → Result Command Refusal
+get_words rules with_unique [] = Err (word_count_refusal rules)
+get_words rules with_unique (key ∷ keys) = retrieval_of with_unique None (key ∷ keys)
 
 -- gat and gats: E KEY ..
-abbrev pub gat_words : Bool → List (List ℕ) → Result Command Refusal
-gat_words with_unique (exptime ∷ key ∷ keys) = then_of (signed_of exptime) (λ exptime. retrieval_of with_unique (Some exptime) (key ∷ keys))
-gat_words with_unique words = Err BadFormat
+abbrev pub gat_words : Rules → Bool → List (List ℕ) → Result Command Refusal
+gat_words rules with_unique (exptime ∷ key ∷ keys) = then_of (exptime_of rules exptime) (λ exptime. retrieval_of with_unique (Some exptime) (key ∷ keys))
+gat_words rules with_unique words = Err (word_count_refusal rules)
 
 abbrev pub is_zero : List ℕ → Bool
 is_zero word = bytes_eq word (codes "0")
@@ -83,53 +93,53 @@ abbrev pub delete_of : List ℕ → Result Bool Refusal → Result Command Refus
 delete_of key noreply = then_of (key_of key) (λ key. then_of noreply (λ noreply. Ok (Delete key noreply)))
 
 -- delete: KEY [noreply], KEY 0 [noreply]
-abbrev pub delete_words : List (List ℕ) → Result Command Refusal
-delete_words (key ∷ []) = delete_of key (Ok false)
-delete_words (key ∷ word ∷ []) = delete_of key (if is_zero word then Ok false else noreply_of (Some word))
-delete_words (key ∷ word ∷ noreply ∷ []) = delete_of key (if is_zero word then noreply_of (Some noreply) else Err BadFormat)
-delete_words words = Err BadFormat
+abbrev pub delete_words : Rules → List (List ℕ) → Result Command Refusal
+delete_words rules (key ∷ []) = delete_of key (Ok false)
+delete_words rules (key ∷ word ∷ []) = delete_of key (if is_zero word then Ok false else noreply_of (Some word))
+delete_words rules (key ∷ word ∷ noreply ∷ []) = delete_of key (if is_zero word then noreply_of (Some noreply) else Err BadFormat)
+delete_words rules words = Err (word_count_refusal rules)
 
-abbrev pub count_of : Direction → List ℕ → List ℕ → Option (List ℕ) → Result Command Refusal
-count_of direction key amount noreply =
+abbrev pub count_of : Rules → Direction → List ℕ → List ℕ → Option (List ℕ) → Result Command Refusal
+count_of rules direction key amount noreply =
     then_of (key_of key) (λ key.
     then_of (unsigned_of (2 ^ 64) amount) (λ amount.
-    then_of (noreply_of noreply) (λ noreply.
+    then_of (last_word_of rules noreply) (λ noreply.
     Ok (Count key direction amount noreply))))
 
 -- incr and decr: KEY U [noreply]
-abbrev pub count_words : Direction → List (List ℕ) → Result Command Refusal
-count_words direction (key ∷ amount ∷ []) = count_of direction key amount None
-count_words direction (key ∷ amount ∷ noreply ∷ []) = count_of direction key amount (Some noreply)
-count_words direction words = Err BadFormat
+abbrev pub count_words : Rules → Direction → List (List ℕ) → Result Command Refusal
+count_words rules direction (key ∷ amount ∷ []) = count_of rules direction key amount None
+count_words rules direction (key ∷ amount ∷ noreply ∷ []) = count_of rules direction key amount (Some noreply)
+count_words rules direction words = Err (word_count_refusal rules)
 
-abbrev pub touch_of : List ℕ → List ℕ → Option (List ℕ) → Result Command Refusal
-touch_of key exptime noreply =
+abbrev pub touch_of : Rules → List ℕ → List ℕ → Option (List ℕ) → Result Command Refusal
+touch_of rules key exptime noreply =
     then_of (key_of key) (λ key.
-    then_of (signed_of exptime) (λ exptime.
-    then_of (noreply_of noreply) (λ noreply.
+    then_of (exptime_of rules exptime) (λ exptime.
+    then_of (last_word_of rules noreply) (λ noreply.
     Ok (Touch key exptime noreply))))
 
 -- touch: KEY E [noreply]
-abbrev pub touch_words : List (List ℕ) → Result Command Refusal
-touch_words (key ∷ exptime ∷ []) = touch_of key exptime None
-touch_words (key ∷ exptime ∷ noreply ∷ []) = touch_of key exptime (Some noreply)
-touch_words words = Err BadFormat
+abbrev pub touch_words : Rules → List (List ℕ) → Result Command Refusal
+touch_words rules (key ∷ exptime ∷ []) = touch_of rules key exptime None
+touch_words rules (key ∷ exptime ∷ noreply ∷ []) = touch_of rules key exptime (Some noreply)
+touch_words rules words = Err (word_count_refusal rules)
 
-abbrev pub flush_of : List ℕ → Option (List ℕ) → Result Command Refusal
-flush_of delay noreply = then_of (signed_of delay) (λ delay. then_of (noreply_of noreply) (λ noreply. Ok (FlushAll delay noreply)))
+abbrev pub flush_of : Rules → List ℕ → Option (List ℕ) → Result Command Refusal
+flush_of rules delay noreply = then_of (exptime_of rules delay) (λ delay. then_of (last_word_of rules noreply) (λ noreply. Ok (FlushAll delay noreply)))
 
 -- flush_all: [E] [noreply]
-abbrev pub flush_words : List (List ℕ) → Result Command Refusal
-flush_words [] = Ok (FlushAll (pos 0) false)
-flush_words (word ∷ []) = if bytes_eq word (codes "noreply") then Ok (FlushAll (pos 0) true) else flush_of word None
-flush_words (delay ∷ noreply ∷ []) = flush_of delay (Some noreply)
-flush_words words = Err BadFormat
+abbrev pub flush_words : Rules → List (List ℕ) → Result Command Refusal
+flush_words rules [] = Ok (FlushAll (pos 0) false)
+flush_words rules (word ∷ []) = if is_noreply word then Ok (FlushAll (pos 0) true) else flush_of rules word None
+flush_words rules (delay ∷ noreply ∷ []) = flush_of rules delay (Some noreply)
+flush_words rules words = Err (word_count_refusal rules)
 
-abbrev pub verbosity_of : List ℕ → Option (List ℕ) → Result Command Refusal
-verbosity_of level noreply = then_of (unsigned_of (2 ^ 64) level) (λ level. then_of (noreply_of noreply) (λ noreply. Ok (Verbosity noreply)))
+abbrev pub verbosity_of : Rules → List ℕ → Option (List ℕ) → Result Command Refusal
+verbosity_of rules level noreply = then_of (unsigned_of (2 ^ 64) level) (λ level. then_of (last_word_of rules noreply) (λ noreply. Ok (Verbosity noreply)))
 
 -- verbosity: U [noreply]
-abbrev pub verbosity_words : List (List ℕ) → Result Command Refusal
-verbosity_words (level ∷ []) = verbosity_of level None
-verbosity_words (level ∷ noreply ∷ []) = verbosity_of level (Some noreply)
-verbosity_words words = Err BadFormat
+abbrev pub verbosity_words : Rules → List (List ℕ) → Result Command Refusal
+verbosity_words rules (level ∷ []) = verbosity_of rules level None
+verbosity_words rules (level ∷ noreply ∷ []) = verbosity_of rules level (Some noreply)
+verbosity_words rules words = Err (word_count_refusal rules)

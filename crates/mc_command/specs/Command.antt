@@ -31,7 +31,7 @@ refusal_takes_memory other = true
 -- A command that asks a shard may be given up where memory runs out, and so may a line that is refused
 -- while it is read.
 abbrev pub can_give_up : Command → Bool
-can_give_up command.Version = false
+can_give_up (command.Version profile) = false
 can_give_up (command.Verbosity noreply) = false
 can_give_up command.Quit = false
 can_give_up command.MetaNoop = false

@@ -9,6 +9,7 @@ use Rattle.mc_command.specs.declared.meta.MetaFlags.{MetaFlags}
 use Rattle.mc_command.specs.declared.meta.ReturnFlag.{ReturnFlag}
 use Rattle.mc_command.specs.declared.meta.MetaKind.{MetaKind}
 use Rattle.mc_command.specs.declared.meta.MetaKind.TheVariants.{Get, Set, Delete, Arithmetic}
+use Rattle.mc_command.specs.declared.rules.Rules.{Rules}
 use Rattle.mc_command.specs.Table.{line_of}
 
 abbrev pub with_flags : MetaFlags → List ReturnFlag → MetaFlags
@@ -53,5 +54,5 @@ before_flags Arithmetic key count = codes "ma" ∷ key ∷ []
 
 -- A meta line with its flags in another order is the same but for the order in which flags are given back.
 abbrev pub FlagsInAnyOrder : Type 0
-FlagsInAnyOrder = (limit : ℕ) (name : MetaKind) (key count : List ℕ) (flags others : List (List ℕ)) → IsPermutation flags others →
-    SameButOrder (line_of limit (before_flags name key count ++ flags)) (line_of limit (before_flags name key count ++ others))
+FlagsInAnyOrder = (rules : Rules) (name : MetaKind) (key count : List ℕ) (flags others : List (List ℕ)) → IsPermutation flags others →
+    SameButOrder (line_of rules (before_flags name key count ++ flags)) (line_of rules (before_flags name key count ++ others))

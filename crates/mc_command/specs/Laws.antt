@@ -2,6 +2,7 @@
 use Rattle.std.specs.Prelude.{ℕ, ◌≡◌, false, List, IsTrue}
 use Rattle.mc_command.specs.declared.command.Command.{Command}
 use Rattle.mc_command.specs.declared.line.Line.TheVariants.{Data}
+use Rattle.mc_command.specs.declared.rules.Rules.{Rules}
 use Rattle.mc_command.specs.Command.{can_give_up}
 use Rattle.mc_command.specs.Line.{is_given_up}
 use Rattle.mc_command.specs.Table.{line_of}
@@ -9,7 +10,7 @@ use Rattle.mc_command.specs.Table.{line_of}
 -- No line is the refusal "out of memory": neither as a whole command, nor as a command with a block, nor
 -- as a refusal, nor as a refusal with a block to skip.
 abbrev pub IsNeverOutOfMemory : Type 0
-IsNeverOutOfMemory = (limit : ℕ) (words : List (List ℕ)) → is_given_up (line_of limit words) ≡ false
+IsNeverOutOfMemory = (rules : Rules) (words : List (List ℕ)) → is_given_up (line_of rules words) ≡ false
 
 abbrev pub DataCanBeGivenUp : Type 0
-DataCanBeGivenUp = (limit : ℕ) (words : List (List ℕ)) (asked : Command) (count : ℕ) → line_of limit words ≡ Data asked count → IsTrue (can_give_up asked)
+DataCanBeGivenUp = (rules : Rules) (words : List (List ℕ)) (asked : Command) (count : ℕ) → line_of rules words ≡ Data asked count → IsTrue (can_give_up asked)

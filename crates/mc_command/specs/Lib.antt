@@ -1,3 +1,4 @@
+pub mod Rules
 pub mod Command
 pub mod Field
 pub mod Line
@@ -5,6 +6,7 @@ pub mod Blocks
 pub mod Classic
 pub mod Meta
 pub mod Name
+pub mod Hiding
 pub mod Table
 pub mod Laws
 pub mod FlagOrder

@@ -1,7 +1,7 @@
 -- The meta commands as a table: which flags each has, which tokens, and what a line of them is
 -- (protocol.txt, "Meta Commands": a name, a key, for `ms` the length of the data block, and flags, each
 -- one letter with its token joined to it).
-use Rattle.std.specs.Prelude.{ℕ, ℤ, pos, ◌==◌, ◌^◌, Bool, true, false, ◌&&◌, not, List, [], ◌∷◌, ◌++◌, length, drop, find, Option, Some, None, is_some, unwrap_or, option_and_then, nat_lt, codes, if◌then◌else◌, Result, Ok, Err}
+use Rattle.std.specs.Prelude.{ℕ, zero, ℤ, pos, ◌==◌, ◌^◌, Bool, true, false, ◌&&◌, not, List, [], ◌∷◌, ◌++◌, length, drop, find, Option, Some, None, is_some, unwrap_or, option_and_then, nat_lt, codes, if◌then◌else◌, Result, Ok, Err}
 use Rattle.std.specs.List.{filter_map, list_any, slice_get}
 use Rattle.std.specs.Option.{ok_or, option_map, option_or}
 use Rattle.std.specs.Str.{byte}
@@ -28,15 +28,27 @@ use Rattle.mc_command.specs.declared.meta.MetaKind.{MetaKind}
 use Rattle.mc_command.specs.declared.meta.MetaKind.TheVariants.{Get, Set, Delete, Arithmetic}
 use Rattle.mc_command.specs.declared.refusal.Refusal.{Refusal}
 use Rattle.mc_command.specs.declared.refusal.Refusal.TheVariants.{BadFormat, BadKey, InvalidFlag, DuplicateFlag, OpaqueTooLong}
-use Rattle.mc_command.specs.Blocks.{whole_line, block_line}
-use Rattle.mc_command.specs.Field.{key_of, then_of}
+use Rattle.mc_command.specs.declared.rules.Profile.{Profile}
+use Rattle.mc_command.specs.declared.rules.Profile.TheVariants.{Own, DropIn}
+use Rattle.mc_command.specs.declared.rules.Rules.{Rules}
+use Rattle.mc_command.specs.Blocks.{block_count, block_line, whole_line}
+use Rattle.mc_command.specs.Field.{exptime_by, key_of, then_of, word_count_refusal}
+use Rattle.mc_command.specs.Rules.{is_drop_in}
 
--- the letters of the flags that each command has
-abbrev pub letters_of : MetaKind → List ℕ
-letters_of Get = codes "bcfhklOqstvNRT"
-letters_of Set = codes "bkOqcsCEFTM"
-letters_of Delete = codes "bkOqCEIT"
-letters_of Arithmetic = codes "bkOqctvCDEJMNT"
+-- The letters of the flags that each command has. By memcached's rules there are P and L too, hints for proxies which mean
+-- nothing here, and I and N of `ms`, which do nothing.
+abbrev pub letters_by : Profile → MetaKind → List ℕ
+letters_by Own Get = codes "bcfhklOqstvNRT"
+letters_by Own Set = codes "bkOqcsCEFTM"
+letters_by Own Delete = codes "bkOqCEIT"
+letters_by Own Arithmetic = codes "bkOqctvCDEJMNT"
+letters_by DropIn Get = codes "bcfhklOqstvNRTPL"
+letters_by DropIn Set = codes "bkOqcsCEFTMINPL"
+letters_by DropIn Delete = codes "bkOqCEITPL"
+letters_by DropIn Arithmetic = codes "bkOqctvCDEJMNTPL"
+
+abbrev pub letters_of : Rules → MetaKind → List ℕ
+letters_of rules name = letters_by rules.profile name
 
 abbrev pub is_among : List ℕ → ℕ → Bool
 is_among letters letter = list_any (λ other. other == letter) letters
@@ -98,19 +110,19 @@ is_token name letter token =
 -- Faults.
 
 -- what refuses a flag that stands behind others
-abbrev pub flag_refusal : MetaKind → List (List ℕ) → List ℕ → Option Refusal
-flag_refusal name before [] = Some InvalidFlag
-flag_refusal name before (letter ∷ token) =
-    if not (is_among (letters_of name) letter) then Some InvalidFlag
+abbrev pub flag_refusal : Rules → MetaKind → List (List ℕ) → List ℕ → Option Refusal
+flag_refusal rules name before [] = Some InvalidFlag
+flag_refusal rules name before (letter ∷ token) =
+    if not (is_among (letters_of rules name) letter) then Some InvalidFlag
     else (if has_flag letter before then Some DuplicateFlag
     else (if letter == byte "O" && nat_lt OPAQUE_LIMIT (length token) then Some OpaqueTooLong
     else (if is_token name letter token then None else Some BadFormat)))
 
 -- what refuses the first of some flags that is refused; they stand behind others
-abbrev pub flags_refusal : MetaKind → List (List ℕ) → List (List ℕ) → Option Refusal
-flags_refusal name before [] = None
-flags_refusal name before (word ∷ words) =
-    option_or (flag_refusal name before word) (flags_refusal name (before ++ word ∷ []) words)
+abbrev pub flags_refusal : Rules → MetaKind → List (List ℕ) → List (List ℕ) → Option Refusal
+flags_refusal rules name before [] = None
+flags_refusal rules name before (word ∷ words) =
+    option_or (flag_refusal rules name before word) (flags_refusal rules name (before ++ word ∷ []) words)
 
 -- a value, unless something refuses it
 abbrev pub unless : {A : Type 0} → Option Refusal → Result A Refusal → Result A Refusal
@@ -130,8 +142,23 @@ abbrev pub is_set : MetaMode → Bool
 is_set mode.Set = true
 is_set other = false
 
-abbrev pub compare_refusal : MetaSet → Option Refusal
-compare_refusal set = if is_some set.compare && not (is_set set.mode) then Some BadFormat else None
+-- By memcached's rules it compares in the others too.
+abbrev pub compare_refusal : Rules → MetaSet → Option Refusal
+compare_refusal rules set = if not (is_drop_in rules) && (is_some set.compare && not (is_set set.mode)) then Some BadFormat else None
+
+-- the token of `C` in a mode, by memcached's rules: E compares nothing, and A and P nothing with 0
+abbrev pub compared_in : MetaMode → Option ℕ → Option ℕ
+compared_in mode.Add compare = None
+compared_in mode.Append (Some zero) = None
+compared_in mode.Prepend (Some zero) = None
+compared_in mode compare = compare
+
+abbrev pub compare_by : Rules → MetaMode → Option ℕ → Option ℕ
+compare_by rules mode compare = if is_drop_in rules then compared_in mode compare else compare
+
+-- the exptime, or the seconds, that a token gives
+abbrev pub exptime_in : Rules → Option ℤ → Option ℤ
+exptime_in rules token = option_map (exptime_by rules) token
 
 -- Commands.
 
@@ -190,40 +217,40 @@ asked_of name words = record {
 
 -- what each command makes of them, with the defaults of flags that do not stand there
 
-abbrev pub get_by : List ℕ → Asked → MetaGet
-get_by key asked = record {
+abbrev pub get_by : Rules → List ℕ → Asked → MetaGet
+get_by rules key asked = record {
   key = key;
   flags = asked.flags;
   value = asked.value;
-  touch = asked.exptime;
-  vivify = asked.vivify;
-  recache = asked.recache;
+  touch = exptime_in rules asked.exptime;
+  vivify = exptime_in rules asked.vivify;
+  recache = exptime_in rules asked.recache;
 }
 
-abbrev pub set_by : List ℕ → Asked → MetaSet
-set_by key asked = record {
+abbrev pub set_by : Rules → List ℕ → Asked → MetaSet
+set_by rules key asked = record {
   key = key;
   flags = asked.flags;
   mode = unwrap_or asked.mode mode.Set;
-  compare = asked.compare;
+  compare = compare_by rules (unwrap_or asked.mode mode.Set) asked.compare;
   unique = asked.unique;
   client_flags = unwrap_or asked.client_flags 0;
-  exptime = unwrap_or asked.exptime (pos 0);
+  exptime = unwrap_or (exptime_in rules asked.exptime) (pos 0);
   block = [];
 }
 
-abbrev pub delete_by : List ℕ → Asked → MetaDelete
-delete_by key asked = record {
+abbrev pub delete_by : Rules → List ℕ → Asked → MetaDelete
+delete_by rules key asked = record {
   key = key;
   flags = asked.flags;
   compare = asked.compare;
   unique = asked.unique;
   invalidate = asked.invalidate;
-  exptime = asked.exptime;
+  exptime = exptime_in rules asked.exptime;
 }
 
-abbrev pub arithmetic_by : List ℕ → Asked → MetaArithmetic
-arithmetic_by key asked = record {
+abbrev pub arithmetic_by : Rules → List ℕ → Asked → MetaArithmetic
+arithmetic_by rules key asked = record {
   key = key;
   flags = asked.flags;
   value = asked.value;
@@ -232,16 +259,16 @@ arithmetic_by key asked = record {
   direction = unwrap_or asked.direction Increment;
   amount = unwrap_or asked.amount 1;
   initial = unwrap_or asked.initial 0;
-  vivify = asked.vivify;
-  exptime = asked.exptime;
+  vivify = exptime_in rules asked.vivify;
+  exptime = exptime_in rules asked.exptime;
 }
 
 -- the command of this key and these flags
-abbrev pub command_by : MetaKind → List ℕ → Asked → Result Command Refusal
-command_by Get key asked = Ok (command.MetaGet (get_by key asked))
-command_by Set key asked = unless (compare_refusal (set_by key asked)) (Ok (command.MetaSet (set_by key asked)))
-command_by Delete key asked = Ok (command.MetaDelete (delete_by key asked))
-command_by Arithmetic key asked = Ok (command.MetaArithmetic (arithmetic_by key asked))
+abbrev pub command_by : Rules → MetaKind → List ℕ → Asked → Result Command Refusal
+command_by rules Get key asked = Ok (command.MetaGet (get_by rules key asked))
+command_by rules Set key asked = unless (compare_refusal rules (set_by rules key asked)) (Ok (command.MetaSet (set_by rules key asked)))
+command_by rules Delete key asked = Ok (command.MetaDelete (delete_by rules key asked))
+command_by rules Arithmetic key asked = Ok (command.MetaArithmetic (arithmetic_by rules key asked))
 
 -- what was read of mg, as a command
 abbrev pub as_meta_get : Result MetaGet Refusal → Result Command Refusal
@@ -254,27 +281,27 @@ as_meta_set (Ok set) = Ok (command.MetaSet set)
 as_meta_set (Err refusal) = Err refusal
 
 -- what a key word and the flags behind it ask: the flags are judged first
-abbrev pub meta_command_of : MetaKind → List ℕ → List (List ℕ) → Result Command Refusal
-meta_command_of name word words =
-    unless (flags_refusal name [] words)
-    (then_of (meta_key_of (has_flag (byte "b") words) word) (λ key. command_by name key (asked_of name words)))
+abbrev pub meta_command_of : Rules → MetaKind → List ℕ → List (List ℕ) → Result Command Refusal
+meta_command_of rules name word words =
+    unless (flags_refusal rules name [] words)
+    (then_of (meta_key_of (has_flag (byte "b") words) word) (λ key. command_by rules name key (asked_of name words)))
 
-abbrev pub line_without_block : MetaKind → List (List ℕ) → Line
-line_without_block name [] = Refused BadFormat
-line_without_block name (word ∷ words) = whole_line (meta_command_of name word words)
+abbrev pub line_without_block : Rules → MetaKind → List (List ℕ) → Line
+line_without_block rules name [] = Refused (word_count_refusal rules)
+line_without_block rules name (word ∷ words) = whole_line (meta_command_of rules name word words)
 
 -- a line of `ms`, whose second word counts the bytes of its block
-abbrev pub line_with_block : ℕ → List (List ℕ) → Line
-line_with_block limit [] = Refused BadFormat
-line_with_block limit (word ∷ []) = Refused BadFormat
-line_with_block limit (word ∷ count ∷ words) = block_line limit (number_of (2 ^ 32) count) (meta_command_of Set word words)
+abbrev pub line_with_block : Rules → List (List ℕ) → Line
+line_with_block rules [] = Refused (word_count_refusal rules)
+line_with_block rules (word ∷ []) = Refused BadFormat
+line_with_block rules (word ∷ count ∷ words) = block_line rules.value_limit (block_count rules count) (meta_command_of rules Set word words)
 
 -- what a line of this name is, by the words behind the name
-unfoldable pub meta_line_of : ℕ → MetaKind → List (List ℕ) → Line
-meta_line_of limit Set words = line_with_block limit words
-meta_line_of limit name words = line_without_block name words
+unfoldable pub meta_line_of : Rules → MetaKind → List (List ℕ) → Line
+meta_line_of rules Set words = line_with_block rules words
+meta_line_of rules name words = line_without_block rules name words
 
 -- the count of the bytes that a block behind such a line has, where the line has one and it is readable
-abbrev pub meta_count_in : MetaKind → List (List ℕ) → Option ℕ
-meta_count_in Set words = option_and_then (number_of (2 ^ 32)) (slice_get words 1)
-meta_count_in other words = None
+abbrev pub meta_count_in : Rules → MetaKind → List (List ℕ) → Option ℕ
+meta_count_in rules Set words = option_and_then (block_count rules) (slice_get words 1)
+meta_count_in rules other words = None

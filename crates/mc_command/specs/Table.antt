@@ -6,42 +6,44 @@ use Rattle.mc_command.specs.declared.name.CommandName.TheVariants as name
 use Rattle.mc_command.specs.declared.refusal.Refusal.TheVariants.{Unknown}
 use Rattle.mc_command.specs.declared.line.Line.{Line}
 use Rattle.mc_command.specs.declared.line.Line.TheVariants.{Whole, Refused}
+use Rattle.mc_command.specs.declared.rules.Rules.{Rules}
 use Rattle.mc_command.specs.Blocks.{whole_line}
-use Rattle.mc_command.specs.Classic.{count_in, storage_line, cas_line, get_words, gat_words, delete_words, count_words, touch_words, flush_words, verbosity_words}
+use Rattle.mc_command.specs.Classic.{cas_count_in, count_in, storage_line, cas_line, get_words, gat_words, delete_words, count_words, touch_words, flush_words, verbosity_words}
 use Rattle.mc_command.specs.Meta.{meta_line_of, meta_count_in}
 use Rattle.mc_command.specs.Name.{name_of}
+use Rattle.mc_command.specs.Hiding.{hides_faults, shown_line}
 
 -- what the words behind a name are
-abbrev pub line_named : ℕ → CommandName → List (List ℕ) → Line
-line_named limit (name.Store mode) words = storage_line limit mode words
-line_named limit name.CompareAndSwap words = cas_line limit words
-line_named limit (name.Get with_unique) words = whole_line (get_words with_unique words)
-line_named limit (name.GetAndTouch with_unique) words = whole_line (gat_words with_unique words)
-line_named limit name.Delete words = whole_line (delete_words words)
-line_named limit (name.Count direction) words = whole_line (count_words direction words)
-line_named limit name.Touch words = whole_line (touch_words words)
-line_named limit name.FlushAll words = whole_line (flush_words words)
-line_named limit name.Version words = Whole command.Version
-line_named limit name.Verbosity words = whole_line (verbosity_words words)
-line_named limit name.Quit words = Whole command.Quit
-line_named limit name.MetaNoop words = Whole command.MetaNoop
-line_named limit (name.Meta name) words = meta_line_of limit name words
+abbrev pub line_named : Rules → CommandName → List (List ℕ) → Line
+line_named rules (name.Store mode) words = storage_line rules mode words
+line_named rules name.CompareAndSwap words = cas_line rules words
+line_named rules (name.Get with_unique) words = whole_line (get_words rules with_unique words)
+line_named rules (name.GetAndTouch with_unique) words = whole_line (gat_words rules with_unique words)
+line_named rules name.Delete words = whole_line (delete_words rules words)
+line_named rules (name.Count direction) words = whole_line (count_words rules direction words)
+line_named rules name.Touch words = whole_line (touch_words rules words)
+line_named rules name.FlushAll words = whole_line (flush_words rules words)
+line_named rules name.Version words = Whole (command.Version rules.profile)
+line_named rules name.Verbosity words = whole_line (verbosity_words rules words)
+line_named rules name.Quit words = Whole command.Quit
+line_named rules name.MetaNoop words = Whole command.MetaNoop
+line_named rules (name.Meta name) words = meta_line_of rules name words
 
-abbrev pub line_if_named : ℕ → Option CommandName → List (List ℕ) → Line
-line_if_named limit (Some name) words = line_named limit name words
-line_if_named limit None words = Refused Unknown
+abbrev pub line_if_named : Rules → Option CommandName → List (List ℕ) → Line
+line_if_named rules (Some name) words = shown_line (hides_faults rules name words) (line_named rules name words)
+line_if_named rules None words = Refused Unknown
 
 -- what a line of these words is; no word is no name
-unfoldable pub line_of : ℕ → List (List ℕ) → Line
-line_of limit [] = Refused Unknown
-line_of limit (name ∷ words) = line_if_named limit (name_of name) words
+unfoldable pub line_of : Rules → List (List ℕ) → Line
+line_of rules [] = Refused Unknown
+line_of rules (name ∷ words) = line_if_named rules (name_of name) words
 
 -- the count of the block that the words behind a name announce
-abbrev pub count_named : CommandName → List (List ℕ) → Option ℕ
-count_named (name.Store mode) words = count_in words
-count_named name.CompareAndSwap words = count_in words
-count_named (name.Meta name) words = meta_count_in name words
-count_named other words = None
+abbrev pub count_named : Rules → CommandName → List (List ℕ) → Option ℕ
+count_named rules (name.Store mode) words = count_in rules words
+count_named rules name.CompareAndSwap words = cas_count_in rules words
+count_named rules (name.Meta name) words = meta_count_in rules name words
+count_named rules other words = None
 
 -- Reading the words behind these names may take memory.
 abbrev pub takes_memory : CommandName → Bool

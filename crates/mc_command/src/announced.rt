@@ -1,28 +1,38 @@
 //! What stands behind a line and belongs to it, told by the count of its block alone.
-ghost use Rattle.std.specs.Prelude.{ℕ, ◌≡◌, ◌^◌};
+ghost use Rattle.std.specs.Prelude.{ℕ, ◌≡◌};
 ghost use Rattle.std.specs.Option.{option_and_then, option_copied};
 ghost use Rattle.std.specs.List.{slice_get};
-ghost use Rattle.mc_wire.specs.Number.{number_of};
 ghost use Rattle.mc_wire.specs.Words.{words_of, words_left};
 ghost use Rattle.mc_command.specs.Line.{bytes_behind};
-ghost use Rattle.mc_command.specs.Blocks.{bytes_with};
+ghost use Rattle.mc_command.specs.Blocks.{block_count, bytes_with};
+ghost use Rattle.mc_command.specs.Classic.{cas_count_in, count_before};
+ghost use Rattle.mc_command.specs.Rules.{own};
 ghost use Rattle.mc_command.specs.Table.{line_of, count_named};
 
-use crate::field::read_u32;
+use crate::field::read_u64;
 use crate::meta::MetaKind;
 use crate::name::{CommandName, read_name};
+use crate::rules::Rules;
 use mc_wire::{WordWalk, words};
+
+/// How many bytes behind a line belong to it, by this server's own rules: as `announced_bytes_under`, whatever the value
+/// limit is.
+pub fn announced_bytes(line: &[u8]) -> u64
+    ensures { (limit : ℕ) → result ≡ bytes_behind (line_of (own limit) (words_of line.now)) }
+{
+    announced_bytes_under(line, Rules::own(0))
+}
 
 /// How many bytes behind a line belong to it: its data block and the line end of that, or, of a line that
 /// is refused, what is skipped; 0 where nothing does (protocol.txt, "Storage commands"). It reads the
-/// line as `read_line` does, whatever the value limit is, and takes no memory.
-#[tactic(auto, unfolding(crate::specs::Table::line_of), using(crate::proofs::Behind::behind_named))]
-pub fn announced_bytes(line: &[u8]) -> u64
-    ensures { (limit : ℕ) → result ≡ bytes_behind (line_of limit (words_of line.now)) }
+/// line as `read_line_under` does, whatever the value limit is, and takes no memory.
+#[tactic(auto, unfolding(crate::specs::Table::line_of), using(crate::proofs::Behind::behind_shown))]
+pub fn announced_bytes_under(line: &[u8], rules: Rules) -> u64
+    ensures { (limit : ℕ) → result ≡ bytes_behind (line_of (record rules { value_limit = limit }) (words_of line.now)) }
 {
     let mut walk = words(line);
     match walk.next().and_then(read_name) {
-        Some(name) => block_bytes(announced_behind(name, walk)),
+        Some(name) => block_bytes(announced_behind(rules, name, walk)),
         None => 0,
     }
 }
@@ -38,21 +48,58 @@ fn block_bytes(count: Option<u32>) -> u64
 }
 
 /// The count of the block that a command of this name announces by the words behind the name.
-fn announced_behind(name: CommandName, walk: WordWalk<'_>) -> Option<u32>
-    ensures { result ≡ count_named name (words_left walk.entry) }
+fn announced_behind(rules: Rules, name: CommandName, walk: WordWalk<'_>) -> Option<u32>
+    ensures { result ≡ count_named rules name (words_left walk.entry) }
 {
     match name {
-        CommandName::Store(_) | CommandName::CompareAndSwap => announced(fourth_word(walk)),
-        CommandName::Meta(MetaKind::Set) => announced(second_word(walk)),
+        CommandName::Store(_) => announced(rules, fourth_word(walk)),
+        CommandName::CompareAndSwap => announced_behind_cas(rules, walk),
+        CommandName::Meta(MetaKind::Set) => announced(rules, second_word(walk)),
         _ => None,
     }
 }
 
-/// The count of a block, where the word in its place is an unsigned number of 32 bits.
-pub(crate) fn announced(word: Option<&[u8]>) -> Option<u32>
-    ensures { result ≡ option_and_then (number_of (2 ^ 32)) (option_copied word.entry) }
+/// The count of the block that the words behind `cas` announce.
+fn announced_behind_cas(rules: Rules, mut walk: WordWalk<'_>) -> Option<u32>
+    ensures { result ≡ cas_count_in rules (words_left walk.entry) }
 {
-    read_u32(word?).ok()
+    walk.next()?;
+    walk.next()?;
+    walk.next()?;
+    let count = walk.next();
+    announced_by_cas(rules, count, walk.next())
+}
+
+/// The count of a block by its word and the unique behind it: by memcached's rules there is none where the unique is
+/// missing.
+pub(crate) fn announced_by_cas(
+    rules: Rules,
+    count: Option<&[u8]>,
+    unique: Option<&[u8]>,
+) -> Option<u32>
+    ensures { result ≡ count_before rules (option_copied count.entry) (option_copied unique.entry) }
+{
+    if unique.is_none() && rules.is_drop_in() {
+        return None;
+    }
+    announced(rules, count)
+}
+
+/// The count of a block, where the word in its place is one.
+pub(crate) fn announced(rules: Rules, word: Option<&[u8]>) -> Option<u32>
+    ensures { result ≡ option_and_then (block_count rules) (option_copied word.entry) }
+{
+    read_block_count(rules, word?)
+}
+
+/// The count of a block that a word gives, where it is readable.
+pub fn read_block_count(rules: Rules, word: &[u8]) -> Option<u32>
+    ensures { result ≡ block_count rules word.now }
+{
+    match read_u64(word) {
+        Ok(count) if count < rules.count_bound() => Some(count as u32),
+        _ => None,
+    }
 }
 
 fn second_word<'a>(mut walk: WordWalk<'a>) -> Option<&'a [u8]>

@@ -6,22 +6,24 @@ ghost use Rattle.mc_command.specs.Field.{Reads};
 ghost use Rattle.mc_command.specs.Classic as spec;
 
 use crate::command::{Command, Direction, Retrieval};
-use crate::field::{read_i64, read_key, read_noreply, read_u64};
+use crate::field::{read_exptime, read_key, read_last_word, read_noreply, read_u64};
 use crate::keys::Keys;
 use crate::refusal::Refusal;
+use crate::rules::Rules;
 use mc_wire::WordWalk;
 use std::alloc::Global;
 
 /// `get` and `gets`: KEY ..
 pub(crate) fn read_get(
     alloc: Global,
+    rules: Rules,
     with_unique: bool,
     mut walk: WordWalk<'_>,
 ) -> Result<Command, Refusal>
-    ensures { Reads (spec.get_words with_unique (words_left walk.entry)) result }
+    ensures { Reads (spec.get_words rules with_unique (words_left walk.entry)) result }
 {
     let Some(first) = walk.next() else {
-        return Err(Refusal::BadFormat);
+        return Err(rules.word_count_refusal());
     };
     let keys = Keys::read(alloc, first, walk)?;
     Ok(Command::Get(Retrieval {
@@ -34,15 +36,16 @@ pub(crate) fn read_get(
 /// `gat` and `gats`: E KEY ..
 pub(crate) fn read_gat(
     alloc: Global,
+    rules: Rules,
     with_unique: bool,
     mut walk: WordWalk<'_>,
 ) -> Result<Command, Refusal>
-    ensures { Reads (spec.gat_words with_unique (words_left walk.entry)) result }
+    ensures { Reads (spec.gat_words rules with_unique (words_left walk.entry)) result }
 {
     let (Some(exptime), Some(first)) = (walk.next(), walk.next()) else {
-        return Err(Refusal::BadFormat);
+        return Err(rules.word_count_refusal());
     };
-    let exptime = read_i64(exptime)?;
+    let exptime = read_exptime(rules, exptime)?;
     let keys = Keys::read(alloc, first, walk)?;
     Ok(Command::Get(Retrieval {
         keys,
@@ -52,12 +55,16 @@ pub(crate) fn read_gat(
 }
 
 /// `delete`: KEY [noreply], KEY 0 [noreply]
-pub(crate) fn read_delete(alloc: Global, mut walk: WordWalk<'_>) -> Result<Command, Refusal>
-    ensures { Reads (spec.delete_words (words_left walk.entry)) result }
+pub(crate) fn read_delete(
+    alloc: Global,
+    rules: Rules,
+    mut walk: WordWalk<'_>,
+) -> Result<Command, Refusal>
+    ensures { Reads (spec.delete_words rules (words_left walk.entry)) result }
 {
     let (Some(key), second, third, None) = (walk.next(), walk.next(), walk.next(), walk.next())
     else {
-        return Err(Refusal::BadFormat);
+        return Err(rules.word_count_refusal());
     };
     let key = read_key(alloc, key)?;
     let noreply = match (second, third) {
@@ -70,10 +77,11 @@ pub(crate) fn read_delete(alloc: Global, mut walk: WordWalk<'_>) -> Result<Comma
 /// `incr` and `decr`: KEY U [noreply]
 pub(crate) fn read_count(
     alloc: Global,
+    rules: Rules,
     direction: Direction,
     mut walk: WordWalk<'_>,
 ) -> Result<Command, Refusal>
-    ensures { Reads (spec.count_words direction (words_left walk.entry)) result }
+    ensures { Reads (spec.count_words rules direction (words_left walk.entry)) result }
 {
     let (Some(key), Some(amount), noreply, None) = (
         walk.next(),
@@ -81,11 +89,11 @@ pub(crate) fn read_count(
         walk.next(),
         walk.next(),
     ) else {
-        return Err(Refusal::BadFormat);
+        return Err(rules.word_count_refusal());
     };
     let key = read_key(alloc, key)?;
     let amount = read_u64(amount)?;
-    let noreply = read_noreply(noreply)?;
+    let noreply = read_last_word(rules, noreply)?;
     Ok(Command::Count {
         key,
         direction,
@@ -95,8 +103,12 @@ pub(crate) fn read_count(
 }
 
 /// `touch`: KEY E [noreply]
-pub(crate) fn read_touch(alloc: Global, mut walk: WordWalk<'_>) -> Result<Command, Refusal>
-    ensures { Reads (spec.touch_words (words_left walk.entry)) result }
+pub(crate) fn read_touch(
+    alloc: Global,
+    rules: Rules,
+    mut walk: WordWalk<'_>,
+) -> Result<Command, Refusal>
+    ensures { Reads (spec.touch_words rules (words_left walk.entry)) result }
 {
     let (Some(key), Some(exptime), noreply, None) = (
         walk.next(),
@@ -104,11 +116,11 @@ pub(crate) fn read_touch(alloc: Global, mut walk: WordWalk<'_>) -> Result<Comman
         walk.next(),
         walk.next(),
     ) else {
-        return Err(Refusal::BadFormat);
+        return Err(rules.word_count_refusal());
     };
     let key = read_key(alloc, key)?;
-    let exptime = read_i64(exptime)?;
-    let noreply = read_noreply(noreply)?;
+    let exptime = read_exptime(rules, exptime)?;
+    let noreply = read_last_word(rules, noreply)?;
     Ok(Command::Touch {
         key,
         exptime,
@@ -117,11 +129,11 @@ pub(crate) fn read_touch(alloc: Global, mut walk: WordWalk<'_>) -> Result<Comman
 }
 
 /// `flush_all`: [E] [noreply]
-pub(crate) fn read_flush_all(mut walk: WordWalk<'_>) -> Result<Command, Refusal>
-    ensures { result ≡ spec.flush_words (words_left walk.entry) }
+pub(crate) fn read_flush_all(rules: Rules, mut walk: WordWalk<'_>) -> Result<Command, Refusal>
+    ensures { result ≡ spec.flush_words rules (words_left walk.entry) }
 {
     let (first, second, None) = (walk.next(), walk.next(), walk.next()) else {
-        return Err(Refusal::BadFormat);
+        return Err(rules.word_count_refusal());
     };
     let (delay, noreply) = match (first, second) {
         (None, _) => return Ok(Command::FlushAll {
@@ -134,19 +146,19 @@ pub(crate) fn read_flush_all(mut walk: WordWalk<'_>) -> Result<Command, Refusal>
         }),
         (Some(delay), noreply) => (delay, noreply),
     };
-    let delay = read_i64(delay)?;
-    let noreply = read_noreply(noreply)?;
+    let delay = read_exptime(rules, delay)?;
+    let noreply = read_last_word(rules, noreply)?;
     Ok(Command::FlushAll { delay, noreply })
 }
 
 /// `verbosity`: U [noreply]
-pub(crate) fn read_verbosity(mut walk: WordWalk<'_>) -> Result<Command, Refusal>
-    ensures { result ≡ spec.verbosity_words (words_left walk.entry) }
+pub(crate) fn read_verbosity(rules: Rules, mut walk: WordWalk<'_>) -> Result<Command, Refusal>
+    ensures { result ≡ spec.verbosity_words rules (words_left walk.entry) }
 {
     let (Some(level), noreply, None) = (walk.next(), walk.next(), walk.next()) else {
-        return Err(Refusal::BadFormat);
+        return Err(rules.word_count_refusal());
     };
     read_u64(level)?;
-    let noreply = read_noreply(noreply)?;
+    let noreply = read_last_word(rules, noreply)?;
     Ok(Command::Verbosity { noreply })
 }

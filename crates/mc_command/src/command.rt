@@ -5,6 +5,7 @@ use crate::block::Block;
 use crate::keys::Keys;
 use crate::meta::{MetaArithmetic, MetaDelete, MetaGet, MetaSet};
 use crate::refusal::Refusal;
+use crate::rules::Profile;
 use mc_wire::Key;
 
 /// What a client asked.
@@ -37,8 +38,8 @@ pub enum Command {
         delay: i64,
         noreply: bool,
     },
-    /// `version`.
-    Version,
+    /// `version`, whose text is that of the profile.
+    Version(Profile),
     /// `verbosity U`, which changes nothing.
     Verbosity {
         noreply: bool,

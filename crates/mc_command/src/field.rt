@@ -1,9 +1,11 @@
 //! The words of a line as its fields: each is a value or a refusal.
 ghost use Rattle.std.specs.Prelude.{◌≡◌, ◌^◌, true};
 ghost use Rattle.std.specs.Option.{option_copied};
-ghost use Rattle.mc_command.specs.Field.{Reads, key_of, unsigned_of, signed_of, noreply_of};
+ghost use Rattle.mc_command.specs.Field.{Reads, exptime_of, key_of, last_word_of, noreply_of, signed_of, unsigned_of};
 
+use crate::hiding::is_noreply;
 use crate::refusal::Refusal;
+use crate::rules::Rules;
 use mc_wire::{Key, number_i64, number_u64};
 use std::alloc::Global;
 
@@ -37,20 +39,38 @@ pub fn read_u32(word: &[u8]) -> Result<u32, Refusal>
 }
 
 /// Reads a signed number of 64 bits.
-pub fn read_i64(word: &[u8]) -> Result<i64, Refusal>
+pub(crate) fn read_i64(word: &[u8]) -> Result<i64, Refusal>
     ensures { result ≡ signed_of word.now }
 {
     let number = number_i64(word)?;
     Ok(number)
 }
 
+/// Reads an exptime, a signed number of 64 bits of which memcached keeps 32.
+pub fn read_exptime(rules: Rules, word: &[u8]) -> Result<i64, Refusal>
+    ensures { result ≡ exptime_of rules word.now }
+{
+    let number = read_i64(word)?;
+    Ok(rules.exptime(number))
+}
+
 /// Reads the word behind the fields: it is `noreply`, or there is none.
-pub fn read_noreply(word: Option<&[u8]>) -> Result<bool, Refusal>
+pub(crate) fn read_noreply(word: Option<&[u8]>) -> Result<bool, Refusal>
     ensures { result ≡ noreply_of (option_copied word.entry) }
 {
     match word {
         None => Ok(false),
-        Some(b"noreply") => Ok(true),
+        Some(word) if is_noreply(word) => Ok(true),
         Some(_) => Err(Refusal::BadFormat),
+    }
+}
+
+/// Whether the word behind the fields is `noreply`; memcached ignores any other word there.
+pub fn read_last_word(rules: Rules, word: Option<&[u8]>) -> Result<bool, Refusal>
+    ensures { result ≡ last_word_of rules (option_copied word.entry) }
+{
+    match word {
+        Some(word) if rules.is_drop_in() => Ok(is_noreply(word)),
+        word => read_noreply(word),
     }
 }

@@ -6,6 +6,7 @@ mod block;
 mod classic;
 mod command;
 mod field;
+mod hiding;
 mod keys;
 mod laws;
 mod line;
@@ -14,18 +15,20 @@ mod meta_flags;
 mod meta_line;
 mod name;
 mod refusal;
+mod rules;
 mod storage;
 
-pub use announced::announced_bytes;
+pub use announced::{announced_bytes, announced_bytes_under, read_block_count};
 pub use block::Block;
 pub use command::{Command, Direction, Retrieval, Storage, StoreMode};
-pub use field::{read_i64, read_noreply, read_u32};
+pub use field::{read_exptime, read_last_word, read_u32};
 pub use keys::{Keys, are_keys};
 pub use laws::{data_can_be_given_up, flags_in_any_order, table_is_never_out_of_memory};
-pub use line::{Line, read_line};
+pub use line::{Line, read_line, read_line_under};
 pub use meta::{
     MetaArithmetic, MetaDelete, MetaFlags, MetaGet, MetaKind, MetaMode, MetaSet, Opaque,
     RETURN_FLAGS, ReturnFlag, Returned,
 };
 pub use meta_line::{read_meta_get, read_meta_set};
 pub use refusal::Refusal;
+pub use rules::{Profile, Rules};

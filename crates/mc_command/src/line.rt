@@ -1,6 +1,7 @@
 //! From a line to the command that it is.
 ghost use Rattle.mc_wire.specs.Words.{words_of, words_left};
 ghost use Rattle.mc_command.specs.Line.{Says};
+ghost use Rattle.mc_command.specs.Rules.{own};
 ghost use Rattle.mc_command.specs.Table.{line_of, line_named, may_take_memory, takes_memory};
 ghost use Rattle.std.specs.Prelude.{◌≡◌, false};
 ghost use Rattle.mc_command.specs.Blocks as spec;
@@ -9,9 +10,11 @@ use crate::classic::{
     read_count, read_delete, read_flush_all, read_gat, read_get, read_touch, read_verbosity,
 };
 use crate::command::Command;
+use crate::hiding::hide_fault;
 use crate::meta_line::read_meta;
 use crate::name::{CommandName, read_name};
 use crate::refusal::Refusal;
+use crate::rules::Rules;
 use crate::storage::{read_cas, read_storage};
 use mc_wire::{WordWalk, words};
 use std::alloc::Global;
@@ -29,40 +32,56 @@ pub enum Line {
     Skip(Refusal, u64),
 }
 
-/// Reads a line, without its end. A value has at most so many bytes as the limit says.
-#[tactic(auto, unfolding(crate::specs::Table::line_of))]
+/// Reads a line, without its end, by this server's own rules. A value has at most so many bytes as the limit says.
 pub fn read_line(alloc: Global, line: &[u8], limit: usize) -> Line
-    ensures says { Says (line_of limit (words_of line.now)) result }
+    ensures says { Says (line_of (own limit) (words_of line.now)) result }
+    ensures told { may_take_memory (words_of line.now) ≡ false → result ≡ line_of (own limit) (words_of line.now) }
+{
+    read_line_under(alloc, line, Rules::own(limit))
+}
+
+/// Reads a line, without its end, by these rules.
+#[tactic(auto, unfolding(crate::specs::Table::line_of), using(crate::proofs::Hidings::says_shown))]
+pub fn read_line_under(alloc: Global, line: &[u8], rules: Rules) -> Line
+    ensures says { Says (line_of rules (words_of line.now)) result }
     // A line without keys is never given up.
-    ensures told { may_take_memory (words_of line.now) ≡ false → result ≡ line_of limit (words_of line.now) }
+    ensures told { may_take_memory (words_of line.now) ≡ false → result ≡ line_of rules (words_of line.now) }
 {
     let mut walk = words(line);
-    match walk.next().and_then(read_name) {
-        Some(name) => read_named(alloc, name, walk, limit),
-        None => Line::Refused(Refusal::Unknown),
-    }
+    let Some(name) = walk.next().and_then(read_name) else {
+        return Line::Refused(Refusal::Unknown);
+    };
+    let behind = walk.text();
+    let mut read = read_named(alloc, name, walk, rules);
+    hide_fault(&mut read, rules, name, behind);
+    read
 }
 
 /// Reads the words behind a name.
 #[tactic(auto, using(crate::proofs::GivingUp::says_whole, crate::proofs::Lines::get_may, crate::proofs::Lines::gat_may, crate::proofs::Lines::delete_may, crate::proofs::Lines::count_may, crate::proofs::Lines::touch_may, crate::proofs::Lines::flush_may, crate::proofs::Told::verbosity_told, crate::proofs::Told::says_told))]
-fn read_named(alloc: Global, name: CommandName, walk: WordWalk<'_>, limit: usize) -> Line
-    ensures says { Says (line_named limit name (words_left walk.entry)) result }
-    ensures told { takes_memory name ≡ false → result ≡ line_named limit name (words_left walk.entry) }
+fn read_named(alloc: Global, name: CommandName, walk: WordWalk<'_>, rules: Rules) -> Line
+    ensures says { Says (line_named rules name (words_left walk.entry)) result }
+    ensures told { takes_memory name ≡ false → result ≡ line_named rules name (words_left walk.entry) }
 {
     match name {
-        CommandName::Store(mode) => read_storage(alloc, mode, walk, limit),
-        CommandName::CompareAndSwap => read_cas(alloc, walk, limit),
-        CommandName::Get { with_unique } => whole_line(read_get(alloc, with_unique, walk)),
-        CommandName::GetAndTouch { with_unique } => whole_line(read_gat(alloc, with_unique, walk)),
-        CommandName::Delete => whole_line(read_delete(alloc, walk)),
-        CommandName::Count(direction) => whole_line(read_count(alloc, direction, walk)),
-        CommandName::Touch => whole_line(read_touch(alloc, walk)),
-        CommandName::FlushAll => whole_line(read_flush_all(walk)),
-        CommandName::Version => Line::Whole(Command::Version),
-        CommandName::Verbosity => whole_line(read_verbosity(walk)),
+        CommandName::Store(mode) => read_storage(alloc, mode, walk, rules),
+        CommandName::CompareAndSwap => read_cas(alloc, walk, rules),
+        CommandName::Get { with_unique } => whole_line(read_get(alloc, rules, with_unique, walk)),
+        CommandName::GetAndTouch { with_unique } => whole_line(read_gat(
+            alloc,
+            rules,
+            with_unique,
+            walk,
+        )),
+        CommandName::Delete => whole_line(read_delete(alloc, rules, walk)),
+        CommandName::Count(direction) => whole_line(read_count(alloc, rules, direction, walk)),
+        CommandName::Touch => whole_line(read_touch(alloc, rules, walk)),
+        CommandName::FlushAll => whole_line(read_flush_all(rules, walk)),
+        CommandName::Version => Line::Whole(Command::Version(rules.profile)),
+        CommandName::Verbosity => whole_line(read_verbosity(rules, walk)),
         CommandName::Quit => Line::Whole(Command::Quit),
         CommandName::MetaNoop => Line::Whole(Command::MetaNoop),
-        CommandName::Meta(name) => read_meta(alloc, name, walk, limit),
+        CommandName::Meta(name) => read_meta(alloc, name, walk, rules),
     }
 }
 

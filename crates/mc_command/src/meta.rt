@@ -4,6 +4,7 @@ ghost use Rattle.std.specs.Option.{SomeIff};
 
 use crate::block::Block;
 use crate::command::Direction;
+use crate::rules::{Profile, Rules};
 use arrayvec::ArrayVec;
 use mc_wire::{Key, OPAQUE_LIMIT};
 use std::marker::Model;
@@ -145,22 +146,26 @@ pub enum MetaKind {
 impl MetaKind {
     ghost use Rattle.mc_command.specs.Meta.{is_among, letters_of};
 
-    /// Whether the command has a flag of this letter.
-    pub(crate) fn has_flag(self, letter: u8) -> bool
-        ensures { result ≡ is_among (letters_of self) letter }
+    /// Whether the command has a flag of this letter, by these rules.
+    pub(crate) fn has_flag(self, rules: Rules, letter: u8) -> bool
+        ensures { result ≡ is_among (letters_of rules self) letter }
     {
-        self.letters().contains(&letter)
+        self.letters(rules).contains(&letter)
     }
 
-    /// The letters of its flags.
-    fn letters(self) -> &'static [u8]
-        ensures { result.now ≡ letters_of self }
+    /// The letters of its flags, by these rules.
+    fn letters(self, rules: Rules) -> &'static [u8]
+        ensures { result.now ≡ letters_of rules self }
     {
-        match self {
-            MetaKind::Get => b"bcfhklOqstvNRT",
-            MetaKind::Set => b"bkOqcsCEFTM",
-            MetaKind::Delete => b"bkOqCEIT",
-            MetaKind::Arithmetic => b"bkOqctvCDEJMNT",
+        match (rules.profile, self) {
+            (Profile::Own, MetaKind::Get) => b"bcfhklOqstvNRT",
+            (Profile::Own, MetaKind::Set) => b"bkOqcsCEFTM",
+            (Profile::Own, MetaKind::Delete) => b"bkOqCEIT",
+            (Profile::Own, MetaKind::Arithmetic) => b"bkOqctvCDEJMNT",
+            (Profile::DropIn, MetaKind::Get) => b"bcfhklOqstvNRTPL",
+            (Profile::DropIn, MetaKind::Set) => b"bkOqcsCEFTMINPL",
+            (Profile::DropIn, MetaKind::Delete) => b"bkOqCEITPL",
+            (Profile::DropIn, MetaKind::Arithmetic) => b"bkOqctvCDEJMNTPL",
         }
     }
 }

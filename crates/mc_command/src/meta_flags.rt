@@ -11,6 +11,7 @@ use crate::command::Direction;
 use crate::field::{read_i64, read_u32, read_u64};
 use crate::meta::{MetaFlags, MetaKind, MetaMode, Opaque, ReturnFlag, Returned};
 use crate::refusal::Refusal;
+use crate::rules::Rules;
 use mc_wire::WordWalk;
 
 /// What the flags of a line ask; nothing where a flag is not there.
@@ -82,12 +83,12 @@ enum Flag {
 
 /// Reads the flags of a line, its words behind the key and the count. The first flag that is refused
 /// decides.
-pub(crate) fn read_flags(name: MetaKind, walk: WordWalk<'_>) -> Result<Asked, Refusal>
-    ensures { result ≡ unless (flags_refusal name [] (words_left walk.entry)) (Ok (asked_of name (words_left walk.entry))) }
+pub(crate) fn read_flags(rules: Rules, name: MetaKind, walk: WordWalk<'_>) -> Result<Asked, Refusal>
+    ensures { result ≡ unless (flags_refusal rules name [] (words_left walk.entry)) (Ok (asked_of name (words_left walk.entry))) }
 {
     let mut reader = FlagReader::new();
     for word in walk {
-        reader.read(name, word)?;
+        reader.read(rules, name, word)?;
     }
     Ok(reader.asked)
 }
@@ -112,17 +113,17 @@ impl FlagReader {
     }
 
     /// Reads one flag more. Where it is refused nothing is changed.
-    fn read(&mut self, name: MetaKind, word: &[u8]) -> Result<(), Refusal>
+    fn read(&mut self, rules: Rules, name: MetaKind, word: &[u8]) -> Result<(), Refusal>
         requires { IsCounted self.old }
         ensures counted { OnOk result (IsCounted self.new) }
-        ensures ok { OnOk result (with_word name self.old word.now ≡ Ok self.new) }
-        ensures err { IfErr result (λ refusal. with_word name self.old word.now ≡ Err refusal) }
+        ensures ok { OnOk result (with_word rules name self.old word.now ≡ Ok self.new) }
+        ensures err { IfErr result (λ refusal. with_word rules name self.old word.now ≡ Err refusal) }
     {
         let Some((letter, token)) = word.split_first() else {
             return Err(Refusal::InvalidFlag);
         };
         let letter = *letter;
-        if !name.has_flag(letter) {
+        if !name.has_flag(rules, letter) {
             return Err(Refusal::InvalidFlag);
         }
         if self.seen[usize::from(letter)] {

@@ -6,79 +6,101 @@ ghost use Rattle.mc_command.specs.Field.{Reads};
 ghost use Rattle.mc_command.specs.Meta.{as_meta_get, as_meta_set, decoded_key, line_with_block, line_without_block, meta_command_of, meta_key_of, meta_line_of};
 ghost use Rattle.mc_command.specs.Meta.{arithmetic_by, command_by, delete_by, get_by, set_by};
 
+use crate::announced::read_block_count;
 use crate::block::Block;
 use crate::command::{Command, Direction};
-use crate::field::{read_key, read_u32};
+use crate::field::read_key;
 use crate::line::{Line, block_line, whole_line};
 use crate::meta::{MetaArithmetic, MetaDelete, MetaGet, MetaKind, MetaMode, MetaSet};
 use crate::meta_flags::{Asked, read_flags};
 use crate::refusal::Refusal;
+use crate::rules::Rules;
 use mc_wire::{Key, WordWalk};
 use std::alloc::Global;
 
-/// Reads a meta line by its words behind the name, under a value limit.
+/// Reads a meta line by its words behind the name.
 #[tactic(auto, unfolding(crate::specs::Meta::meta_line_of))]
-pub(crate) fn read_meta(alloc: Global, name: MetaKind, walk: WordWalk<'_>, limit: usize) -> Line
-    ensures { Says (meta_line_of limit name (words_left walk.entry)) result }
+pub(crate) fn read_meta(alloc: Global, name: MetaKind, walk: WordWalk<'_>, rules: Rules) -> Line
+    ensures { Says (meta_line_of rules name (words_left walk.entry)) result }
 {
     match name {
-        MetaKind::Set => read_with_block(alloc, walk, limit),
+        MetaKind::Set => read_with_block(alloc, walk, rules),
         MetaKind::Get | MetaKind::Delete | MetaKind::Arithmetic => {
-            read_without_block(alloc, name, walk)
+            read_without_block(alloc, rules, name, walk)
         }
     }
 }
 
-fn read_without_block(alloc: Global, name: MetaKind, mut walk: WordWalk<'_>) -> Line
-    ensures { Says (line_without_block name (words_left walk.entry)) result }
+#[tactic(auto, using(crate::proofs::Told::words_told))]
+fn read_without_block(alloc: Global, rules: Rules, name: MetaKind, mut walk: WordWalk<'_>) -> Line
+    ensures { Says (line_without_block rules name (words_left walk.entry)) result }
 {
     let Some(word) = walk.next() else {
-        return Line::Refused(Refusal::BadFormat);
+        return Line::Refused(rules.word_count_refusal());
     };
-    whole_line(read_command(alloc, name, word, walk))
+    whole_line(read_command(alloc, rules, name, word, walk))
 }
 
-fn read_with_block(alloc: Global, mut walk: WordWalk<'_>, limit: usize) -> Line
-    ensures { Says (line_with_block limit (words_left walk.entry)) result }
+#[tactic(auto, using(crate::proofs::Told::words_told))]
+fn read_with_block(alloc: Global, mut walk: WordWalk<'_>, rules: Rules) -> Line
+    ensures { Says (line_with_block rules (words_left walk.entry)) result }
 {
-    let (Some(word), Some(count)) = (walk.next(), walk.next()) else {
+    let Some(word) = walk.next() else {
+        return Line::Refused(rules.word_count_refusal());
+    };
+    let Some(count) = walk.next() else {
         return Line::Refused(Refusal::BadFormat);
     };
-    let count = read_u32(count).ok();
-    block_line(limit, count, read_command(alloc, MetaKind::Set, word, walk))
+    let count = read_block_count(rules, count);
+    block_line(
+        rules.value_limit,
+        count,
+        read_command(alloc, rules, MetaKind::Set, word, walk),
+    )
 }
 
 /// Reads what a key word and the flags behind it ask.
 fn read_command(
     alloc: Global,
+    rules: Rules,
     name: MetaKind,
     word: &[u8],
     walk: WordWalk<'_>,
 ) -> Result<Command, Refusal>
-    ensures { Reads (meta_command_of name word.now (words_left walk.entry)) result }
+    ensures { Reads (meta_command_of rules name word.now (words_left walk.entry)) result }
 {
-    let asked = read_flags(name, walk)?;
+    let asked = read_flags(rules, name, walk)?;
     let key = read_meta_key(alloc, asked.flags.base64, word)?;
-    asked.into_command(alloc, name, key)
+    asked.into_command(alloc, rules, name, key)
 }
 
 /// Reads what `mg` asks by its key word and the words of its flags. The refusals are those of a line of `mg`.
-pub fn read_meta_get(alloc: Global, word: &[u8], flags: WordWalk<'_>) -> Result<MetaGet, Refusal>
-    ensures { Reads (meta_command_of MetaKind.Get word.now (words_left flags.entry)) (as_meta_get result) }
+pub fn read_meta_get(
+    alloc: Global,
+    rules: Rules,
+    word: &[u8],
+    flags: WordWalk<'_>,
+) -> Result<MetaGet, Refusal>
+    ensures { Reads (meta_command_of rules MetaKind.Get word.now (words_left flags.entry)) (as_meta_get result) }
 {
-    let asked = read_flags(MetaKind::Get, flags)?;
+    let asked = read_flags(rules, MetaKind::Get, flags)?;
     let key = read_meta_key(alloc, asked.flags.base64, word)?;
-    Ok(asked.into_get(key))
+    Ok(asked.into_get(rules, key))
 }
 
 /// Reads what `ms` asks by its key word and the words of its flags, its block still empty. The refusals are those of a
 /// line of `ms`, but for those of the block.
-pub fn read_meta_set(alloc: Global, word: &[u8], flags: WordWalk<'_>) -> Result<MetaSet, Refusal>
-    ensures { Reads (meta_command_of MetaKind.Set word.now (words_left flags.entry)) (as_meta_set result) }
+pub fn read_meta_set(
+    alloc: Global,
+    rules: Rules,
+    word: &[u8],
+    flags: WordWalk<'_>,
+) -> Result<MetaSet, Refusal>
+    ensures { Reads (meta_command_of rules MetaKind.Set word.now (words_left flags.entry)) (as_meta_set result) }
 {
-    let asked = read_flags(MetaKind::Set, flags)?;
+    let asked = read_flags(rules, MetaKind::Set, flags)?;
     let key = read_meta_key(alloc, asked.flags.base64, word)?;
-    asked.into_checked_set(alloc, key)
+    asked.into_checked_set(alloc, rules, key)
 }
 
 /// Reads a key word, which may be base64.
@@ -103,58 +125,65 @@ fn read_base64_key(alloc: Global, word: &[u8]) -> Result<Key, Refusal>
 
 impl Asked {
     /// The command of this name and key, with the defaults of flags that are not there.
-    fn into_command(self, alloc: Global, name: MetaKind, key: Key) -> Result<Command, Refusal>
-        ensures { result ≡ command_by name key self }
+    fn into_command(
+        self,
+        alloc: Global,
+        rules: Rules,
+        name: MetaKind,
+        key: Key,
+    ) -> Result<Command, Refusal>
+        ensures { result ≡ command_by rules name key self }
     {
         match name {
-            MetaKind::Get => Ok(Command::MetaGet(self.into_get(key))),
-            MetaKind::Set => Ok(Command::MetaSet(self.into_checked_set(alloc, key)?)),
-            MetaKind::Delete => Ok(Command::MetaDelete(self.into_delete(key))),
-            MetaKind::Arithmetic => Ok(Command::MetaArithmetic(self.into_arithmetic(key))),
+            MetaKind::Get => Ok(Command::MetaGet(self.into_get(rules, key))),
+            MetaKind::Set => Ok(Command::MetaSet(self.into_checked_set(alloc, rules, key)?)),
+            MetaKind::Delete => Ok(Command::MetaDelete(self.into_delete(rules, key))),
+            MetaKind::Arithmetic => Ok(Command::MetaArithmetic(self.into_arithmetic(rules, key))),
         }
     }
 
-    /// What `ms` asks; it compares in its mode `S` alone.
-    fn into_checked_set(self, alloc: Global, key: Key) -> Result<MetaSet, Refusal>
-        ensures { as_meta_set result ≡ command_by MetaKind.Set key self }
+    /// What `ms` asks; by this server's own rules it compares in its mode `S` alone.
+    fn into_checked_set(self, alloc: Global, rules: Rules, key: Key) -> Result<MetaSet, Refusal>
+        ensures { as_meta_set result ≡ command_by rules MetaKind.Set key self }
     {
-        let set = self.into_set(alloc, key);
-        if set.compare.is_some() && set.mode != MetaMode::Set {
+        let set = self.into_set(alloc, rules, key);
+        if !rules.is_drop_in() && set.compare.is_some() && set.mode != MetaMode::Set {
             return Err(Refusal::BadFormat);
         }
         Ok(set)
     }
 
-    fn into_get(self, key: Key) -> MetaGet
-        ensures { result ≡ get_by key self }
+    fn into_get(self, rules: Rules, key: Key) -> MetaGet
+        ensures { result ≡ get_by rules key self }
     {
         MetaGet {
             key,
             flags: self.flags,
             value: self.value,
-            touch: self.exptime,
-            vivify: self.vivify,
-            recache: self.recache,
+            touch: rules.exptime_in(self.exptime),
+            vivify: rules.exptime_in(self.vivify),
+            recache: rules.exptime_in(self.recache),
         }
     }
 
-    fn into_set(self, alloc: Global, key: Key) -> MetaSet
-        ensures { result ≡ set_by key self }
+    fn into_set(self, alloc: Global, rules: Rules, key: Key) -> MetaSet
+        ensures { result ≡ set_by rules key self }
     {
+        let mode = self.mode.unwrap_or(MetaMode::Set);
         MetaSet {
             key,
             flags: self.flags,
-            mode: self.mode.unwrap_or(MetaMode::Set),
-            compare: self.compare,
+            mode,
+            compare: rules.compared(mode, self.compare),
             unique: self.unique,
             client_flags: self.client_flags.unwrap_or(0),
-            exptime: self.exptime.unwrap_or(0),
+            exptime: rules.exptime_in(self.exptime).unwrap_or(0),
             block: Block::empty(alloc),
         }
     }
 
-    fn into_delete(self, key: Key) -> MetaDelete
-        ensures { result ≡ delete_by key self }
+    fn into_delete(self, rules: Rules, key: Key) -> MetaDelete
+        ensures { result ≡ delete_by rules key self }
     {
         MetaDelete {
             key,
@@ -162,12 +191,12 @@ impl Asked {
             compare: self.compare,
             unique: self.unique,
             invalidate: self.invalidate,
-            exptime: self.exptime,
+            exptime: rules.exptime_in(self.exptime),
         }
     }
 
-    fn into_arithmetic(self, key: Key) -> MetaArithmetic
-        ensures { result ≡ arithmetic_by key self }
+    fn into_arithmetic(self, rules: Rules, key: Key) -> MetaArithmetic
+        ensures { result ≡ arithmetic_by rules key self }
     {
         MetaArithmetic {
             key,
@@ -178,8 +207,8 @@ impl Asked {
             direction: self.direction.unwrap_or(Direction::Increment),
             amount: self.amount.unwrap_or(1),
             initial: self.initial.unwrap_or(0),
-            vivify: self.vivify,
-            exptime: self.exptime,
+            vivify: rules.exptime_in(self.vivify),
+            exptime: rules.exptime_in(self.exptime),
         }
     }
 }

@@ -5,7 +5,7 @@ ghost use Rattle.mc_command.specs.declared.refusal.Refusal.TheVariants.{Memory};
 use mc_wire::WireFault;
 use std::alloc::AllocError;
 
-/// A refusal by the reader. It takes its turn among the replies like any command, and is always shown.
+/// A refusal by the reader. It takes its turn among the replies like any command, and is shown unless it is hidden.
 #[derive(Clone, Copy, Debug, PartialEq, Eq)]
 pub enum Refusal {
     /// The name of the command is unknown, or there is none.
@@ -28,6 +28,10 @@ pub enum Refusal {
     LineTooLong,
     /// A command was given up because memory ran out.
     Memory,
+    /// The words are too few or too many, which by memcached's rules is no command.
+    WordCount,
+    /// A fault that isn't shown, since its line ends in `noreply` and memcached's rules hold.
+    Hidden,
 }
 
 impl From<WireFault> for Refusal {

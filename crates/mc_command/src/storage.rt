@@ -3,16 +3,18 @@ ghost use Rattle.std.specs.Prelude.{◌≡◌, ◌^◌};
 ghost use Rattle.std.specs.Option.{option_copied, option_and_then};
 ghost use Rattle.mc_wire.specs.Words.{words_left};
 ghost use Rattle.mc_wire.specs.Number.{number_of};
-ghost use Rattle.mc_command.specs.Field.{Reads};
+ghost use Rattle.mc_command.specs.Blocks as blocks;
+ghost use Rattle.mc_command.specs.Field.{Reads, word_count_refusal};
 ghost use Rattle.mc_command.specs.Line.{Says};
 ghost use Rattle.mc_command.specs.Classic as spec;
 
-use crate::announced::announced;
+use crate::announced::{announced, announced_by_cas};
 use crate::block::Block;
 use crate::command::{Command, Storage, StoreMode};
-use crate::field::{read_i64, read_key, read_noreply, read_u32, read_u64};
+use crate::field::{read_exptime, read_key, read_last_word, read_u32, read_u64};
 use crate::line::{Line, block_line};
 use crate::refusal::Refusal;
+use crate::rules::Rules;
 use mc_wire::WordWalk;
 use std::alloc::Global;
 
@@ -21,59 +23,68 @@ pub(crate) fn read_storage(
     alloc: Global,
     mode: StoreMode,
     mut walk: WordWalk<'_>,
-    limit: usize,
+    rules: Rules,
 ) -> Line
-    ensures { Says (spec.storage_line limit mode (words_left walk.entry)) result }
+    ensures { Says (spec.storage_line rules mode (words_left walk.entry)) result }
 {
     let (key, flags, exptime, count) = (walk.next(), walk.next(), walk.next(), walk.next());
     let (noreply, more) = (walk.next(), walk.next());
-    let block = announced(count);
+    let block = announced(rules, count);
     match (key, flags, exptime, count, more) {
         (Some(key), Some(flags), Some(exptime), Some(_), None) => {
             block_line(
-                limit,
+                rules.value_limit,
                 block,
-                storage(alloc, mode, key, flags, exptime, noreply),
+                storage(alloc, rules, mode, key, flags, exptime, noreply),
             )
         }
-        _ => block_line(limit, block, Err(Refusal::BadFormat)),
+        _ => miscounted(rules, block),
     }
 }
 
 /// `cas`: KEY flags E N U [noreply]
-pub(crate) fn read_cas(alloc: Global, mut walk: WordWalk<'_>, limit: usize) -> Line
-    ensures { Says (spec.cas_line limit (words_left walk.entry)) result }
+pub(crate) fn read_cas(alloc: Global, mut walk: WordWalk<'_>, rules: Rules) -> Line
+    ensures { Says (spec.cas_line rules (words_left walk.entry)) result }
 {
     let (key, flags, exptime, count) = (walk.next(), walk.next(), walk.next(), walk.next());
     let (unique, noreply, more) = (walk.next(), walk.next(), walk.next());
-    let block = announced(count);
+    let block = announced_by_cas(rules, count, unique);
     match (key, flags, exptime, count, unique, more) {
         (Some(key), Some(flags), Some(exptime), Some(_), Some(unique), None) => {
             block_line(
-                limit,
+                rules.value_limit,
                 block,
-                guarded(alloc, key, flags, exptime, unique, noreply),
+                guarded(alloc, rules, key, flags, exptime, unique, noreply),
             )
         }
-        _ => block_line(limit, block, Err(Refusal::BadFormat)),
+        _ => miscounted(rules, block),
     }
+}
+
+/// A line of too few words or too many, by the count of its block.
+#[tactic(auto, using(crate::proofs::Told::words_told))]
+fn miscounted(rules: Rules, block: Option<u32>) -> Line
+    ensures { Says (blocks.block_line rules.value_limit block (Err (word_count_refusal rules))) result }
+{
+    block_line(rules.value_limit, block, Err(rules.word_count_refusal()))
 }
 
 /// A storage command, by its words.
 fn storage(
     alloc: Global,
+    rules: Rules,
     mode: StoreMode,
     key: &[u8],
     flags: &[u8],
     exptime: &[u8],
     noreply: Option<&[u8]>,
 ) -> Result<Command, Refusal>
-    ensures { Reads (spec.storage_of mode key.now flags.now exptime.now (option_copied noreply.entry)) result }
+    ensures { Reads (spec.storage_of rules mode key.now flags.now exptime.now (option_copied noreply.entry)) result }
 {
     let key = read_key(alloc, key)?;
     let flags = read_u32(flags)?;
-    let exptime = read_i64(exptime)?;
-    let noreply = read_noreply(noreply)?;
+    let exptime = read_exptime(rules, exptime)?;
+    let noreply = read_last_word(rules, noreply)?;
     Ok(Command::Store(Storage {
         key,
         mode,
@@ -87,19 +98,20 @@ fn storage(
 /// The storage command that a unique guards, by its words.
 fn guarded(
     alloc: Global,
+    rules: Rules,
     key: &[u8],
     flags: &[u8],
     exptime: &[u8],
     unique: &[u8],
     noreply: Option<&[u8]>,
 ) -> Result<Command, Refusal>
-    ensures { Reads (spec.cas_of key.now flags.now exptime.now unique.now (option_copied noreply.entry)) result }
+    ensures { Reads (spec.cas_of rules key.now flags.now exptime.now unique.now (option_copied noreply.entry)) result }
 {
     let key = read_key(alloc, key)?;
     let flags = read_u32(flags)?;
-    let exptime = read_i64(exptime)?;
+    let exptime = read_exptime(rules, exptime)?;
     let mode = StoreMode::Cas(read_u64(unique)?);
-    let noreply = read_noreply(noreply)?;
+    let noreply = read_last_word(rules, noreply)?;
     Ok(Command::Store(Storage {
         key,
         mode,

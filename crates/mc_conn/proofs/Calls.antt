@@ -22,10 +22,11 @@ use Rattle.mc_conn.specs.internal.Inside.{HasBeenTold, put_first}
 use Rattle.mc_join.specs.Expects.{Expects}
 use Rattle.mc_conn.specs.Told.{Told, IsAllTaken, IsAtRest, IsOver, IsShut, IsSkipping, LeavesUnread, all_forms, all_pieces, all_texts}
 use Rattle.mc_conn.proofs.Forms.{length-forms}
+use Rattle.mc_command.specs.declared.rules.Rules.{Rules}
 
 -- A call took no command and handed out nothing: what it made of the reader, of the answers and of the pieces is all that is new.
 pub stays_told : (old new : Conn) (told : Told) (out : ℕ) (lent : Bool) (accepted : List Shown) (h : HasBeenTold old told) → new.dispatcher.shards ≡ old.dispatcher.shards → new.broken ≡ old.broken →
-    IsReader new.reader told.limit told.fed told.ended h.given → new.dispatcher.joiner.window ≡ old.dispatcher.joiner.window → new.dispatcher.joiner.gone ≡ old.dispatcher.joiner.gone → IsJoiner new.dispatcher.joiner (all_forms told) accepted h.texts →
+    IsReader new.reader told.rules told.fed told.ended h.given → new.dispatcher.joiner.window ≡ old.dispatcher.joiner.window → new.dispatcher.joiner.gone ≡ old.dispatcher.joiner.gone → IsJoiner new.dispatcher.joiner (all_forms told) accepted h.texts →
     out ≤ length (all_pieces told) → put_first new.put_back new.dispatcher.unsent.items ≡ drop out (all_pieces told) → (IsTrue lent → (new.put_back ≡ None) × (0 < out)) →
     HasBeenTold new (record told { out = out; lent = lent; accepted = accepted })
 stays_told old new told out lent accepted h shards broken read window gone joined within unsent lent_is = record {
@@ -48,7 +49,7 @@ stays_told old new told out lent accepted h shards broken read window gone joine
 
 -- And the joiner is the same.
 pub joiner_stays : (old new : Conn) (told : Told) (out : ℕ) (lent : Bool) (h : HasBeenTold old told) → new.dispatcher.shards ≡ old.dispatcher.shards → new.broken ≡ old.broken →
-    IsReader new.reader told.limit told.fed told.ended h.given → new.dispatcher.joiner ≡ old.dispatcher.joiner →
+    IsReader new.reader told.rules told.fed told.ended h.given → new.dispatcher.joiner ≡ old.dispatcher.joiner →
     out ≤ length (all_pieces told) → put_first new.put_back new.dispatcher.unsent.items ≡ drop out (all_pieces told) → (IsTrue lent → (new.put_back ≡ None) × (0 < out)) →
     HasBeenTold new (record told { out = out; lent = lent })
 joiner_stays old new told out lent h shards broken read joiner =
@@ -198,11 +199,11 @@ empty_is len n e same =
     omega (arith, none, same)
 
 -- what the reader's test tells of the last command taken
-pub shut_is : (conn : Conn) (closed : Bool) → ((limit : ℕ) (fed : List ℕ) (ended : Bool) (given : List Given) → IsReader conn.reader limit fed ended given → IsTrue closed ↔ IsClosedLine given) →
+pub shut_is : (conn : Conn) (closed : Bool) → ((rules : Rules) (fed : List ℕ) (ended : Bool) (given : List Given) → IsReader conn.reader rules fed ended given → IsTrue closed ↔ IsClosedLine given) →
     (told : Told) → HasBeenTold conn told → IsTrue closed ↔ IsShut told
 shut_is conn closed says told h =
     let P : List Command → Type 0 = λ entries. IsTrue closed ↔ IsTrue (is_closed entries) in
-    subst P h.spelled (says told.limit told.fed told.ended h.given h.read)
+    subst P h.spelled (says told.rules told.fed told.ended h.given h.read)
 
 -- An ended connection goes on only while some command is not taken.
 pub over_at_end : (told : Told) (whole : Bool) → told.broken ≡ false → ¬ IsShut told → IsTrue told.ended → ((whole ≡ false) ↔ IsAllTaken told) → IsTrue (not whole) ↔ IsOver told
@@ -228,9 +229,9 @@ rest_unread told whole unbroken unread says = (
 )
 
 -- What is skipped behind the commands taken is skipped behind those that the reader gave.
-pub amid_skipped : (conn : Conn) (told : Told) (h : HasBeenTold conn told) → IsSkipping told → IsAmidSkipped told.limit told.fed h.given
+pub amid_skipped : (conn : Conn) (told : Told) (h : HasBeenTold conn told) → IsSkipping told → IsAmidSkipped told.rules told.fed h.given
 amid_skipped conn told h skips =
-    let Front : List Command → Type 0 = λ entries. SpellsFront told.limit 0 told.fed entries (skips.line ++ 10 ∷ skips.skipped) in
+    let Front : List Command → Type 0 = λ entries. SpellsFront told.rules 0 told.fed entries (skips.line ++ 10 ∷ skips.skipped) in
     let On : List Command → Type 0 = λ entries. is_closed entries ≡ false in
     record {
       line = skips.line;
@@ -245,7 +246,7 @@ amid_skipped conn told h skips =
     }
 
 -- What is unread behind the commands taken is unread behind those that the reader gave.
-pub unread_behind : (conn : Conn) (told : Told) (h : HasBeenTold conn told) (unread : List ℕ) → LeavesUnread told unread → SpellsFront told.limit 0 told.fed (entries_of h.given) unread × (is_closed (entries_of h.given) ≡ false)
+pub unread_behind : (conn : Conn) (told : Told) (h : HasBeenTold conn told) (unread : List ℕ) → LeavesUnread told unread → SpellsFront told.rules 0 told.fed (entries_of h.given) unread × (is_closed (entries_of h.given) ≡ false)
 unread_behind conn told h unread leaves =
-    let P : List Command → Type 0 = λ entries. SpellsFront told.limit 0 told.fed entries unread × (is_closed entries ≡ false) in
+    let P : List Command → Type 0 = λ entries. SpellsFront told.rules 0 told.fed entries unread × (is_closed entries ≡ false) in
     subst P (sym h.spelled) (leaves.used, leaves.goes_on)

@@ -27,7 +27,7 @@ use Rattle.mc_conn.proofs.Forms.{forms-push, length-forms}
 pub is_sound : (conn : Conn) (told : Told) → IsConn conn told → IsSound told
 unfolding IsConn IsReader
 is_sound conn told h =
-    let Begin : List Command → Type 0 = λ entries. BeginCommands told.limit told.fed entries in
+    let Begin : List Command → Type 0 = λ entries. BeginCommands told.rules told.fed entries in
     let passed = passed_count conn.dispatcher.joiner (all_forms told) told.accepted h.texts h.joined in
     let handed = h.handed in
     let opened = all_forms told in

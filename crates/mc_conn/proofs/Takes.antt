@@ -65,10 +65,10 @@ pub needs_more : (old new : Conn) → GoesOn old → length old.dispatcher.joine
     (told : Told) → IsConn old told → NeedsMore told new
 unfolding IsConn IsAwaiting
 needs_more old new on room says joiner unsent put_back shards broken told h =
-    let said = says told.limit told.fed told.ended h.given h.read in
+    let said = says told.rules told.fed told.ended h.given h.read in
     let forms = waiting_is old told h in
     let window = h.window in
-    let All : List Command → Type 0 = λ entries. AreCommands told.limit told.fed entries in
+    let All : List Command → Type 0 = λ entries. AreCommands told.rules told.fed entries in
     let On : List Command → Type 0 = λ entries. is_closed entries ≡ false in
     record {
       all = subst All h.spelled said.1.0;
@@ -104,7 +104,7 @@ pub opens : (old new : Conn) (shown : Command) (ticket : Ticket) (moment : ℕ) 
     (told : Told) → IsConn old told → Opens told moment ticket new
 unfolding IsConn
 opens old new shown ticket moment form on room number says plan joiner joins put_back shards broken told h =
-    let said = says told.limit told.fed told.ended h.given h.read in
+    let said = says told.rules told.fed told.ended h.given h.read in
     let given = said.0 in
     let is = said.1.shown_is in
     let one : Taken = record { entry = given.entry; moment = moment; given_up = given.given_up || plan.given_up } in
@@ -119,7 +119,7 @@ opens old new shown ticket moment form on room number says plan joiner joins put
     let below : length told.taken < told.handed + told.window = omega (arith, forms, window, room) in
     let spelled : entries_of (h.given ++ given ∷ []) ≡ commands_of (told.taken ++ one ∷ []) =
     map-append (λ (g : Given). g.entry) h.given (given ∷ []) ∙ (ap (λ es. es ++ given.entry ∷ []) h.spelled ∙ sym (map-append (λ (t : Taken). t.entry) told.taken (one ∷ []))) in
-    let Begin : List Command → Type 0 = λ entries. BeginCommands told.limit told.fed entries in
+    let Begin : List Command → Type 0 = λ entries. BeginCommands told.rules told.fed entries in
     let form_is : form ≡ form_of told.shards (ticket_at (0 + length told.taken)) (planned one) =
     plan.form_is ∙ (ap (λ k. form_of k ticket (unless_given_up plan.given_up shown)) h.shards ∙ (ap (λ command. form_of told.shards ticket command) same ∙ ap (λ k. form_of told.shards (ticket_at k) (planned one)) behind)) in
     let Joined : List Form → Type 0 = λ fs. IsJoiner new.dispatcher.joiner fs told.accepted h.texts in

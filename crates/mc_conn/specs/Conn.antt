@@ -36,7 +36,7 @@ pub record Opens (told : Told) (moment : ℕ) (ticket : Ticket) (new : Conn) : T
   -- It is given up only where it may be.
   pub may : MayBeTaken one
   -- It is the next command that the bytes fed spell.
-  pub next : BeginCommands told.limit told.fed (commands_of (told.taken ++ one ∷ []))
+  pub next : BeginCommands told.rules told.fed (commands_of (told.taken ++ one ∷ []))
   pub number : ticket.0 ≡ length told.taken
   pub room : length told.taken < told.handed + told.window
   pub whole : told.broken ≡ false

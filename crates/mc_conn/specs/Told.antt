@@ -11,12 +11,13 @@ use Rattle.mc_split.specs.declared.plan.Piece.{Piece}
 use Rattle.mc_join.specs.Replies.{replies}
 use Rattle.mc_conn.specs.History.{Taken, MayBeTaken}
 use Rattle.mc_conn.specs.Due.{forms_of, pieces}
+use Rattle.mc_command.specs.declared.rules.Rules.{Rules}
 
 pub record Told : Type 0 where
   -- how many shards there are
   pub shards : ℕ
-  -- how many bytes a value has at most
-  pub limit : ℕ
+  -- the rules by which its lines are read
+  pub rules : Rules
   -- how many commands may be open at a time: taken, and their replies not handed out
   pub window : ℕ
   -- the bytes fed
@@ -37,8 +38,8 @@ pub record Told : Type 0 where
   pub handed : ℕ
 
 -- a new connection
-abbrev pub told_nothing : ℕ → ℕ → ℕ → Told
-told_nothing shards limit window = record { shards = shards; limit = limit; window = window; fed = []; ended = false; broken = false; taken = []; out = 0; lent = false; accepted = []; handed = 0 }
+abbrev pub told_nothing : ℕ → Rules → ℕ → Told
+told_nothing shards rules window = record { shards = shards; rules = rules; window = window; fed = []; ended = false; broken = false; taken = []; out = 0; lent = false; accepted = []; handed = 0 }
 
 abbrev pub commands_of : List Taken → List Command
 commands_of taken = map (λ one. one.entry) taken
@@ -65,11 +66,11 @@ waiting_text told = concat (drop told.handed (all_texts told))
 
 -- Every command that the bytes fed spell was taken.
 abbrev pub IsAllTaken : Told → Type 0
-IsAllTaken told = AreCommands told.limit told.fed (commands_of told.taken)
+IsAllTaken told = AreCommands told.rules told.fed (commands_of told.taken)
 
 -- Some command that the bytes fed spell was not taken yet.
 abbrev pub IsNotAllTaken : Told → Type 0
-IsNotAllTaken told = (entry : Command) × BeginCommands told.limit told.fed (commands_of told.taken ++ entry ∷ [])
+IsNotAllTaken told = (entry : Command) × BeginCommands told.rules told.fed (commands_of told.taken ++ entry ∷ [])
 
 -- The last command taken is one after which nothing is read: `quit`, a line that is too long, or the last that a connection
 -- may have.
@@ -91,7 +92,7 @@ pub record IsOpen (told : Told) : Type 0 where
 
 -- These are the last of the bytes fed, behind those of the commands taken, and more commands may come.
 pub record LeavesUnread (told : Told) (unread : List ℕ) : Type 0 where
-  pub used : SpellsFront told.limit 0 told.fed (commands_of told.taken) unread
+  pub used : SpellsFront told.rules 0 told.fed (commands_of told.taken) unread
   pub goes_on : is_closed (commands_of told.taken) ≡ false
 
 -- Every byte fed is part of a command that was taken, and more commands may come.
@@ -104,10 +105,10 @@ pub record IsSkipping (told : Told) : Type 0 where
   pub skipped : List ℕ
   pub refusal : Refusal
   pub count : ℕ
-  pub front : SpellsFront told.limit 0 told.fed (commands_of told.taken) (line ++ 10 ∷ skipped)
+  pub front : SpellsFront told.rules 0 told.fed (commands_of told.taken) (line ++ 10 ∷ skipped)
   pub goes_on : is_closed (commands_of told.taken) ≡ false
   pub no_end : HasNoEnd line
-  pub says : line_says told.limit line ≡ Skip refusal count
+  pub says : line_says told.rules line ≡ Skip refusal count
   pub behind : length skipped < count
 
 -- Nothing is under way. Every piece has left; and of a connection that isn't broken every command that the bytes fed spell
@@ -119,7 +120,7 @@ pub record IsAtRest (told : Told) : Type 0 where
 -- What holds of every connection.
 pub record IsSound (told : Told) : Type 0 where
   -- The commands taken begin those that the bytes fed spell, each given up only where it may be.
-  pub begin : BeginCommands told.limit told.fed (commands_of told.taken)
+  pub begin : BeginCommands told.rules told.fed (commands_of told.taken)
   pub may : AllByRecursion MayBeTaken told.taken
   -- Only replies whose turn has come were handed out.
   pub handed : told.handed ≤ length (all_texts told)

@@ -3,12 +3,14 @@
 ghost use Rattle.std.specs.Prelude.{◌≡◌, ◌+◌, ◌<◌, ◌≤◌, ◌++◌, ◌∷◌, ◌↔◌, ℕ, List, [], Some, true, false, IfOk, IfErr, IfSome, IfNone, OnOk, OnErr, IsTrue, length, take};
 ghost use Rattle.std.specs.List.{slice_get};
 ghost use Rattle.mc_ring.specs.Reply.{shown};
+ghost use Rattle.mc_command.specs.Rules.{own};
 ghost use Rattle.mc_reader.specs.Spelling.{HasNoEnd, most_commands};
 ghost use Rattle.mc_join.specs.Length.{capped};
 ghost use Rattle.mc_join.specs.Expects.{Expects};
 ghost use Rattle.mc_conn.specs.Told.{Told, IsAtRest, IsNotAllTaken, IsAllTaken, IsOpen, IsOver, IsShut, IsSkipping, IsUsedUp, LeavesUnread, all_forms, all_pieces, all_texts, told_nothing, waiting_text};
 
 use crate::dispatcher::Dispatcher;
+use mc_command::Rules;
 use mc_join::{Gone, Joiner, Stranger};
 use mc_reader::{Memory, Reader, Step};
 use mc_ring::Reply;
@@ -47,17 +49,28 @@ pub struct Conn {
 impl Conn {
     ghost use Rattle.mc_conn.specs.Conn.{IsConn, IsAwaiting, TakeSays, HandsOut, BreaksOff, SkipsBytes, StaysSilent, held_bytes};
 
-    /// A new connection over so many shards, for values of at most `limit` bytes and with this window. It takes the room for
-    /// the longest line and for the open commands. `Memory`: memory ran out.
-    #[tactic(auto, unfolding(crate::specs::Conn::IsConn))]
+    /// A new connection over so many shards by this server's own rules, for values of at most `limit` bytes and with this
+    /// window. It takes the room for the longest line and for the open commands. `Memory`: memory ran out.
     pub fn new(alloc: Global, shards: usize, limit: usize, window: usize) -> Result<Conn, Memory>
         requires shards { 0 < shards }
         requires limit { limit ≤ GREATEST_VALUE_LIMIT }
         requires window { 0 < window }
-        ensures { IfOk result (λ conn. IsConn conn (told_nothing shards limit window)) }
+        ensures { IfOk result (λ conn. IsConn conn (told_nothing shards (own limit) window)) }
+    {
+        Conn::under(alloc, shards, Rules::own(limit), window)
+    }
+
+    /// A new connection over so many shards by these rules and with this window. It takes the room for the longest line and
+    /// for the open commands. `Memory`: memory ran out.
+    #[tactic(auto, unfolding(crate::specs::Conn::IsConn))]
+    pub fn under(alloc: Global, shards: usize, rules: Rules, window: usize) -> Result<Conn, Memory>
+        requires shards { 0 < shards }
+        requires limit { rules.value_limit ≤ GREATEST_VALUE_LIMIT }
+        requires window { 0 < window }
+        ensures { IfOk result (λ conn. IsConn conn (told_nothing shards rules window)) }
     {
         Ok(Conn {
-            reader: Reader::new(alloc, limit)?,
+            reader: Reader::under(alloc, rules)?,
             dispatcher: Dispatcher {
                 joiner: Joiner::new(alloc, window)?,
                 unsent: VecDeque::new(alloc),
@@ -247,7 +260,7 @@ impl Conn {
     #[tactic(auto, unfolding(crate::specs::Conn::IsConn, crate::specs::Conn::held_bytes, crate::specs::Conn::SkipsBytes))]
     pub fn held(&self) -> usize
         ensures value { result ≡ held_bytes self.now }
-        ensures most { (told : Told) → IsConn self.now told → result ≤ LINE_LIMIT + told.limit + 2 }
+        ensures most { (told : Told) → IsConn self.now told → result ≤ LINE_LIMIT + told.rules.value_limit + 2 }
         // No more than the bytes fed that are not part of a command taken, until the last command is taken.
         ensures unread { (told : Told) (unread : List ℕ) → IsConn self.now told → LeavesUnread told unread → result ≤ length unread }
         // A line whose end has not come is held whole.
@@ -281,7 +294,7 @@ impl Conn {
     #[tactic(auto, unfolding(crate::specs::Conn::IsConn))]
     pub fn renew(&mut self) -> bool
         ensures when { (told : Told) → IsConn self.old told → IsTrue result ↔ (IsAtRest told × IsOver told) }
-        ensures new { IsTrue result → (told : Told) → IsConn self.old told → IsConn self.new (told_nothing told.shards told.limit told.window) }
+        ensures new { IsTrue result → (told : Told) → IsConn self.old told → IsConn self.new (told_nothing told.shards told.rules told.window) }
         ensures same { result ≡ false → self.new ≡ self.old }
     {
         if !self.is_at_rest() || !self.is_over() {

@@ -21,7 +21,7 @@ use Rattle.mc_core.specs.declared.event.StepReply.TheVariants as replied
 use Rattle.mc_core.specs.declared.sim.Connection.{Connection}
 use Rattle.mc_core.specs.declared.sim.Seat.{Seat}
 use Rattle.mc_core.specs.declared.sim.Sim.{Sim}
-use Rattle.mc_core.specs.Sizes.{Sizes}
+use Rattle.mc_core.specs.Sizes.{Sizes, rules_of}
 use Rattle.mc_core.specs.Log.{of_asker, replies_in}
 use Rattle.mc_core.specs.Sized.{SpellAll, SpellFirst}
 use Rattle.mc_core.specs.World.{IsAt, Link, World, entries, ran, with_link}
@@ -239,14 +239,14 @@ takes old new c number moment ticket place after finds below conn same differs c
 -- one command more than all
 not_one_more : (sizes : Sizes) (link : Link) (command : Command) → IsAllTaken sizes link → IsNextCommand sizes link command → ⊥
 not_one_more sizes link command all next =
-    let begun = commands_begin sizes.value link.fed [] (entries link ++ command ∷ []) (entries link) next (subst (λ bytes. SpellAll sizes bytes (entries link)) (sym (append-nil link.fed)) all) in
+    let begun = commands_begin (rules_of sizes) link.fed [] (entries link ++ command ∷ []) (entries link) next (subst (λ bytes. SpellAll sizes bytes (entries link)) (sym (append-nil link.fed)) all) in
     let long = ap length begun.1 in
     absurd (omega (arith, long, length-append (entries link ++ command ∷ []) begun.0, length-append (entries link) (command ∷ [])))
 
 -- one command more than the last
 not_after_last : (sizes : Sizes) (link : Link) (command : Command) → IsTrue (is_closed (entries link)) → IsNextCommand sizes link command → ⊥
 not_after_last sizes link command closed next =
-    let last = last_of sizes.value (entries link) 0 link.fed command next.0 next.1 in
+    let last = last_of (rules_of sizes) (entries link) 0 link.fed command next.0 next.1 in
     absurd (let e : true ≡ false = sym closed ∙ last.goes_on in cc)
 
 -- No command is taken, and the lists stay.

@@ -1,13 +1,14 @@
 -- Corners of the definitions, each computed: the sizes at both ends of their ranges, and how each event may be answered.
 use Rattle.std.proofs.Common.{◌≡◌, ℕ, zero, suc, ◌+◌, ◌<◌, ◌≤◌, ◌++◌, ◌⊎◌, true, false, IsTrue, inl, inr, List, [], ◌∷◌, Some, refl, sym, subst, arith, codes, lit<, lit≤}
 use Rattle.std.specs.List.{slice_get}
+use Rattle.mc_command.specs.declared.rules.Profile.TheVariants.{Own}
 use Rattle.mc_reader.specs.Spelling.{SpellsNothing}
 use Rattle.mc_item.specs.Kind.{kind_of}
 use Rattle.mc_split.specs.Pieces.{pieces_of}
 use Rattle.mc_split.specs.Shape.{shape_of}
 use Rattle.mc_split.specs.Text.{shape_text}
 use Rattle.mc_conn.specs.Fits.{HasCome}
-use Rattle.mc_core.specs.Sizes.{AreWithin, Sizes}
+use Rattle.mc_core.specs.Sizes.{AreWithin, Sizes, rules_of}
 use Rattle.mc_core.specs.Log.{Entry}
 use Rattle.mc_core.specs.World.{IsAt, Link, World, empty_world, new_link, ran, sent_to}
 use Rattle.mc_core.specs.Rest.{IsAllTaken, IsClosed, IsUsedUp, MayRenew}
@@ -21,10 +22,10 @@ use Rattle.mc_core.proofs.Rows.{alone, at_alone, begins, broken, come, ended, en
 -- The sizes
 
 abbrev least : Sizes
-least = record { seats = 1; shards = 1; bytes = 1024; ring = 1; value = 1024; window = 1 }
+least = record { profile = Own; seats = 1; shards = 1; bytes = 1024; ring = 1; value = 1024; window = 1 }
 
 abbrev most : Sizes
-most = record { seats = 4096; shards = 16; bytes = 1073741824; ring = 1024; value = 8388608; window = 4096 }
+most = record { profile = Own; seats = 4096; shards = 16; bytes = 1073741824; ring = 1024; value = 8388608; window = 4096 }
 
 least_is_within : AreWithin least
 least_is_within = record {
@@ -238,7 +239,7 @@ used_up = (line, [], refl, spells_flush, refl)
 
 -- A whole command is there, and isn't taken.
 untaken : ¬ IsAllTaken one_each fed
-untaken all = subst (λ bytes. SpellsNothing one_each.value bytes) (sym all.1) all.2 11 flush (lit≤ tt) spells_flush
+untaken all = subst (λ bytes. SpellsNothing (rules_of one_each) bytes) (sym all.1) all.2 11 flush (lit≤ tt) spells_flush
 
 fed_in_part : FedInPart
 fed_in_part = record {

@@ -2,6 +2,7 @@
 -- connection has its reply once both of its answers have come; the second breaks, comes to rest and is followed by another.
 use Rattle.std.proofs.Common.{◌≡◌, ℕ, zero, suc, ◌+◌, ◌<◌, ◌≤◌, true, inl, inr, List, [], ◌∷◌, ◌++◌, length, refl, sym, ap, ◌∙◌, subst, arith, codes, pos, lit<, lit≤}
 use Rattle.std.proofs.lemmas.Bool.Decides.{eqb_tells}
+use Rattle.mc_command.specs.declared.rules.Profile.TheVariants.{Own}
 use Rattle.mc_item.specs.declared.answer.Answer.TheVariants as answer
 use Rattle.mc_item.specs.declared.op.Op.TheVariants as op
 use Rattle.mc_item.specs.Expiry.{expiry_of}
@@ -27,7 +28,7 @@ use Rattle.mc_core.specs.Headline.{handed_bytes}
 use Rattle.mc_core.proofs.Rows.{alone, begins, flush, line, one}
 
 abbrev two_each : Sizes
-two_each = record { seats = 2; shards = 2; bytes = 1024; ring = 1; value = 1024; window = 1 }
+two_each = record { profile = Own; seats = 2; shards = 2; bytes = 1024; ring = 1; value = 1024; window = 1 }
 
 -- what the second connection takes, a second later
 abbrev later : Taken

@@ -35,9 +35,9 @@ use Rattle.mc_core.proofs.Lists.{at_once}
 use Rattle.mc_core.proofs.Standing.{KeptBut, SeatsBut, found, kept_set, seats_set}
 use Rattle.mc_core.proofs.AtSeat.{Differs, Finds, IsSame, seat_stays, world_stays}
 
-one_more_than_all : (told : Told) (one : Taken) → IsAllTaken told → BeginCommands told.limit told.fed (commands_of (told.taken ++ one ∷ [])) → ⊥
+one_more_than_all : (told : Told) (one : Taken) → IsAllTaken told → BeginCommands told.rules told.fed (commands_of (told.taken ++ one ∷ [])) → ⊥
 one_more_than_all told one all next =
-    let begun = commands_begin told.limit told.fed [] (commands_of (told.taken ++ one ∷ [])) (commands_of told.taken) next (subst (λ bytes. AreCommands told.limit bytes (commands_of told.taken)) (sym (append-nil told.fed)) all) in
+    let begun = commands_begin told.rules told.fed [] (commands_of (told.taken ++ one ∷ [])) (commands_of told.taken) next (subst (λ bytes. AreCommands told.rules bytes (commands_of told.taken)) (sym (append-nil told.fed)) all) in
     let long = ap length begun.1 in
     let whole = length-map (told.taken ++ one ∷ []) (λ (t : Taken). t.entry) in
     let part = length-map told.taken (λ (t : Taken). t.entry) in

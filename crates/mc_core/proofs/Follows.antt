@@ -5,6 +5,7 @@ use Rattle.std.specs.List.{slice_get}
 use Rattle.std.proofs.lemmas.List.{length-map, take-append-drop, take_all}
 use Rattle.std.proofs.lemmas.Option.{same_Some, slice_get_within}
 use Rattle.mc_command.specs.declared.command.Command.{Command}
+use Rattle.mc_command.specs.declared.rules.Rules.{Rules}
 use Rattle.mc_ring.specs.Reply.{Shown}
 use Rattle.mc_split.specs.declared.plan.Piece.{Piece}
 use Rattle.mc_reader.specs.Spelling.{SpellsFront, is_last}
@@ -15,7 +16,7 @@ use Rattle.mc_conn.proofs.Gets.{all_at}
 use Rattle.mc_conn.proofs.Places.{piece_at}
 use Rattle.mc_conn.proofs.Counting.{count_from_come}
 use Rattle.mc_conn.proofs.Telling.{tells}
-use Rattle.mc_core.specs.Sizes.{Sizes}
+use Rattle.mc_core.specs.Sizes.{Sizes, rules_of}
 use Rattle.mc_core.specs.Sized.{SpellAll}
 use Rattle.mc_core.specs.Log.{Entry, of_asker, on_shard, replies_in, reply_to}
 use Rattle.mc_core.specs.World.{Link, World, entries}
@@ -82,23 +83,23 @@ served sizes w k link l s =
     (drop n asked, ap (λ ps. ps ++ drop n asked) (l.served s) ∙ take-append-drop n asked)
 
 -- a last command is the last that the bytes spell
-last_place : (limit before : ℕ) (input : List ℕ) (all : List Command) (rest : List ℕ) (place : ℕ) (command : Command) → SpellsFront limit before input all rest → slice_get all place ≡ Some command → IsTrue (is_last (before + place) command) → length all ≡ place + 1
-last_place limit before input [] rest place command front here last = absurd (cc)
-last_place limit before input (first ∷ all) rest zero command front here last =
+last_place : (rules : Rules) (before : ℕ) (input : List ℕ) (all : List Command) (rest : List ℕ) (place : ℕ) (command : Command) → SpellsFront rules before input all rest → slice_get all place ≡ Some command → IsTrue (is_last (before + place) command) → length all ≡ place + 1
+last_place rules before input [] rest place command front here last = absurd (cc)
+last_place rules before input (first ∷ all) rest zero command front here last =
     let at : before + 0 ≡ before = omega arith in
     let this : is_last before first ≡ true = ap (λ n. is_last n first) (sym at) ∙ (ap (λ c. is_last (before + 0) c) (same_Some first command here) ∙ last) in
-    let end = subst (λ b. MatchBool b ((all ≡ []) × (front.1 ≡ rest)) (SpellsFront limit (before + 1) front.1 all rest)) this front.4 in
+    let end = subst (λ b. MatchBool b ((all ≡ []) × (front.1 ≡ rest)) (SpellsFront rules (before + 1) front.1 all rest)) this front.4 in
     let none = ap length end.0 in
     omega (arith, none)
-last_place limit before input (first ∷ all) rest (suc place) command front here last =
-    elim (is_last before first) as (λ b. MatchBool b ((all ≡ []) × (front.1 ≡ rest)) (SpellsFront limit (before + 1) front.1 all rest) → length (first ∷ all) ≡ suc place + 1) [
+last_place rules before input (first ∷ all) rest (suc place) command front here last =
+    elim (is_last before first) as (λ b. MatchBool b ((all ≡ []) × (front.1 ≡ rest)) (SpellsFront rules (before + 1) front.1 all rest) → length (first ∷ all) ≡ suc place + 1) [
       | true ↦ λ end.
           let within = slice_get_within all place command here in
           let none = ap length end.0 in
           absurd (omega (arith, within, none))
       | false ↦ λ more.
           let at : before + suc place ≡ before + 1 + place = omega arith in
-          let rest_long = last_place limit (before + 1) front.1 all rest place command more here (ap (λ n. is_last n command) (sym at) ∙ last) in
+          let rest_long = last_place rules (before + 1) front.1 all rest place command more here (ap (λ n. is_last n command) (sym at) ∙ last) in
           omega (arith, rest_long)
     ] front.4
 
@@ -111,7 +112,7 @@ is_last_taken : (sizes : Sizes) (w : World) (k : ℕ) (link : Link) → LinkLaw 
 is_last_taken sizes w k link l place one here last =
     let own = of_asker k w.log in
     let at : place ≡ 0 + place = omega arith in
-    let all = last_place sizes.value 0 link.fed (entries link) l.begins.0 place one.entry l.begins.1 (entry_at link.taken place one here) (ap (λ n. is_last n one.entry) (sym at) ∙ last) in
+    let all = last_place (rules_of sizes) 0 link.fed (entries link) l.begins.0 place one.entry l.begins.1 (entry_at link.taken place one here) (ap (λ n. is_last n one.entry) (sym at) ∙ last) in
     let long : length link.taken ≡ place + 1 = omega (arith, all, length-map link.taken (λ (t : Taken). t.entry)) in
     let handed = l.handed in
     record {

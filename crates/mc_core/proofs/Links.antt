@@ -14,7 +14,7 @@ use Rattle.mc_conn.specs.Fits.{Fits, IsReplyTo, Receives}
 use Rattle.mc_conn.proofs.Gets.{all_push}
 use Rattle.mc_conn.proofs.Places.{lane-append, lane-no, lane-yes}
 use Rattle.mc_conn.proofs.Fitting.{due-append, fits_none, fits_take, next_fits, pieces_from-append}
-use Rattle.mc_core.specs.Sizes.{Sizes}
+use Rattle.mc_core.specs.Sizes.{Sizes, rules_of}
 use Rattle.mc_core.specs.Sized.{SpellFirst}
 use Rattle.mc_core.specs.Log.{Entry, on_shard, pieces_in, replies_in, reply_to}
 use Rattle.mc_core.specs.World.{Link, entries, new_link, sent_to}
@@ -43,7 +43,7 @@ new_kept sizes seat = record {
 
 pub feed_kept : (sizes : Sizes) (own : List Entry) (link : Link) (more : List ℕ) → LinkLaw sizes own link → LinkLaw sizes own (record link { fed = link.fed ++ more })
 feed_kept sizes own link more l = record {
-  begins = begin_more sizes.value link.fed more (entries link) l.begins;
+  begins = begin_more (rules_of sizes) link.fed more (entries link) l.begins;
   may = l.may;
   served = l.served;
   fits = l.fits;

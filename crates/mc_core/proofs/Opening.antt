@@ -21,7 +21,7 @@ use Rattle.mc_core.specs.declared.event.StepReply.TheVariants as replied
 use Rattle.mc_core.specs.declared.sim.Connection.{Connection}
 use Rattle.mc_core.specs.declared.sim.Seat.{Seat}
 use Rattle.mc_core.specs.declared.sim.Sim.{Sim}
-use Rattle.mc_core.specs.Sizes.{Sizes}
+use Rattle.mc_core.specs.Sizes.{Sizes, rules_of}
 use Rattle.mc_core.specs.Log.{Entry, of_asker, on_shard, replies_in, reply_to}
 use Rattle.mc_core.specs.World.{IsAt, IsLink, Link, World, new_link, ran, sent_to}
 use Rattle.mc_core.specs.Rest.{AtRest, IsAllReceived, IsAllSent, IsAllTaken, IsClosed, MayRenew}
@@ -91,15 +91,15 @@ overs_back sizes link lent accepted (inl closed) = inr closed
 overs_back sizes link lent accepted (inr broken) = inl broken
 
 -- A connection that was renewed, or was new, is new.
-pub is_renewed : (old new : Conn) (result : Bool) (sizes : Sizes) (told : Told) → IsConn old told → told.shards ≡ sizes.shards → told.limit ≡ sizes.value → told.window ≡ sizes.window → IsTrue result ↔ (IsAtRest told × IsOver told) →
-    (IsTrue result → IsConn new (told_nothing told.shards told.limit told.window)) → IsAtRest told × IsOver told → IsConn new (told_nothing sizes.shards sizes.value sizes.window)
-is_renewed old new result sizes told is shards limit window when fresh may =
-    let e : told_nothing told.shards told.limit told.window ≡ told_nothing sizes.shards sizes.value sizes.window = λ i. told_nothing (shards i) (limit i) (window i) in
+pub is_renewed : (old new : Conn) (result : Bool) (sizes : Sizes) (told : Told) → IsConn old told → told.shards ≡ sizes.shards → told.rules ≡ rules_of sizes → told.window ≡ sizes.window → IsTrue result ↔ (IsAtRest told × IsOver told) →
+    (IsTrue result → IsConn new (told_nothing told.shards told.rules told.window)) → IsAtRest told × IsOver told → IsConn new (told_nothing sizes.shards (rules_of sizes) sizes.window)
+is_renewed old new result sizes told is shards rules window when fresh may =
+    let e : told_nothing told.shards told.rules told.window ≡ told_nothing sizes.shards (rules_of sizes) sizes.window = λ i. told_nothing (shards i) (rules i) (window i) in
     subst (λ t. IsConn new t) e (fresh (when.1 may))
 
-pub is_still_new : (old new : Conn) (result : Bool) (sizes : Sizes) → IsConn old (told_nothing sizes.shards sizes.value sizes.window) → (IsTrue result → IsConn new (told_nothing sizes.shards sizes.value sizes.window)) → (result ≡ false → new ≡ old) → IsConn new (told_nothing sizes.shards sizes.value sizes.window)
+pub is_still_new : (old new : Conn) (result : Bool) (sizes : Sizes) → IsConn old (told_nothing sizes.shards (rules_of sizes) sizes.window) → (IsTrue result → IsConn new (told_nothing sizes.shards (rules_of sizes) sizes.window)) → (result ≡ false → new ≡ old) → IsConn new (told_nothing sizes.shards (rules_of sizes) sizes.window)
 is_still_new old new true sizes is fresh same = fresh refl
-is_still_new old new false sizes is fresh same = subst (λ c. IsConn c (told_nothing sizes.shards sizes.value sizes.window)) (sym (same refl)) is
+is_still_new old new false sizes is fresh same = subst (λ c. IsConn c (told_nothing sizes.shards (rules_of sizes) sizes.window)) (sym (same refl)) is
 
 -- all that was due at rest was received
 due_received : (sizes : Sizes) (own : List Entry) (link : Link) → LinkLaw sizes own link → AtRest sizes link → (s : ℕ) → length (due sizes.shards s link.taken) ≤ link.received s
@@ -168,7 +168,7 @@ quiet sizes w old c s world (inr free) =
 
 -- A new connection begins.
 pub opens : (old new : Sim) (c : ℕ) (place after : Seat) (kept : Connection) → slice_get old.seats.items c ≡ Some place →
-    ((sizes : Sizes) (w : World) → Stands sizes old w → (IsUnused w c ⊎ IsFree sizes w c) × IsConn after.conn (told_nothing sizes.shards sizes.value sizes.window)) →
+    ((sizes : Sizes) (w : World) → Stands sizes old w → (IsUnused w c ⊎ IsFree sizes w c) × IsConn after.conn (told_nothing sizes.shards (rules_of sizes) sizes.window)) →
     after.current ≡ Some (length old.connections.items) → new.seats.items ≡ slice_set old.seats.items c after → new.connections.items ≡ old.connections.items ++ kept ∷ [] →
     kept.seat ≡ c → kept.ended ≡ false → kept.broken ≡ false → kept.fed.items ≡ [] → kept.handed.items ≡ [] → new.log.items ≡ old.log.items → new.rings ≡ old.rings → Steps old (Open c) replied.Done new
 unfolding Stands
@@ -269,12 +269,12 @@ opens old new c place after kept here free current set connections seat ended br
 
 -- What the seat that may begin is in its world, and what its connection is once it was renewed.
 pub frees : (old : Sim) (c : ℕ) (place : Seat) (after : Conn) (renewed : Bool) → slice_get old.seats.items c ≡ Some place → ((told : Told) → IsConn place.conn told → MayBegin told place.current) →
-    ((told : Told) → IsConn place.conn told → IsTrue renewed ↔ (IsAtRest told × IsOver told)) → (IsTrue renewed → (told : Told) → IsConn place.conn told → IsConn after (told_nothing told.shards told.limit told.window)) → (renewed ≡ false → after ≡ place.conn) →
-    (sizes : Sizes) (w : World) → Stands sizes old w → (IsUnused w c ⊎ IsFree sizes w c) × IsConn after (told_nothing sizes.shards sizes.value sizes.window)
+    ((told : Told) → IsConn place.conn told → IsTrue renewed ↔ (IsAtRest told × IsOver told)) → (IsTrue renewed → (told : Told) → IsConn place.conn told → IsConn after (told_nothing told.shards told.rules told.window)) → (renewed ≡ false → after ≡ place.conn) →
+    (sizes : Sizes) (w : World) → Stands sizes old w → (IsUnused w c ⊎ IsFree sizes w c) × IsConn after (told_nothing sizes.shards (rules_of sizes) sizes.window)
 unfolding Stands
 frees old c place after renewed here may when fresh same sizes w world =
-    elim place.current as (λ o. ((told : Told) → IsConn place.conn told → MayBegin told o) → SeatIs sizes w c place.conn o → (IsUnused w c ⊎ IsFree sizes w c) × IsConn after (told_nothing sizes.shards sizes.value sizes.window)) [
-      | None ↦ λ may' is. (inl is.0, is_still_new place.conn after renewed sizes is.1 (λ yes'. fresh yes' (told_nothing sizes.shards sizes.value sizes.window) is.1) same)
+    elim place.current as (λ o. ((told : Told) → IsConn place.conn told → MayBegin told o) → SeatIs sizes w c place.conn o → (IsUnused w c ⊎ IsFree sizes w c) × IsConn after (told_nothing sizes.shards (rules_of sizes) sizes.window)) [
+      | None ↦ λ may' is. (inl is.0, is_still_new place.conn after renewed sizes is.1 (λ yes'. fresh yes' (told_nothing sizes.shards (rules_of sizes) sizes.window) is.1) same)
       | Some k ↦ λ may' is.
           let link = is.0 in
           let at = is.1 in
@@ -304,7 +304,7 @@ opens_not old new c place here not same sizes w world = (
   (
     inl (λ e.
         elim place.current as (λ o. ((told : Told) → IsConn place.conn told → MayBegin told o → ⊥) → SeatIs sizes w c place.conn o → ⊥) [
-          | None ↦ λ never is. never (told_nothing sizes.shards sizes.value sizes.window) is.1 (inl refl)
+          | None ↦ λ never is. never (told_nothing sizes.shards (rules_of sizes) sizes.window) is.1 (inl refl)
           | Some k ↦ λ never is.
               let link = is.0 in
               let at = is.1 in

@@ -9,6 +9,7 @@ use Rattle.mc_command.specs.declared.command.Command.{Command}
 use Rattle.mc_command.specs.declared.command.Command.TheVariants as command
 use Rattle.mc_command.specs.Name.{name_of}
 use Rattle.mc_command.specs.Table.{line_of}
+use Rattle.mc_command.specs.declared.rules.Profile.TheVariants.{Own}
 use Rattle.mc_item.specs.declared.answer.Answer.TheVariants as answer
 use Rattle.mc_item.specs.declared.op.Op.TheVariants as op
 use Rattle.mc_item.specs.Expiry.{expiry_of}
@@ -25,7 +26,7 @@ use Rattle.mc_store.specs.Step.{Answers, IsStep, step_of}
 use Rattle.mc_conn.specs.History.{Taken}
 use Rattle.mc_conn.specs.Due.{due, ticket_at}
 use Rattle.mc_conn.specs.Fits.{HasCome}
-use Rattle.mc_core.specs.Sizes.{Sizes}
+use Rattle.mc_core.specs.Sizes.{Sizes, rules_of}
 use Rattle.mc_core.specs.Log.{Entry}
 use Rattle.mc_core.specs.World.{IsAt, Link, World, new_link}
 use Rattle.mc_core.specs.Rest.{AtRest}
@@ -36,7 +37,7 @@ use Rattle.mc_core.specs.Schedule.StepReply.{Done}
 use Rattle.mc_core.specs.Headline.{handed_bytes}
 
 abbrev pub one_each : Sizes
-one_each = record { seats = 1; shards = 1; bytes = 1024; ring = 1; value = 1024; window = 1 }
+one_each = record { profile = Own; seats = 1; shards = 1; bytes = 1024; ring = 1; value = 1024; window = 1 }
 
 abbrev pub line : List ℕ
 line = codes "flush_all\r\n"
@@ -108,15 +109,15 @@ no_end : (bytes : List ℕ) → has_end bytes ≡ false → HasNoEnd bytes
 no_end [] e = tt
 no_end (x ∷ xs) e = let parts = both_false (x == 10) (has_end xs) e in (parts.0, no_end xs parts.1)
 
-pub spells_flush : Spells one_each.value line flush
+pub spells_flush : Spells (rules_of one_each) line flush
 unfolding line_of words_of name_of number_of
-spells_flush = lined one_each.value (codes "flush_all\r") [] flush (no_end (codes "flush_all\r") refl) (lit< tt) refl refl
+spells_flush = lined (rules_of one_each) (codes "flush_all\r") [] flush (no_end (codes "flush_all\r") refl) (lit< tt) refl refl
 
-pub begins : BeginCommands one_each.value line (flush ∷ [])
+pub begins : BeginCommands (rules_of one_each) line (flush ∷ [])
 begins = ([], (line, [], refl, spells_flush, refl))
 
-pub all_taken : AreCommands one_each.value line (flush ∷ [])
-all_taken = ([], (line, [], refl, spells_flush, refl), nothing_without_end one_each.value [] tt (lit< tt))
+pub all_taken : AreCommands (rules_of one_each) line (flush ∷ [])
+all_taken = ([], (line, [], refl, spells_flush, refl), nothing_without_end (rules_of one_each) [] tt (lit< tt))
 
 pub come : HasCome 1 (one ∷ []) counted 1
 unfolding pieces_of

@@ -22,7 +22,7 @@ pub record Refreshed (told : Told) (new : Conn) : Type 0 where
 pub record TakesBytes (told : Told) (bytes : List ℕ) (count : ℕ) (new : Conn) : Type 0 where
   pub within : count ≤ length bytes
   pub now : IsConn new (record told { fed = told.fed ++ take count bytes })
-  pub whole : SpellsFront told.limit 0 told.fed (commands_of told.taken) [] → length bytes ≤ LINE_LIMIT → count ≡ length bytes
+  pub whole : SpellsFront told.rules 0 told.fed (commands_of told.taken) [] → length bytes ≤ LINE_LIMIT → count ≡ length bytes
   pub some : IsAllTaken told → HasPlace told → 0 < length bytes → 0 < count
 
 -- The connection is neither ended nor broken, and there are bytes.

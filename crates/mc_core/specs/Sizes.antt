@@ -1,8 +1,12 @@
--- How large a server is, and between which limits.
+-- How large a server is, whose rules it follows, and between which limits its sizes lie.
 use Rattle.std.specs.Prelude.{ℕ, ◌≤◌}
+use Rattle.mc_command.specs.declared.rules.Profile.{Profile}
+use Rattle.mc_command.specs.declared.rules.Rules.{Rules}
 use Rattle.mc_core.specs.declared.sizes.TheConstants.{LEAST, LEAST_BYTES, LEAST_VALUE, MOST_BYTES, MOST_RING, MOST_SEATS, MOST_SHARDS, MOST_VALUE, MOST_WINDOW}
 
 pub record Sizes : Type 0 where
+  -- whose rules it follows
+  pub profile : Profile
   -- how many connections there are at a time
   pub seats : ℕ
   pub shards : ℕ
@@ -14,6 +18,14 @@ pub record Sizes : Type 0 where
   pub value : ℕ
   -- how many commands of a connection may be open: taken, and their replies not handed out
   pub window : ℕ
+
+-- those of a server that follows this profile, which say how many seats and shards, how many bytes and places, the value limit and the window
+abbrev pub sized : Profile → ℕ → ℕ → ℕ → ℕ → ℕ → ℕ → Sizes
+sized profile seats shards bytes ring value window = record { profile = profile; seats = seats; shards = shards; bytes = bytes; ring = ring; value = value; window = window }
+
+-- the rules by which its lines are read
+abbrev pub rules_of : Sizes → Rules
+rules_of sizes = record { profile = sizes.profile; value_limit = sizes.value }
 
 abbrev pub IsFrom : ℕ → ℕ → ℕ → Type 0
 IsFrom least most n = (least ≤ n) × (n ≤ most)

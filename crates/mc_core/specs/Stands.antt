@@ -14,7 +14,7 @@ use Rattle.mc_core.specs.declared.sim.LogEntry.{LogEntry}
 use Rattle.mc_core.specs.declared.sim.Seat.{Seat}
 use Rattle.mc_core.specs.declared.sim.Sim.{Sim}
 use Rattle.mc_core.specs.Asked.{reply_of}
-use Rattle.mc_core.specs.Sizes.{AreWithin, Sizes}
+use Rattle.mc_core.specs.Sizes.{AreWithin, Sizes, rules_of}
 use Rattle.mc_core.specs.Log.{Entry, Leaves, of_asker, on_shard, replies_in}
 use Rattle.mc_core.specs.World.{IsAt, IsLink, Link, World, ran}
 use Rattle.mc_core.specs.Events.{Event, IsEmptyHand, IsUnused}
@@ -25,7 +25,7 @@ use Rattle.mc_core.specs.Rings.{AreWired, Wires}
 
 -- what a connection was told and told, where it received these replies, in this order
 abbrev pub told_of : Sizes → Link → Bool → List Shown → Told
-told_of sizes link lent accepted = record { shards = sizes.shards; limit = sizes.value; window = sizes.window; fed = link.fed; ended = link.ended; broken = link.broken; taken = link.taken; out = link.sent; lent = lent; accepted = accepted; handed = link.handed }
+told_of sizes link lent accepted = record { shards = sizes.shards; rules = rules_of sizes; window = sizes.window; fed = link.fed; ended = link.ended; broken = link.broken; taken = link.taken; out = link.sent; lent = lent; accepted = accepted; handed = link.handed }
 
 -- the replies received from each shard, by the log of the connection
 abbrev pub received_by : Link → List Entry → ℕ → List Shown
@@ -40,12 +40,12 @@ pub record IsServing (sizes : Sizes) (own : List Entry) (link : Link) (conn : Co
 
 -- a seat that has had no connection, or has this one
 abbrev pub SeatIs : Sizes → World → ℕ → Conn → Option ℕ → Type 0
-SeatIs sizes w seat conn None = IsUnused w seat × IsConn conn (told_nothing sizes.shards sizes.value sizes.window)
+SeatIs sizes w seat conn None = IsUnused w seat × IsConn conn (told_nothing sizes.shards (rules_of sizes) sizes.window)
 SeatIs sizes w seat conn (Some k) = (link : Link) × IsAt w seat k link × IsServing sizes (of_asker k w.log) link conn
 
 -- A seat that has had no connection.
 abbrev pub IsNewSeat : Sizes → Seat → Type 0
-IsNewSeat sizes seat = (seat.current ≡ None) × IsConn seat.conn (told_nothing sizes.shards sizes.value sizes.window)
+IsNewSeat sizes seat = (seat.current ≡ None) × IsConn seat.conn (told_nothing sizes.shards (rules_of sizes) sizes.window)
 
 -- What is kept of a connection.
 pub record Keeps (sizes : Sizes) (w : World) (k : ℕ) (link : Link) (kept : Connection) : Type 0 where

@@ -3,7 +3,8 @@ ghost use Rattle.std.specs.Prelude.{◌≡◌, ◌<◌, ℕ, length, map, IfOk, 
 ghost use Rattle.std.specs.List.{AllByRecursion, slice_get};
 ghost use Rattle.std.specs.Option.{option_map};
 ghost use Rattle.mc_core.specs.World.{IsAt, IsLink, Link, World, empty_world};
-ghost use Rattle.mc_core.specs.Sizes.{AreWithin, Sizes};
+ghost use Rattle.mc_command.specs.declared.rules.Profile.TheVariants.{Own};
+ghost use Rattle.mc_core.specs.Sizes.{AreWithin, Sizes, sized};
 ghost use Rattle.mc_core.specs.Headline.{handed_bytes};
 ghost use Rattle.mc_core.specs.Numbers.{sizes_of};
 ghost use Rattle.mc_core.specs.Asked.{event_of};
@@ -17,6 +18,7 @@ mod page;
 mod rings;
 
 use crate::event::{Event, StepReply};
+use mc_command::Profile;
 use mc_conn::Conn;
 use mc_item::NoMemory;
 use mc_split::Ticket;
@@ -80,7 +82,8 @@ pub struct Sim {
 }
 
 impl Sim {
-    /// A core of these sizes, in which nothing has happened. `Size`: one of them is out of its limits.
+    /// A core of these sizes that follows the server's own rules, in which nothing has happened. `Size`: one of the sizes is out
+    /// of its limits.
     pub fn new<R: RandomSource>(
         rt: &R,
         alloc: Global,
@@ -91,12 +94,35 @@ impl Sim {
         value: usize,
         window: usize,
     ) -> Result<Sim, SimRefusal>
-        ensures ok { IfOk result (λ sim. Stands (record { seats = seats; shards = shards; bytes = bytes; ring = ring; value = value; window = window }) sim empty_world) }
-        ensures within { OnOk result (AreWithin (record { seats = seats; shards = shards; bytes = bytes; ring = ring; value = value; window = window })) }
-        ensures size { IsErrOf result SimRefusal.Size → ¬ AreWithin (record { seats = seats; shards = shards; bytes = bytes; ring = ring; value = value; window = window }) }
-        ensures memory { IsErrOf result SimRefusal.Memory → AreWithin (record { seats = seats; shards = shards; bytes = bytes; ring = ring; value = value; window = window }) }
+        ensures ok { IfOk result (λ sim. Stands (sized Own seats shards bytes ring value window) sim empty_world) }
+        ensures within { OnOk result (AreWithin (sized Own seats shards bytes ring value window)) }
+        ensures size { IsErrOf result SimRefusal.Size → ¬ AreWithin (sized Own seats shards bytes ring value window) }
+        ensures memory { IsErrOf result SimRefusal.Memory → AreWithin (sized Own seats shards bytes ring value window) }
+    {
+        let own = Profile::Own;
+        Sim::under(rt, alloc, own, seats, shards, bytes, ring, value, window)
+    }
+
+    /// A core of these sizes that follows this profile, in which nothing has happened. `Size`: one of the sizes is out of its
+    /// limits.
+    pub fn under<R: RandomSource>(
+        rt: &R,
+        alloc: Global,
+        profile: Profile,
+        seats: usize,
+        shards: usize,
+        bytes: usize,
+        ring: usize,
+        value: usize,
+        window: usize,
+    ) -> Result<Sim, SimRefusal>
+        ensures ok { IfOk result (λ sim. Stands (sized profile seats shards bytes ring value window) sim empty_world) }
+        ensures within { OnOk result (AreWithin (sized profile seats shards bytes ring value window)) }
+        ensures size { IsErrOf result SimRefusal.Size → ¬ AreWithin (sized profile seats shards bytes ring value window) }
+        ensures memory { IsErrOf result SimRefusal.Memory → AreWithin (sized profile seats shards bytes ring value window) }
     {
         let numbers = Numbers {
+            profile,
             seats,
             shards,
             bytes,
@@ -236,7 +262,8 @@ fn new_seats(alloc: Global, numbers: Numbers) -> Result<Vec<Seat>, AllocError>
 {
     let mut seats = Vec::with_capacity(alloc, numbers.seats)?;
     for _ in 0..numbers.seats {
-        let Ok(conn) = Conn::new(alloc, numbers.shards, numbers.value, numbers.window) else {
+        let rules = numbers.rules();
+        let Ok(conn) = Conn::under(alloc, numbers.shards, rules, numbers.window) else {
             return Err(AllocError);
         };
         seats.push(Seat {

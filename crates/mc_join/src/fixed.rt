@@ -3,7 +3,7 @@ ghost use Rattle.std.specs.Prelude.{◌≡◌, IsTrue, OnOk, OnErr};
 ghost use Rattle.mc_wire.specs.Outlet.{Writes};
 ghost use Rattle.mc_split.specs.Text.{refusal_line, fixed_text, memory_line};
 
-use mc_command::Refusal;
+use mc_command::{Profile, Refusal};
 use mc_split::Fixed;
 use mc_wire::{OutFault, Outlet, put_all};
 
@@ -24,7 +24,8 @@ pub fn fixed_line(fixed: Fixed) -> &'static [u8]
     match fixed {
         Fixed::Nothing => b"",
         Fixed::Ok => b"OK\r\n",
-        Fixed::Version => b"VERSION 1.6.0-sharded\r\n",
+        Fixed::Version(Profile::Own) => b"VERSION 1.6.0-sharded\r\n",
+        Fixed::Version(Profile::DropIn) => b"VERSION 1.6.18\r\n",
         Fixed::MetaNoop => b"MN\r\n",
         Fixed::Refused(refusal) => refused_line(refusal),
     }
@@ -45,6 +46,8 @@ fn refused_line(refusal: Refusal) -> &'static [u8]
         Refusal::BadChunk => b"CLIENT_ERROR bad data chunk\r\n",
         Refusal::LineTooLong => b"CLIENT_ERROR line too long\r\n",
         Refusal::Memory => MEMORY_LINE,
+        Refusal::WordCount => b"ERROR\r\n",
+        Refusal::Hidden => b"",
     }
 }
 

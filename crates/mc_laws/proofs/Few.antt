@@ -16,10 +16,11 @@ use Rattle.mc_reader.specs.Spelling.{IsLine, Spells, SpellsFront, closes, is_las
 use Rattle.mc_reader.specs.Spelling.Spells.{line as of_line, refused as of_refused, block as of_block, bad_block as of_bad_block, skipped as of_skipped, long as of_long}
 use Rattle.mc_reader.proofs.Fronts.{every_input}
 use Rattle.mc_split.specs.Pieces.{pieces_of}
-use Rattle.mc_core.specs.Sizes.{Sizes}
+use Rattle.mc_core.specs.Sizes.{Sizes, rules_of}
 use Rattle.mc_core.specs.World.{Link}
 use Rattle.mc_laws.specs.Progress.{steps_of, steps_of_all}
 use Rattle.mc_laws.proofs.Measure.{spelled_by}
+use Rattle.mc_command.specs.declared.rules.Rules.{Rules}
 
 -- Each word of a line has a byte of its own, but for one.
 words_few : (text : List ℕ) → length (words_of text) ≤ length text + 1
@@ -43,13 +44,13 @@ shorter line = elim (cases_Bool (slice_index line (length line - 1) == 13)) [
 ]
 
 -- what a line says asks for few keys
-says_few : (limit : ℕ) (text line : List ℕ) → IsLine text line → FewLine 65536 (line_says limit line)
-says_few limit text line is =
+says_few : (rules : Rules) (text line : List ℕ) → IsLine text line → FewLine 65536 (line_says rules line)
+says_few rules text line is =
     let words = words_few (without_return line) in
     let cut = shorter line in
     let long = ap length is.text_is ∙ length-append line (10 ∷ []) in
     let short : length text ≤ 65536 = is.short in
-    few_line 65536 limit (words_of (without_return line)) (omega (arith, words, cut, long, short))
+    few_line 65536 rules (words_of (without_return line)) (omega (arith, words, cut, long, short))
 
 with_few : (asked : Command) (data_block : List ℕ) → AsksFew 65536 asked → AsksFew 65536 (with_block asked data_block)
 with_few (command.Store storage) data_block few = tt
@@ -58,14 +59,14 @@ with_few (command.Get retrieval) data_block few = few
 with_few other data_block few = tt
 
 -- What is spelled asks for few keys.
-spells_few : (limit : ℕ) (text : List ℕ) (entry : Command) → Spells limit text entry → AsksFew 65536 entry
-spells_few limit text entry (of_line line is said) = subst (FewLine 65536) said (says_few limit text line is)
-spells_few limit text entry (of_refused line refusal is said entry_is) = subst (AsksFew 65536) (sym entry_is) tt
-spells_few limit text entry (of_block head line data_block asked is text_is said entry_is) =
-    subst (AsksFew 65536) (sym entry_is) (with_few asked data_block (subst (FewLine 65536) said (says_few limit head line is)))
-spells_few limit text entry (of_bad_block head line chunk ends asked is text_is two bad said entry_is) = subst (AsksFew 65536) (sym entry_is) tt
-spells_few limit text entry (of_skipped head line skipped refusal is text_is said entry_is) = subst (AsksFew 65536) (sym entry_is) tt
-spells_few limit text entry (of_long is no_end entry_is) = subst (AsksFew 65536) (sym entry_is) tt
+spells_few : (rules : Rules) (text : List ℕ) (entry : Command) → Spells rules text entry → AsksFew 65536 entry
+spells_few rules text entry (of_line line is said) = subst (FewLine 65536) said (says_few rules text line is)
+spells_few rules text entry (of_refused line refusal is said entry_is) = subst (AsksFew 65536) (sym entry_is) tt
+spells_few rules text entry (of_block head line data_block asked is text_is said entry_is) =
+    subst (AsksFew 65536) (sym entry_is) (with_few asked data_block (subst (FewLine 65536) said (says_few rules head line is)))
+spells_few rules text entry (of_bad_block head line chunk ends asked is text_is two bad said entry_is) = subst (AsksFew 65536) (sym entry_is) tt
+spells_few rules text entry (of_skipped head line skipped refusal is text_is said entry_is) = subst (AsksFew 65536) (sym entry_is) tt
+spells_few rules text entry (of_long is no_end entry_is) = subst (AsksFew 65536) (sym entry_is) tt
 
 -- So it has few pieces: one a key, or one a shard.
 pieces_few : (shards : ℕ) (asked : Command) → shards ≤ 16 → AsksFew 65536 asked → length (pieces_of shards asked) ≤ 65536
@@ -91,11 +92,11 @@ not_yet before entry room goes = elim (eqb_tells (before + 1) most_commands) [
 ]
 
 -- The commands of a stream have few steps, and they are not more than a connection takes.
-pub front_few : (limit shards before : ℕ) (input : List ℕ) (commands : List Command) (rest : List ℕ) → shards ≤ 16 → before < most_commands → SpellsFront limit before input commands rest →
+pub front_few : (rules : Rules) (shards before : ℕ) (input : List ℕ) (commands : List Command) (rest : List ℕ) → shards ≤ 16 → before < most_commands → SpellsFront rules before input commands rest →
     (steps_of shards commands ≤ length commands * 262146) × (before + length commands ≤ most_commands)
-front_few limit shards before input [] rest small room front = (omega arith, omega (arith, room))
-front_few limit shards before input (entry ∷ commands) rest small room front =
-    let pieces = pieces_few shards entry small (spells_few limit front.0 entry front.3) in
+front_few rules shards before input [] rest small room front = (omega arith, omega (arith, room))
+front_few rules shards before input (entry ∷ commands) rest small room front =
+    let pieces = pieces_few shards entry small (spells_few rules front.0 entry front.3) in
     elim (cases_Bool (is_last before entry)) [
       | inl last ↦
           let none = (rw last at front.4).0 in
@@ -103,7 +104,7 @@ front_few limit shards before input (entry ∷ commands) rest small room front =
       | inr goes ↦
           let more = rw goes at front.4 in
           let next : before + 1 < most_commands = not_yet before entry room goes in
-          let later = front_few limit shards (before + 1) front.1 commands rest small next more in
+          let later = front_few rules shards (before + 1) front.1 commands rest small next more in
           let steps = later.0 in
           let count = later.1 in
           (omega (arith, pieces, steps), omega (arith, count))
@@ -113,8 +114,8 @@ front_few limit shards before input (entry ∷ commands) rest small room front =
 pub all_few : (sizes : Sizes) (links : List Link) → sizes.shards ≤ 16 → steps_of_all sizes.shards (map (spelled_by sizes) links) ≤ length links * 2417870085973332058963970
 all_few sizes [] small = omega arith
 all_few sizes (link ∷ links) small =
-    let all = every_input sizes.value link.fed in
-    let own = front_few sizes.value sizes.shards 0 link.fed all.0 all.1.0 small (omega arith) all.1.1 in
+    let all = every_input (rules_of sizes) link.fed in
+    let own = front_few (rules_of sizes) sizes.shards 0 link.fed all.0 all.1.0 small (omega arith) all.1.1 in
     let steps = own.0 in
     let count = own.1 in
     let rest = all_few sizes links small in

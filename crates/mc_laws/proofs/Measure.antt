@@ -14,7 +14,7 @@ use Rattle.mc_conn.specs.Due.{due, lane, pieces, pieces_at, pieces_from, ticket_
 use Rattle.mc_conn.proofs.Counting.{due_beyond}
 use Rattle.mc_conn.proofs.Fitting.{due-append, pieces_from-append}
 use Rattle.mc_conn.proofs.Places.{length-parts}
-use Rattle.mc_core.specs.Sizes.{AreWithin, Sizes}
+use Rattle.mc_core.specs.Sizes.{AreWithin, Sizes, rules_of}
 use Rattle.mc_core.specs.Sized.{SpellAll}
 use Rattle.mc_core.specs.Log.{Entry, of_asker, on_shard}
 use Rattle.mc_core.specs.World.{IsLink, Link, World, entries, ran, with_entry, with_link}
@@ -35,7 +35,7 @@ use Rattle.mc_laws.proofs.Working.{rests_or_goes}
 
 -- the commands that the bytes fed spell and that are not taken
 abbrev untaken : Sizes → Link → List Command
-untaken sizes link = drop (length link.taken) (every_input sizes.value link.fed).0
+untaken sizes link = drop (length link.taken) (every_input (rules_of sizes) link.fed).0
 
 -- what is left of the work of a shard for a connection
 abbrev on_lane : Sizes → List Entry → Link → ℕ → ℕ
@@ -100,8 +100,8 @@ drop_all (y ∷ xs) (suc n) x ys at = drop_all xs n x ys (omega (arith, at))
 take_lowers : (sizes : Sizes) (own : List Entry) (link : Link) (one : Taken) → IsNextCommand sizes link one.entry → left_of sizes own (record link { taken = link.taken ++ one ∷ [] }) < left_of sizes own link
 take_lowers sizes own link one next =
     let new : Link = record link { taken = link.taken ++ one ∷ [] } in
-    let all = every_input sizes.value link.fed in
-    let more = commands_begin sizes.value link.fed [] (entries link ++ one.entry ∷ []) all.0 next (rw append-nil all.1) in
+    let all = every_input (rules_of sizes) link.fed in
+    let more = commands_begin (rules_of sizes) link.fed [] (entries link ++ one.entry ∷ []) all.0 next (rw append-nil all.1) in
     let long = length-map link.taken (λ (t : Taken). t.entry) in
     let longer = length-append link.taken (one ∷ []) in
     let old_is : untaken sizes link ≡ one.entry ∷ more.0 = ap (λ cs. drop (length link.taken) cs) (sym more.1) ∙ drop_front (entries link) (length link.taken) one.entry more.0 (sym long) in
@@ -284,12 +284,12 @@ still_within false = omega arith
 
 -- all commands that the bytes of a connection spell
 abbrev pub spelled_by : Sizes → Link → List Command
-spelled_by sizes link = (every_input sizes.value link.fed).0
+spelled_by sizes link = (every_input (rules_of sizes) link.fed).0
 
 link_within : (sizes : Sizes) (own : List Entry) (link : Link) → LinkLaw sizes own link → left_of sizes own link ≤ 2 + steps_of sizes.shards (spelled_by sizes link)
 link_within sizes own link l =
-    let all = every_input sizes.value link.fed in
-    let more = commands_begin sizes.value link.fed [] (entries link) all.0 l.begins (rw append-nil all.1) in
+    let all = every_input (rules_of sizes) link.fed in
+    let more = commands_begin (rules_of sizes) link.fed [] (entries link) all.0 l.begins (rw append-nil all.1) in
     let long = length-map link.taken (λ (t : Taken). t.entry) in
     let rest : untaken sizes link ≡ more.0 = ap (λ cs. drop (length link.taken) cs) (sym more.1) ∙ drop_these (entries link) (length link.taken) more.0 (sym long) in
     let rest_steps = ap (λ cs. steps_of sizes.shards cs) rest in
@@ -315,7 +315,7 @@ spelled_at sizes [] k link own here at = absurd (cc)
 spelled_at sizes (first ∷ links) zero link own here at =
     let same = same_Some first link here in
     let these = same_Some (spelled_by sizes first) own at in
-    subst (λ cs. SpellAll sizes link.fed cs) these (subst (λ (x : Link). SpellAll sizes x.fed (spelled_by sizes first)) same (every_input sizes.value first.fed).1)
+    subst (λ cs. SpellAll sizes link.fed cs) these (subst (λ (x : Link). SpellAll sizes x.fed (spelled_by sizes first)) same (every_input (rules_of sizes) first.fed).1)
 spelled_at sizes (first ∷ links) (suc k) link own here at = spelled_at sizes links k link own here at
 
 -- No more is left than there are steps for what is spelled.

@@ -6,6 +6,7 @@ use Rattle.std.specs.Cmp.Lexicographic.{slice_cmp}
 use Rattle.mc_wire.specs.Key.{fnv_of}
 use Rattle.mc_command.specs.declared.command.Command.TheVariants as command
 use Rattle.mc_command.specs.declared.command.StoreMode.TheVariants as mode
+use Rattle.mc_command.specs.declared.rules.Profile.TheVariants.{Own}
 use Rattle.mc_item.specs.declared.answer.Answer.{Answer}
 use Rattle.mc_item.specs.declared.answer.Answer.TheVariants.{Hit, Miss, Stored}
 use Rattle.mc_item.specs.declared.item.Item.{Item}
@@ -26,7 +27,7 @@ use Rattle.mc_core.specs.Sized.{empty_shard}
 use Rattle.mc_core.specs.Log.{Entry, IsLawful}
 
 abbrev two : Sizes
-two = record { seats = 2; shards = 2; bytes = 1024; ring = 1; value = 1024; window = 1 }
+two = record { profile = Own; seats = 2; shards = 2; bytes = 1024; ring = 1; value = 1024; window = 1 }
 
 -- keys of the first and of the second shard
 abbrev a : List ℕ

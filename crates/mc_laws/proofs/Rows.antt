@@ -9,6 +9,7 @@ use Rattle.mc_command.specs.declared.command.Command.{Command}
 use Rattle.mc_command.specs.declared.command.Command.TheVariants as command
 use Rattle.mc_command.specs.Name.{name_of}
 use Rattle.mc_command.specs.Table.{line_of}
+use Rattle.mc_command.specs.declared.rules.Profile.TheVariants.{Own}
 use Rattle.mc_item.specs.declared.answer.Answer.TheVariants as answer
 use Rattle.mc_item.specs.declared.op.Op.TheVariants as op
 use Rattle.mc_item.specs.Expiry.{expiry_of}
@@ -23,7 +24,7 @@ use Rattle.mc_store.specs.Step.{Answers, IsStep, step_of}
 use Rattle.mc_conn.specs.History.{Taken}
 use Rattle.mc_conn.specs.Due.{due, pieces, ticket_at}
 use Rattle.mc_conn.specs.Fits.{HasCome}
-use Rattle.mc_core.specs.Sizes.{AreWithin, Sizes}
+use Rattle.mc_core.specs.Sizes.{AreWithin, Sizes, rules_of}
 use Rattle.mc_core.specs.Log.{Entry}
 use Rattle.mc_core.specs.World.{IsAt, Link, World, new_link, ran, sent_to}
 use Rattle.mc_core.specs.Rest.{AtRest, IsAllTaken}
@@ -38,7 +39,7 @@ use Rattle.mc_laws.proofs.Measure.{work_inside}
 use Rattle.mc_laws.proofs.Working.{none_next}
 
 abbrev one_each : Sizes
-one_each = record { seats = 1; shards = 1; bytes = 1024; ring = 1; value = 1024; window = 1 }
+one_each = record { profile = Own; seats = 1; shards = 1; bytes = 1024; ring = 1; value = 1024; window = 1 }
 
 within : AreWithin one_each
 within = record { seats = (lit< tt, lit< tt); shards = (lit< tt, lit< tt); bytes = (lit< tt, lit< tt); ring = (lit< tt, lit< tt); value = (lit< tt, lit< tt); window = (lit< tt, lit< tt) }
@@ -117,15 +118,15 @@ no_end : (bytes : List ℕ) → has_end bytes ≡ false → HasNoEnd bytes
 no_end [] e = tt
 no_end (x ∷ xs) e = let parts = both_false (x == 10) (has_end xs) e in (parts.0, no_end xs parts.1)
 
-spells_flush : Spells one_each.value line flush
+spells_flush : Spells (rules_of one_each) line flush
 unfolding line_of words_of name_of number_of
-spells_flush = lined one_each.value (codes "flush_all\r") [] flush (no_end (codes "flush_all\r") refl) (lit< tt) refl refl
+spells_flush = lined (rules_of one_each) (codes "flush_all\r") [] flush (no_end (codes "flush_all\r") refl) (lit< tt) refl refl
 
-begins : BeginCommands one_each.value line (flush ∷ [])
+begins : BeginCommands (rules_of one_each) line (flush ∷ [])
 begins = ([], (line, [], refl, spells_flush, refl))
 
-all_taken : AreCommands one_each.value line (flush ∷ [])
-all_taken = ([], (line, [], refl, spells_flush, refl), nothing_without_end one_each.value [] tt (lit< tt))
+all_taken : AreCommands (rules_of one_each) line (flush ∷ [])
+all_taken = ([], (line, [], refl, spells_flush, refl), nothing_without_end (rules_of one_each) [] tt (lit< tt))
 
 come : HasCome 1 (one ∷ []) counted 1
 unfolding pieces_of

@@ -16,7 +16,7 @@ use Rattle.mc_conn.proofs.Fitting.{pieces_from-append}
 use Rattle.mc_conn.specs.Fits.{HasCome}
 use Rattle.mc_conn.proofs.Counting.{due_beyond}
 use Rattle.mc_conn.proofs.Gets.{get_below, get_front}
-use Rattle.mc_core.specs.Sizes.{AreWithin, Sizes}
+use Rattle.mc_core.specs.Sizes.{AreWithin, Sizes, rules_of}
 use Rattle.mc_core.specs.Sized.{SpellFirst}
 use Rattle.mc_core.specs.Log.{of_asker}
 use Rattle.mc_core.specs.World.{IsAt, IsLink, Link, World, entries, ran, sent_to, with_link}
@@ -470,12 +470,12 @@ answer_later sizes w run c n k s link there here waits =
 -- The commands are spelled by what is fed later too.
 spelled_later : (sizes : Sizes) (link new : Link) (commands : List Command) → IsMore link new → SpellFirst sizes link.fed commands → SpellFirst sizes new.fed commands
 spelled_later sizes link new commands more spelled =
-    subst (λ bytes. SpellFirst sizes bytes commands) (sym more.fed.1) (begin_more sizes.value link.fed more.fed.0 commands spelled)
+    subst (λ bytes. SpellFirst sizes bytes commands) (sym more.fed.1) (begin_more (rules_of sizes) link.fed more.fed.0 commands spelled)
 
 -- Where all commands are taken, there are as many.
 all_are : (sizes : Sizes) (link : Link) (commands : List Command) → IsAllTaken sizes link → SpellFirst sizes link.fed commands → length commands ≤ length link.taken
 all_are sizes link commands all spelled =
-    let more = commands_begin sizes.value link.fed [] commands (entries link) spelled (rw append-nil all) in
+    let more = commands_begin (rules_of sizes) link.fed [] commands (entries link) spelled (rw append-nil all) in
     let long = ap length more.1 in
     omega (arith, long, length-append commands more.0, length-map link.taken (λ (t : Taken). t.entry))
 

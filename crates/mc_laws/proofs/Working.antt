@@ -16,7 +16,7 @@ use Rattle.mc_conn.proofs.Counting.{due_beyond}
 use Rattle.mc_conn.proofs.Fitting.{due-append}
 use Rattle.mc_conn.proofs.Gets.{get_below}
 use Rattle.mc_conn.proofs.Places.{lane-append}
-use Rattle.mc_core.specs.Sizes.{AreWithin, Sizes}
+use Rattle.mc_core.specs.Sizes.{AreWithin, Sizes, rules_of}
 use Rattle.mc_core.specs.Sized.{SpellAll, SpellFirst}
 use Rattle.mc_core.specs.Log.{Entry, of_asker}
 use Rattle.mc_core.specs.World.{IsAt, IsLink, Link, World, entries, ran, sent_to, with_entry, with_link}
@@ -28,6 +28,7 @@ use Rattle.mc_laws.specs.Progress.{AllAtRest, HasWork}
 use Rattle.mc_core.specs.Alone.{outcome_at}
 use Rattle.mc_core.proofs.Links.{ran_within}
 use Rattle.mc_laws.proofs.Finding.{Below, Found, some_below, some_or_each}
+use Rattle.mc_command.specs.declared.rules.Rules.{Rules}
 
 -- what a shard answers where no memory is refused is a step
 step_there : (state : State) (piece : Piece) → IsStep state piece.op piece.moment (outcome_at state piece.op piece.moment).0 (outcome_at state piece.op piece.moment).1
@@ -200,11 +201,11 @@ none_front : (first more : List Command) → first ++ more ≡ [] → first ≡ 
 none_front [] more none = refl
 none_front (command ∷ first) more none = absurd (cc)
 
-front_begins : (limit : ℕ) (first more : List Command) (before : ℕ) (input rest : List ℕ) → SpellsFront limit before input (first ++ more) rest → (left : List ℕ) × SpellsFront limit before input first left
-front_begins limit [] more before input rest front = (input, refl)
-front_begins limit (command ∷ first) more before input rest front = elim (cases_Bool (is_last before command)) [
+front_begins : (rules : Rules) (first more : List Command) (before : ℕ) (input rest : List ℕ) → SpellsFront rules before input (first ++ more) rest → (left : List ℕ) × SpellsFront rules before input first left
+front_begins rules [] more before input rest front = (input, refl)
+front_begins rules (command ∷ first) more before input rest front = elim (cases_Bool (is_last before command)) [
   | inl last ↦ let h = rw last at front.4 in (rest, (front.0, front.1, front.2, front.3, rw last (none_front first more h.0, h.1)))
-  | inr goes ↦ let later = front_begins limit first more (before + 1) front.1 rest (rw goes at front.4) in (later.0, (front.0, front.1, front.2, front.3, rw goes later.1))
+  | inr goes ↦ let later = front_begins rules first more (before + 1) front.1 rest (rw goes at front.4) in (later.0, (front.0, front.1, front.2, front.3, rw goes later.1))
 ]
 
 -- All commands that the bytes fed spell are taken, or there is a next.
@@ -212,18 +213,18 @@ by_more : (sizes : Sizes) (link : Link) (all more : List Command) → SpellAll s
 by_more sizes link all [] commands is = inl (subst (λ es. SpellAll sizes link.fed es) (sym is ∙ append-nil (entries link)) commands)
 by_more sizes link all (command ∷ more) commands is =
     let split : (entries link ++ command ∷ []) ++ more ≡ all = append_assoc (entries link) (command ∷ []) more ∙ is in
-    let front = front_begins sizes.value (entries link ++ command ∷ []) more 0 link.fed commands.0 (subst (λ es. SpellsFront sizes.value 0 link.fed es commands.0) (sym split) commands.1) in
+    let front = front_begins (rules_of sizes) (entries link ++ command ∷ []) more 0 link.fed commands.0 (subst (λ es. SpellsFront (rules_of sizes) 0 link.fed es commands.0) (sym split) commands.1) in
     inr (command, (front.0, front.1))
 
 pub next_or_all : (sizes : Sizes) (link : Link) → SpellFirst sizes link.fed (entries link) → IsAllTaken sizes link ⊎ ((command : Command) × IsNextCommand sizes link command)
 next_or_all sizes link some =
-    let all = every_input sizes.value link.fed in
-    let more = commands_begin sizes.value link.fed [] (entries link) all.0 some (rw append-nil all.1) in
+    let all = every_input (rules_of sizes) link.fed in
+    let more = commands_begin (rules_of sizes) link.fed [] (entries link) all.0 some (rw append-nil all.1) in
     by_more sizes link all.0 more.0 all.1 more.1
 
 pub none_next : (sizes : Sizes) (link : Link) (command : Command) → IsAllTaken sizes link → IsNextCommand sizes link command → ⊥
 none_next sizes link command all next =
-    let more = commands_begin sizes.value link.fed [] (entries link ++ command ∷ []) (entries link) next (rw append-nil all) in
+    let more = commands_begin (rules_of sizes) link.fed [] (entries link ++ command ∷ []) (entries link) next (rw append-nil all) in
     let long = ap length more.1 in
     absurd (omega (arith, long, length-append (entries link ++ command ∷ []) more.0, length-append (entries link) (command ∷ [])))
 

@@ -1,11 +1,12 @@
 -- The calls of the program, each with the options that it has.
-use Rattle.std.specs.Prelude.{ℕ, ◌≡◌, ◌≤◌, true, false, Bool, List, [], ◌∷◌, Option, Some, None, Ok, Err, Result, bytes_eq, codes, find, is_some, option_map, unwrap_or, if◌then◌else◌}
+use Rattle.std.specs.Prelude.{ℕ, ◌≡◌, ◌≤◌, Bool, List, [], ◌∷◌, Option, Some, None, Ok, Err, Result, codes, find, is_some, option_map, unwrap_or, if◌then◌else◌}
 use Rattle.clap.specs.Words.{first_of}
 use Rattle.mc_options.specs.declared.options.Limits.{Limits}
 use Rattle.mc_options.specs.declared.options.Options.{Options}
 use Rattle.mc_options.specs.declared.options.Options.TheVariants.{Listen, Replay, Stdio, Version}
 use Rattle.mc_options.specs.Program.{rows_in}
 use Rattle.mc_options.specs.Wrong.{HasItems, NotOfReplay, NotOfStdio, NotOfTcp, Wrong}
+use Rattle.mc_options.specs.Flags.{is_flag}
 use Rattle.mc_options.specs.Numbers.{AreWithin, and_then, connections_by, idle_by, limits_by, moment_by, seats_by}
 
 -- what the program is called to do
@@ -30,14 +31,6 @@ is_given given name = is_some (given name)
 abbrev pub first_given : (List ℕ → Option (List ℕ)) → List (List ℕ) → Option (List ℕ)
 first_given given names = find (is_given given) names
 
-abbrev pub is_true : Option (List ℕ) → Bool
-is_true None = false
-is_true (Some text) = bytes_eq text (codes "true")
-
--- An option without a value is given.
-abbrev pub is_flag : (List ℕ → Option (List ℕ)) → List ℕ → Bool
-is_flag given name = is_true (given name)
-
 -- the options that `--replay` doesn't have, those that `--stdio` doesn't have, and those that serving TCP doesn't have
 abbrev pub other_than_replay : List (List ℕ)
 other_than_replay =
@@ -59,11 +52,14 @@ unless_foreign wrong (Some name) call = Err (wrong name)
 abbrev pub unless_flag : (List ℕ → Wrong) → (List ℕ → Option (List ℕ)) → List ℕ → Result Call Wrong → Result Call Wrong
 unless_flag wrong given name call = if is_flag given name then Err (wrong name) else call
 
+abbrev pub unless_flags : (List ℕ → Option (List ℕ)) → List ℕ → Result Call Wrong
+unless_flags given file =
+    unless_flag NotOfReplay given (codes "stdio")
+    (unless_flag NotOfReplay given (codes "verbose") (unless_flag NotOfReplay given (codes "drop-in") (Ok (RunsSchedule file))))
+
 -- the schedule in the file is run, where no other option is given
 abbrev pub replay_by : (List ℕ → Option (List ℕ)) → List ℕ → Result Call Wrong
-replay_by given file =
-    unless_foreign NotOfReplay (first_given given other_than_replay)
-    (unless_flag NotOfReplay given (codes "stdio") (unless_flag NotOfReplay given (codes "verbose") (Ok (RunsSchedule file))))
+replay_by given file = unless_foreign NotOfReplay (first_given given other_than_replay) (unless_flags given file)
 
 -- one line is served over standard input and output
 abbrev pub line_by : (List ℕ → Option (List ℕ)) → Result Call Wrong

@@ -1,5 +1,6 @@
 pub mod Program
 pub mod Wrong
+pub mod Flags
 pub mod Numbers
 pub mod Calls
 pub mod Faults

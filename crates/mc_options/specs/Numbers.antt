@@ -3,6 +3,7 @@ use Rattle.std.specs.Prelude.{ℕ, ◌-◌, ◌*◌, ◌/◌, ◌<◌, ◌≤◌
 use Rattle.std.specs.List.{ends_with}
 use Rattle.mc_wire.specs.Number.{number_of}
 use Rattle.mc_options.specs.Wrong.{Wrong, BytesAndMemory, NoNumber, NoSize}
+use Rattle.mc_options.specs.Flags.{profile_by}
 use Rattle.mc_options.specs.declared.options.Limits.{Limits}
 
 -- what comes of the next step, or what is wrong with the one before
@@ -66,7 +67,7 @@ limits_by given =
     and_then
     (λ shards. and_then
     (λ bytes. and_then
-    (λ value. and_then (λ window. Ok (record { shards = shards; bytes = bytes; value = value; window = window }))
+    (λ value. and_then (λ window. Ok (record { profile = profile_by given; shards = shards; bytes = bytes; value = value; window = window }))
     (number_given (codes "window") 1 256 4096 (given (codes "window"))))
     (size_given (codes "value-limit") 1024 1048576 8388608 (given (codes "value-limit"))))
     (budget_of shards (given (codes "bytes")) (given (codes "memory"))))

@@ -4,12 +4,14 @@ ghost use Rattle.clap.specs.Words.{FailsBy, first_value, found_of, rows_of};
 ghost use Rattle.mc_options.specs.Program.{rows_in, word_faults};
 ghost use Rattle.mc_options.specs.Wrong.{wrong_of};
 ghost use Rattle.mc_options.specs.Numbers.{AreWithin, budget_of, bytes_of, digits_of, limits_by, number_given, number_if_given, size_given, size_in, unit_of};
-ghost use Rattle.mc_options.specs.Calls.{MayServe, Spells, call_by, call_of, first_given, given_in, is_flag, is_given, line_by, replay_by, stdio_by, tcp_by};
+ghost use Rattle.mc_options.specs.Flags.{is_flag, profile_by};
+ghost use Rattle.mc_options.specs.Calls.{MayServe, Spells, call_by, call_of, first_given, given_in, is_given, line_by, replay_by, stdio_by, tcp_by};
 ghost use Rattle.mc_options.specs.Faults.{IsFaultOf, IsOfOptions};
 
 use crate::fault::OptionFault;
 use crate::program::program_options;
 use clap::ArgMatches;
+use mc_command::Profile;
 use mc_core::{
     DEFAULT_WINDOW, LEAST, LEAST_BYTES, LEAST_VALUE, MOST_BYTES, MOST_SEATS, MOST_SHARDS,
     MOST_VALUE, MOST_WINDOW,
@@ -35,9 +37,11 @@ const MOST_IDLE: u64 = 31_536_000;
 /// The address to listen on where nothing else is said.
 const DEFAULT_ADDRESS: &str = "127.0.0.1:11211";
 
-/// The limits of a server that its operator sets.
+/// The limits of a server that its operator sets, and whose rules it follows.
 #[derive(Clone, Copy, Debug, PartialEq, Eq)]
 pub struct Limits {
+    /// Whose rules it follows.
+    pub profile: Profile,
     /// How many shards there are.
     pub shards: usize,
     /// What the items of a shard may cost together, in bytes.
@@ -151,6 +155,9 @@ fn replay_in<'a>(matches: &ArgMatches<'a>, file: &'a str) -> Result<Options<'a>,
     if is_flag(matches, "verbose") {
         return Err(OptionFault::NotOfReplay { option: "verbose" });
     }
+    if is_flag(matches, "drop-in") {
+        return Err(OptionFault::NotOfReplay { option: "drop-in" });
+    }
     Ok(Options::Replay { file })
 }
 
@@ -230,11 +237,23 @@ fn limits_in<'a>(matches: &ArgMatches<'a>) -> Result<Limits, OptionFault<'a>>
     let window = matches.get_str("window");
     let window = number_given("window", window, LEAST, DEFAULT_WINDOW, MOST_WINDOW)?;
     Ok(Limits {
+        profile: profile_in(matches),
         shards,
         bytes,
         value,
         window,
     })
+}
+
+/// Whose rules the server follows.
+fn profile_in(matches: &ArgMatches<'_>) -> Profile
+    ensures { result ≡ profile_by (first_value (found_of matches.now)) }
+{
+    if is_flag(matches, "drop-in") {
+        Profile::DropIn
+    } else {
+        Profile::Own
+    }
 }
 
 /// What the items of each of so many shards may cost together: as `--bytes` says, or an equal part of `--memory`.

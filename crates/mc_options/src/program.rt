@@ -11,9 +11,9 @@ const CALLS: &str = "\
 mcd [--listen ADDRESS] [--seats N] [--connections N] [limits]   TCP
 mcd --stdio [--at SECONDS] [limits]                             one connection
 mcd --replay FILE                                               a schedule
-Limits are --shards, --bytes or --memory, --value-limit and --window. With TCP
-go --idle-timeout, --verbose and --metrics too. Defaults stand in []. Behind a
-number of bytes k, m and g stand for 1024 each.";
+Limits are --shards, --bytes or --memory, --value-limit, --window and --drop-in.
+With TCP go --idle-timeout, --verbose and --metrics too. Defaults stand in [].
+Behind a number of bytes k, m and g stand for 1024 each.";
 
 /// The program with its options.
 #[tactic(auto, unfolding(crate::specs::Program::program))]
@@ -42,7 +42,7 @@ fn with_calls<'a>(alloc: Global, command: Command<'a>) -> Result<Command<'a>, Al
     with_flag(alloc, command, "version", version)
 }
 
-/// The program with the options that take numbers.
+/// The program with the options that say what the server is like.
 fn with_limits<'a>(alloc: Global, command: Command<'a>) -> Result<Command<'a>, AllocError>
     ensures { IfOk result (λ limited. app_of limited ≡ with_rules (app_of command.entry) limit_rules) }
 {
@@ -60,6 +60,8 @@ fn with_limits<'a>(alloc: Global, command: Command<'a>) -> Result<Command<'a>, A
     let command = with_value(alloc, command, "window", "N", window)?;
     let connections = "Ends after so many connections, 1 to 4294967295";
     let command = with_value(alloc, command, "connections", "N", connections)?;
+    let drop_in = "Follows memcached 1.6 where its rules differ";
+    let command = with_flag(alloc, command, "drop-in", drop_in)?;
     with_items(alloc, command)
 }
 

@@ -34,7 +34,7 @@ fn what_came(next: &Next) -> Came {
         Next::Command(Command::Get(_)) => Came::Get,
         Next::Command(Command::MetaSet(_)) => Came::MetaSet,
         Next::Command(Command::MetaNoop) => Came::MetaNoop,
-        Next::Command(Command::Version) => Came::Version,
+        Next::Command(Command::Version(_)) => Came::Version,
         Next::Command(Command::Verbosity { .. }) => Came::Verbosity,
         Next::Command(Command::Quit) => Came::Quit,
         Next::Command(Command::Refused(refusal)) => Came::Refused(*refusal),

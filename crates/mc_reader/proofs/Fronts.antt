@@ -11,94 +11,95 @@ use Rattle.mc_command.specs.Line.{bytes_behind}
 use Rattle.mc_reader.specs.Spelling.{HasNoEnd, line_says, Spells, SpellsNothing, SpellsFront, BeginCommands, AreCommands, Begins, is_last, is_closed_after, is_closed}
 use Rattle.mc_reader.specs.internal.State.{SpellsSomething}
 use Rattle.mc_reader.proofs.Texts.{Reads, nothing_without_end, nothing_yet, reads, same_spelled, something, spelled_behind}
+use Rattle.mc_command.specs.declared.rules.Rules.{Rules}
 
 -- What more bytes come behind is left over.
-pub front_more : (limit : ℕ) (entries : List Command) (before : ℕ) (input rest more : List ℕ) → SpellsFront limit before input entries rest → SpellsFront limit before (input ++ more) entries (rest ++ more)
-front_more limit [] before input rest more front = ap (λ xs. xs ++ more) front
-front_more limit (entry ∷ entries) before input rest more front = (
+pub front_more : (rules : Rules) (entries : List Command) (before : ℕ) (input rest more : List ℕ) → SpellsFront rules before input entries rest → SpellsFront rules before (input ++ more) entries (rest ++ more)
+front_more rules [] before input rest more front = ap (λ xs. xs ++ more) front
+front_more rules (entry ∷ entries) before input rest more front = (
   front.0,
   front.1 ++ more,
   ap (λ xs. xs ++ more) front.2 ∙ append_assoc front.0 front.1 more,
   front.3,
   elim (cases_Bool (is_last before entry)) [
     | inl last ↦ let h = rw last at front.4 in rw last (h.0, ap (λ xs. xs ++ more) h.1)
-    | inr goes ↦ rw goes (front_more limit entries (before + 1) front.1 rest more (rw goes at front.4))
+    | inr goes ↦ rw goes (front_more rules entries (before + 1) front.1 rest more (rw goes at front.4))
   ],
 )
 
 -- One more command behind the others.
-pub front_last : (limit : ℕ) (entries : List Command) (before : ℕ) (input text after : List ℕ) (entry : Command) → SpellsFront limit before input entries (text ++ after) → is_closed_after before entries ≡ false → Spells limit text entry → SpellsFront limit before input (entries ++ entry ∷ []) after
-front_last limit [] before input text after entry front goes_on spelled =
+pub front_last : (rules : Rules) (entries : List Command) (before : ℕ) (input text after : List ℕ) (entry : Command) → SpellsFront rules before input entries (text ++ after) → is_closed_after before entries ≡ false → Spells rules text entry → SpellsFront rules before input (entries ++ entry ∷ []) after
+front_last rules [] before input text after entry front goes_on spelled =
     (text, after, front, spelled, elim (cases_Bool (is_last before entry)) [ inl last ↦ rw last (refl, refl) | inr goes ↦ rw goes refl ])
-front_last limit (first ∷ entries) before input text after entry front goes_on spelled =
+front_last rules (first ∷ entries) before input text after entry front goes_on spelled =
     let still = or_parts (is_last before first) (is_closed_after (before + 1) entries) goes_on in
-    let later = front_last limit entries (before + 1) front.1 text after entry (rw still.0 at front.4) still.1 spelled in
+    let later = front_last rules entries (before + 1) front.1 text after entry (rw still.0 at front.4) still.1 spelled in
     (front.0, front.1, front.2, front.3, rw still.0 later)
 
 -- What the same commands leave of one input is one rest.
-pub same_rest : (limit : ℕ) (entries : List Command) (before : ℕ) (input rest rest' : List ℕ) → SpellsFront limit before input entries rest → SpellsFront limit before input entries rest' → rest ≡ rest'
-same_rest limit [] before input rest rest' front front' = sym front ∙ front'
-same_rest limit (entry ∷ entries) before input rest rest' front front' =
-    let same = same_spelled limit front.0 front'.0 front.1 front'.1 entry entry front.3 front'.3 (sym front.2 ∙ front'.2) in
+pub same_rest : (rules : Rules) (entries : List Command) (before : ℕ) (input rest rest' : List ℕ) → SpellsFront rules before input entries rest → SpellsFront rules before input entries rest' → rest ≡ rest'
+same_rest rules [] before input rest rest' front front' = sym front ∙ front'
+same_rest rules (entry ∷ entries) before input rest rest' front front' =
+    let same = same_spelled rules front.0 front'.0 front.1 front'.1 entry entry front.3 front'.3 (sym front.2 ∙ front'.2) in
     elim (cases_Bool (is_last before entry)) [
       | inl last ↦
           let h = rw last at front.4 in
           let h' = rw last at front'.4 in
           sym h.1 ∙ (same.rest ∙ h'.1)
-      | inr goes ↦ same_rest limit entries (before + 1) front.1 rest rest' (rw goes at front.4) (rw same.rest (rw goes at front'.4))
+      | inr goes ↦ same_rest rules entries (before + 1) front.1 rest rest' (rw goes at front.4) (rw same.rest (rw goes at front'.4))
     ]
 
 -- the last of the commands, and what was unread before it
-pub record LastOf (limit : ℕ) (before : ℕ) (input : List ℕ) (entries : List Command) (entry : Command) (rest : List ℕ) : Type 0 where
+pub record LastOf (rules : Rules) (before : ℕ) (input : List ℕ) (entries : List Command) (entry : Command) (rest : List ℕ) : Type 0 where
   pub text : List ℕ
-  pub front : SpellsFront limit before input entries (text ++ rest)
+  pub front : SpellsFront rules before input entries (text ++ rest)
   pub goes_on : is_closed_after before entries ≡ false
-  pub spelled : Spells limit text entry
+  pub spelled : Spells rules text entry
 
-pub last_of : (limit : ℕ) (entries : List Command) (before : ℕ) (input : List ℕ) (entry : Command) (rest : List ℕ) → SpellsFront limit before input (entries ++ entry ∷ []) rest → LastOf limit before input entries entry rest
-last_of limit [] before input entry rest front =
+pub last_of : (rules : Rules) (entries : List Command) (before : ℕ) (input : List ℕ) (entry : Command) (rest : List ℕ) → SpellsFront rules before input (entries ++ entry ∷ []) rest → LastOf rules before input entries entry rest
+last_of rules [] before input entry rest front =
     let after : front.1 ≡ rest = elim (cases_Bool (is_last before entry)) [ inl last ↦ let h = rw last at front.4 in h.1 | inr goes ↦ rw goes at front.4 ] in
     record { text = front.0; front = rw (← after) front.2; goes_on = refl; spelled = front.3 }
-last_of limit (first ∷ entries) before input entry rest front = elim (cases_Bool (is_last before first)) [
+last_of rules (first ∷ entries) before input entry rest front = elim (cases_Bool (is_last before first)) [
   | inl last ↦ let h = rw last at front.4 in absurd (omega (arith, ap length h.0, length-append entries (entry ∷ [])))
   | inr goes ↦
-      let later = last_of limit entries (before + 1) front.1 entry rest (rw goes at front.4) in
+      let later = last_of rules entries (before + 1) front.1 entry rest (rw goes at front.4) in
       record { text = later.text; front = (front.0, front.1, front.2, front.3, rw goes later.front); goes_on = rw goes later.goes_on; spelled = later.spelled }
 ]
 
 -- where nothing is left that spells, or a last command was given
-abbrev pub IsAll : ℕ → ℕ → List Command → List ℕ → Type 0
-IsAll limit before entries rest = MatchBool (is_closed_after before entries) (Unit {0}) (SpellsNothing limit rest)
+abbrev pub IsAll : Rules → ℕ → List Command → List ℕ → Type 0
+IsAll rules before entries rest = MatchBool (is_closed_after before entries) (Unit {0}) (SpellsNothing rules rest)
 
 -- the commands of a beginning begin those of the whole, where these are all
-pub begins : (limit : ℕ) (entries others : List Command) (before : ℕ) (input more rest rest' : List ℕ) → SpellsFront limit before input entries rest → SpellsFront limit before (input ++ more) others rest' → IsAll limit before others rest' → Begins entries others
-begins limit [] others before input more rest rest' front front' all = (others, refl)
-begins limit (entry ∷ entries) [] before input more rest rest' front front' all =
-    absurd (something limit front.0 (front.1 ++ more) entry front.3 (rw (← append_assoc front.0 front.1 more, ← front.2, front') all))
-begins limit (entry ∷ entries) (other ∷ others) before input more rest rest' front front' all =
+pub begins : (rules : Rules) (entries others : List Command) (before : ℕ) (input more rest rest' : List ℕ) → SpellsFront rules before input entries rest → SpellsFront rules before (input ++ more) others rest' → IsAll rules before others rest' → Begins entries others
+begins rules [] others before input more rest rest' front front' all = (others, refl)
+begins rules (entry ∷ entries) [] before input more rest rest' front front' all =
+    absurd (something rules front.0 (front.1 ++ more) entry front.3 (rw (← append_assoc front.0 front.1 more, ← front.2, front') all))
+begins rules (entry ∷ entries) (other ∷ others) before input more rest rest' front front' all =
     let e = sym (append_assoc front.0 front.1 more) ∙ (ap (λ xs. xs ++ more) (sym front.2) ∙ front'.2) in
-    let same = same_spelled limit front.0 front'.0 (front.1 ++ more) front'.1 entry other front.3 front'.3 e in
+    let same = same_spelled rules front.0 front'.0 (front.1 ++ more) front'.1 entry other front.3 front'.3 e in
     elim (cases_Bool (is_last before other)) [
       | inl last ↦
           let h = rw (same.entry, last) at front.4 in
           let h' = rw last at front'.4 in
           ([], rw (h.0, h'.0, same.entry) refl)
       | inr goes ↦
-          let later = begins limit entries others (before + 1) front.1 more rest rest' (rw (same.entry, goes) at front.4) (rw same.rest (rw goes at front'.4)) (rw goes at all) in
+          let later = begins rules entries others (before + 1) front.1 more rest rest' (rw (same.entry, goes) at front.4) (rw same.rest (rw goes at front'.4)) (rw goes at all) in
           (later.0, (λ i. same.entry i ∷ later.1 i))
     ]
 
 -- The commands of a beginning begin those of the whole.
-pub commands_begin : (limit : ℕ) (input more : List ℕ) (entries others : List Command) → BeginCommands limit input entries → AreCommands limit (input ++ more) others → Begins entries others
-commands_begin limit input more entries others some all = begins limit entries others 0 input more some.0 all.0 some.1 all.1 all.2
+pub commands_begin : (rules : Rules) (input more : List ℕ) (entries others : List Command) → BeginCommands rules input entries → AreCommands rules (input ++ more) others → Begins entries others
+commands_begin rules input more entries others some all = begins rules entries others 0 input more some.0 all.0 some.1 all.1 all.2
 
 -- What begins the commands of a beginning begins those of the whole.
-pub begin_more : (limit : ℕ) (input more : List ℕ) (entries : List Command) → BeginCommands limit input entries → BeginCommands limit (input ++ more) entries
-begin_more limit input more entries some = (some.0 ++ more, front_more limit entries 0 input some.0 more some.1)
+pub begin_more : (rules : Rules) (input more : List ℕ) (entries : List Command) → BeginCommands rules input entries → BeginCommands rules (input ++ more) entries
+begin_more rules input more entries some = (some.0 ++ more, front_more rules entries 0 input some.0 more some.1)
 
 -- All commands of an input begin its commands.
-pub all_begin : (limit : ℕ) (input : List ℕ) (entries : List Command) → AreCommands limit input entries → BeginCommands limit input entries
-all_begin limit input entries all = (all.0, all.1)
+pub all_begin : (rules : Rules) (input : List ℕ) (entries : List Command) → AreCommands rules input entries → BeginCommands rules input entries
+all_begin rules input entries all = (all.0, all.1)
 
 begins_both : (entries others : List Command) → Begins entries others → Begins others entries → entries ≡ others
 begins_both entries others one two = go one.0 one.1 two.0 two.1 where
@@ -107,15 +108,15 @@ begins_both entries others one two = go one.0 one.1 two.0 two.1 where
   go (first ∷ more) e less e' = absurd (omega (arith, ap length e, ap length e', length-append entries (first ∷ more), length-append others less))
 
 -- The commands of an input are one list.
-pub one_list : (limit : ℕ) (input : List ℕ) (entries others : List Command) → AreCommands limit input entries → AreCommands limit input others → entries ≡ others
-one_list limit input entries others all all' =
+pub one_list : (rules : Rules) (input : List ℕ) (entries others : List Command) → AreCommands rules input entries → AreCommands rules input others → entries ≡ others
+one_list rules input entries others all all' =
     begins_both entries others
-    (commands_begin limit input [] entries others (all_begin limit input entries all) (rw append-nil all'))
-    (commands_begin limit input [] others entries (all_begin limit input others all') (rw append-nil all))
+    (commands_begin rules input [] entries others (all_begin rules input entries all) (rw append-nil all'))
+    (commands_begin rules input [] others entries (all_begin rules input others all') (rw append-nil all))
 
 -- Nothing comes behind a last command.
-pub closed_more : (limit : ℕ) (input more : List ℕ) (entries : List Command) → AreCommands limit input entries → is_closed entries ≡ true → AreCommands limit (input ++ more) entries
-closed_more limit input more entries all closed = (all.0 ++ more, front_more limit entries 0 input all.0 more all.1, rw closed tt)
+pub closed_more : (rules : Rules) (input more : List ℕ) (entries : List Command) → AreCommands rules input entries → is_closed entries ≡ true → AreCommands rules (input ++ more) entries
+closed_more rules input more entries all closed = (all.0 ++ more, front_more rules entries 0 input all.0 more all.1, rw closed tt)
 
 -- whether a line feed stands in some bytes, and where the first does
 data FirstEnd (bytes : List ℕ) : Type 0 where
@@ -135,8 +136,8 @@ no_end_take zero bytes none = tt
 no_end_take (suc n) [] none = tt
 no_end_take (suc n) (byte ∷ bytes) none = (none.0, no_end_take n bytes none.1)
 
-too_long : (limit : ℕ) (bytes line rest : List ℕ) → bytes ≡ line ++ rest → HasNoEnd line → LINE_LIMIT ≤ length line → SpellsSomething limit bytes
-too_long limit bytes line rest is none full = (
+too_long : (rules : Rules) (bytes line rest : List ℕ) → bytes ≡ line ++ rest → HasNoEnd line → LINE_LIMIT ≤ length line → SpellsSomething rules bytes
+too_long rules bytes line rest is none full = (
   take LINE_LIMIT line,
   drop LINE_LIMIT line ++ rest,
   command.Refused LineTooLong,
@@ -145,41 +146,41 @@ too_long limit bytes line rest is none full = (
 )
 
 -- Some beginning of an input spells something, or none does.
-first_spelled : (limit : ℕ) (input : List ℕ) → SpellsSomething limit input ⊎ SpellsNothing limit input
-first_spelled limit input = elim (first_end input) [
+first_spelled : (rules : Rules) (input : List ℕ) → SpellsSomething rules input ⊎ SpellsNothing rules input
+first_spelled rules input = elim (first_end input) [
   | ended line tail is none ↦ elim (cases_lt (length line) LINE_LIMIT) [
-    | inl short ↦ elim (cases_lt (length tail) (bytes_behind (line_says limit line))) [
-      | inl few ↦ inr (rw is (nothing_yet limit line tail none short few))
-      | inr enough ↦ inl (spelled_behind limit line tail input is none short enough)
+    | inl short ↦ elim (cases_lt (length tail) (bytes_behind (line_says rules line))) [
+      | inl few ↦ inr (rw is (nothing_yet rules line tail none short few))
+      | inr enough ↦ inl (spelled_behind rules line tail input is none short enough)
     ]
-    | inr full ↦ inl (too_long limit input line (10 ∷ tail) is none full)
+    | inr full ↦ inl (too_long rules input line (10 ∷ tail) is none full)
   ]
   | endless none ↦ elim (cases_lt (length input) LINE_LIMIT) [
-    | inl short ↦ inr (nothing_without_end limit input none short)
-    | inr full ↦ inl (too_long limit input input [] (sym (append-nil input)) none full)
+    | inl short ↦ inr (nothing_without_end rules input none short)
+    | inr full ↦ inl (too_long rules input input [] (sym (append-nil input)) none full)
   ]
 ]
 
 -- a text that spells has a byte at least
-some_byte : (limit : ℕ) (text : List ℕ) (entry : Command) → Reads limit text entry → 0 < length text
-some_byte limit text entry (Reads.lined line tail is) = omega (arith, ap length is.text_is, length-append line (10 ∷ tail))
-some_byte limit text entry (Reads.endless full none e) = omega arith
+some_byte : (rules : Rules) (text : List ℕ) (entry : Command) → Reads rules text entry → 0 < length text
+some_byte rules text entry (Reads.lined line tail is) = omega (arith, ap length is.text_is, length-append line (10 ∷ tail))
+some_byte rules text entry (Reads.endless full none e) = omega arith
 
 -- Every input has its commands.
-pub some_commands : (limit : ℕ) (fuel before : ℕ) (input : List ℕ) → length input ≤ fuel → (entries : List Command) × (rest : List ℕ) × SpellsFront limit before input entries rest × IsAll limit before entries rest
-some_commands limit zero before [] few = ([], [], refl, nothing_without_end limit [] tt (omega arith))
-some_commands limit zero before (byte ∷ bytes) few = absurd (omega arith)
-some_commands limit (suc fuel) before input few = elim (first_spelled limit input) [
+pub some_commands : (rules : Rules) (fuel before : ℕ) (input : List ℕ) → length input ≤ fuel → (entries : List Command) × (rest : List ℕ) × SpellsFront rules before input entries rest × IsAll rules before entries rest
+some_commands rules zero before [] few = ([], [], refl, nothing_without_end rules [] tt (omega arith))
+some_commands rules zero before (byte ∷ bytes) few = absurd (omega arith)
+some_commands rules (suc fuel) before input few = elim (first_spelled rules input) [
   | inr nothing ↦ ([], input, refl, nothing)
   | inl one ↦
-      let some = some_byte limit one.0 one.2 (reads limit one.0 one.2 one.4) in
+      let some = some_byte rules one.0 one.2 (reads rules one.0 one.2 one.4) in
       elim (cases_Bool (is_last before one.2)) [
         | inl last ↦ (one.2 ∷ [], one.1, (one.0, one.1, one.3, one.4, rw last (refl, refl)), rw last tt)
         | inr goes ↦
-            let next = some_commands limit fuel (before + 1) one.1 (omega (arith, ap length one.3, length-append one.0 one.1)) in
+            let next = some_commands rules fuel (before + 1) one.1 (omega (arith, ap length one.3, length-append one.0 one.1)) in
             (one.2 ∷ next.0, next.1, (one.0, one.1, one.3, one.4, rw goes next.2), rw goes next.3)
       ]
 ]
 
-pub every_input : (limit : ℕ) (input : List ℕ) → (entries : List Command) × AreCommands limit input entries
-every_input limit input = let some = some_commands limit (length input) 0 input (omega arith) in (some.0, (some.1, some.2, some.3))
+pub every_input : (rules : Rules) (input : List ℕ) → (entries : List Command) × AreCommands rules input entries
+every_input rules input = let some = some_commands rules (length input) 0 input (omega arith) in (some.0, (some.1, some.2, some.3))

@@ -17,6 +17,7 @@ use Rattle.mc_wire.specs.Words.{words_of}
 use Rattle.mc_reader.specs.Spelling.{HasNoEnd, Spells, SpellsNothing, block_entry, is_block_end, line_says, without_return}
 use Rattle.mc_reader.specs.internal.State.{IsWhole, IsInBlock, IsInSkip}
 use Rattle.mc_reader.proofs.Texts.{Reads, entry_after, spells, nothing_yet}
+use Rattle.mc_command.specs.declared.rules.Rules.{Rules}
 
 -- a piece behind what has come of a block, and behind the bytes that follow it
 joined : (bytes others piece : List ℕ) (n m : ℕ) → (0 < n → others ≡ []) → (bytes ++ others) ++ take (n + m) piece ≡ (bytes ++ take n piece) ++ (others ++ take m (drop n piece))
@@ -37,8 +38,8 @@ none_left n m others piece all none = rw (none, drop_all n piece (omega arith)) 
   none_taken (suc k) = refl
 
 -- A piece comes while a block is read.
-pub block_fed : (limit : ℕ) (asked : Command) (count : ℕ) (bytes others unread piece : List ℕ) (n m : ℕ) → IsInBlock limit asked count bytes others unread → n ≡ min (count + 2 - length bytes) (length piece) → IsInBlock limit asked count (bytes ++ take n piece) (others ++ take m (drop n piece)) (unread ++ take (n + m) piece)
-block_fed limit asked count bytes others unread piece n m part n_is = record {
+pub block_fed : (rules : Rules) (asked : Command) (count : ℕ) (bytes others unread piece : List ℕ) (n m : ℕ) → IsInBlock rules asked count bytes others unread → n ≡ min (count + 2 - length bytes) (length piece) → IsInBlock rules asked count (bytes ++ take n piece) (others ++ take m (drop n piece)) (unread ++ take (n + m) piece)
+block_fed rules asked count bytes others unread piece n m part n_is = record {
   line = part.line;
   no_end = part.no_end;
   short = part.short;
@@ -48,8 +49,8 @@ block_fed limit asked count bytes others unread piece n m part n_is = record {
 }
 
 -- A piece comes while bytes are skipped.
-pub skip_fed : (limit : ℕ) (refusal : Refusal) (left after : ℕ) (others unread piece : List ℕ) (n m : ℕ) → IsInSkip limit refusal left others unread → n ≡ min left (length piece) → after + n ≡ left → IsInSkip limit refusal after (others ++ take m (drop n piece)) (unread ++ take (n + m) piece)
-skip_fed limit refusal left after others unread piece n m part n_is after_is =
+pub skip_fed : (rules : Rules) (refusal : Refusal) (left after : ℕ) (others unread piece : List ℕ) (n m : ℕ) → IsInSkip rules refusal left others unread → n ≡ min left (length piece) → after + n ≡ left → IsInSkip rules refusal after (others ++ take m (drop n piece)) (unread ++ take (n + m) piece)
+skip_fed rules refusal left after others unread piece n m part n_is after_is =
     let long : length (part.skipped ++ take n piece) + after ≡ length part.skipped + left = omega (arith, length-append part.skipped (take n piece), length-take n piece) in
     record {
       line = part.line;
@@ -62,8 +63,8 @@ skip_fed limit refusal left after others unread piece n m part n_is after_is =
     }
 
 -- A block begins with what the buffer has of it.
-pub block_begun : (limit : ℕ) (line : List ℕ) (asked : Command) (count : ℕ) (others : List ℕ) (n : ℕ) → HasNoEnd line → length line < LINE_LIMIT → line_says limit line ≡ Data asked count → n ≡ min (count + 2 - 0) (length others) → IsInBlock limit asked count (take n others) (drop n others) (line ++ 10 ∷ others)
-block_begun limit line asked count others n none short says n_is = record {
+pub block_begun : (rules : Rules) (line : List ℕ) (asked : Command) (count : ℕ) (others : List ℕ) (n : ℕ) → HasNoEnd line → length line < LINE_LIMIT → line_says rules line ≡ Data asked count → n ≡ min (count + 2 - 0) (length others) → IsInBlock rules asked count (take n others) (drop n others) (line ++ 10 ∷ others)
+block_begun rules line asked count others n none short says n_is = record {
   line = line;
   no_end = none;
   short = short;
@@ -73,8 +74,8 @@ block_begun limit line asked count others n none short says n_is = record {
 }
 
 -- Skipping begins with what the buffer has of it.
-pub skip_begun : (limit : ℕ) (line : List ℕ) (refusal : Refusal) (left after : ℕ) (others : List ℕ) (n : ℕ) → HasNoEnd line → length line < LINE_LIMIT → Says (line_says limit line) (Skip refusal left) → n ≡ min left (length others) → after + n ≡ left → IsInSkip limit refusal after (drop n others) (line ++ 10 ∷ others)
-skip_begun limit line refusal left after others n none short says n_is after_is =
+pub skip_begun : (rules : Rules) (line : List ℕ) (refusal : Refusal) (left after : ℕ) (others : List ℕ) (n : ℕ) → HasNoEnd line → length line < LINE_LIMIT → Says (line_says rules line) (Skip refusal left) → n ≡ min left (length others) → after + n ≡ left → IsInSkip rules refusal after (drop n others) (line ++ 10 ∷ others)
+skip_begun rules line refusal left after others n none short says n_is after_is =
     let long : length (take n others) + after ≡ left = omega (arith, length-take n others) in
     record {
       line = line;
@@ -87,17 +88,17 @@ skip_begun limit line refusal left after others n none short says n_is after_is 
     }
 
 -- a text that begins with a line spells what the line says
-pub lined : (limit : ℕ) (line tail : List ℕ) (entry : Command) → HasNoEnd line → length line < LINE_LIMIT → length tail ≡ bytes_behind (line_says limit line) → entry ≡ entry_after (line_says limit line) tail → Spells limit (line ++ 10 ∷ tail) entry
-lined limit line tail entry none short long is = spells limit (line ++ 10 ∷ tail) entry (Reads.lined line tail (record { text_is = refl; no_end = none; short = short; tail_long = long; entry_is = is }))
+pub lined : (rules : Rules) (line tail : List ℕ) (entry : Command) → HasNoEnd line → length line < LINE_LIMIT → length tail ≡ bytes_behind (line_says rules line) → entry ≡ entry_after (line_says rules line) tail → Spells rules (line ++ 10 ∷ tail) entry
+lined rules line tail entry none short long is = spells rules (line ++ 10 ∷ tail) entry (Reads.lined line tail (record { text_is = refl; no_end = none; short = short; tail_long = long; entry_is = is }))
 
 -- what is spelled by a line and the bytes behind it, and shown as it is
-itself : (limit : ℕ) (line tail others unread : List ℕ) (entry : Command) → unread ≡ line ++ 10 ∷ (tail ++ others) → HasNoEnd line → length line < LINE_LIMIT →
-    length tail ≡ bytes_behind (line_says limit line) → entry ≡ entry_after (line_says limit line) tail → IsWhole limit entry others unread
-itself limit line tail others unread entry unread_are none short long is = record {
+itself : (rules : Rules) (line tail others unread : List ℕ) (entry : Command) → unread ≡ line ++ 10 ∷ (tail ++ others) → HasNoEnd line → length line < LINE_LIMIT →
+    length tail ≡ bytes_behind (line_says rules line) → entry ≡ entry_after (line_says rules line) tail → IsWhole rules entry others unread
+itself rules line tail others unread entry unread_are none short long is = record {
   text = line ++ 10 ∷ tail;
   one = record { entry = entry; given_up = false };
   unread_are = unread_are ∙ sym (append_assoc line (10 ∷ tail) others);
-  spelled = lined limit line tail entry none short long is;
+  spelled = lined rules line tail entry none short long is;
   given = record { shown_is = refl; may = tt };
 }
 
@@ -106,19 +107,19 @@ the_memory Memory e = refl
 the_memory other e = cc
 
 -- what is given up because memory ran out
-given_up : (limit : ℕ) (line tail others unread : List ℕ) (refusal : Refusal) → unread ≡ line ++ 10 ∷ (tail ++ others) → HasNoEnd line → length line < LINE_LIMIT →
-    length tail ≡ bytes_behind (line_says limit line) → IsTrue (can_give_up (entry_after (line_says limit line) tail)) → is_memory refusal ≡ true → IsWhole limit (command.Refused refusal) others unread
-given_up limit line tail others unread refusal unread_are none short long may memory = record {
+given_up : (rules : Rules) (line tail others unread : List ℕ) (refusal : Refusal) → unread ≡ line ++ 10 ∷ (tail ++ others) → HasNoEnd line → length line < LINE_LIMIT →
+    length tail ≡ bytes_behind (line_says rules line) → IsTrue (can_give_up (entry_after (line_says rules line) tail)) → is_memory refusal ≡ true → IsWhole rules (command.Refused refusal) others unread
+given_up rules line tail others unread refusal unread_are none short long may memory = record {
   text = line ++ 10 ∷ tail;
-  one = record { entry = entry_after (line_says limit line) tail; given_up = true };
+  one = record { entry = entry_after (line_says rules line) tail; given_up = true };
   unread_are = unread_are ∙ sym (append_assoc line (10 ∷ tail) others);
-  spelled = lined limit line tail (entry_after (line_says limit line) tail) none short long refl;
+  spelled = lined rules line tail (entry_after (line_says rules line) tail) none short long refl;
   given = record { shown_is = ap (λ r. command.Refused r) (the_memory refusal memory); may = may };
 }
 
 -- A line without a block is a command.
-pub whole_line : (limit : ℕ) (line others : List ℕ) (entry : Command) → HasNoEnd line → length line < LINE_LIMIT → line_says limit line ≡ Whole entry → IsWhole limit entry others (line ++ 10 ∷ others)
-whole_line limit line others entry none short says = itself limit line [] others (line ++ 10 ∷ others) entry refl none short (rw says refl) (rw says refl)
+pub whole_line : (rules : Rules) (line others : List ℕ) (entry : Command) → HasNoEnd line → length line < LINE_LIMIT → line_says rules line ≡ Whole entry → IsWhole rules entry others (line ++ 10 ∷ others)
+whole_line rules line others entry none short says = itself rules line [] others (line ++ 10 ∷ others) entry refl none short (rw says refl) (rw says refl)
 
 may_line : (said : Line) → CanGiveUpLine said → (0 ≡ bytes_behind said) × IsTrue (can_give_up (entry_after said []))
 may_line (Whole entry) may = (refl, may)
@@ -126,21 +127,21 @@ may_line (Refused refusal) may = (refl, may)
 may_line said may = absurd may
 
 -- A line without a block is refused, or given up.
-pub whole_refused : (limit : ℕ) (line others : List ℕ) (refusal : Refusal) → HasNoEnd line → length line < LINE_LIMIT → Says (line_says limit line) (Refused refusal) → IsWhole limit (command.Refused refusal) others (line ++ 10 ∷ others)
-whole_refused limit line others refusal none short says = elim (cases_Bool (is_memory refusal)) [
+pub whole_refused : (rules : Rules) (line others : List ℕ) (refusal : Refusal) → HasNoEnd line → length line < LINE_LIMIT → Says (line_says rules line) (Refused refusal) → IsWhole rules (command.Refused refusal) others (line ++ 10 ∷ others)
+whole_refused rules line others refusal none short says = elim (cases_Bool (is_memory refusal)) [
   | inl memory ↦
-      let may = may_line (line_says limit line) (rw memory at says) in
-      given_up limit line [] others (line ++ 10 ∷ others) refusal refl none short may.0 may.1 memory
+      let may = may_line (line_says rules line) (rw memory at says) in
+      given_up rules line [] others (line ++ 10 ∷ others) refusal refl none short may.0 may.1 memory
   | inr told ↦
-      let e : line_says limit line ≡ Refused refusal = rw told at says in
-      itself limit line [] others (line ++ 10 ∷ others) (command.Refused refusal) refl none short (rw e refl) (rw e refl)
+      let e : line_says rules line ≡ Refused refusal = rw told at says in
+      itself rules line [] others (line ++ 10 ∷ others) (command.Refused refusal) refl none short (rw e refl) (rw e refl)
 ]
 
 -- All of a block has come.
-pub whole_block : (limit : ℕ) (asked : Command) (count : ℕ) (bytes others unread : List ℕ) → IsInBlock limit asked count bytes others unread → length bytes ≡ count + 2 → IsWhole limit (block_entry asked count bytes) others unread
-whole_block limit asked count bytes others unread part long =
+pub whole_block : (rules : Rules) (asked : Command) (count : ℕ) (bytes others unread : List ℕ) → IsInBlock rules asked count bytes others unread → length bytes ≡ count + 2 → IsWhole rules (block_entry asked count bytes) others unread
+whole_block rules asked count bytes others unread part long =
     let says = part.says in
-    itself limit part.line bytes others unread (block_entry asked count bytes) part.unread_are part.no_end part.short (rw says long) (rw says refl)
+    itself rules part.line bytes others unread (block_entry asked count bytes) part.unread_are part.no_end part.short (rw says long) (rw says refl)
 
 still_given_up : (asked : Command) (block : List ℕ) → IsTrue (can_give_up asked) → IsTrue (can_give_up (with_block asked block))
 still_given_up (command.Store storage) block h = refl
@@ -152,18 +153,18 @@ block_given_up asked count bytes h =
     cond_both (is_block_end (drop count bytes)) (with_block asked (take count bytes)) (command.Refused BadChunk) (λ entry. IsTrue (can_give_up entry)) (λ _. still_given_up asked (take count bytes) h) (λ _. refl)
 
 -- A line whose block lies behind it is a command, or given up.
-pub whole_at_once : (limit : ℕ) (line : List ℕ) (asked : Command) (count : ℕ) (behind : List ℕ) → HasNoEnd line → length line < LINE_LIMIT → line_says limit line ≡ Data asked count → count + 2 ≤ length behind →
-    IsWhole limit (block_entry asked count (take (count + 2) behind)) (drop (count + 2) behind) (line ++ 10 ∷ behind)
-whole_at_once limit line asked count behind none short says enough =
-    whole_block limit asked count _ _ _ (block_begun limit line asked count behind (count + 2) none short says (omega arith)) (omega (arith, length-take (count + 2) behind))
+pub whole_at_once : (rules : Rules) (line : List ℕ) (asked : Command) (count : ℕ) (behind : List ℕ) → HasNoEnd line → length line < LINE_LIMIT → line_says rules line ≡ Data asked count → count + 2 ≤ length behind →
+    IsWhole rules (block_entry asked count (take (count + 2) behind)) (drop (count + 2) behind) (line ++ 10 ∷ behind)
+whole_at_once rules line asked count behind none short says enough =
+    whole_block rules asked count _ _ _ (block_begun rules line asked count behind (count + 2) none short says (omega arith)) (omega (arith, length-take (count + 2) behind))
 
-pub given_up_at_once : (limit : ℕ) (line : List ℕ) (asked : Command) (count : ℕ) (behind : List ℕ) → HasNoEnd line → length line < LINE_LIMIT → line_says limit line ≡ Data asked count → count + 2 ≤ length behind →
-    IsWhole limit (command.Refused Memory) (drop (count + 2) behind) (line ++ 10 ∷ behind)
-given_up_at_once limit line asked count behind none short says enough =
+pub given_up_at_once : (rules : Rules) (line : List ℕ) (asked : Command) (count : ℕ) (behind : List ℕ) → HasNoEnd line → length line < LINE_LIMIT → line_says rules line ≡ Data asked count → count + 2 ≤ length behind →
+    IsWhole rules (command.Refused Memory) (drop (count + 2) behind) (line ++ 10 ∷ behind)
+given_up_at_once rules line asked count behind none short says enough =
     let tail = take (count + 2) behind in
     let long : length tail ≡ count + 2 = omega (arith, length-take (count + 2) behind) in
-    let may = block_given_up asked count tail (data_stores limit (words_of (without_return line)) asked count says) in
-    given_up limit line tail (drop (count + 2) behind) (line ++ 10 ∷ behind) Memory (ap (λ xs. line ++ 10 ∷ xs) (sym (take-append-drop (count + 2) behind))) none short (rw says long) (rw says may) refl
+    let may = block_given_up asked count tail (data_stores rules (words_of (without_return line)) asked count says) in
+    given_up rules line tail (drop (count + 2) behind) (line ++ 10 ∷ behind) Memory (ap (λ xs. line ++ 10 ∷ xs) (sym (take-append-drop (count + 2) behind))) none short (rw says long) (rw says may) refl
 
 may_block : (said : Line) (n : ℕ) (tail : List ℕ) → ((asked : Command) (count : ℕ) → said ≡ Data asked count → IsTrue (can_give_up asked)) → CanGiveUpBlock said n → (n ≡ bytes_behind said) × IsTrue (can_give_up (entry_after said tail))
 may_block (Data asked count) n tail stores may = (may, block_given_up asked count tail (stores asked count refl))
@@ -171,25 +172,25 @@ may_block (Skip refusal count) n tail stores may = may
 may_block said n tail stores may = absurd may
 
 -- a line that is given up with bytes behind it
-may_skip : (limit : ℕ) (refusal : Refusal) (left : ℕ) (others unread : List ℕ) (part : IsInSkip limit refusal left others unread) → is_memory refusal ≡ true →
-    (length part.skipped + left ≡ bytes_behind (line_says limit part.line)) × IsTrue (can_give_up (entry_after (line_says limit part.line) part.skipped))
-may_skip limit refusal left others unread part memory =
-    may_block (line_says limit part.line) (length part.skipped + left) part.skipped (data_stores limit (words_of (without_return part.line))) (rw memory at part.says)
+may_skip : (rules : Rules) (refusal : Refusal) (left : ℕ) (others unread : List ℕ) (part : IsInSkip rules refusal left others unread) → is_memory refusal ≡ true →
+    (length part.skipped + left ≡ bytes_behind (line_says rules part.line)) × IsTrue (can_give_up (entry_after (line_says rules part.line) part.skipped))
+may_skip rules refusal left others unread part memory =
+    may_block (line_says rules part.line) (length part.skipped + left) part.skipped (data_stores rules (words_of (without_return part.line))) (rw memory at part.says)
 
 -- All bytes that are skipped have come.
-pub whole_skip : (limit : ℕ) (refusal : Refusal) (others unread : List ℕ) → IsInSkip limit refusal 0 others unread → IsWhole limit (command.Refused refusal) others unread
-whole_skip limit refusal others unread part = elim (cases_Bool (is_memory refusal)) [
+pub whole_skip : (rules : Rules) (refusal : Refusal) (others unread : List ℕ) → IsInSkip rules refusal 0 others unread → IsWhole rules (command.Refused refusal) others unread
+whole_skip rules refusal others unread part = elim (cases_Bool (is_memory refusal)) [
   | inl memory ↦
-      let may = may_skip limit refusal 0 others unread part memory in
-      given_up limit part.line part.skipped others unread refusal part.unread_are part.no_end part.short (sym (add-zero (length part.skipped)) ∙ may.0) may.1 memory
+      let may = may_skip rules refusal 0 others unread part memory in
+      given_up rules part.line part.skipped others unread refusal part.unread_are part.no_end part.short (sym (add-zero (length part.skipped)) ∙ may.0) may.1 memory
   | inr told ↦
-      let e : line_says limit part.line ≡ Skip refusal (length part.skipped + 0) = rw told at part.says in
-      itself limit part.line part.skipped others unread (command.Refused refusal) part.unread_are part.no_end part.short (rw e (sym (add-zero (length part.skipped)))) (rw e refl)
+      let e : line_says rules part.line ≡ Skip refusal (length part.skipped + 0) = rw told at part.says in
+      itself rules part.line part.skipped others unread (command.Refused refusal) part.unread_are part.no_end part.short (rw e (sym (add-zero (length part.skipped)))) (rw e refl)
 ]
 
 -- A line that is too long.
-pub whole_long : (limit : ℕ) (bytes : List ℕ) → HasNoEnd bytes → length bytes ≡ LINE_LIMIT → IsWhole limit (command.Refused LineTooLong) [] bytes
-whole_long limit bytes none full = record {
+pub whole_long : (rules : Rules) (bytes : List ℕ) → HasNoEnd bytes → length bytes ≡ LINE_LIMIT → IsWhole rules (command.Refused LineTooLong) [] bytes
+whole_long rules bytes none full = record {
   text = bytes;
   one = record { entry = command.Refused LineTooLong; given_up = false };
   unread_are = sym (append-nil bytes);
@@ -198,18 +199,18 @@ whole_long limit bytes none full = record {
 }
 
 -- While a block comes, nothing is spelled.
-pub nothing_in_block : (limit : ℕ) (asked : Command) (count : ℕ) (bytes others unread : List ℕ) → IsInBlock limit asked count bytes others unread → length bytes < count + 2 → SpellsNothing limit unread
-nothing_in_block limit asked count bytes others unread part few =
+pub nothing_in_block : (rules : Rules) (asked : Command) (count : ℕ) (bytes others unread : List ℕ) → IsInBlock rules asked count bytes others unread → length bytes < count + 2 → SpellsNothing rules unread
+nothing_in_block rules asked count bytes others unread part few =
     let says = part.says in
     let none = part.behind few in
-    rw part.unread_are (nothing_yet limit part.line (bytes ++ others) part.no_end part.short (rw (says, none, append-nil bytes) few))
+    rw part.unread_are (nothing_yet rules part.line (bytes ++ others) part.no_end part.short (rw (says, none, append-nil bytes) few))
 
 -- While bytes are skipped, nothing is spelled.
-pub nothing_in_skip : (limit : ℕ) (refusal : Refusal) (left : ℕ) (others unread : List ℕ) → IsInSkip limit refusal left others unread → 0 < left → SpellsNothing limit unread
-nothing_in_skip limit refusal left others unread part more =
-    let long : bytes_behind (line_says limit part.line) ≡ length part.skipped + left = elim (cases_Bool (is_memory refusal)) [
-      | inl memory ↦ sym (may_skip limit refusal left others unread part memory).0
-      | inr told ↦ let e : line_says limit part.line ≡ Skip refusal (length part.skipped + left) = rw told at part.says in rw e refl
+pub nothing_in_skip : (rules : Rules) (refusal : Refusal) (left : ℕ) (others unread : List ℕ) → IsInSkip rules refusal left others unread → 0 < left → SpellsNothing rules unread
+nothing_in_skip rules refusal left others unread part more =
+    let long : bytes_behind (line_says rules part.line) ≡ length part.skipped + left = elim (cases_Bool (is_memory refusal)) [
+      | inl memory ↦ sym (may_skip rules refusal left others unread part memory).0
+      | inr told ↦ let e : line_says rules part.line ≡ Skip refusal (length part.skipped + left) = rw told at part.says in rw e refl
     ] in
     let none = part.behind more in
-    rw part.unread_are (nothing_yet limit part.line (part.skipped ++ others) part.no_end part.short (rw (long, none, append-nil part.skipped) (omega arith)))
+    rw part.unread_are (nothing_yet rules part.line (part.skipped ++ others) part.no_end part.short (rw (long, none, append-nil part.skipped) (omega arith)))

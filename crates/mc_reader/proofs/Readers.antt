@@ -23,81 +23,82 @@ use Rattle.mc_reader.specs.internal.State.{Holds, IsWhole, SpellsSomething, Wait
 use Rattle.mc_reader.specs.Reader.{IsReader, IsAmidSkipped, IsClosedLine, IsGivenWhole, IsNotAllGiven, IsUsedUp}
 use Rattle.mc_reader.proofs.Fronts.{front_last, front_more, last_of, same_rest}
 use Rattle.mc_reader.proofs.Texts.{end_inside, one_line, something}
+use Rattle.mc_command.specs.declared.rules.Rules.{Rules}
 
 -- More bytes come.
-pub fed_more : (limit : ℕ) (old new : Reader) (fed more : List ℕ) (ended : Bool) (given : List Given) → new.limit ≡ old.limit → new.ended ≡ old.ended → new.commands_left ≡ old.commands_left →
-    (old.state ≡ state.Closed → new.state ≡ state.Closed) → ((unread : List ℕ) → Holds limit old.state old.buffer unread → Holds limit new.state new.buffer (unread ++ more)) →
-    HasGiven old limit fed ended given → HasGiven new limit (fed ++ more) ended given
-fed_more limit old new fed more ended given limited same same_left closed holds h =
-    let now : MatchBool (is_closed (entries_of given)) (new.state ≡ state.Closed) ((0 < new.commands_left) × Holds limit new.state new.buffer (h.unread ++ more)) =
+pub fed_more : (rules : Rules) (old new : Reader) (fed more : List ℕ) (ended : Bool) (given : List Given) → new.rules ≡ old.rules → new.ended ≡ old.ended → new.commands_left ≡ old.commands_left →
+    (old.state ≡ state.Closed → new.state ≡ state.Closed) → ((unread : List ℕ) → Holds rules old.state old.buffer unread → Holds rules new.state new.buffer (unread ++ more)) →
+    HasGiven old rules fed ended given → HasGiven new rules (fed ++ more) ended given
+fed_more rules old new fed more ended given limited same same_left closed holds h =
+    let now : MatchBool (is_closed (entries_of given)) (new.state ≡ state.Closed) ((0 < new.commands_left) × Holds rules new.state new.buffer (h.unread ++ more)) =
     elim (cases_Bool (is_closed (entries_of given))) [
       | inl over ↦ rw over (closed (rw over at h.now))
       | inr goes ↦ let was = rw goes at h.now in rw goes (rw same_left was.0, holds h.unread was.1)
     ] in
-    let front = front_more limit (entries_of given) 0 fed h.unread more h.front in
-    record { unread = h.unread ++ more; limit_is = limited ∙ h.limit_is; ended_is = same ∙ h.ended_is; left = rw same_left h.left; may = h.may; front = front; now = now }
+    let front = front_more rules (entries_of given) 0 fed h.unread more h.front in
+    record { unread = h.unread ++ more; rules_are = limited ∙ h.rules_are; ended_is = same ∙ h.ended_is; left = rw same_left h.left; may = h.may; front = front; now = now }
 
 -- Where more may come, the state is what the unread bytes are.
-pub still_open : (limit : ℕ) (reader : Reader) (fed : List ℕ) (ended : Bool) (given : List Given) → HasGiven reader limit fed ended given → is_closed (entries_of given) ≡ false → (unread : List ℕ) × SpellsFront limit 0 fed (entries_of given) unread × Holds limit reader.state reader.buffer unread × (0 < reader.commands_left)
-still_open limit reader fed ended given h goes_on =
-    let now : (0 < reader.commands_left) × Holds limit reader.state reader.buffer h.unread = rw goes_on at h.now in
+pub still_open : (rules : Rules) (reader : Reader) (fed : List ℕ) (ended : Bool) (given : List Given) → HasGiven reader rules fed ended given → is_closed (entries_of given) ≡ false → (unread : List ℕ) × SpellsFront rules 0 fed (entries_of given) unread × Holds rules reader.state reader.buffer unread × (0 < reader.commands_left)
+still_open rules reader fed ended given h goes_on =
+    let now : (0 < reader.commands_left) × Holds rules reader.state reader.buffer h.unread = rw goes_on at h.now in
     (h.unread, h.front, now.1, now.0)
 
 -- Where the commands given take up all, nothing is unread.
-pub nothing_unread : (limit : ℕ) (reader : Reader) (fed : List ℕ) (ended : Bool) (given : List Given) → HasGiven reader limit fed ended given → IsUsedUp limit fed given → Holds limit reader.state reader.buffer []
-nothing_unread limit reader fed ended given h used =
-    let at = still_open limit reader fed ended given h used.1 in
-    rw (same_rest limit (entries_of given) 0 fed at.0 [] at.1 used.0) at at.2
+pub nothing_unread : (rules : Rules) (reader : Reader) (fed : List ℕ) (ended : Bool) (given : List Given) → HasGiven reader rules fed ended given → IsUsedUp rules fed given → Holds rules reader.state reader.buffer []
+nothing_unread rules reader fed ended given h used =
+    let at = still_open rules reader fed ended given h used.1 in
+    rw (same_rest rules (entries_of given) 0 fed at.0 [] at.1 used.0) at at.2
 
--- What has come of an open block is no longer than the limit and the block's end.
-pub held_in_within : (limit : ℕ) (at : State) (buffer unread : List ℕ) → Holds limit at buffer unread → held_in at ≤ limit + 2
-held_in_within limit (state.Block block) buffer unread h =
+-- What has come of an open block is no longer than the rules and the block's end.
+pub held_in_within : (rules : Rules) (at : State) (buffer unread : List ℕ) → Holds rules at buffer unread → held_in at ≤ rules.value_limit + 2
+held_in_within rules (state.Block block) buffer unread h =
     let within = block.within in
-    let small = data_small limit (words_of (without_return h.line)) block.command block.count h.says in
+    let small = data_small rules (words_of (without_return h.line)) block.command block.count h.says in
     omega arith
-held_in_within limit at buffer unread h = omega arith
+held_in_within rules at buffer unread h = omega arith
 
-pub held_within : (limit : ℕ) (reader : Reader) (fed : List ℕ) (ended : Bool) (given : List Given) → HasGiven reader limit fed ended given → held_in reader.state ≤ limit + 2
-held_within limit reader fed ended given h = elim (cases_Bool (is_closed (entries_of given))) [
+pub held_within : (rules : Rules) (reader : Reader) (fed : List ℕ) (ended : Bool) (given : List Given) → HasGiven reader rules fed ended given → held_in reader.state ≤ rules.value_limit + 2
+held_within rules reader fed ended given h = elim (cases_Bool (is_closed (entries_of given))) [
   | inl over ↦ let now : reader.state ≡ state.Closed = rw over at h.now in rw now (omega arith)
-  | inr goes ↦ let now = rw goes at h.now in held_in_within limit reader.state reader.buffer h.unread now.1
+  | inr goes ↦ let now = rw goes at h.now in held_in_within rules reader.state reader.buffer h.unread now.1
 ]
 
 -- What is held is part of what is unread.
-held_in_unread : (limit : ℕ) (at : State) (buffer unread : List ℕ) → Holds limit at buffer unread → length buffer + held_in at ≤ length unread
-held_in_unread limit (state.Line long) buffer unread h = omega (arith, ap length h.0)
-held_in_unread limit (state.Block block) buffer unread h = omega (arith, ap length h.unread_are, length-append h.line (10 ∷ (block.bytes.items ++ buffer)), length-append block.bytes.items buffer)
-held_in_unread limit (state.Skip skipped) buffer unread h = omega (arith, ap length h.unread_are, length-append h.line (10 ∷ (h.skipped ++ buffer)), length-append h.skipped buffer)
-held_in_unread limit state.Closed buffer unread h = absurd h
+held_in_unread : (rules : Rules) (at : State) (buffer unread : List ℕ) → Holds rules at buffer unread → length buffer + held_in at ≤ length unread
+held_in_unread rules (state.Line long) buffer unread h = omega (arith, ap length h.0)
+held_in_unread rules (state.Block block) buffer unread h = omega (arith, ap length h.unread_are, length-append h.line (10 ∷ (block.bytes.items ++ buffer)), length-append block.bytes.items buffer)
+held_in_unread rules (state.Skip skipped) buffer unread h = omega (arith, ap length h.unread_are, length-append h.line (10 ∷ (h.skipped ++ buffer)), length-append h.skipped buffer)
+held_in_unread rules state.Closed buffer unread h = absurd h
 
-pub held_unread : (limit : ℕ) (reader : Reader) (fed : List ℕ) (ended : Bool) (given : List Given) (rest : List ℕ) → HasGiven reader limit fed ended given → is_closed (entries_of given) ≡ false → SpellsFront limit 0 fed (entries_of given) rest →
+pub held_unread : (rules : Rules) (reader : Reader) (fed : List ℕ) (ended : Bool) (given : List Given) (rest : List ℕ) → HasGiven reader rules fed ended given → is_closed (entries_of given) ≡ false → SpellsFront rules 0 fed (entries_of given) rest →
     length reader.buffer + held_in reader.state ≤ length rest
-held_unread limit reader fed ended given rest h goes_on front =
-    let at = still_open limit reader fed ended given h goes_on in
-    rw (same_rest limit (entries_of given) 0 fed rest at.0 front at.1) (held_in_unread limit reader.state reader.buffer at.0 at.2)
+held_unread rules reader fed ended given rest h goes_on front =
+    let at = still_open rules reader fed ended given h goes_on in
+    rw (same_rest rules (entries_of given) 0 fed rest at.0 front at.1) (held_in_unread rules reader.state reader.buffer at.0 at.2)
 
 has_no_end : (bytes line rest : List ℕ) → HasNoEnd bytes → bytes ≡ line ++ 10 ∷ rest → ⊥
 has_no_end bytes line rest none is = end_inside bytes [] line rest none (append-nil bytes ∙ is) (omega (arith, ap length is, length-append line (10 ∷ rest)))
 
 -- A line without its end is held whole.
-line_held : (limit : ℕ) (at : State) (buffer unread : List ℕ) → Holds limit at buffer unread → HasNoEnd unread → length buffer + held_in at ≡ length unread
-line_held limit (state.Line long) buffer unread h none = omega (arith, ap length h.0)
-line_held limit (state.Block block) buffer unread h none = absurd (has_no_end unread h.line (block.bytes.items ++ buffer) none h.unread_are)
-line_held limit (state.Skip skipped) buffer unread h none = absurd (has_no_end unread h.line (h.skipped ++ buffer) none h.unread_are)
-line_held limit state.Closed buffer unread h none = absurd h
+line_held : (rules : Rules) (at : State) (buffer unread : List ℕ) → Holds rules at buffer unread → HasNoEnd unread → length buffer + held_in at ≡ length unread
+line_held rules (state.Line long) buffer unread h none = omega (arith, ap length h.0)
+line_held rules (state.Block block) buffer unread h none = absurd (has_no_end unread h.line (block.bytes.items ++ buffer) none h.unread_are)
+line_held rules (state.Skip skipped) buffer unread h none = absurd (has_no_end unread h.line (h.skipped ++ buffer) none h.unread_are)
+line_held rules state.Closed buffer unread h none = absurd h
 
-pub held_line : (limit : ℕ) (reader : Reader) (fed : List ℕ) (ended : Bool) (given : List Given) (rest : List ℕ) → HasGiven reader limit fed ended given → is_closed (entries_of given) ≡ false → SpellsFront limit 0 fed (entries_of given) rest →
+pub held_line : (rules : Rules) (reader : Reader) (fed : List ℕ) (ended : Bool) (given : List Given) (rest : List ℕ) → HasGiven reader rules fed ended given → is_closed (entries_of given) ≡ false → SpellsFront rules 0 fed (entries_of given) rest →
     HasNoEnd rest → length reader.buffer + held_in reader.state ≡ length rest
-held_line limit reader fed ended given rest h goes_on front none =
-    let at = still_open limit reader fed ended given h goes_on in
-    let same = same_rest limit (entries_of given) 0 fed rest at.0 front at.1 in
+held_line rules reader fed ended given rest h goes_on front none =
+    let at = still_open rules reader fed ended given h goes_on in
+    let same = same_rest rules (entries_of given) 0 fed rest at.0 front at.1 in
     let unended : HasNoEnd at.0 = subst (λ bytes. HasNoEnd bytes) same none in
-    rw same (line_held limit reader.state reader.buffer at.0 at.2 unended)
+    rw same (line_held rules reader.state reader.buffer at.0 at.2 unended)
 
 -- The commands that a reader gave begin those of the bytes fed, each given up only where it may be.
-pub reader_begins : (reader : Reader) (limit : ℕ) (fed : List ℕ) (ended : Bool) (given : List Given) → IsReader reader limit fed ended given → BeginCommands limit fed (entries_of given) × AllByRecursion MayBeGiven given
+pub reader_begins : (reader : Reader) (rules : Rules) (fed : List ℕ) (ended : Bool) (given : List Given) → IsReader reader rules fed ended given → BeginCommands rules fed (entries_of given) × AllByRecursion MayBeGiven given
 unfolding IsReader
-reader_begins reader limit fed ended given h = ((h.unread, h.front), h.may)
+reader_begins reader rules fed ended given h = ((h.unread, h.front), h.may)
 
 entries_last : (given : List Given) (one : Given) → entries_of (given ++ one ∷ []) ≡ entries_of given ++ one.entry ∷ []
 entries_last given one = map-append (λ (g : Given). g.entry) given (one ∷ [])
@@ -137,19 +138,19 @@ still_some P Q true shuts left e h = h
 still_some P Q false shuts left e h = let parts = or_parts shuts (left == 0) (sym e) in (omega (arith, eqb-false left 0 parts.1), h)
 
 -- A command is given.
-pub gave : (limit : ℕ) (old new : Reader) (fed : List ℕ) (ended : Bool) (given : List Given) (shown : Command) → new.limit ≡ old.limit → new.ended ≡ old.ended → (old.state ≡ state.Closed → ⊥) →
-    ((unread : List ℕ) → Holds limit old.state old.buffer unread → IsWhole limit shown new.buffer unread) → new.commands_left ≡ old.commands_left - 1 →
-    (last : Bool) → last ≡ closes shown || (new.commands_left == 0) → MatchBool last (new.state ≡ state.Closed) (Holds limit new.state new.buffer new.buffer) →
-    HasGiven old limit fed ended given → (one : Given) × IsGiven shown one × BeginCommands limit fed (entries_of (given ++ one ∷ [])) × HasGiven new limit fed ended (given ++ one ∷ [])
-gave limit old new fed ended given shown limited same not_closed whole left_is is_over over_is after h = elim (cases_Bool (is_closed (entries_of given))) [
+pub gave : (rules : Rules) (old new : Reader) (fed : List ℕ) (ended : Bool) (given : List Given) (shown : Command) → new.rules ≡ old.rules → new.ended ≡ old.ended → (old.state ≡ state.Closed → ⊥) →
+    ((unread : List ℕ) → Holds rules old.state old.buffer unread → IsWhole rules shown new.buffer unread) → new.commands_left ≡ old.commands_left - 1 →
+    (last : Bool) → last ≡ closes shown || (new.commands_left == 0) → MatchBool last (new.state ≡ state.Closed) (Holds rules new.state new.buffer new.buffer) →
+    HasGiven old rules fed ended given → (one : Given) × IsGiven shown one × BeginCommands rules fed (entries_of (given ++ one ∷ [])) × HasGiven new rules fed ended (given ++ one ∷ [])
+gave rules old new fed ended given shown limited same not_closed whole left_is is_over over_is after h = elim (cases_Bool (is_closed (entries_of given))) [
   | inl over ↦ absurd (not_closed (rw over at h.now))
   | inr goes_on ↦
       let now = rw goes_on at h.now in
       let some = now.0 in
       let w = whole h.unread now.1 in
       let entry = w.one.entry in
-      let front = front_last limit (entries_of given) 0 fed w.text new.buffer entry (rw w.unread_are at h.front) goes_on w.spelled in
-      let all : SpellsFront limit 0 fed (entries_of (given ++ w.one ∷ [])) new.buffer = rw (entries_last given w.one) front in
+      let front = front_last rules (entries_of given) 0 fed w.text new.buffer entry (rw w.unread_are at h.front) goes_on w.spelled in
+      let all : SpellsFront rules 0 fed (entries_of (given ++ w.one ∷ [])) new.buffer = rw (entries_last given w.one) front in
       let left : new.commands_left + length (given ++ w.one ∷ []) ≡ most_commands = (let l = h.left in omega (arith, length-append given (w.one ∷ []))) in
       let last : is_closed (entries_of (given ++ w.one ∷ [])) ≡ closes shown || (new.commands_left == 0) = ap is_closed (entries_last given w.one) ∙ (closed_last (entries_of given) 0 entry goes_on ∙ same_last (entries_of given) new.commands_left shown w.one w.given (omega (arith, length-map given (λ (g : Given). g.entry), length-append given (w.one ∷ [])))) in (
         w.one,
@@ -157,22 +158,22 @@ gave limit old new fed ended given shown limited same not_closed whole left_is i
         (new.buffer, all),
         record {
           unread = new.buffer;
-          limit_is = limited ∙ h.limit_is;
+          rules_are = limited ∙ h.rules_are;
           ended_is = same ∙ h.ended_is;
           left = left;
           may = may_push given w.one h.may w.given.may;
           front = all;
-          now = rw (last, ← over_is) (still_some (new.state ≡ state.Closed) (Holds limit new.state new.buffer new.buffer) is_over (closes shown) new.commands_left over_is after);
+          now = rw (last, ← over_is) (still_some (new.state ≡ state.Closed) (Holds rules new.state new.buffer new.buffer) is_over (closes shown) new.commands_left over_is after);
         },
       )
 ]
 
 -- No command is given: all were, and the reader is closed or waits.
-none_given : (limit : ℕ) (old new : Reader) (fed : List ℕ) (ended : Bool) (given : List Given) → new.limit ≡ old.limit → new.ended ≡ old.ended → new.commands_left ≡ old.commands_left →
+none_given : (rules : Rules) (old new : Reader) (fed : List ℕ) (ended : Bool) (given : List Given) → new.rules ≡ old.rules → new.ended ≡ old.ended → new.commands_left ≡ old.commands_left →
     (old.state ≡ state.Closed → new.state ≡ state.Closed) →
-    ((unread : List ℕ) → Holds limit old.state old.buffer unread → Holds limit new.state new.buffer unread × SpellsNothing limit unread × Waits new.state new.buffer) →
-    HasGiven old limit fed ended given → AreCommands limit fed (entries_of given) × HasGiven new limit fed ended given × MatchBool (is_closed (entries_of given)) (new.state ≡ state.Closed) (Waits new.state new.buffer)
-none_given limit old new fed ended given limited same same_left closed nothing h =
+    ((unread : List ℕ) → Holds rules old.state old.buffer unread → Holds rules new.state new.buffer unread × SpellsNothing rules unread × Waits new.state new.buffer) →
+    HasGiven old rules fed ended given → AreCommands rules fed (entries_of given) × HasGiven new rules fed ended given × MatchBool (is_closed (entries_of given)) (new.state ≡ state.Closed) (Waits new.state new.buffer)
+none_given rules old new fed ended given limited same same_left closed nothing h =
     elim (cases_Bool (is_closed (entries_of given))) [
       | inl over ↦
           let shut = closed (rw over at h.now) in
@@ -182,28 +183,28 @@ none_given limit old new fed ended given limited same same_left closed nothing h
           let next = nothing h.unread now.1 in
           ((h.unread, h.front, rw goes next.1), kept (rw goes (rw same_left now.0, next.0)), rw goes next.2)
     ] where
-      kept : MatchBool (is_closed (entries_of given)) (new.state ≡ state.Closed) ((0 < new.commands_left) × Holds limit new.state new.buffer h.unread) → HasGiven new limit fed ended given
-      kept now = record { unread = h.unread; limit_is = limited ∙ h.limit_is; ended_is = same ∙ h.ended_is; left = rw same_left h.left; may = h.may; front = h.front; now = now }
+      kept : MatchBool (is_closed (entries_of given)) (new.state ≡ state.Closed) ((0 < new.commands_left) × Holds rules new.state new.buffer h.unread) → HasGiven new rules fed ended given
+      kept now = record { unread = h.unread; rules_are = limited ∙ h.rules_are; ended_is = same ∙ h.ended_is; left = rw same_left h.left; may = h.may; front = h.front; now = now }
 
 -- More bytes are needed.
-pub waited : (limit : ℕ) (old new : Reader) (fed : List ℕ) (ended : Bool) (given : List Given) → new.limit ≡ old.limit → new.ended ≡ old.ended → new.commands_left ≡ old.commands_left → new.ended ≡ false →
+pub waited : (rules : Rules) (old new : Reader) (fed : List ℕ) (ended : Bool) (given : List Given) → new.rules ≡ old.rules → new.ended ≡ old.ended → new.commands_left ≡ old.commands_left → new.ended ≡ false →
     (old.state ≡ state.Closed → new.state ≡ state.Closed) → (new.state ≡ state.Closed → ⊥) →
-    ((unread : List ℕ) → Holds limit old.state old.buffer unread → Holds limit new.state new.buffer unread × SpellsNothing limit unread × Waits new.state new.buffer) →
-    HasGiven old limit fed ended given → (ended ≡ false) × IsGivenWhole limit fed given × HasGiven new limit fed ended given × Waits new.state new.buffer
-waited limit old new fed ended given limited same same_left more closed not_closed nothing h =
-    let none = none_given limit old new fed ended given limited same same_left closed nothing h in
+    ((unread : List ℕ) → Holds rules old.state old.buffer unread → Holds rules new.state new.buffer unread × SpellsNothing rules unread × Waits new.state new.buffer) →
+    HasGiven old rules fed ended given → (ended ≡ false) × IsGivenWhole rules fed given × HasGiven new rules fed ended given × Waits new.state new.buffer
+waited rules old new fed ended given limited same same_left more closed not_closed nothing h =
+    let none = none_given rules old new fed ended given limited same same_left closed nothing h in
     elim (cases_Bool (is_closed (entries_of given))) [
       | inl over ↦ absurd (not_closed (rw over at none.2))
       | inr goes ↦ (sym h.ended_is ∙ (sym same ∙ more), (none.0, goes), none.1, rw goes at none.2)
     ]
 
 -- Nothing comes any more.
-pub came_to_end : (limit : ℕ) (old new : Reader) (fed : List ℕ) (ended : Bool) (given : List Given) → new.limit ≡ old.limit → new.ended ≡ old.ended → new.commands_left ≡ old.commands_left →
+pub came_to_end : (rules : Rules) (old new : Reader) (fed : List ℕ) (ended : Bool) (given : List Given) → new.rules ≡ old.rules → new.ended ≡ old.ended → new.commands_left ≡ old.commands_left →
     (new.ended ≡ true) ⊎ (new.state ≡ state.Closed) → (old.state ≡ state.Closed → new.state ≡ state.Closed) →
-    ((unread : List ℕ) → Holds limit old.state old.buffer unread → Holds limit new.state new.buffer unread × SpellsNothing limit unread × Waits new.state new.buffer) →
-    HasGiven old limit fed ended given → AreCommands limit fed (entries_of given) × (IsTrue ended ⊎ IsClosedLine given) × HasGiven new limit fed ended given
-came_to_end limit old new fed ended given limited same same_left stopped closed nothing h =
-    let none = none_given limit old new fed ended given limited same same_left closed nothing h in
+    ((unread : List ℕ) → Holds rules old.state old.buffer unread → Holds rules new.state new.buffer unread × SpellsNothing rules unread × Waits new.state new.buffer) →
+    HasGiven old rules fed ended given → AreCommands rules fed (entries_of given) × (IsTrue ended ⊎ IsClosedLine given) × HasGiven new rules fed ended given
+came_to_end rules old new fed ended given limited same same_left stopped closed nothing h =
+    let none = none_given rules old new fed ended given limited same same_left closed nothing h in
     elim (cases_Bool (is_closed (entries_of given))) [
       | inl over ↦ (none.0, inr over, none.1)
       | inr goes ↦
@@ -212,53 +213,53 @@ came_to_end limit old new fed ended given limited same same_left stopped closed 
     ]
 
 -- A command is whole exactly where one is not given yet.
-pub whole_is : (limit : ℕ) (reader : Reader) (fed : List ℕ) (ended : Bool) (given : List Given) (test : Bool) → ((unread : List ℕ) → Holds limit reader.state reader.buffer unread → IsTrue test ↔ SpellsSomething limit unread) → (reader.state ≡ state.Closed → test ≡ false) →
-    HasGiven reader limit fed ended given → IsTrue test ↔ IsNotAllGiven limit fed given
-whole_is limit reader fed ended given test says shut h = (forth, back) where
-  forth : IsTrue test → IsNotAllGiven limit fed given
+pub whole_is : (rules : Rules) (reader : Reader) (fed : List ℕ) (ended : Bool) (given : List Given) (test : Bool) → ((unread : List ℕ) → Holds rules reader.state reader.buffer unread → IsTrue test ↔ SpellsSomething rules unread) → (reader.state ≡ state.Closed → test ≡ false) →
+    HasGiven reader rules fed ended given → IsTrue test ↔ IsNotAllGiven rules fed given
+whole_is rules reader fed ended given test says shut h = (forth, back) where
+  forth : IsTrue test → IsNotAllGiven rules fed given
   forth holds = elim (cases_Bool (is_closed (entries_of given))) [
     | inl over ↦ let no_more = shut (rw over at h.now) in absurd cc
     | inr goes ↦
         let now = rw goes at h.now in
         let next = (says h.unread now.1).0 holds in
-        (next.2, (next.1, front_last limit (entries_of given) 0 fed next.0 next.1 next.2 (rw next.3 at h.front) goes next.4))
+        (next.2, (next.1, front_last rules (entries_of given) 0 fed next.0 next.1 next.2 (rw next.3 at h.front) goes next.4))
   ]
 
-  back : IsNotAllGiven limit fed given → IsTrue test
+  back : IsNotAllGiven rules fed given → IsTrue test
   back more =
-      let last = last_of limit (entries_of given) 0 fed more.0 more.1.0 more.1.1 in
-      let at = still_open limit reader fed ended given h last.goes_on in
-      (says at.0 at.2).1 (last.text, more.1.0, more.0, same_rest limit (entries_of given) 0 fed at.0 (last.text ++ more.1.0) at.1 last.front, last.spelled)
+      let last = last_of rules (entries_of given) 0 fed more.0 more.1.0 more.1.1 in
+      let at = still_open rules reader fed ended given h last.goes_on in
+      (says at.0 at.2).1 (last.text, more.1.0, more.0, same_rest rules (entries_of given) 0 fed at.0 (last.text ++ more.1.0) at.1 last.front, last.spelled)
 
 -- No command is whole exactly where all were given.
-pub all_given_is : (limit : ℕ) (reader : Reader) (fed : List ℕ) (ended : Bool) (given : List Given) (test : Bool) → ((unread : List ℕ) → Holds limit reader.state reader.buffer unread → IsTrue test ↔ SpellsSomething limit unread) → (reader.state ≡ state.Closed → test ≡ false) →
-    HasGiven reader limit fed ended given → (test ≡ false) ↔ AreCommands limit fed (entries_of given)
-all_given_is limit reader fed ended given test says shut h = (forth, back) where
-  forth : test ≡ false → AreCommands limit fed (entries_of given)
+pub all_given_is : (rules : Rules) (reader : Reader) (fed : List ℕ) (ended : Bool) (given : List Given) (test : Bool) → ((unread : List ℕ) → Holds rules reader.state reader.buffer unread → IsTrue test ↔ SpellsSomething rules unread) → (reader.state ≡ state.Closed → test ≡ false) →
+    HasGiven reader rules fed ended given → (test ≡ false) ↔ AreCommands rules fed (entries_of given)
+all_given_is rules reader fed ended given test says shut h = (forth, back) where
+  forth : test ≡ false → AreCommands rules fed (entries_of given)
   forth fails = elim (cases_Bool (is_closed (entries_of given))) [
     | inl over ↦ (h.unread, h.front, rw over tt)
     | inr goes ↦
         let now = rw goes at h.now in
-        let nothing : SpellsNothing limit h.unread = λ count entry within spelled.
+        let nothing : SpellsNothing rules h.unread = λ count entry within spelled.
         let some = (says h.unread now.1).1 (take count h.unread, drop count h.unread, entry, sym (take-append-drop count h.unread), spelled) in
         false≢true (sym fails ∙ some) in
         (h.unread, h.front, rw goes nothing)
   ]
 
-  back : AreCommands limit fed (entries_of given) → test ≡ false
+  back : AreCommands rules fed (entries_of given) → test ≡ false
   back all = elim (cases_Bool test) [
     | inl holds ↦
-        let more = (whole_is limit reader fed ended given test says shut h).0 holds in
-        let last = last_of limit (entries_of given) 0 fed more.0 more.1.0 more.1.1 in
-        let nothing : SpellsNothing limit all.0 = rw last.goes_on at all.2 in
-        let rest = same_rest limit (entries_of given) 0 fed all.0 (last.text ++ more.1.0) all.1 last.front in
-        absurd (something limit last.text more.1.0 more.0 last.spelled (subst (λ (bytes : List ℕ). SpellsNothing limit bytes) rest nothing))
+        let more = (whole_is rules reader fed ended given test says shut h).0 holds in
+        let last = last_of rules (entries_of given) 0 fed more.0 more.1.0 more.1.1 in
+        let nothing : SpellsNothing rules all.0 = rw last.goes_on at all.2 in
+        let rest = same_rest rules (entries_of given) 0 fed all.0 (last.text ++ more.1.0) all.1 last.front in
+        absurd (something rules last.text more.1.0 more.0 last.spelled (subst (λ (bytes : List ℕ). SpellsNothing rules bytes) rest nothing))
     | inr fails ↦ fails
   ]
 
 -- The state is the closed one exactly behind a last command.
-pub closed_is : (limit : ℕ) (reader : Reader) (fed : List ℕ) (ended : Bool) (given : List Given) (test : Bool) → IsTrue test ↔ (reader.state ≡ state.Closed) → HasGiven reader limit fed ended given → IsTrue test ↔ IsClosedLine given
-closed_is limit reader fed ended given test says h = elim (cases_Bool (is_closed (entries_of given))) [
+pub closed_is : (rules : Rules) (reader : Reader) (fed : List ℕ) (ended : Bool) (given : List Given) (test : Bool) → IsTrue test ↔ (reader.state ≡ state.Closed) → HasGiven reader rules fed ended given → IsTrue test ↔ IsClosedLine given
+closed_is rules reader fed ended given test says h = elim (cases_Bool (is_closed (entries_of given))) [
   | inl over ↦ (λ _. over, λ _. says.1 (rw over at h.now))
   | inr goes ↦
       let now = rw goes at h.now in
@@ -266,15 +267,15 @@ closed_is limit reader fed ended given test says h = elim (cases_Bool (is_closed
 ]
 
 -- Amid a line's skipped bytes no block is open.
-no_block : (limit : ℕ) (at : State) (buffer unread line skipped : List ℕ) (refusal : Refusal) (count : ℕ) → Holds limit at buffer unread → unread ≡ line ++ 10 ∷ skipped → HasNoEnd line → line_says limit line ≡ Skip refusal count → held_in at ≡ 0
-no_block limit (state.Block block) buffer unread line skipped refusal count h is none says =
+no_block : (rules : Rules) (at : State) (buffer unread line skipped : List ℕ) (refusal : Refusal) (count : ℕ) → Holds rules at buffer unread → unread ≡ line ++ 10 ∷ skipped → HasNoEnd line → line_says rules line ≡ Skip refusal count → held_in at ≡ 0
+no_block rules (state.Block block) buffer unread line skipped refusal count h is none says =
     let lines = one_line h.line line (block.bytes.items ++ buffer) skipped h.no_end none (sym h.unread_are ∙ is) in
-    let same : Data block.command block.count ≡ Skip refusal count = sym h.says ∙ (ap (line_says limit) lines.0 ∙ says) in
+    let same : Data block.command block.count ≡ Skip refusal count = sym h.says ∙ (ap (line_says rules) lines.0 ∙ says) in
     absurd cc
-no_block limit at buffer unread line skipped refusal count h is none says = refl
+no_block rules at buffer unread line skipped refusal count h is none says = refl
 
-pub nothing_in_blocks : (limit : ℕ) (reader : Reader) (fed : List ℕ) (ended : Bool) (given : List Given) → HasGiven reader limit fed ended given → IsAmidSkipped limit fed given → held_in reader.state ≡ 0
-nothing_in_blocks limit reader fed ended given h amid =
-    let at = still_open limit reader fed ended given h amid.goes_on in
-    no_block limit reader.state reader.buffer at.0 amid.line amid.skipped amid.refusal amid.count at.2
-    (same_rest limit (entries_of given) 0 fed at.0 (amid.line ++ 10 ∷ amid.skipped) at.1 amid.front) amid.no_end amid.says
+pub nothing_in_blocks : (rules : Rules) (reader : Reader) (fed : List ℕ) (ended : Bool) (given : List Given) → HasGiven reader rules fed ended given → IsAmidSkipped rules fed given → held_in reader.state ≡ 0
+nothing_in_blocks rules reader fed ended given h amid =
+    let at = still_open rules reader fed ended given h amid.goes_on in
+    no_block rules reader.state reader.buffer at.0 amid.line amid.skipped amid.refusal amid.count at.2
+    (same_rest rules (entries_of given) 0 fed at.0 (amid.line ++ 10 ∷ amid.skipped) at.1 amid.front) amid.no_end amid.says

@@ -4,6 +4,7 @@ use Rattle.std.proofs.lemmas.Bool.{or_parts}
 use Rattle.mc_wire.specs.declared.TheConstants.{DEFAULT_VALUE_LIMIT, LINE_LIMIT}
 use Rattle.mc_wire.specs.Number.{number_of}
 use Rattle.mc_wire.specs.Words.{words_of}
+use Rattle.mc_command.specs.Rules.{own}
 use Rattle.mc_command.specs.declared.command.Command.{Command}
 use Rattle.mc_command.specs.declared.command.Command.TheVariants as command
 use Rattle.mc_command.specs.declared.command.StoreMode.TheVariants.{Set}
@@ -25,36 +26,36 @@ no_end [] e = tt
 no_end (x ∷ xs) e = let parts = or_parts (x == 10) (has_end xs) e in (parts.0, no_end xs parts.1)
 
 -- a line with the bytes behind it
-spelled : (line tail : List ℕ) (entry : Command) → has_end line ≡ false → length line < LINE_LIMIT → length tail ≡ bytes_behind (line_says DEFAULT_VALUE_LIMIT line) → entry ≡ entry_after (line_says DEFAULT_VALUE_LIMIT line) tail → Spells DEFAULT_VALUE_LIMIT (line ++ 10 ∷ tail) entry
-spelled line tail entry none short long is = lined DEFAULT_VALUE_LIMIT line tail entry (no_end line none) short long is
+spelled : (line tail : List ℕ) (entry : Command) → has_end line ≡ false → length line < LINE_LIMIT → length tail ≡ bytes_behind (line_says (own DEFAULT_VALUE_LIMIT) line) → entry ≡ entry_after (line_says (own DEFAULT_VALUE_LIMIT) line) tail → Spells (own DEFAULT_VALUE_LIMIT) (line ++ 10 ∷ tail) entry
+spelled line tail entry none short long is = lined (own DEFAULT_VALUE_LIMIT) line tail entry (no_end line none) short long is
 
 abbrev stored : List ℕ → ℕ → List ℕ → Command
 stored key flags bytes = command.Store (record { key = key; mode = Set; flags = flags; exptime = pos 0; noreply = false; block = bytes })
 
 -- a line, ended by CR LF or by LF alone
-noop : Spells DEFAULT_VALUE_LIMIT (codes "mn\r\n") command.MetaNoop
+noop : Spells (own DEFAULT_VALUE_LIMIT) (codes "mn\r\n") command.MetaNoop
 unfolding line_of words_of name_of
 noop = spelled (codes "mn\r") [] command.MetaNoop refl (lit< tt) refl refl
 
-bare_noop : Spells DEFAULT_VALUE_LIMIT (codes "mn\n") command.MetaNoop
+bare_noop : Spells (own DEFAULT_VALUE_LIMIT) (codes "mn\n") command.MetaNoop
 unfolding line_of words_of name_of
 bare_noop = spelled (codes "mn") [] command.MetaNoop refl (lit< tt) refl refl
 
 -- a line without words
-blank : Spells DEFAULT_VALUE_LIMIT (codes "\r\n") (command.Refused Unknown)
+blank : Spells (own DEFAULT_VALUE_LIMIT) (codes "\r\n") (command.Refused Unknown)
 unfolding line_of words_of name_of
 blank = spelled (codes "\r") [] (command.Refused Unknown) refl (lit< tt) refl refl
 
 -- Storage lines: a block is as long as its line says, whatever stands in it or behind it; a refused line whose
 -- count can be read takes its block along, without a look at its end, and another doesn't.
 blocks :
-    Spells DEFAULT_VALUE_LIMIT (codes "set a 5 0 3\r\nabc\r\n") (stored (codes "a") 5 (codes "abc"))
-    × Spells DEFAULT_VALUE_LIMIT (codes "set b 0 0 0\r\n\r\n") (stored (codes "b") 0 [])
-    × Spells DEFAULT_VALUE_LIMIT (codes "set a 0 0 6\r\nget a\n\r\n") (stored (codes "a") 0 (codes "get a\n"))
-    × Spells DEFAULT_VALUE_LIMIT (codes "set a 0 0 3\r\nabcde") (command.Refused BadChunk)
-    × Spells DEFAULT_VALUE_LIMIT (codes "set a 0 0 1\r\nx\nm") (command.Refused BadChunk)
-    × Spells DEFAULT_VALUE_LIMIT (codes "set a x 0 3\r\nabcde") (command.Refused BadFormat)
-    × Spells DEFAULT_VALUE_LIMIT (codes "set a 0 0 y\r\n") (command.Refused BadFormat)
+    Spells (own DEFAULT_VALUE_LIMIT) (codes "set a 5 0 3\r\nabc\r\n") (stored (codes "a") 5 (codes "abc"))
+    × Spells (own DEFAULT_VALUE_LIMIT) (codes "set b 0 0 0\r\n\r\n") (stored (codes "b") 0 [])
+    × Spells (own DEFAULT_VALUE_LIMIT) (codes "set a 0 0 6\r\nget a\n\r\n") (stored (codes "a") 0 (codes "get a\n"))
+    × Spells (own DEFAULT_VALUE_LIMIT) (codes "set a 0 0 3\r\nabcde") (command.Refused BadChunk)
+    × Spells (own DEFAULT_VALUE_LIMIT) (codes "set a 0 0 1\r\nx\nm") (command.Refused BadChunk)
+    × Spells (own DEFAULT_VALUE_LIMIT) (codes "set a x 0 3\r\nabcde") (command.Refused BadFormat)
+    × Spells (own DEFAULT_VALUE_LIMIT) (codes "set a 0 0 y\r\n") (command.Refused BadFormat)
 unfolding line_of words_of name_of number_of is_key
 blocks = (
   spelled (codes "set a 5 0 3\r") (codes "abc\r\n") (stored (codes "a") 5 (codes "abc")) refl (lit< tt) refl refl,
@@ -66,22 +67,22 @@ blocks = (
   spelled (codes "set a 0 0 y\r") [] (command.Refused BadFormat) refl (lit< tt) refl refl,
 )
 
-too_large : (bytes : List ℕ) → length bytes ≡ 1048579 → Spells DEFAULT_VALUE_LIMIT (codes "set a 0 0 1048577\r\n" ++ bytes) (command.Refused TooLarge)
+too_large : (bytes : List ℕ) → length bytes ≡ 1048579 → Spells (own DEFAULT_VALUE_LIMIT) (codes "set a 0 0 1048577\r\n" ++ bytes) (command.Refused TooLarge)
 unfolding line_of words_of name_of number_of is_key
 too_large bytes long = spelled (codes "set a 0 0 1048577\r") bytes (command.Refused TooLarge) refl (lit< tt) long refl
 
-quit : Spells DEFAULT_VALUE_LIMIT (codes "quit\r\n") command.Quit
+quit : Spells (own DEFAULT_VALUE_LIMIT) (codes "quit\r\n") command.Quit
 unfolding line_of words_of name_of
 quit = spelled (codes "quit\r") [] command.Quit refl (lit< tt) refl refl
 
 -- nothing behind quit is a command
-quit_closes : AreCommands DEFAULT_VALUE_LIMIT (codes "mn\r\nquit\r\nmn\r\n") (command.MetaNoop ∷ command.Quit ∷ [])
+quit_closes : AreCommands (own DEFAULT_VALUE_LIMIT) (codes "mn\r\nquit\r\nmn\r\n") (command.MetaNoop ∷ command.Quit ∷ [])
 quit_closes = (codes "mn\r\n", (codes "mn\r\n", codes "quit\r\nmn\r\n", refl, noop, (codes "quit\r\n", codes "mn\r\n", refl, quit, (refl, refl))), tt)
 
 -- a stream that stops in a line, and one that stops in a block
-unfinished_line : AreCommands DEFAULT_VALUE_LIMIT (codes "mn\r\nget a") (command.MetaNoop ∷ [])
-unfinished_line = (codes "get a", (codes "mn\r\n", codes "get a", refl, noop, refl), nothing_without_end DEFAULT_VALUE_LIMIT (codes "get a") (no_end (codes "get a") refl) (lit< tt))
+unfinished_line : AreCommands (own DEFAULT_VALUE_LIMIT) (codes "mn\r\nget a") (command.MetaNoop ∷ [])
+unfinished_line = (codes "get a", (codes "mn\r\n", codes "get a", refl, noop, refl), nothing_without_end (own DEFAULT_VALUE_LIMIT) (codes "get a") (no_end (codes "get a") refl) (lit< tt))
 
-unfinished_block : AreCommands DEFAULT_VALUE_LIMIT (codes "set a 0 0 5\r\nab") []
+unfinished_block : AreCommands (own DEFAULT_VALUE_LIMIT) (codes "set a 0 0 5\r\nab") []
 unfolding line_of words_of name_of number_of is_key
-unfinished_block = (codes "set a 0 0 5\r\nab", refl, nothing_yet DEFAULT_VALUE_LIMIT (codes "set a 0 0 5\r") (codes "ab") (no_end (codes "set a 0 0 5\r") refl) (lit< tt) (lit< tt))
+unfinished_block = (codes "set a 0 0 5\r\nab", refl, nothing_yet (own DEFAULT_VALUE_LIMIT) (codes "set a 0 0 5\r") (codes "ab") (no_end (codes "set a 0 0 5\r") refl) (lit< tt) (lit< tt))

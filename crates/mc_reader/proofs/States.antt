@@ -21,39 +21,40 @@ use Rattle.mc_reader.specs.internal.State.{Completes, EndsAt, Holds, IsFirstLine
 use Rattle.mc_reader.proofs.Lines.{at_line, line_in, ends_behind, ends_found, ends_more, no_end_append}
 use Rattle.mc_reader.proofs.Machine.{block_begun, block_fed, nothing_in_block, nothing_in_skip, skip_begun, skip_fed, whole_block, whole_long, whole_skip}
 use Rattle.mc_reader.proofs.Texts.{nothing_without_end, nothing_yet, something, spelled_behind}
+use Rattle.mc_command.specs.declared.rules.Rules.{Rules}
 
 -- Where not all has come, nothing is spelled.
-pub nothing_awaited : (limit : ℕ) (s : State) (buffer unread : List ℕ) → (Completes s buffer → ⊥) → IsTrue (is_opened s) → Holds limit s buffer unread → SpellsNothing limit unread × Waits s buffer
-nothing_awaited limit (state.Line None) buffer unread more opened h =
+pub nothing_awaited : (rules : Rules) (s : State) (buffer unread : List ℕ) → (Completes s buffer → ⊥) → IsTrue (is_opened s) → Holds rules s buffer unread → SpellsNothing rules unread × Waits s buffer
+nothing_awaited rules (state.Line None) buffer unread more opened h =
     let short : length buffer < LINE_LIMIT = omega (arith, h.1, more) in
-    (rw h.0 (nothing_without_end limit buffer h.2 short), short)
-nothing_awaited limit (state.Line (Some long)) buffer unread more opened h = absurd cc
-nothing_awaited limit (state.Block block) buffer unread more opened h =
+    (rw h.0 (nothing_without_end rules buffer h.2 short), short)
+nothing_awaited rules (state.Line (Some long)) buffer unread more opened h = absurd cc
+nothing_awaited rules (state.Block block) buffer unread more opened h =
     let few : length block.bytes.items < block.count + 2 = omega (arith, more) in
-    (nothing_in_block limit block.command block.count block.bytes.items buffer unread h few, few)
-nothing_awaited limit (state.Skip skipped) buffer unread more opened h =
+    (nothing_in_block rules block.command block.count block.bytes.items buffer unread h few, few)
+nothing_awaited rules (state.Skip skipped) buffer unread more opened h =
     let few : 0 < skipped.left = omega (arith, more) in
-    (nothing_in_skip limit skipped.refusal skipped.left buffer unread h few, few)
-nothing_awaited limit state.Closed buffer unread more opened h = absurd h
+    (nothing_in_skip rules skipped.refusal skipped.left buffer unread h few, few)
+nothing_awaited rules state.Closed buffer unread more opened h = absurd h
 
-pub finished_line : (limit : ℕ) (s : State) (buffer after unread : List ℕ) (long : Option ℕ) → s ≡ state.Line long → Completes s buffer → IsTrue (is_opened s) → Holds limit s buffer unread → after ≡ [] → IsWhole limit (command.Refused LineTooLong) after unread
-finished_line limit (state.Line None) buffer after unread long e full opened h none = rw (none, h.0) (whole_long limit buffer h.2 full)
-finished_line limit s buffer after unread long e full opened h none = absurd cc
+pub finished_line : (rules : Rules) (s : State) (buffer after unread : List ℕ) (long : Option ℕ) → s ≡ state.Line long → Completes s buffer → IsTrue (is_opened s) → Holds rules s buffer unread → after ≡ [] → IsWhole rules (command.Refused LineTooLong) after unread
+finished_line rules (state.Line None) buffer after unread long e full opened h none = rw (none, h.0) (whole_long rules buffer h.2 full)
+finished_line rules s buffer after unread long e full opened h none = absurd cc
 
-pub finished_block : (limit : ℕ) (s : State) (buffer unread : List ℕ) (block : OpenBlock) (entry : Command) → s ≡ state.Block block → Completes s buffer → vec_len block.bytes ≤ block.count + 2 → entry ≡ block_entry block.command block.count block.bytes.items → Holds limit s buffer unread → IsWhole limit entry buffer unread
-finished_block limit s buffer unread block entry e full within entry_is h =
+pub finished_block : (rules : Rules) (s : State) (buffer unread : List ℕ) (block : OpenBlock) (entry : Command) → s ≡ state.Block block → Completes s buffer → vec_len block.bytes ≤ block.count + 2 → entry ≡ block_entry block.command block.count block.bytes.items → Holds rules s buffer unread → IsWhole rules entry buffer unread
+finished_block rules s buffer unread block entry e full within entry_is h =
     let come : block.count + 2 ≤ length block.bytes.items = rw e at full in
-    rw entry_is (whole_block limit block.command block.count block.bytes.items buffer unread (rw e at h) (omega arith))
+    rw entry_is (whole_block rules block.command block.count block.bytes.items buffer unread (rw e at h) (omega arith))
 
 -- what a test that answers no says
 pub not_complete : {P : Type 0} (test : Bool) → test ≡ false → (P → IsTrue test) → P → ⊥
 not_complete test e f p = let yes = f p in absurd cc
 
-pub finished_skip : (limit : ℕ) (s : State) (buffer unread : List ℕ) (skipped : Skipped) → s ≡ state.Skip skipped → Completes s buffer → Holds limit s buffer unread → IsWhole limit (command.Refused skipped.refusal) buffer unread
-finished_skip limit s buffer unread skipped e full h =
+pub finished_skip : (rules : Rules) (s : State) (buffer unread : List ℕ) (skipped : Skipped) → s ≡ state.Skip skipped → Completes s buffer → Holds rules s buffer unread → IsWhole rules (command.Refused skipped.refusal) buffer unread
+finished_skip rules s buffer unread skipped e full h =
     let none : skipped.left ≡ 0 = rw e at full in
-    let part : IsInSkip limit skipped.refusal skipped.left buffer unread = rw e at h in
-    whole_skip limit skipped.refusal buffer unread (rw none at part)
+    let part : IsInSkip rules skipped.refusal skipped.left buffer unread = rw e at h in
+    whole_skip rules skipped.refusal buffer unread (rw none at part)
 
 -- A line end is found in a piece.
 pub found_in_piece : (bytes piece all : List ℕ) (long : Option ℕ) (place : ℕ) → is_some long ≡ false → EndsAt bytes long → IsFirstByte (is_byte 10) piece (Some place) → all ≡ bytes ++ piece → IsFirstLine all (length bytes + place)
@@ -70,15 +71,15 @@ pub still_there : (bytes piece all : List ℕ) (long : Option ℕ) → is_some l
 still_there bytes piece all None old h is = absurd cc
 still_there bytes piece all (Some long) old h is = rw is (ends_more bytes piece long h)
 
-pub fed_block : (limit : ℕ) (s : State) (old new : OpenBlock) (buffer after unread piece behind : List ℕ) (n m : ℕ) → s ≡ state.Block old → new.command ≡ old.command → new.count ≡ old.count → new.bytes.items ≡ old.bytes.items ++ take n piece →
-    n ≡ min (old.count + 2 - length old.bytes.items) (length piece) → behind ≡ drop n piece → after ≡ buffer ++ take m behind → Holds limit s buffer unread → IsInBlock limit new.command new.count new.bytes.items after (unread ++ take (n + m) piece)
-fed_block limit s old new buffer after unread piece behind n m e same_command same_count bytes_are n_is behind_is after_is h =
-    rw (same_command, same_count, bytes_are, after_is, behind_is) (block_fed limit old.command old.count old.bytes.items buffer unread piece n m (rw e at h) n_is)
+pub fed_block : (rules : Rules) (s : State) (old new : OpenBlock) (buffer after unread piece behind : List ℕ) (n m : ℕ) → s ≡ state.Block old → new.command ≡ old.command → new.count ≡ old.count → new.bytes.items ≡ old.bytes.items ++ take n piece →
+    n ≡ min (old.count + 2 - length old.bytes.items) (length piece) → behind ≡ drop n piece → after ≡ buffer ++ take m behind → Holds rules s buffer unread → IsInBlock rules new.command new.count new.bytes.items after (unread ++ take (n + m) piece)
+fed_block rules s old new buffer after unread piece behind n m e same_command same_count bytes_are n_is behind_is after_is h =
+    rw (same_command, same_count, bytes_are, after_is, behind_is) (block_fed rules old.command old.count old.bytes.items buffer unread piece n m (rw e at h) n_is)
 
-pub fed_skip : (limit : ℕ) (s : State) (old new : Skipped) (buffer after unread piece behind : List ℕ) (n m : ℕ) → s ≡ state.Skip old → new.refusal ≡ old.refusal → new.left + n ≡ old.left →
-    n ≡ min old.left (length piece) → behind ≡ drop n piece → after ≡ buffer ++ take m behind → Holds limit s buffer unread → IsInSkip limit new.refusal new.left after (unread ++ take (n + m) piece)
-fed_skip limit s old new buffer after unread piece behind n m e same left n_is behind_is after_is h =
-    rw (same, after_is, behind_is) (skip_fed limit old.refusal old.left new.left buffer unread piece n m (rw e at h) n_is left)
+pub fed_skip : (rules : Rules) (s : State) (old new : Skipped) (buffer after unread piece behind : List ℕ) (n m : ℕ) → s ≡ state.Skip old → new.refusal ≡ old.refusal → new.left + n ≡ old.left →
+    n ≡ min old.left (length piece) → behind ≡ drop n piece → after ≡ buffer ++ take m behind → Holds rules s buffer unread → IsInSkip rules new.refusal new.left after (unread ++ take (n + m) piece)
+fed_skip rules s old new buffer after unread piece behind n m e same left n_is behind_is after_is h =
+    rw (same, after_is, behind_is) (skip_fed rules old.refusal old.left new.left buffer unread piece n m (rw e at h) n_is left)
 
 -- the unread bytes by the first line of the buffer
 record FirstLine (buffer after unread : List ℕ) (long : ℕ) : Type 0 where
@@ -87,8 +88,8 @@ record FirstLine (buffer after unread : List ℕ) (long : ℕ) : Type 0 where
   pub short : length (take long buffer) < LINE_LIMIT
   pub within : long < length buffer
 
-first_line : (limit : ℕ) (s : State) (buffer after unread : List ℕ) (long : ℕ) → s ≡ state.Line (Some long) → after ≡ drop (long + 1) buffer → Holds limit s buffer unread → FirstLine buffer after unread long
-first_line limit s buffer after unread long e after_is h =
+first_line : (rules : Rules) (s : State) (buffer after unread : List ℕ) (long : ℕ) → s ≡ state.Line (Some long) → after ≡ drop (long + 1) buffer → Holds rules s buffer unread → FirstLine buffer after unread long
+first_line rules s buffer after unread long e after_is h =
     let part : (unread ≡ buffer) × (length buffer ≤ LINE_LIMIT) × EndsAt buffer (Some long) = rw e at h in
     let cut = at_line buffer long part.2 in
     let below = line_in buffer long part.2 in
@@ -100,67 +101,67 @@ first_line limit s buffer after unread long e after_is h =
     }
 
 -- what holds of the first line and the bytes behind it holds of the unread bytes
-pub read_head : (limit : ℕ) (P : List ℕ → Type 0) (s : State) (buffer after unread : List ℕ) (long : ℕ) → s ≡ state.Line (Some long) → after ≡ drop (long + 1) buffer →
-    (HasNoEnd (take long buffer) → length (take long buffer) < LINE_LIMIT → P (take long buffer ++ 10 ∷ after)) → Holds limit s buffer unread → P unread
-read_head limit P s buffer after unread long e after_is holds h =
-    let first = first_line limit s buffer after unread long e after_is h in
+pub read_head : (rules : Rules) (P : List ℕ → Type 0) (s : State) (buffer after unread : List ℕ) (long : ℕ) → s ≡ state.Line (Some long) → after ≡ drop (long + 1) buffer →
+    (HasNoEnd (take long buffer) → length (take long buffer) < LINE_LIMIT → P (take long buffer ++ 10 ∷ after)) → Holds rules s buffer unread → P unread
+read_head rules P s buffer after unread long e after_is holds h =
+    let first = first_line rules s buffer after unread long e after_is h in
     subst P (sym first.unread_are) (holds first.no_end first.short)
 
-pub begun_skip : (limit : ℕ) (new : Skipped) (refusal : Refusal) (left : ℕ) (buffer after bytes line : List ℕ) (n : ℕ) → new.refusal ≡ refusal → new.left + n ≡ left → n ≡ min left (length bytes) → bytes ≡ buffer → after ≡ drop n buffer →
-    HasNoEnd line → length line < LINE_LIMIT → Says (line_says limit line) (Skip refusal left) → IsInSkip limit new.refusal new.left after (line ++ 10 ∷ buffer)
-begun_skip limit new refusal left buffer after bytes line n same left_is n_is bytes_are after_is none short says =
-    rw (same, after_is) (skip_begun limit line refusal left new.left buffer n none short says (rw bytes_are at n_is) left_is)
+pub begun_skip : (rules : Rules) (new : Skipped) (refusal : Refusal) (left : ℕ) (buffer after bytes line : List ℕ) (n : ℕ) → new.refusal ≡ refusal → new.left + n ≡ left → n ≡ min left (length bytes) → bytes ≡ buffer → after ≡ drop n buffer →
+    HasNoEnd line → length line < LINE_LIMIT → Says (line_says rules line) (Skip refusal left) → IsInSkip rules new.refusal new.left after (line ++ 10 ∷ buffer)
+begun_skip rules new refusal left buffer after bytes line n same left_is n_is bytes_are after_is none short says =
+    rw (same, after_is) (skip_begun rules line refusal left new.left buffer n none short says (rw bytes_are at n_is) left_is)
 
-pub begun_block : (limit : ℕ) (new : OpenBlock) (asked : Command) (count : ℕ) (buffer after bytes line : List ℕ) (n : ℕ) → new.command ≡ asked → new.count ≡ count → new.bytes.items ≡ take n bytes → n ≡ min (count + 2 - 0) (length bytes) → bytes ≡ buffer → after ≡ drop n buffer →
-    HasNoEnd line → length line < LINE_LIMIT → line_says limit line ≡ Data asked count → IsInBlock limit new.command new.count new.bytes.items after (line ++ 10 ∷ buffer)
-begun_block limit new asked count buffer after bytes line n same same_count items_are n_is bytes_are after_is none short says =
-    rw (same, same_count, items_are, bytes_are, after_is) (block_begun limit line asked count buffer n none short says (rw bytes_are at n_is))
+pub begun_block : (rules : Rules) (new : OpenBlock) (asked : Command) (count : ℕ) (buffer after bytes line : List ℕ) (n : ℕ) → new.command ≡ asked → new.count ≡ count → new.bytes.items ≡ take n bytes → n ≡ min (count + 2 - 0) (length bytes) → bytes ≡ buffer → after ≡ drop n buffer →
+    HasNoEnd line → length line < LINE_LIMIT → line_says rules line ≡ Data asked count → IsInBlock rules new.command new.count new.bytes.items after (line ++ 10 ∷ buffer)
+begun_block rules new asked count buffer after bytes line n same same_count items_are n_is bytes_are after_is none short says =
+    rw (same, same_count, items_are, bytes_are, after_is) (block_begun rules line asked count buffer n none short says (rw bytes_are at n_is))
 
-shows : (limit : ℕ) {shown : Command} {others unread bytes : List ℕ} → IsWhole limit shown others unread → bytes ≡ unread → SpellsSomething limit bytes
-shows limit {shown} {others} {unread} {bytes} w is = (w.text, others, w.one.entry, is ∙ w.unread_are, w.spelled)
+shows : (rules : Rules) {shown : Command} {others unread bytes : List ℕ} → IsWhole rules shown others unread → bytes ≡ unread → SpellsSomething rules bytes
+shows rules {shown} {others} {unread} {bytes} w is = (w.text, others, w.one.entry, is ∙ w.unread_are, w.spelled)
 
 -- Where all that is awaited has come, something is spelled.
-something_awaited : (limit : ℕ) (s : State) (buffer unread : List ℕ) → Completes s buffer → IsTrue (is_opened s) → Holds limit s buffer unread → SpellsSomething limit unread
-something_awaited limit (state.Line None) buffer unread full opened h = shows limit (whole_long limit buffer h.2 full) h.0
-something_awaited limit (state.Line (Some long)) buffer unread full opened h = absurd cc
-something_awaited limit (state.Block block) buffer unread full opened h =
+something_awaited : (rules : Rules) (s : State) (buffer unread : List ℕ) → Completes s buffer → IsTrue (is_opened s) → Holds rules s buffer unread → SpellsSomething rules unread
+something_awaited rules (state.Line None) buffer unread full opened h = shows rules (whole_long rules buffer h.2 full) h.0
+something_awaited rules (state.Line (Some long)) buffer unread full opened h = absurd cc
+something_awaited rules (state.Block block) buffer unread full opened h =
     let within = block.within in
-    shows limit (whole_block limit block.command block.count block.bytes.items buffer unread h (omega arith)) refl
-something_awaited limit (state.Skip skipped) buffer unread full opened h =
-    let part : IsInSkip limit skipped.refusal skipped.left buffer unread = h in
-    shows limit (whole_skip limit skipped.refusal buffer unread (rw full at part)) refl
-something_awaited limit state.Closed buffer unread full opened h = absurd h
+    shows rules (whole_block rules block.command block.count block.bytes.items buffer unread h (omega arith)) refl
+something_awaited rules (state.Skip skipped) buffer unread full opened h =
+    let part : IsInSkip rules skipped.refusal skipped.left buffer unread = h in
+    shows rules (whole_skip rules skipped.refusal buffer unread (rw full at part)) refl
+something_awaited rules state.Closed buffer unread full opened h = absurd h
 
 -- A test whether all has come tells whether something is spelled.
-pub whole_awaited : (limit : ℕ) (s : State) (buffer unread : List ℕ) (test : Bool) → (IsTrue test ↔ Completes s buffer) → IsTrue (is_opened s) → Holds limit s buffer unread → IsTrue test ↔ SpellsSomething limit unread
-whole_awaited limit s buffer unread test is opened h = (
-  λ come. something_awaited limit s buffer unread (is.0 come) opened h,
+pub whole_awaited : (rules : Rules) (s : State) (buffer unread : List ℕ) (test : Bool) → (IsTrue test ↔ Completes s buffer) → IsTrue (is_opened s) → Holds rules s buffer unread → IsTrue test ↔ SpellsSomething rules unread
+whole_awaited rules s buffer unread test is opened h = (
+  λ come. something_awaited rules s buffer unread (is.0 come) opened h,
   λ some. true_from_ne_false test (λ none.
-      something limit some.0 some.1 some.2 some.4 (rw some.3 at (nothing_awaited limit s buffer unread (not_complete test none is.1) opened h).0)),
+      something rules some.0 some.1 some.2 some.4 (rw some.3 at (nothing_awaited rules s buffer unread (not_complete test none is.1) opened h).0)),
 )
 
 -- The line that was found spells something where the bytes that belong to it have come.
-pub whole_found : (limit : ℕ) (s : State) (buffer unread behind : List ℕ) (long n : ℕ) → s ≡ state.Line (Some long) → behind ≡ drop long buffer → n ≡ bytes_behind (line_says limit (take long buffer)) → Holds limit s buffer unread → IsTrue (nat_lt n (length behind)) ↔ SpellsSomething limit unread
-whole_found limit s buffer unread behind long n e behind_is n_is h = (forth, back (nat_lt n (length behind)) refl) where
+pub whole_found : (rules : Rules) (s : State) (buffer unread behind : List ℕ) (long n : ℕ) → s ≡ state.Line (Some long) → behind ≡ drop long buffer → n ≡ bytes_behind (line_says rules (take long buffer)) → Holds rules s buffer unread → IsTrue (nat_lt n (length behind)) ↔ SpellsSomething rules unread
+whole_found rules s buffer unread behind long n e behind_is n_is h = (forth, back (nat_lt n (length behind)) refl) where
   tail : List ℕ
   tail = drop (long + 1) buffer
 
   first : FirstLine buffer tail unread long
-  first = first_line limit s buffer tail unread long e refl h
+  first = first_line rules s buffer tail unread long e refl h
 
   one_more : length behind ≡ suc (length tail)
   one_more = let within = first.within in omega (arith, ap length behind_is, length-drop long buffer, length-drop (long + 1) buffer)
 
-  forth : IsTrue (nat_lt n (length behind)) → SpellsSomething limit unread
+  forth : IsTrue (nat_lt n (length behind)) → SpellsSomething rules unread
   forth come =
-      let enough : bytes_behind (line_says limit (take long buffer)) ≤ length tail = (let more = one_more in grind (arith, nat_tests)) in
-      spelled_behind limit (take long buffer) tail unread first.unread_are first.no_end first.short enough
+      let enough : bytes_behind (line_says rules (take long buffer)) ≤ length tail = (let more = one_more in grind (arith, nat_tests)) in
+      spelled_behind rules (take long buffer) tail unread first.unread_are first.no_end first.short enough
 
-  back : (test : Bool) → nat_lt n (length behind) ≡ test → SpellsSomething limit unread → IsTrue (nat_lt n (length behind))
+  back : (test : Bool) → nat_lt n (length behind) ≡ test → SpellsSomething rules unread → IsTrue (nat_lt n (length behind))
   back true t some = t
   back false t some =
-      let few : length tail < bytes_behind (line_says limit (take long buffer)) = (let more = one_more in grind (arith, nat_tests)) in
-      absurd (something limit some.0 some.1 some.2 some.4 (rw some.3 at (rw (← first.unread_are) at (nothing_yet limit (take long buffer) tail first.no_end first.short few))))
+      let few : length tail < bytes_behind (line_says rules (take long buffer)) = (let more = one_more in grind (arith, nat_tests)) in
+      absurd (something rules some.0 some.1 some.2 some.4 (rw some.3 at (rw (← first.unread_are) at (nothing_yet rules (take long buffer) tail first.no_end first.short few))))
 
 -- Where two calls found nothing
 pub none_of_both : {A P Q R : Type 0} (found : Option A) → (P → Q → R) → IfNone found P → IfNone found Q → IfNone found R

@@ -13,6 +13,7 @@ use Rattle.mc_command.specs.Command.{with_block}
 use Rattle.mc_command.specs.Line.{bytes_behind}
 use Rattle.mc_reader.specs.Spelling.{HasNoEnd, IsLine, Spells, SpellsNothing, block_entry, is_block_end, line_says}
 use Rattle.mc_reader.specs.internal.State.{SpellsSomething}
+use Rattle.mc_command.specs.declared.rules.Rules.{Rules}
 
 -- the first line of an input is one
 pub one_line : (a b x y : List ℕ) → HasNoEnd a → HasNoEnd b → a ++ 10 ∷ x ≡ b ++ 10 ∷ y → (a ≡ b) × (x ≡ y)
@@ -46,17 +47,17 @@ entry_after (Data asked count) tail = block_entry asked count tail
 entry_after (Skip refusal count) tail = command.Refused refusal
 
 -- the text is a line, its end, and the bytes that belong to it
-pub record IsLined (limit : ℕ) (text : List ℕ) (entry : Command) (line tail : List ℕ) : Type 0 where
+pub record IsLined (rules : Rules) (text : List ℕ) (entry : Command) (line tail : List ℕ) : Type 0 where
   pub text_is : text ≡ line ++ 10 ∷ tail
   pub no_end : HasNoEnd line
   pub short : length line < LINE_LIMIT
-  pub tail_long : length tail ≡ bytes_behind (line_says limit line)
-  pub entry_is : entry ≡ entry_after (line_says limit line) tail
+  pub tail_long : length tail ≡ bytes_behind (line_says rules line)
+  pub entry_is : entry ≡ entry_after (line_says rules line) tail
 
 -- a text that spells, by its first line
-pub data Reads (limit : ℕ) (text : List ℕ) (entry : Command) : Type 0 where
-  lined : (line tail : List ℕ) → IsLined limit text entry line tail → Reads limit text entry
-  endless : length text ≡ LINE_LIMIT → HasNoEnd text → entry ≡ command.Refused LineTooLong → Reads limit text entry
+pub data Reads (rules : Rules) (text : List ℕ) (entry : Command) : Type 0 where
+  lined : (line tail : List ℕ) → IsLined rules text entry line tail → Reads rules text entry
+  endless : length text ≡ LINE_LIMIT → HasNoEnd text → entry ≡ command.Refused LineTooLong → Reads rules text entry
 
 line_short : (text line : List ℕ) → IsLine text line → length line < LINE_LIMIT
 line_short text line is = let s = is.short in omega (arith, ap length is.text_is, length-append line (10 ∷ []))
@@ -64,12 +65,12 @@ line_short text line is = let s = is.short in omega (arith, ap length is.text_is
 with_tail : (head line tail text : List ℕ) → IsLine head line → text ≡ head ++ tail → text ≡ line ++ 10 ∷ tail
 with_tail head line tail text is e = e ∙ (ap (λ xs. xs ++ tail) is.text_is ∙ append_assoc line (10 ∷ []) tail)
 
-pub reads : (limit : ℕ) (text : List ℕ) (entry : Command) → Spells limit text entry → Reads limit text entry
-reads limit text entry (Spells.line line is says) =
+pub reads : (rules : Rules) (text : List ℕ) (entry : Command) → Spells rules text entry → Reads rules text entry
+reads rules text entry (Spells.line line is says) =
     lined line [] (record { text_is = is.text_is; no_end = is.no_end; short = line_short text line is; tail_long = rw says refl; entry_is = rw says refl })
-reads limit text entry (Spells.refused line refusal is says e) =
+reads rules text entry (Spells.refused line refusal is says e) =
     lined line [] (record { text_is = is.text_is; no_end = is.no_end; short = line_short text line is; tail_long = rw says refl; entry_is = rw says e })
-reads limit text entry (Spells.block head line block asked is text_is says e) =
+reads rules text entry (Spells.block head line block asked is text_is says e) =
     lined line (block ++ 13 ∷ 10 ∷ []) (record {
       text_is = with_tail head line (block ++ 13 ∷ 10 ∷ []) text is text_is;
       no_end = is.no_end;
@@ -77,7 +78,7 @@ reads limit text entry (Spells.block head line block asked is text_is says e) =
       tail_long = rw says (length-append block (13 ∷ 10 ∷ []));
       entry_is = rw (says, drop-append_seam block (13 ∷ 10 ∷ []), take-append_seam block (13 ∷ 10 ∷ [])) e;
     })
-reads limit text entry (Spells.bad_block head line chunk ends asked is text_is two not_end says e) =
+reads rules text entry (Spells.bad_block head line chunk ends asked is text_is two not_end says e) =
     lined line (chunk ++ ends) (record {
       text_is = with_tail head line (chunk ++ ends) text is text_is;
       no_end = is.no_end;
@@ -85,7 +86,7 @@ reads limit text entry (Spells.bad_block head line chunk ends asked is text_is t
       tail_long = rw says (omega (arith, two, length-append chunk ends));
       entry_is = rw (says, drop-append_seam chunk ends, not_end) e;
     })
-reads limit text entry (Spells.skipped head line skipped refusal is text_is says e) =
+reads rules text entry (Spells.skipped head line skipped refusal is text_is says e) =
     lined line skipped (record {
       text_is = with_tail head line skipped text is text_is;
       no_end = is.no_end;
@@ -93,22 +94,22 @@ reads limit text entry (Spells.skipped head line skipped refusal is text_is says
       tail_long = rw says refl;
       entry_is = rw says e;
     })
-reads limit text entry (Spells.long full none e) = endless full none e
+reads rules text entry (Spells.long full none e) = endless full none e
 
 is_line : (line : List ℕ) → HasNoEnd line → length line < LINE_LIMIT → IsLine (line ++ 10 ∷ []) line
 is_line line none short = record { text_is = refl; no_end = none; short = omega (arith, length-append line (10 ∷ [])) }
 
 -- a line with its bytes spells what it says
-spells_lined : (limit : ℕ) (said : Line) (text line tail : List ℕ) (entry : Command) → line_says limit line ≡ said → text ≡ line ++ 10 ∷ tail → HasNoEnd line → length line < LINE_LIMIT → length tail ≡ bytes_behind said → entry ≡ entry_after said tail → Spells limit text entry
-spells_lined limit (Whole given) text line tail entry says text_is none short long e =
+spells_lined : (rules : Rules) (said : Line) (text line tail : List ℕ) (entry : Command) → line_says rules line ≡ said → text ≡ line ++ 10 ∷ tail → HasNoEnd line → length line < LINE_LIMIT → length tail ≡ bytes_behind said → entry ≡ entry_after said tail → Spells rules text entry
+spells_lined rules (Whole given) text line tail entry says text_is none short long e =
     let bare : text ≡ line ++ 10 ∷ [] = rw (nil_from_length tail long) at text_is in
     Spells.line line (rw bare (is_line line none short)) (rw e says)
-spells_lined limit (Refused refusal) text line tail entry says text_is none short long e =
+spells_lined rules (Refused refusal) text line tail entry says text_is none short long e =
     let bare : text ≡ line ++ 10 ∷ [] = rw (nil_from_length tail long) at text_is in
     Spells.refused line refusal (rw bare (is_line line none short)) says e
-spells_lined limit (Skip refusal count) text line tail entry says text_is none short long e =
+spells_lined rules (Skip refusal count) text line tail entry says text_is none short long e =
     Spells.skipped (line ++ 10 ∷ []) line tail refusal (is_line line none short) (text_is ∙ sym (append_assoc line (10 ∷ []) tail)) (rw long says) e
-spells_lined limit (Data asked count) text line tail entry says text_is none short long e = by_end (is_block_end (drop count tail)) refl e where
+spells_lined rules (Data asked count) text line tail entry says text_is none short long e = by_end (is_block_end (drop count tail)) refl e where
   parted : tail ≡ take count tail ++ drop count tail
   parted = sym (take-append-drop count tail)
 
@@ -121,24 +122,24 @@ spells_lined limit (Data asked count) text line tail entry says text_is none sho
   whole : (ends : List ℕ) → drop count tail ≡ ends → text ≡ (line ++ 10 ∷ []) ++ (take count tail ++ ends)
   whole ends is = text_is ∙ (sym (append_assoc line (10 ∷ []) tail) ∙ ap (λ xs. (line ++ 10 ∷ []) ++ xs) (parted ∙ ap (λ xs. take count tail ++ xs) is))
 
-  by_end : (test : Bool) → is_block_end (drop count tail) ≡ test → entry ≡ cond test (with_block asked (take count tail)) (command.Refused BadChunk) → Spells limit text entry
+  by_end : (test : Bool) → is_block_end (drop count tail) ≡ test → entry ≡ cond test (with_block asked (take count tail)) (command.Refused BadChunk) → Spells rules text entry
   by_end true t given = Spells.block (line ++ 10 ∷ []) line (take count tail) asked (is_line line none short) (whole (13 ∷ 10 ∷ []) (same_text (drop count tail) (13 ∷ 10 ∷ []) (sym t))) (rw counted says) given
   by_end false t given = Spells.bad_block (line ++ 10 ∷ []) line (take count tail) (drop count tail) asked (is_line line none short) (whole (drop count tail) refl) two t (rw counted says) given
 
-pub spells : (limit : ℕ) (text : List ℕ) (entry : Command) → Reads limit text entry → Spells limit text entry
-spells limit text entry (lined line tail is) = spells_lined limit (line_says limit line) text line tail entry refl is.text_is is.no_end is.short is.tail_long is.entry_is
-spells limit text entry (endless full none e) = Spells.long full none e
+pub spells : (rules : Rules) (text : List ℕ) (entry : Command) → Reads rules text entry → Spells rules text entry
+spells rules text entry (lined line tail is) = spells_lined rules (line_says rules line) text line tail entry refl is.text_is is.no_end is.short is.tail_long is.entry_is
+spells rules text entry (endless full none e) = Spells.long full none e
 
 -- where a line's bytes have all come, it spells with them
-pub spelled_behind : (limit : ℕ) (line tail input : List ℕ) → input ≡ line ++ 10 ∷ tail → HasNoEnd line → length line < LINE_LIMIT → bytes_behind (line_says limit line) ≤ length tail → SpellsSomething limit input
-spelled_behind limit line tail input is none short enough =
-    let n = bytes_behind (line_says limit line) in
+pub spelled_behind : (rules : Rules) (line tail input : List ℕ) → input ≡ line ++ 10 ∷ tail → HasNoEnd line → length line < LINE_LIMIT → bytes_behind (line_says rules line) ≤ length tail → SpellsSomething rules input
+spelled_behind rules line tail input is none short enough =
+    let n = bytes_behind (line_says rules line) in
     let long : length (take n tail) ≡ n = omega (arith, length-take n tail) in (
       line ++ 10 ∷ take n tail,
       drop n tail,
-      entry_after (line_says limit line) (take n tail),
+      entry_after (line_says rules line) (take n tail),
       is ∙ (ap (λ xs. line ++ 10 ∷ xs) (sym (take-append-drop n tail)) ∙ sym (append_assoc line (10 ∷ take n tail) (drop n tail))),
-      spells_lined limit (line_says limit line) (line ++ 10 ∷ take n tail) line (take n tail) (entry_after (line_says limit line) (take n tail)) refl refl none short long refl,
+      spells_lined rules (line_says rules line) (line ++ 10 ∷ take n tail) line (take n tail) (entry_after (line_says rules line) (take n tail)) refl refl none short long refl,
     )
 
 -- two texts that spell at the front of one input
@@ -147,34 +148,34 @@ pub record AreSame (a b : List ℕ) (x y : List ℕ) (e f : Command) : Type 0 wh
   pub entry : e ≡ f
   pub rest : x ≡ y
 
-lined_line : (limit : ℕ) (a : List ℕ) (e : Command) (line tail x : List ℕ) → IsLined limit a e line tail → a ++ x ≡ line ++ 10 ∷ (tail ++ x)
-lined_line limit a e line tail x is = ap (λ xs. xs ++ x) is.text_is ∙ append_assoc line (10 ∷ tail) x
+lined_line : (rules : Rules) (a : List ℕ) (e : Command) (line tail x : List ℕ) → IsLined rules a e line tail → a ++ x ≡ line ++ 10 ∷ (tail ++ x)
+lined_line rules a e line tail x is = ap (λ xs. xs ++ x) is.text_is ∙ append_assoc line (10 ∷ tail) x
 
-same_reads : (limit : ℕ) (a b x y : List ℕ) (e f : Command) → Reads limit a e → Reads limit b f → a ++ x ≡ b ++ y → AreSame a b x y e f
-same_reads limit a b x y e f (lined line tail is) (lined line' tail' is') same =
-    let lines = one_line line line' (tail ++ x) (tail' ++ y) is.no_end is'.no_end (sym (lined_line limit a e line tail x is) ∙ (same ∙ lined_line limit b f line' tail' y is')) in
-    let long : length tail ≡ length tail' = is.tail_long ∙ (ap (λ l. bytes_behind (line_says limit l)) lines.0 ∙ sym is'.tail_long) in
+same_reads : (rules : Rules) (a b x y : List ℕ) (e f : Command) → Reads rules a e → Reads rules b f → a ++ x ≡ b ++ y → AreSame a b x y e f
+same_reads rules a b x y e f (lined line tail is) (lined line' tail' is') same =
+    let lines = one_line line line' (tail ++ x) (tail' ++ y) is.no_end is'.no_end (sym (lined_line rules a e line tail x is) ∙ (same ∙ lined_line rules b f line' tail' y is')) in
+    let long : length tail ≡ length tail' = is.tail_long ∙ (ap (λ l. bytes_behind (line_says rules l)) lines.0 ∙ sym is'.tail_long) in
     let tails = same_front tail tail' x y long lines.1 in
     record {
       text = is.text_is ∙ ((λ i. lines.0 i ++ 10 ∷ tails.0 i) ∙ sym is'.text_is);
-      entry = is.entry_is ∙ ((λ i. entry_after (line_says limit (lines.0 i)) (tails.0 i)) ∙ sym is'.entry_is);
+      entry = is.entry_is ∙ ((λ i. entry_after (line_says rules (lines.0 i)) (tails.0 i)) ∙ sym is'.entry_is);
       rest = tails.1;
     }
-same_reads limit a b x y e f (lined line tail is) (endless full none given) same =
-    absurd (end_inside b y line (tail ++ x) none (sym same ∙ lined_line limit a e line tail x is) (let short = is.short in omega arith))
-same_reads limit a b x y e f (endless full none given) (lined line tail is) same =
-    absurd (end_inside a x line (tail ++ y) none (same ∙ lined_line limit b f line tail y is) (let short = is.short in omega arith))
-same_reads limit a b x y e f (endless full none given) (endless full' none' given') same =
+same_reads rules a b x y e f (lined line tail is) (endless full none given) same =
+    absurd (end_inside b y line (tail ++ x) none (sym same ∙ lined_line rules a e line tail x is) (let short = is.short in omega arith))
+same_reads rules a b x y e f (endless full none given) (lined line tail is) same =
+    absurd (end_inside a x line (tail ++ y) none (same ∙ lined_line rules b f line tail y is) (let short = is.short in omega arith))
+same_reads rules a b x y e f (endless full none given) (endless full' none' given') same =
     let parts = same_front a b x y (full ∙ sym full') same in
     record { text = parts.0; entry = given ∙ sym given'; rest = parts.1 }
 
 -- No text that spells begins another, and what it spells is one thing.
-pub same_spelled : (limit : ℕ) (a b x y : List ℕ) (e f : Command) → Spells limit a e → Spells limit b f → a ++ x ≡ b ++ y → AreSame a b x y e f
-same_spelled limit a b x y e f s t same = same_reads limit a b x y e f (reads limit a e s) (reads limit b f t) same
+pub same_spelled : (rules : Rules) (a b x y : List ℕ) (e f : Command) → Spells rules a e → Spells rules b f → a ++ x ≡ b ++ y → AreSame a b x y e f
+same_spelled rules a b x y e f s t same = same_reads rules a b x y e f (reads rules a e s) (reads rules b f t) same
 
 -- where a line's bytes haven't all come, nothing is spelled
-pub nothing_yet : (limit : ℕ) (line tail : List ℕ) → HasNoEnd line → length line < LINE_LIMIT → length tail < bytes_behind (line_says limit line) → SpellsNothing limit (line ++ 10 ∷ tail)
-nothing_yet limit line tail none short few count entry below spelled = go (reads limit text entry spelled) where
+pub nothing_yet : (rules : Rules) (line tail : List ℕ) → HasNoEnd line → length line < LINE_LIMIT → length tail < bytes_behind (line_says rules line) → SpellsNothing rules (line ++ 10 ∷ tail)
+nothing_yet rules line tail none short few count entry below spelled = go (reads rules text entry spelled) where
   text : List ℕ
   text = take count (line ++ 10 ∷ tail)
 
@@ -184,17 +185,17 @@ nothing_yet limit line tail none short few count entry below spelled = go (reads
   whole : text ++ rest ≡ line ++ 10 ∷ tail
   whole = take-append-drop count (line ++ 10 ∷ tail)
 
-  go : Reads limit text entry → ⊥
+  go : Reads rules text entry → ⊥
   go (lined line' tail' is) =
-      let lines = one_line line' line (tail' ++ rest) tail is.no_end none (sym (lined_line limit text entry line' tail' rest is) ∙ whole) in
+      let lines = one_line line' line (tail' ++ rest) tail is.no_end none (sym (lined_line rules text entry line' tail' rest is) ∙ whole) in
       let long = is.tail_long in
-      let same = ap (λ l. bytes_behind (line_says limit l)) lines.0 in
+      let same = ap (λ l. bytes_behind (line_says rules l)) lines.0 in
       omega (arith, ap length lines.1, length-append tail' rest)
   go (endless full none' e) = end_inside text rest line tail none' whole (omega arith)
 
 -- where no line has ended and none is too long, nothing is spelled
-pub nothing_without_end : (limit : ℕ) (input : List ℕ) → HasNoEnd input → length input < LINE_LIMIT → SpellsNothing limit input
-nothing_without_end limit input none short count entry below spelled = go (reads limit text entry spelled) where
+pub nothing_without_end : (rules : Rules) (input : List ℕ) → HasNoEnd input → length input < LINE_LIMIT → SpellsNothing rules input
+nothing_without_end rules input none short count entry below spelled = go (reads rules text entry spelled) where
   text : List ℕ
   text = take count input
 
@@ -204,13 +205,13 @@ nothing_without_end limit input none short count entry below spelled = go (reads
   whole : text ++ rest ≡ input
   whole = take-append-drop count input
 
-  go : Reads limit text entry → ⊥
+  go : Reads rules text entry → ⊥
   go (lined line tail is) =
-      let e = sym (lined_line limit text entry line tail rest is) ∙ whole in
+      let e = sym (lined_line rules text entry line tail rest is) ∙ whole in
       end_inside input [] line (tail ++ rest) none (append-nil input ∙ sym e) (omega (arith, ap length e, length-append line (10 ∷ (tail ++ rest))))
   go (endless full none' e) = omega (arith, length-take count input)
 
 -- a beginning that spells is no nothing
-pub something : (limit : ℕ) (text after : List ℕ) (entry : Command) → Spells limit text entry → SpellsNothing limit (text ++ after) → ⊥
-something limit text after entry spelled nothing =
+pub something : (rules : Rules) (text after : List ℕ) (entry : Command) → Spells rules text entry → SpellsNothing rules (text ++ after) → ⊥
+something rules text after entry spelled nothing =
     nothing (length text) entry (omega (arith, length-append text after)) (rw (take-append_seam text after) spelled)

@@ -14,14 +14,15 @@ use Rattle.mc_command.specs.declared.line.Line.{Line}
 use Rattle.mc_command.specs.declared.line.Line.TheVariants.{Whole, Data, Refused, Skip}
 use Rattle.mc_command.specs.Command.{can_give_up, with_block}
 use Rattle.mc_command.specs.Table.{line_of}
+use Rattle.mc_command.specs.declared.rules.Rules.{Rules}
 
 -- the bytes but for one carriage return at their end
 abbrev pub without_return : List ℕ → List ℕ
 without_return line = if slice_index line (length line - 1) == 13 then take (length line - 1) line else line
 
 -- what the command table says of a line without its line feed
-abbrev pub line_says : ℕ → List ℕ → Line
-line_says limit line = line_of limit (words_of (without_return line))
+abbrev pub line_says : Rules → List ℕ → Line
+line_says rules line = line_of rules (words_of (without_return line))
 
 abbrev pub HasNoEnd : List ℕ → Type 0
 HasNoEnd bytes = AllByRecursion (λ byte. (byte == 10) ≡ false) bytes
@@ -41,28 +42,28 @@ abbrev pub block_entry : Command → ℕ → List ℕ → Command
 block_entry asked count bytes = if is_block_end (drop count bytes) then with_block asked (take count bytes) else command.Refused BadChunk
 
 -- the whole text spells the entry, and nothing is left over
-pub data Spells (limit : ℕ) (text : List ℕ) (entry : Command) : Type 0 where
+pub data Spells (rules : Rules) (text : List ℕ) (entry : Command) : Type 0 where
   -- a line that is a command
-  line : (line : List ℕ) → IsLine text line → line_says limit line ≡ Whole entry → Spells limit text entry
+  line : (line : List ℕ) → IsLine text line → line_says rules line ≡ Whole entry → Spells rules text entry
   -- a line that is refused
-  refused : (line : List ℕ) (refusal : Refusal) → IsLine text line → line_says limit line ≡ Refused refusal →
-      entry ≡ command.Refused refusal → Spells limit text entry
+  refused : (line : List ℕ) (refusal : Refusal) → IsLine text line → line_says rules line ≡ Refused refusal →
+      entry ≡ command.Refused refusal → Spells rules text entry
   -- a storage line with its data block and its end
   block : (head line data_block : List ℕ) (asked : Command) → IsLine head line → text ≡ head ++ (data_block ++ 13 ∷ 10 ∷ []) →
-      line_says limit line ≡ Data asked (length data_block) → entry ≡ with_block asked data_block → Spells limit text entry
+      line_says rules line ≡ Data asked (length data_block) → entry ≡ with_block asked data_block → Spells rules text entry
   -- a storage line with as many bytes, and two more that are no end
   bad_block : (head line chunk ends : List ℕ) (asked : Command) → IsLine head line → text ≡ head ++ (chunk ++ ends) →
       length ends ≡ 2 → is_block_end ends ≡ false →
-      line_says limit line ≡ Data asked (length chunk) → entry ≡ command.Refused BadChunk → Spells limit text entry
+      line_says rules line ≡ Data asked (length chunk) → entry ≡ command.Refused BadChunk → Spells rules text entry
   -- a line that is refused, with the bytes that are skipped
   skipped : (head line skipped : List ℕ) (refusal : Refusal) → IsLine head line → text ≡ head ++ skipped →
-      line_says limit line ≡ Skip refusal (length skipped) → entry ≡ command.Refused refusal → Spells limit text entry
+      line_says rules line ≡ Skip refusal (length skipped) → entry ≡ command.Refused refusal → Spells rules text entry
   -- a line that is too long
-  long : length text ≡ LINE_LIMIT → HasNoEnd text → entry ≡ command.Refused LineTooLong → Spells limit text entry
+  long : length text ≡ LINE_LIMIT → HasNoEnd text → entry ≡ command.Refused LineTooLong → Spells rules text entry
 
 -- No beginning of the bytes spells anything.
-abbrev pub SpellsNothing : ℕ → List ℕ → Type 0
-SpellsNothing limit bytes = (count : ℕ) (entry : Command) → count ≤ length bytes → Spells limit (take count bytes) entry → ⊥
+abbrev pub SpellsNothing : Rules → List ℕ → Type 0
+SpellsNothing rules bytes = (count : ℕ) (entry : Command) → count ≤ length bytes → Spells rules (take count bytes) entry → ⊥
 
 -- Nothing is read after `quit`, nor after a line that is too long.
 abbrev pub closes : Command → Bool
@@ -80,11 +81,11 @@ is_last before entry = closes entry || (before + 1 == most_commands)
 
 -- Behind so many earlier commands, the input spells these, one after another, and then the rest follows.
 -- Nothing but the rest follows a last one.
-abbrev pub SpellsFront : ℕ → ℕ → List ℕ → List Command → List ℕ → Type 0
-SpellsFront limit before input [] rest = input ≡ rest
-SpellsFront limit before input (entry ∷ entries) rest =
-    (text : List ℕ) × (after : List ℕ) × (input ≡ text ++ after) × Spells limit text entry
-    × MatchBool (is_last before entry) ((entries ≡ []) × (after ≡ rest)) (SpellsFront limit (before + 1) after entries rest)
+abbrev pub SpellsFront : Rules → ℕ → List ℕ → List Command → List ℕ → Type 0
+SpellsFront rules before input [] rest = input ≡ rest
+SpellsFront rules before input (entry ∷ entries) rest =
+    (text : List ℕ) × (after : List ℕ) × (input ≡ text ++ after) × Spells rules text entry
+    × MatchBool (is_last before entry) ((entries ≡ []) × (after ≡ rest)) (SpellsFront rules (before + 1) after entries rest)
 
 -- One of the commands is a last one, where so many came before them.
 abbrev pub is_closed_after : ℕ → List Command → Bool
@@ -95,13 +96,13 @@ abbrev pub is_closed : List Command → Bool
 is_closed entries = is_closed_after 0 entries
 
 -- These are a beginning of the commands of the input.
-abbrev pub BeginCommands : ℕ → List ℕ → List Command → Type 0
-BeginCommands limit input entries = (rest : List ℕ) × SpellsFront limit 0 input entries rest
+abbrev pub BeginCommands : Rules → List ℕ → List Command → Type 0
+BeginCommands rules input entries = (rest : List ℕ) × SpellsFront rules 0 input entries rest
 
 -- These are the commands of the input: all that it spells, up to the first after which nothing is read.
-abbrev pub AreCommands : ℕ → List ℕ → List Command → Type 0
-AreCommands limit input entries =
-    (rest : List ℕ) × SpellsFront limit 0 input entries rest × MatchBool (is_closed entries) (Unit {0}) (SpellsNothing limit rest)
+abbrev pub AreCommands : Rules → List ℕ → List Command → Type 0
+AreCommands rules input entries =
+    (rest : List ℕ) × SpellsFront rules 0 input entries rest × MatchBool (is_closed entries) (Unit {0}) (SpellsNothing rules rest)
 
 -- These commands are a beginning of those.
 abbrev pub Begins : List Command → List Command → Type 0

@@ -63,9 +63,10 @@ pub fn replay<R: RandomSource, O: Outlet>(
 fn tell<R: RandomSource>(rt: &R, alloc: Global, schedule: &Schedule) -> Result<Vec<u8>, ReplayFault>
     ensures { Tells schedule.now result }
 {
-    let mut sim = match Sim::new(
+    let mut sim = match Sim::under(
         rt,
         alloc,
+        schedule.profile,
         schedule.seats,
         schedule.shards,
         schedule.bytes,

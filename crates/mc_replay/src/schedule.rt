@@ -9,6 +9,7 @@ ghost use Rattle.mc_replay.specs.declared.schedule.ScheduleFault.TheVariants.{Me
 use crate::event::read_event;
 use crate::header::{Header, read_header};
 use crate::parts::{PartWalk, parts};
+use mc_command::Profile;
 use mc_core::Event;
 use std::alloc::{AllocError, Global};
 use thiserror::Error;
@@ -16,6 +17,8 @@ use thiserror::Error;
 /// A server and a list of events: what a replay file says.
 #[derive(Drop)]
 pub struct Schedule {
+    /// Whose rules the server follows.
+    pub profile: Profile,
     /// How many connections there are at a time.
     pub seats: usize,
     /// How many shards there are.
@@ -61,6 +64,7 @@ pub fn read_schedule(alloc: Global, text: &[u8]) -> Result<Schedule, ScheduleFau
     };
     let events = read_events(alloc, lines, header)?;
     Ok(Schedule {
+        profile: header.profile,
         seats: header.seats,
         shards: header.shards,
         bytes: header.bytes,

@@ -12,6 +12,8 @@ use Rattle.mc_item.specs.declared.op.Op.{Op}
 use Rattle.mc_item.specs.declared.op.Op.TheVariants as op
 use Rattle.mc_item.specs.Expiry.{expiry_of}
 use Rattle.mc_item.specs.Kind.{key_of}
+use Rattle.mc_command.specs.Rules.{own}
+use Rattle.mc_command.specs.declared.rules.Profile.TheVariants.{Own}
 use Rattle.mc_reader.specs.Spelling.{line_says, block_entry}
 use Rattle.mc_conn.specs.History.{Taken}
 use Rattle.mc_core.specs.Sizes.{Sizes}
@@ -34,13 +36,13 @@ entry_of (Refused refusal) behind = command.Refused refusal
 entry_of (Skip refusal count) behind = command.Refused refusal
 
 abbrev pub spelled : Sent → Command
-spelled sent = entry_of (line_says DEFAULT_VALUE_LIMIT sent.line) sent.behind
+spelled sent = entry_of (line_says (own DEFAULT_VALUE_LIMIT) sent.line) sent.behind
 
 abbrev pub taken_at : ℕ → Sent → Taken
 taken_at moment sent = record { entry = spelled sent; moment = moment; given_up = false }
 
 abbrev pub row_sizes : Sizes
-row_sizes = record { seats = 1; shards = 2; bytes = 65536; ring = 64; value = DEFAULT_VALUE_LIMIT; window = 256 }
+row_sizes = record { profile = Own; seats = 1; shards = 2; bytes = 65536; ring = 64; value = DEFAULT_VALUE_LIMIT; window = 256 }
 
 -- the replies of a server of two shards, still empty, at the moment
 abbrev pub replies : ℕ → List Sent → List ℕ

@@ -1,6 +1,6 @@
-//! Runs the worked rows of data/rows.txt through `serve_one`: each whole and cut into small pieces, its output
-//! taken a few bytes at a time or gathered, and with each of its reads and writes failing in turn. Prints those
-//! whose output isn't the row's, and those of whose input a connection held too much.
+//! Runs the worked rows of data/rows.txt through `serve_one`, by the server's own rules and by memcached's: each whole and
+//! cut into small pieces, its output taken a few bytes at a time or gathered, and with each of its reads and writes failing
+//! in turn. Prints those whose output isn't the row's, and those of whose input a connection held too much.
 #![tactic(auto)]
 
 mod escape;
@@ -10,12 +10,14 @@ mod row;
 
 use held::{blocks_held, is_bounded};
 use line::{Cutting, MemoryLine};
+use mc_command::Profile;
 use mc_seat::{Line, Served};
 use mc_server::{DEFAULT_RING, Sizes, StillClock, serve_one};
 use mc_store::{GREATEST_BUDGET, LEAST_BUDGET};
 use mc_wire::GREATEST_VALUE_LIMIT;
 use row::{Row, split_at_tab};
 use std::alloc::Global;
+use std::io::Print;
 use std::random::RandomSource;
 use std::sync::Wait;
 use std::{fs, io};
@@ -59,6 +61,7 @@ fn served<R: Wait + RandomSource, L: Line>(
         return None;
     }
     let sizes = Sizes {
+        profile: row.profile,
         shards: 2,
         bytes: row.bytes,
         ring: DEFAULT_RING,
@@ -191,22 +194,34 @@ fn fault_of<R: Wait + RandomSource>(rt: &R, alloc: Global, row: &Row) -> Option<
     None
 }
 
-fn main(rt: HostRuntime) -> io::Result<()> {
-    let text = fs::read_to_string(&rt, "rows.txt")?;
+/// Tries the rows by a server that follows this profile; how many there are, and how many are wrong.
+fn try_rows<R: Print + Wait + RandomSource + Alloc<A = Global>>(
+    rt: &R,
+    text: &str,
+    profile: Profile,
+) -> io::Result<(u32, u32)> {
     let mut rows = 0u32;
     let mut failed = 0u32;
-    for line in text.as_str().lines() {
+    for line in text.lines() {
         let bytes = line.as_bytes();
-        let Some(row) = Row::read(rt.alloc(), bytes)? else {
+        let Some(row) = Row::read(rt.alloc(), profile, bytes)? else {
             continue;
         };
         rows = rows.saturating_add(1);
-        if let Some(fault) = fault_of(&rt, rt.alloc(), &row) {
+        if let Some(fault) = fault_of(rt, rt.alloc(), &row) {
             failed = failed.saturating_add(1);
             println!(rt; "{fault}: {line}")?;
         }
     }
+    Ok((rows, failed))
+}
+
+fn main(rt: HostRuntime) -> io::Result<()> {
+    let text = fs::read_to_string(&rt, "rows.txt")?;
+    let (rows, failed) = try_rows(&rt, text.as_str(), Profile::Own)?;
+    let (again, missed) = try_rows(&rt, text.as_str(), Profile::DropIn)?;
     let (blocks, wrong) = blocks_held(rt.alloc());
     println!(rt; "{blocks} blocks, {wrong} held beyond their bounds or not whole")?;
-    println!(rt; "{rows} rows, {failed} wrong")
+    println!(rt; "{rows} rows, {failed} wrong")?;
+    println!(rt; "{again} rows by memcached's rules, {missed} wrong")
 }

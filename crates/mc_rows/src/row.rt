@@ -1,11 +1,14 @@
 //! One row of the file of rows.
 use crate::escape::{number, unescape};
+use mc_command::Profile;
 use mc_wire::DEFAULT_VALUE_LIMIT;
 use std::alloc::{AllocError, Global};
 
 /// What is sent at one moment to new shards, and what must come back.
 #[derive(Drop)]
 pub struct Row {
+    /// Whose rules the server follows.
+    pub profile: Profile,
     /// Every command's moment, in seconds since 1970.
     pub moment: u64,
     /// What the items of a shard may cost together, in bytes.
@@ -17,16 +20,22 @@ pub struct Row {
 }
 
 impl Row {
-    /// Reads a row: name, moment, bytes, input and output, parted by tabs. Behind the bytes a value limit may stand,
-    /// after a `/`. A line that begins with `#` is none.
-    pub fn read(alloc: Global, line: &[u8]) -> Result<Option<Row>, AllocError> {
+    /// Reads a row of this profile: name, moment, bytes, input and output, parted by tabs, and the output by memcached's
+    /// rules where that is another one. Behind the bytes a value limit may stand, after a `/`. A line that begins with `#`
+    /// is none.
+    pub fn read(alloc: Global, profile: Profile, line: &[u8]) -> Result<Option<Row>, AllocError> {
         if line.is_empty() || line.starts_with(b"#") {
             return Ok(None);
         }
         let (_name, rest) = split_at_tab(line);
         let (moment, rest) = split_at_tab(rest);
         let (bytes, rest) = split_at_tab(rest);
-        let (input, output) = split_at_tab(rest);
+        let (input, rest) = split_at_tab(rest);
+        let (own, memcacheds) = split_at_tab(rest);
+        let output = match profile {
+            Profile::DropIn if !memcacheds.is_empty() => memcacheds,
+            _ => own,
+        };
         let (bytes, value) = split_at(bytes, b'/');
         let Ok(bytes) = usize::try_from(number(bytes)) else {
             return Ok(None);
@@ -36,6 +45,7 @@ impl Row {
             _ => DEFAULT_VALUE_LIMIT,
         };
         Ok(Some(Row {
+            profile,
             moment: number(moment),
             bytes,
             value,

@@ -70,7 +70,7 @@ breaks_waiting received begin now waits unread told conn is failed grown serving
         written = take count text;
         read_is = serving.read_is;
         written_is = traces begin.taken now.taken waits text serving.taken_is grown;
-        covers = begins_more told.limit told.fed unread (commands_of told.taken) sound.begin;
+        covers = begins_more told.rules told.fed unread (commands_of told.taken) sound.begin;
         writes = (
           drop count text ++ concat rest,
           sym (append_assoc (take count text) (drop count text) (concat rest))
@@ -83,7 +83,7 @@ breaks_waiting received begin now waits unread told conn is failed grown serving
       reads = λ f. record {
         reads = serving.reads;
         reads_are = serving.reads_are;
-        each = rw (all, ← append-nil (commands_of told.taken)) (all_owed_later told.limit begin (commands_of told.taken) [] texts rest serving.reads (omega (arith, counted, commands-length told.taken)) (serving.owes_nothing f));
+        each = rw (all, ← append-nil (commands_of told.taken)) (all_owed_later told.rules begin (commands_of told.taken) [] texts rest serving.reads (omega (arith, counted, commands-length told.taken)) (serving.owes_nothing f));
       };
     }
 

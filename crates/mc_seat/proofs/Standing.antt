@@ -12,6 +12,7 @@ use Rattle.mc_conn.proofs.Gets.{all_more, all_push}
 use Rattle.mc_wire.specs.Outlet.{Read, Sight, asked, with_reads}
 use Rattle.mc_seat.specs.Reads.{OwesNothing}
 use Rattle.mc_seat.specs.internal.Stands.{Stands}
+use Rattle.mc_command.specs.declared.rules.Rules.{Rules}
 
 pub with_reads-nil : (reads : Option (List Read)) → with_reads reads [] ≡ reads
 with_reads-nil None = refl
@@ -22,8 +23,8 @@ with_reads-append None reads more = refl
 with_reads-append (Some before) reads more = ap (λ rs. Some rs) (append_assoc before reads more)
 
 -- nothing was read, written or taken yet
-pub stands_first : (limit : ℕ) (fits : Type 0) (now : Sight) → Stands limit fits now now [] [] false [] []
-stands_first limit fits now = record {
+pub stands_first : (rules : Rules) (fits : Type 0) (now : Sight) → Stands rules fits now now [] [] false [] []
+stands_first rules fits now = record {
   read_is = sym (with_bytes-nil now.given);
   ended_is = λ e. absurd cc;
   taken_is = sym (with_bytes-nil now.taken);
@@ -34,9 +35,9 @@ stands_first limit fits now = record {
 }
 
 -- more commands were taken, and more texts handed out
-pub all_owed_later : (limit : ℕ) (begin : Sight) (commands more : List Command) (texts later : List (List ℕ)) (reads : List Read) → length texts ≤ length commands → AllByRecursion (OwesNothing limit begin commands texts) reads → AllByRecursion (OwesNothing limit begin (commands ++ more) (texts ++ later)) reads
-all_owed_later limit begin commands more texts later reads counted =
-    all_more (OwesNothing limit begin commands texts) (OwesNothing limit begin (commands ++ more) (texts ++ later)) (λ read owes.
+pub all_owed_later : (rules : Rules) (begin : Sight) (commands more : List Command) (texts later : List (List ℕ)) (reads : List Read) → length texts ≤ length commands → AllByRecursion (OwesNothing rules begin commands texts) reads → AllByRecursion (OwesNothing rules begin (commands ++ more) (texts ++ later)) reads
+all_owed_later rules begin commands more texts later reads counted =
+    all_more (OwesNothing rules begin commands texts) (OwesNothing rules begin (commands ++ more) (texts ++ later)) (λ read owes.
     let within = owes.within in
     record {
       count = owes.count;
@@ -51,9 +52,9 @@ pub commands-length : (taken : List Taken) → length (commands_of taken) ≡ le
 commands-length taken = length-map taken (λ (one : Taken). one.entry)
 
 -- a command was taken
-pub stands_take : (limit : ℕ) (fits after : Type 0) (begin now : Sight) (unread fed : List ℕ) (ended : Bool) (taken : List Taken) (texts : List (List ℕ)) (one : Taken) → (after → fits) →
-    Stands limit fits begin now unread fed ended taken texts → Stands limit after begin now unread fed ended (taken ++ one ∷ []) texts
-stands_take limit fits after begin now unread fed ended taken texts one weaker stands =
+pub stands_take : (rules : Rules) (fits after : Type 0) (begin now : Sight) (unread fed : List ℕ) (ended : Bool) (taken : List Taken) (texts : List (List ℕ)) (one : Taken) → (after → fits) →
+    Stands rules fits begin now unread fed ended taken texts → Stands rules after begin now unread fed ended (taken ++ one ∷ []) texts
+stands_take rules fits after begin now unread fed ended taken texts one weaker stands =
     let counted = stands.counted in
     let commands = commands_of taken in
     let more : commands_of (taken ++ one ∷ []) ≡ commands ++ one.entry ∷ [] = map-append (λ (x : Taken). x.entry) taken (one ∷ []) in
@@ -65,14 +66,14 @@ stands_take limit fits after begin now unread fed ended taken texts one weaker s
       reads = stands.reads;
       reads_are = stands.reads_are;
       owes_nothing = λ f.
-          let owed = all_owed_later limit begin commands (one.entry ∷ []) texts [] stands.reads (omega (arith, counted, commands-length taken)) (stands.owes_nothing (weaker f)) in
+          let owed = all_owed_later rules begin commands (one.entry ∷ []) texts [] stands.reads (omega (arith, counted, commands-length taken)) (stands.owes_nothing (weaker f)) in
           rw (more, ← append-nil texts) owed;
     }
 
 -- neither was more taken of the line nor was it asked for more: what it gave may be read and fed now, and be its end
-pub stands_over : {limit : ℕ} {fits after : Type 0} {begin before now : Sight} {unread left fed more : List ℕ} {ended over : Bool} {taken : List Taken} {texts : List (List ℕ)} → (after → fits) →
+pub stands_over : {rules : Rules} {fits after : Type 0} {begin before now : Sight} {unread left fed more : List ℕ} {ended over : Bool} {taken : List Taken} {texts : List (List ℕ)} → (after → fits) →
     now.given ≡ with_bytes begin.given (more ++ left) → (over ≡ true → (now.ended ≡ true) × (left ≡ [])) → now.taken ≡ before.taken → now.reads ≡ before.reads →
-    Stands limit fits begin before unread fed ended taken texts → Stands limit after begin now left more over taken texts
+    Stands rules fits begin before unread fed ended taken texts → Stands rules after begin now left more over taken texts
 stands_over weaker read_is ended_is same_taken same_reads stands = record {
   read_is = read_is;
   ended_is = ended_is;
@@ -84,13 +85,13 @@ stands_over weaker read_is ended_is same_taken same_reads stands = record {
 }
 
 -- where the answers are known to fit
-pub stands_fits : (limit : ℕ) (fits after : Type 0) (begin now : Sight) (unread fed : List ℕ) (ended : Bool) (taken : List Taken) (texts : List (List ℕ)) → fits → Stands limit fits begin now unread fed ended taken texts → Stands limit after begin now unread fed ended taken texts
-stands_fits limit fits after begin now unread fed ended taken texts known stands = stands_over (λ f. known) stands.read_is stands.ended_is refl refl stands
+pub stands_fits : (rules : Rules) (fits after : Type 0) (begin now : Sight) (unread fed : List ℕ) (ended : Bool) (taken : List Taken) (texts : List (List ℕ)) → fits → Stands rules fits begin now unread fed ended taken texts → Stands rules after begin now unread fed ended taken texts
+stands_fits rules fits after begin now unread fed ended taken texts known stands = stands_over (λ f. known) stands.read_is stands.ended_is refl refl stands
 
 -- every command of the bytes read was taken, and its reply is written out: the line was asked for more
-pub stands_asked : (limit : ℕ) (fits : Type 0) (begin before : Sight) (fed : List ℕ) (ended : Bool) (taken : List Taken) (texts : List (List ℕ)) → AreCommands limit fed (commands_of taken) → (fits → length texts ≡ length taken) →
-    Stands limit fits begin before [] fed ended taken texts → Stands limit fits begin (asked before) [] fed ended taken texts
-stands_asked limit fits begin before fed ended taken texts all complete stands =
+pub stands_asked : (rules : Rules) (fits : Type 0) (begin before : Sight) (fed : List ℕ) (ended : Bool) (taken : List Taken) (texts : List (List ℕ)) → AreCommands rules fed (commands_of taken) → (fits → length texts ≡ length taken) →
+    Stands rules fits begin before [] fed ended taken texts → Stands rules fits begin (asked before) [] fed ended taken texts
+stands_asked rules fits begin before fed ended taken texts all complete stands =
     let read : Read = record { given = before.given; taken = before.taken } in
     record {
       read_is = stands.read_is;
@@ -102,7 +103,7 @@ stands_asked limit fits begin before fed ended taken texts all complete stands =
       owes_nothing = λ f.
           let same = complete f in
           let commands : take (length texts) (commands_of taken) ≡ commands_of taken = take_all (length texts) (commands_of taken) (omega (arith, same, commands-length taken)) in
-          all_push (OwesNothing limit begin (commands_of taken) texts) stands.reads read (stands.owes_nothing f)
+          all_push (OwesNothing rules begin (commands_of taken) texts) stands.reads read (stands.owes_nothing f)
           (record {
             count = length texts;
             within = omega arith;

@@ -41,7 +41,7 @@ hands received begin before now unread told conn new count is out serving =
         reads = serving.reads;
         reads_are = ap (λ (s : Sight). s.reads) out.written ∙ serving.reads_are;
         owes_nothing = λ f.
-            rw (← all, ← append-nil (commands_of told.taken)) (all_owed_later told.limit begin (commands_of told.taken) [] texts later serving.reads (omega (arith, counted, commands-length told.taken)) (serving.owes_nothing f));
+            rw (← all, ← append-nil (commands_of told.taken)) (all_owed_later told.rules begin (commands_of told.taken) [] texts later serving.reads (omega (arith, counted, commands-length told.taken)) (serving.owes_nothing f));
       },
     )
 
@@ -56,11 +56,11 @@ ends received begin now unread told conn is whole over serving =
     let stands = rw (handed_all told) at serving in
     let closed : IsClosed told = elim over [ inl broken ↦ absurd (let bad : true ≡ false = sym broken ∙ whole in cc) | inr closed ↦ closed ] in
     let all_taken : IsAllTaken told = elim closed [
-      | inl shut ↦ (let P : List ℕ → Type 0 = λ bytes. AreCommands told.limit bytes (commands_of told.taken) in subst P (append-nil told.fed) (closed_more told.limit told.fed [] (commands_of told.taken) shut sound.begin))
+      | inl shut ↦ (let P : List ℕ → Type 0 = λ bytes. AreCommands told.rules bytes (commands_of told.taken) in subst P (append-nil told.fed) (closed_more told.rules told.fed [] (commands_of told.taken) shut sound.begin))
       | inr all ↦ all.1
     ] in
-    let read : AreCommands told.limit (told.fed ++ unread) (commands_of told.taken) × (IsTrue now.ended ⊎ IsTrue (is_closed (commands_of told.taken))) = elim closed [
-      | inl shut ↦ (closed_more told.limit told.fed unread (commands_of told.taken) shut sound.begin, inr shut)
+    let read : AreCommands told.rules (told.fed ++ unread) (commands_of told.taken) × (IsTrue now.ended ⊎ IsTrue (is_closed (commands_of told.taken))) = elim closed [
+      | inl shut ↦ (closed_more told.rules told.fed unread (commands_of told.taken) shut sound.begin, inr shut)
       | inr all ↦ let is = stands.ended_is all.0 in (rw (is.1, append-nil) all.1, inl is.0)
     ] in
     record {
@@ -101,7 +101,7 @@ breaks_hand received begin before now unread told conn is off serving =
         written = concat texts ++ take off.count waiting;
         read_is = ap (λ (s : Sight). s.given) off.sight ∙ serving.read_is;
         written_is = ap (λ (s : Sight). s.taken) off.sight ∙ (ap (λ t. with_bytes t (take off.count waiting)) serving.taken_is ∙ with_bytes-append begin.taken (concat texts) (take off.count waiting));
-        covers = begins_more told.limit told.fed unread (commands_of told.taken) sound.begin;
+        covers = begins_more told.rules told.fed unread (commands_of told.taken) sound.begin;
         writes = (
           drop off.count waiting,
           append_assoc (concat texts) (take off.count waiting) (drop off.count waiting)
@@ -114,7 +114,7 @@ breaks_hand received begin before now unread told conn is off serving =
       reads = λ f. record {
         reads = serving.reads;
         reads_are = ap (λ (s : Sight). s.reads) off.sight ∙ serving.reads_are;
-        each = rw (all, ← append-nil (commands_of told.taken)) (all_owed_later told.limit begin (commands_of told.taken) [] texts rest serving.reads (omega (arith, counted, commands-length told.taken)) (serving.owes_nothing f));
+        each = rw (all, ← append-nil (commands_of told.taken)) (all_owed_later told.rules begin (commands_of told.taken) [] texts rest serving.reads (omega (arith, counted, commands-length told.taken)) (serving.owes_nothing f));
       };
     }
 
@@ -125,7 +125,7 @@ none_in bytes empty = nil_from_length bytes (eqb-true (length bytes) 0 empty)
 asks : (received : ℕ → List Shown) (begin before : Sight) (unread : List ℕ) (told : Told) → IsAllTaken told
     → (KeysFit told.shards told.taken received → length (all_texts told) ≡ length told.taken) → (length unread == 0) ≡ true → Serving received begin before unread (all_handed told) → Serving received begin (asked before) [] (all_handed told)
 asks received begin before unread told all complete empty serving =
-    stands_asked told.limit (KeysFit told.shards told.taken received) begin before told.fed told.ended told.taken (handed_texts (all_handed told)) all (λ f. ap length (handed_all told) ∙ complete f) (rw (none_in unread empty) at serving)
+    stands_asked told.rules (KeysFit told.shards told.taken received) begin before told.fed told.ended told.taken (handed_texts (all_handed told)) all (λ f. ap length (handed_all told) ∙ complete f) (rw (none_in unread empty) at serving)
 
 -- the line failed at a read
 pub breaks_read : (received : ℕ → List Shown) (begin before now : Sight) (unread : List ℕ) (told : Told) (conn : Conn) → IsConn conn (record (all_handed told) { broken = true }) → IsAllTaken told

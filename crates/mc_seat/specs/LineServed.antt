@@ -14,6 +14,7 @@ use Rattle.mc_conn.specs.Fits.{KeysFit, Serves}
 use Rattle.mc_conn.specs.Told.{IsAtRest, IsOver, Told, all_pieces, all_texts, commands_of}
 use Rattle.mc_seat.specs.Reads.{ReadsOwingNothing}
 use Rattle.mc_seat.specs.Story.{Story}
+use Rattle.mc_command.specs.declared.rules.Rules.{Rules}
 
 -- On each lane of the seat just the pieces that were due at its shard were sent, in order, and as many replies received.
 pub record Exchanges (before after : Ends Near) (told : Told) (received : ℕ → List Shown) : Type 0 where
@@ -22,12 +23,12 @@ pub record Exchanges (before after : Ends Near) (told : Told) (received : ℕ �
   pub came : (shard : ℕ) → shard < told.shards → received_on after shard ≡ received_on before shard ++ received shard
   pub answered : (shard : ℕ) → length (received shard) ≡ length (due told.shards shard told.taken)
 
--- The line was served over so many shards and under this value limit: between begin and now it was read and written, and so
+-- The line was served over so many shards and by these rules: between begin and now it was read and written, and so
 -- many commands of it were taken.
-pub record LineServed (shards limit : ℕ) (may_answer : ℕ → Type 0) (begin now : Sight) (before after : Ends Near) (conn : Conn) (commands : ℕ) (broke : Bool) : Type 0 where
+pub record LineServed (shards : ℕ) (rules : Rules) (may_answer : ℕ → Type 0) (begin now : Sight) (before after : Ends Near) (conn : Conn) (commands : ℕ) (broke : Bool) : Type 0 where
   pub told : Told
   pub shards_is : told.shards ≡ shards
-  pub limit_is : told.limit ≡ limit
+  pub rules_are : told.rules ≡ rules
   pub conn_is : IsConn conn told
   pub over : IsOver told
   pub out : told.out ≡ length (all_pieces told)
@@ -35,11 +36,11 @@ pub record LineServed (shards limit : ℕ) (may_answer : ℕ → Type 0) (begin 
   pub exchanges : Exchanges before after told received
   -- Where the keys of the replies are those of the pieces due, the replies accepted are those received.
   pub serves : Serves told.shards told.taken told.accepted received
-  pub story : Story told.limit begin now broke told.taken (all_texts told)
+  pub story : Story told.rules begin now broke told.taken (all_texts told)
   pub moments : AllByRecursion (λ one. may_answer one.moment) told.taken
   pub counted : commands ≡ length told.taken
   -- And then it was read only where all replies to the bytes read so far were written out, and each command has its reply.
-  pub reads : KeysFit told.shards told.taken received → ReadsOwingNothing told.limit begin now (commands_of told.taken) (all_texts told)
+  pub reads : KeysFit told.shards told.taken received → ReadsOwingNothing told.rules begin now (commands_of told.taken) (all_texts told)
   pub complete : KeysFit told.shards told.taken received → length (all_texts told) ≡ length told.taken
   -- And nothing is under way any more, so that the connection can be renewed.
   pub rest : KeysFit told.shards told.taken received → IsAtRest told

@@ -5,20 +5,21 @@ use Rattle.mc_wire.specs.Outlet.{with_bytes}
 use Rattle.mc_command.specs.declared.command.Command.{Command}
 use Rattle.mc_reader.specs.Spelling.{AreCommands}
 use Rattle.mc_wire.specs.Outlet.{Read, Sight, with_reads}
+use Rattle.mc_command.specs.declared.rules.Rules.{Rules}
 
--- At the time of the read (under this value limit) all commands of the bytes that the line had given since its beginning were taken, so many, and the
+-- At the time of the read (under this value rules) all commands of the bytes that the line had given since its beginning were taken, so many, and the
 -- line had taken their replies, whole.
-pub record OwesNothing (limit : ℕ) (begin : Sight) (commands : List Command) (texts : List (List ℕ)) (read : Read) : Type 0 where
+pub record OwesNothing (rules : Rules) (begin : Sight) (commands : List Command) (texts : List (List ℕ)) (read : Read) : Type 0 where
   pub count : ℕ
   pub within : count ≤ length texts
   pub given : List ℕ
   pub given_is : read.given ≡ with_bytes begin.given given
-  pub all_taken : AreCommands limit given (take count commands)
+  pub all_taken : AreCommands rules given (take count commands)
   pub all_written : read.taken ≡ with_bytes begin.taken (concat (take count texts))
 
 -- The line was read between begin and now only where nothing was owed. These are the commands taken and the texts of their
 -- replies.
-pub record ReadsOwingNothing (limit : ℕ) (begin now : Sight) (commands : List Command) (texts : List (List ℕ)) : Type 0 where
+pub record ReadsOwingNothing (rules : Rules) (begin now : Sight) (commands : List Command) (texts : List (List ℕ)) : Type 0 where
   pub reads : List Read
   pub reads_are : now.reads ≡ with_reads begin.reads reads
-  pub each : AllByRecursion (OwesNothing limit begin commands texts) reads
+  pub each : AllByRecursion (OwesNothing rules begin commands texts) reads

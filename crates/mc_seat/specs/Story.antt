@@ -6,23 +6,24 @@ use Rattle.mc_reader.specs.Spelling.{AreCommands, BeginCommands, is_closed}
 use Rattle.mc_conn.specs.History.{Taken, MayBeTaken}
 use Rattle.mc_conn.specs.Told.{commands_of}
 use Rattle.mc_wire.specs.Outlet.{Sight}
+use Rattle.mc_command.specs.declared.rules.Rules.{Rules}
 
 -- The commands taken are all that the bytes read spell; of a line that broke, a beginning of them.
-abbrev pub Covers : ℕ → Bool → List ℕ → List Taken → Type 0
-Covers limit broke read taken = MatchBool broke (BeginCommands limit read (commands_of taken)) (AreCommands limit read (commands_of taken))
+abbrev pub Covers : Rules → Bool → List ℕ → List Taken → Type 0
+Covers rules broke read taken = MatchBool broke (BeginCommands rules read (commands_of taken)) (AreCommands rules read (commands_of taken))
 
 -- The line took all texts; one that broke, a beginning of them.
 abbrev pub Writes : Bool → List ℕ → List (List ℕ) → Type 0
 Writes broke written texts = MatchBool broke ((rest : List ℕ) × (written ++ rest ≡ concat texts)) (written ≡ concat texts)
 
 -- What became of a line between begin and now.
-pub record Story (limit : ℕ) (begin now : Sight) (broke : Bool) (taken : List Taken) (texts : List (List ℕ)) : Type 0 where
+pub record Story (rules : Rules) (begin now : Sight) (broke : Bool) (taken : List Taken) (texts : List (List ℕ)) : Type 0 where
   -- the bytes read of it, and written to it
   pub read : List ℕ
   pub written : List ℕ
   pub read_is : now.given ≡ with_bytes begin.given read
   pub written_is : now.taken ≡ with_bytes begin.taken written
-  pub covers : Covers limit broke read taken
+  pub covers : Covers rules broke read taken
   pub writes : Writes broke written texts
   pub may : AllByRecursion MayBeTaken taken
   -- Its input came to its end, or a command was taken after which nothing is read.

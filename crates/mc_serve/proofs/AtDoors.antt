@@ -9,7 +9,7 @@ use Rattle.mc_ring.specs.Lane.{Near}
 use Rattle.mc_ring.specs.Ends.{AreSameEnds, Ends}
 use Rattle.mc_ring.specs.EndsLaws.{lane_kept, same_ends-trans}
 use Rattle.mc_ring.specs.Made.{AreLanes, AreNewEnds}
-use Rattle.mc_core.specs.Sizes.{Sizes}
+use Rattle.mc_core.specs.Sizes.{Sizes, rules_of}
 use Rattle.mc_core.specs.Desk.{Desk}
 use Rattle.mc_server.specs.Explains.{LineTold}
 use Rattle.mc_serve.specs.Asking.{AreTied, HasLanes}
@@ -26,50 +26,51 @@ use Rattle.mc_serve.specs.Seats.{AllFit, SeatAt, SeatServes}
 use Rattle.mc_serve.specs.Served.{ExplainsSeat, PassEach, ServesDoors}
 use Rattle.mc_serve.proofs.Chain.{lines_same}
 use Rattle.mc_serve.proofs.Segments.{IsSeatKnown, explains_seat}
+use Rattle.mc_command.specs.declared.rules.Rules.{Rules}
 
 -- A seat of which more is known: the keys of all replies to its lines fit.
-record SeatFits (shards limit : ℕ) (may_answer : ℕ → Type 0) (sat rose : SeatAt) : Type 0 where
-  serves : SeatServes shards limit may_answer sat rose
-  fits : AllFit shards limit may_answer serves.lines sat.ends serves.served serves.lines_are
+record SeatFits (shards : ℕ) (rules : Rules) (may_answer : ℕ → Type 0) (sat rose : SeatAt) : Type 0 where
+  serves : SeatServes shards rules may_answer sat rose
+  fits : AllFit shards rules may_answer serves.lines sat.ends serves.served serves.lines_are
 
 -- A seat by its number, before and after, and its lines.
-record IsSeatAt (shards limit : ℕ) (may_answer : ℕ → Type 0) (sats roses : List SeatAt) (number : ℕ) (lines : List LineTold) : Type 0 where
+record IsSeatAt (shards : ℕ) (rules : Rules) (may_answer : ℕ → Type 0) (sats roses : List SeatAt) (number : ℕ) (lines : List LineTold) : Type 0 where
   sat : SeatAt
   rose : SeatAt
   at_sat : slice_get sats number ≡ Some sat
   at_rose : slice_get roses number ≡ Some rose
-  serves : SeatServes shards limit may_answer sat rose
+  serves : SeatServes shards rules may_answer sat rose
   lines_are : serves.lines ≡ lines
 
 -- The lines of all seats.
-record HaveLines (shards limit : ℕ) (may_answer : ℕ → Type 0) (sats roses : List SeatAt) : Type 0 where
+record HaveLines (shards : ℕ) (rules : Rules) (may_answer : ℕ → Type 0) (sats roses : List SeatAt) : Type 0 where
   seats : List (List LineTold)
   back : PassEach (map (λ (sat : SeatAt). sat.door) sats) seats (map (λ (rose : SeatAt). rose.door) roses)
   count : length seats ≡ length sats
-  at : (number : ℕ) (lines : List LineTold) → slice_get seats number ≡ Some lines → IsSeatAt shards limit may_answer sats roses number lines
+  at : (number : ℕ) (lines : List LineTold) → slice_get seats number ≡ Some lines → IsSeatAt shards rules may_answer sats roses number lines
 
-seat_here : (shards limit : ℕ) (may_answer : ℕ → Type 0) (sat rose : SeatAt) (sats roses : List SeatAt) (serves : SeatServes shards limit may_answer sat rose) (seats : List (List LineTold))
-    → ((number : ℕ) (lines : List LineTold) → slice_get seats number ≡ Some lines → IsSeatAt shards limit may_answer sats roses number lines)
-    → (number : ℕ) (lines : List LineTold) → slice_get (serves.lines ∷ seats) number ≡ Some lines → IsSeatAt shards limit may_answer (sat ∷ sats) (rose ∷ roses) number lines
-seat_here shards limit may_answer sat rose sats roses serves seats at zero lines here =
+seat_here : (shards : ℕ) (rules : Rules) (may_answer : ℕ → Type 0) (sat rose : SeatAt) (sats roses : List SeatAt) (serves : SeatServes shards rules may_answer sat rose) (seats : List (List LineTold))
+    → ((number : ℕ) (lines : List LineTold) → slice_get seats number ≡ Some lines → IsSeatAt shards rules may_answer sats roses number lines)
+    → (number : ℕ) (lines : List LineTold) → slice_get (serves.lines ∷ seats) number ≡ Some lines → IsSeatAt shards rules may_answer (sat ∷ sats) (rose ∷ roses) number lines
+seat_here shards rules may_answer sat rose sats roses serves seats at zero lines here =
     record { sat = sat; rose = rose; at_sat = refl; at_rose = refl; serves = serves; lines_are = same_Some serves.lines lines here }
-seat_here shards limit may_answer sat rose sats roses serves seats at (suc number) lines here =
+seat_here shards rules may_answer sat rose sats roses serves seats at (suc number) lines here =
     let rest = at number lines here in
     record { sat = rest.sat; rose = rest.rose; at_sat = rest.at_sat; at_rose = rest.at_rose; serves = rest.serves; lines_are = rest.lines_are }
 
-have_lines : (shards limit : ℕ) (may_answer : ℕ → Type 0) (sats roses : List SeatAt) → Zips (SeatFits shards limit may_answer) sats roses → HaveLines shards limit may_answer sats roses
-have_lines shards limit may_answer [] [] zips = record { seats = []; back = tt; count = refl; at = λ number lines here. absurd (cc) }
-have_lines shards limit may_answer [] (rose ∷ roses) zips = absurd zips
-have_lines shards limit may_answer (sat ∷ sats) [] zips = absurd zips
-have_lines shards limit may_answer (sat ∷ sats) (rose ∷ roses) zips =
-    let rest = have_lines shards limit may_answer sats roses zips.1 in
+have_lines : (shards : ℕ) (rules : Rules) (may_answer : ℕ → Type 0) (sats roses : List SeatAt) → Zips (SeatFits shards rules may_answer) sats roses → HaveLines shards rules may_answer sats roses
+have_lines shards rules may_answer [] [] zips = record { seats = []; back = tt; count = refl; at = λ number lines here. absurd (cc) }
+have_lines shards rules may_answer [] (rose ∷ roses) zips = absurd zips
+have_lines shards rules may_answer (sat ∷ sats) [] zips = absurd zips
+have_lines shards rules may_answer (sat ∷ sats) (rose ∷ roses) zips =
+    let rest = have_lines shards rules may_answer sats roses zips.1 in
     let serves = zips.0.serves in
     let over = serves.over zips.0.fits in
     record {
       seats = serves.lines ∷ rest.seats;
       back = (record { passed = serves.passed; passes = serves.door; done = over.done; over = over.now }, rest.back);
       count = ap suc rest.count;
-      at = seat_here shards limit may_answer sat rose sats roses serves rest.seats rest.at;
+      at = seat_here shards rules may_answer sat rose sats roses serves rest.seats rest.at;
     }
 
 -- The threads were started over new lanes: seats by their doors, workers by fresh shards.
@@ -78,22 +79,22 @@ pub record HasBegun (sizes : Sizes) (sats : List SeatAt) (begun : List Desk) : T
   pub fresh : AllByRecursion (IsFresh sizes) begun
 
 -- the ends are those of the seat before
-seat_same : (shards limit : ℕ) (may_answer : ℕ → Type 0) (sat rose : SeatAt) → SeatServes shards limit may_answer sat rose → AreSameEnds sat.ends rose.ends
-seat_same shards limit may_answer sat rose serves = same_ends-trans sat.ends serves.served rose.ends (lines_same shards limit may_answer serves.lines sat.ends serves.served serves.lines_are) serves.closed.same
+seat_same : (shards : ℕ) (rules : Rules) (may_answer : ℕ → Type 0) (sat rose : SeatAt) → SeatServes shards rules may_answer sat rose → AreSameEnds sat.ends rose.ends
+seat_same shards rules may_answer sat rose serves = same_ends-trans sat.ends serves.served rose.ends (lines_same shards rules may_answer serves.lines sat.ends serves.served serves.lines_are) serves.closed.same
 
 -- Each seat has a lane to each worker once they are joined.
 pub lanes_joined : (sizes : Sizes) (may_answer : ℕ → Type 0) (sats roses : List SeatAt) (begun ended : List Desk) → HasBegun sizes sats begun
-    → Zips (SeatServes sizes.shards sizes.value may_answer) sats roses → Zips Finishes begun ended
+    → Zips (SeatServes sizes.shards (rules_of sizes) may_answer) sats roses → Zips Finishes begun ended
     → (number : ℕ) (rose : SeatAt) → slice_get roses number ≡ Some rose → HasLanes rose.ends ended
 lanes_joined sizes may_answer sats roses begun ended started served finished number rose here shard desk there =
-    let sat = met_at (SeatServes sizes.shards sizes.value may_answer) sats roses number rose served here in
+    let sat = met_at (SeatServes sizes.shards (rules_of sizes) may_answer) sats roses number rose served here in
     let begin = met_at Finishes begun ended shard desk finished there in
     let lane = started.lanes.each_lane number shard sat.one.ends begin.one.ends (get_map (λ (one : SeatAt). one.ends) sats number sat.one sat.here) (get_map (λ (one : Desk). one.ends) begun shard begin.one begin.here) in
-    lane_kept sat.one.ends rose.ends begin.one.ends desk.ends (seat_same sizes.shards sizes.value may_answer sat.one rose sat.met) begin.met.goes.ends lane
+    lane_kept sat.one.ends rose.ends begin.one.ends desk.ends (seat_same sizes.shards (rules_of sizes) may_answer sat.one rose sat.met) begin.met.goes.ends lane
 
 -- One log explains the lines of all doors.
 pub serves_doors : (sizes : Sizes) (may_answer : ℕ → Type 0) (sats roses : List SeatAt) (begun ended : List Desk) → 0 < sizes.shards → HasBegun sizes sats begun
-    → Zips (SeatServes sizes.shards sizes.value may_answer) sats roses → Zips Finishes begun ended → AllByRecursion (λ (rose : SeatAt). AreTied rose.ends ended) roses
+    → Zips (SeatServes sizes.shards (rules_of sizes) may_answer) sats roses → Zips Finishes begun ended → AllByRecursion (λ (rose : SeatAt). AreTied rose.ends ended) roses
     → ServesDoors sizes may_answer (map (λ (sat : SeatAt). sat.door) sats) (map (λ (rose : SeatAt). rose.door) roses)
 serves_doors sizes may_answer sats roses begun ended some started served finished tied =
     let lanes = started.lanes in
@@ -104,17 +105,17 @@ serves_doors sizes may_answer sats roses begun ended some started served finishe
     (let at : i ≡ 0 + i = omega arith in
     let N : ℕ → Type 0 = λ n. AreNewEnds n sizes.seats sizes.ring desk.ends in
     subst N at (lanes.each_shard i desk.ends (get_map (λ (one : Desk). one.ends) begun i desk here)))) started.fresh finished in
-    let known = λ (number : ℕ) (sat rose : SeatAt) (at_sat : slice_get sats number ≡ Some sat) (at_rose : slice_get roses number ≡ Some rose) (serves : SeatServes sizes.shards sizes.value may_answer sat rose).
+    let known = λ (number : ℕ) (sat rose : SeatAt) (at_sat : slice_get sats number ≡ Some sat) (at_rose : slice_get roses number ≡ Some rose) (serves : SeatServes sizes.shards (rules_of sizes) may_answer sat rose).
     (let new : AreNewEnds number sizes.shards sizes.ring sat.ends = lanes.each_seat number sat.ends (get_map (λ (sat : SeatAt). sat.ends) sats number sat at_sat) in
-    let place : rose.ends.number ≡ number = (seat_same sizes.shards sizes.value may_answer sat rose serves).number ∙ new.number_is in
+    let place : rose.ends.number ≡ number = (seat_same sizes.shards (rules_of sizes) may_answer sat rose serves).number ∙ new.number_is in
     let below : number < length sats = slice_get_within sats number sat at_sat in
     let joined : IsJoined sizes rose.ends ended have.logs = record { some = some; seat = omega (arith, place, below, seats); count = count; are = have.are; tied = all_at (λ (rose : SeatAt). AreTied rose.ends ended) roses number rose tied at_rose } in
     let K : ℕ → Type 0 = λ n. IsSeatKnown sizes may_answer (together have.logs) n sat rose serves in
     let is : K number = subst K place (explains_seat sizes sizes.ring number may_answer sat rose ended have.logs serves new joined) in
     is) in
-    let fit : Zips (SeatFits sizes.shards sizes.value may_answer) sats roses =
-    zips_each (SeatServes sizes.shards sizes.value may_answer) (SeatFits sizes.shards sizes.value may_answer) sats roses served (λ number sat rose at_sat at_rose serves. record { serves = serves; fits = (known number sat rose at_sat at_rose serves).fits }) in
-    let all = have_lines sizes.shards sizes.value may_answer sats roses fit in
+    let fit : Zips (SeatFits sizes.shards (rules_of sizes) may_answer) sats roses =
+    zips_each (SeatServes sizes.shards (rules_of sizes) may_answer) (SeatFits sizes.shards (rules_of sizes) may_answer) sats roses served (λ number sat rose at_sat at_rose serves. record { serves = serves; fits = (known number sat rose at_sat at_rose serves).fits }) in
+    let all = have_lines sizes.shards (rules_of sizes) may_answer sats roses fit in
     let told : length all.seats ≡ sizes.seats = all.count ∙ seats in
     record {
       seats = all.seats;
@@ -138,7 +139,7 @@ module _ {S W D : Type 0} (sizes : Sizes) (may_answer : ℕ → Type 0) (sitting
     pub doors_are : map door_of sitting ≡ doors
     pub lanes : AreLanes sizes.seats sizes.shards sizes.ring (map (λ seat. (at seat).ends) sitting) (map ends_of (map desk_of working))
     pub fresh : AllByRecursion (IsFresh sizes) (map desk_of working)
-    pub served : Zips (SeatServes sizes.shards sizes.value may_answer) (map at sitting) (map at seats)
+    pub served : Zips (SeatServes sizes.shards (rules_of sizes) may_answer) (map at sitting) (map at seats)
     pub finished : Zips Finishes (map desk_of working) (map desk_of workers)
 
   has_begun : AreJoined → HasBegun sizes (map at sitting) (map desk_of working)

@@ -9,6 +9,7 @@ use Rattle.mc_server.specs.Explains.{LineTold}
 use Rattle.mc_threads.proofs.Orders.{map_one}
 use Rattle.mc_serve.specs.Told.{Comes, DoorTold, IsFree, IsNext, Passes, Told, Untold, later, let_in, took_back}
 use Rattle.mc_serve.specs.Seats.{AllFit, LineFits, SeatAt, ServesLine, ServesLines}
+use Rattle.mc_command.specs.declared.rules.Rules.{Rules}
 
 pub passes_none : (door : DoorTold) → Passes door [] door
 passes_none Untold = refl
@@ -54,25 +55,25 @@ passes_more (Told coming out told over) now accepted last lines line free passes
       took ∙ (ap (λ one. Told (later rest) one ((told ++ lines) ++ line ∷ []) over) (sym free) ∙ ap (λ all. Told (later rest) out all over) (append_assoc told lines (line ∷ []))),
     )
 
-module _ (shards limit : ℕ) (may_answer : ℕ → Type 0) where
-  pub lines_same : (lines : List LineTold) (before after : Ends Near) → ServesLines shards limit may_answer lines before after → AreSameEnds before after
+module _ (shards : ℕ) (rules : Rules) (may_answer : ℕ → Type 0) where
+  pub lines_same : (lines : List LineTold) (before after : Ends Near) → ServesLines shards rules may_answer lines before after → AreSameEnds before after
   lines_same [] before after are = let P : Ends Near → Type 0 = λ ends. AreSameEnds before ends in subst P (sym are) (same_ends-refl before)
   lines_same (line ∷ lines) before after are = same_ends-trans before are.0 after are.1.served.exchanges.same (lines_same lines are.0 after are.2)
 
-  pub lines_more : (lines : List LineTold) (line : LineTold) (first now last : Ends Near) → ServesLines shards limit may_answer lines first now → ServesLine shards limit may_answer line now last → ServesLines shards limit may_answer (lines ++ line ∷ []) first last
-  lines_more [] line first now last are this = let P : Ends Near → Type 0 = λ ends. ServesLine shards limit may_answer line ends last in (last, subst P are this, refl)
+  pub lines_more : (lines : List LineTold) (line : LineTold) (first now last : Ends Near) → ServesLines shards rules may_answer lines first now → ServesLine shards rules may_answer line now last → ServesLines shards rules may_answer (lines ++ line ∷ []) first last
+  lines_more [] line first now last are this = let P : Ends Near → Type 0 = λ ends. ServesLine shards rules may_answer line ends last in (last, subst P are this, refl)
   lines_more (l ∷ lines) line first now last are this = (are.0, are.1, lines_more lines line are.0 now last are.2 this)
 
   -- the ends of a line that was served, by another name
-  fits_moved : (line : LineTold) (now first last : Ends Near) (are : now ≡ first) (this : ServesLine shards limit may_answer line now last) → (let P : Ends Near → Type 0 = λ ends. ServesLine shards limit may_answer line ends last in LineFits shards limit may_answer line first last (subst P are this)) → LineFits shards limit may_answer line now last this
+  fits_moved : (line : LineTold) (now first last : Ends Near) (are : now ≡ first) (this : ServesLine shards rules may_answer line now last) → (let P : Ends Near → Type 0 = λ ends. ServesLine shards rules may_answer line ends last in LineFits shards rules may_answer line first last (subst P are this)) → LineFits shards rules may_answer line now last this
   fits_moved line now first last are this =
-      let P : Ends Near → Type 0 = λ ends. ServesLine shards limit may_answer line ends last in
-      let S : Singl now → Type 0 = λ z. LineFits shards limit may_answer line z.0 last (subst P z.1 this) → LineFits shards limit may_answer line now last this in
-      let F : ServesLine shards limit may_answer line now last → Type 0 = λ s. LineFits shards limit may_answer line now last s in
+      let P : Ends Near → Type 0 = λ ends. ServesLine shards rules may_answer line ends last in
+      let S : Singl now → Type 0 = λ z. LineFits shards rules may_answer line z.0 last (subst P z.1 this) → LineFits shards rules may_answer line now last this in
+      let F : ServesLine shards rules may_answer line now last → Type 0 = λ s. LineFits shards rules may_answer line now last s in
       subst S (contract are) (λ fits. subst F (subst_refl P this) fits)
 
   -- where the keys of all fit, those of the last do
-  fits_last : (lines : List LineTold) (line : LineTold) (first now last : Ends Near) (are : ServesLines shards limit may_answer lines first now) (this : ServesLine shards limit may_answer line now last) → AllFit shards limit may_answer (lines ++ line ∷ []) first last (lines_more lines line first now last are this) → LineFits shards limit may_answer line now last this
+  fits_last : (lines : List LineTold) (line : LineTold) (first now last : Ends Near) (are : ServesLines shards rules may_answer lines first now) (this : ServesLine shards rules may_answer line now last) → AllFit shards rules may_answer (lines ++ line ∷ []) first last (lines_more lines line first now last are this) → LineFits shards rules may_answer line now last this
   unfolding lines_more
   fits_last [] line first now last are this fits = fits_moved line now first last are this fits.0
   fits_last (l ∷ lines) line first now last are this fits = fits_last lines line are.0 now last are.2 this fits.1
@@ -81,12 +82,12 @@ module _ (shards limit : ℕ) (may_answer : ℕ → Type 0) where
   pub record OneMore (sat rose : SeatAt) (another : Bool) : Type 0 where
     pub lines : List LineTold
     pub door : Passes sat.door lines rose.door
-    pub lines_are : ServesLines shards limit may_answer lines sat.ends rose.ends
-    pub stops : another ≡ false → AllFit shards limit may_answer lines sat.ends rose.ends lines_are → ⊥
+    pub lines_are : ServesLines shards rules may_answer lines sat.ends rose.ends
+    pub stops : another ≡ false → AllFit shards rules may_answer lines sat.ends rose.ends lines_are → ⊥
 
   pub one_more : (sat rose : SeatAt) (lines : List LineTold) (line : LineTold) (before door : DoorTold) (ends : Ends Near) (another : Bool) → IsFree sat.door → Passes sat.door lines before → IsNext line.begin before → door ≡ let_in line.begin before
-      → rose.door ≡ took_back line.now line.commands line.broke door → ServesLines shards limit may_answer lines sat.ends ends
-      → (this : ServesLine shards limit may_answer line ends rose.ends) → (another ≡ false → LineFits shards limit may_answer line ends rose.ends this → ⊥) → OneMore sat rose another
+      → rose.door ≡ took_back line.now line.commands line.broke door → ServesLines shards rules may_answer lines sat.ends ends
+      → (this : ServesLine shards rules may_answer line ends rose.ends) → (another ≡ false → LineFits shards rules may_answer line ends rose.ends this → ⊥) → OneMore sat rose another
   one_more sat rose lines line before door ends another free passed next came back are this stops = record {
     lines = lines ++ line ∷ [];
     door = passes_more sat.door before door rose.door lines line free passed next came back;

@@ -6,7 +6,7 @@ use Rattle.mc_core.proofs.Lists.{take_next}
 use Rattle.mc_wire.specs.Outlet.{Sight}
 use Rattle.std.specs.Prelude.{OnOk}
 use Rattle.mc_ring.specs.Made.{AreLanes}
-use Rattle.mc_core.specs.Sizes.{Sizes}
+use Rattle.mc_core.specs.Sizes.{Sizes, rules_of}
 use Rattle.mc_core.specs.Desk.{Desk, Goes}
 use Rattle.mc_core.specs.DeskLaws.{goes_refl, goes_trans}
 use Rattle.mc_crew.specs.Zips.{Zips}
@@ -22,39 +22,40 @@ use Rattle.mc_serve.proofs.Lanes.{map-slice_set, map_here}
 use Rattle.mc_serve.proofs.Steps.{can_step, sits_first}
 use Rattle.mc_serve.proofs.Zipped.{met_at, zips_append, zips_each, zips_set}
 use Rattle.mc_serve.proofs.AtDoors.{AreJoined}
+use Rattle.mc_command.specs.declared.rules.Rules.{Rules}
 
 -- A seat stands, and how it is seen: by what is told of its door, its session and its phase.
-abbrev pub Stands : {S L : Type 0} → (L → Sight) → (S → DoorTold) → (S → Session) → (S → Phase L) → ℕ → ℕ → (ℕ → Type 0) → SeatAt → S → Type 0
-Stands sight told session now shards limit may_answer sat one = SeatStands sight shards limit may_answer sat (told one) (session one) (now one)
+abbrev pub Stands : {S L : Type 0} → (L → Sight) → (S → DoorTold) → (S → Session) → (S → Phase L) → ℕ → Rules → (ℕ → Type 0) → SeatAt → S → Type 0
+Stands sight told session now shards rules may_answer sat one = SeatStands sight shards rules may_answer sat (told one) (session one) (now one)
 
 abbrev pub at : {S : Type 0} → (S → DoorTold) → (S → Session) → S → SeatAt
 at told session one = seat_at (told one) (session one).courier.ends
 
 -- The seats of a thread have sat down, so they stand as they began.
-pub seats_begin : {S L : Type 0} (seats : List S) (sight : L → Sight) (told : S → DoorTold) (session : S → Session) (now : S → Phase L) (shards limit : ℕ) (may_answer : ℕ → Type 0)
-    → AllByRecursion (λ one. HasSatDown shards limit (told one) (session one) (now one)) seats → Zips (Stands sight told session now shards limit may_answer) (map (at told session) seats) seats
-seats_begin [] sight told session now shards limit may_answer all = tt
-seats_begin {S} {L} (one ∷ seats) sight told session now shards limit may_answer all =
+pub seats_begin : {S L : Type 0} (seats : List S) (sight : L → Sight) (told : S → DoorTold) (session : S → Session) (now : S → Phase L) (shards : ℕ) (rules : Rules) (may_answer : ℕ → Type 0)
+    → AllByRecursion (λ one. HasSatDown shards rules (told one) (session one) (now one)) seats → Zips (Stands sight told session now shards rules may_answer) (map (at told session) seats) seats
+seats_begin [] sight told session now shards rules may_answer all = tt
+seats_begin {S} {L} (one ∷ seats) sight told session now shards rules may_answer all =
     let down = all.0 in
-    let P : Phase L → Type 0 = λ p. SeatStands sight shards limit may_answer (at told session one) (told one) (session one) p in
-    (subst P (sym down.none) (sits_first shards limit may_answer (told one) (session one) down.window down.free down.width down.vacant), seats_begin seats sight told session now shards limit may_answer all.1)
+    let P : Phase L → Type 0 = λ p. SeatStands sight shards rules may_answer (at told session one) (told one) (session one) p in
+    (subst P (sym down.none) (sits_first shards rules may_answer (told one) (session one) down.window down.free down.width down.vacant), seats_begin seats sight told session now shards rules may_answer all.1)
 
 -- All lanes were closed, so they have served.
-pub seats_over : {S L : Type 0} (seats : List S) (sats : List SeatAt) (sight : L → Sight) (told : S → DoorTold) (session : S → Session) (now : S → Phase L) (shards limit : ℕ) (may_answer : ℕ → Type 0)
-    → AllByRecursion (λ one. now one ≡ phase.Over) seats → Zips (Stands sight told session now shards limit may_answer) sats seats → Zips (SeatServes shards limit may_answer) sats (map (at told session) seats)
-seats_over [] [] sight told session now shards limit may_answer all zips = tt
-seats_over (one ∷ seats) [] sight told session now shards limit may_answer all zips = absurd zips
-seats_over [] (sat ∷ sats) sight told session now shards limit may_answer all zips = absurd zips
-seats_over {S} {L} (one ∷ seats) (sat ∷ sats) sight told session now shards limit may_answer all zips =
-    let P : Phase L → Type 0 = λ p. SeatStands sight shards limit may_answer sat (told one) (session one) p in
-    (subst P all.0 zips.0, seats_over seats sats sight told session now shards limit may_answer all.1 zips.1)
+pub seats_over : {S L : Type 0} (seats : List S) (sats : List SeatAt) (sight : L → Sight) (told : S → DoorTold) (session : S → Session) (now : S → Phase L) (shards : ℕ) (rules : Rules) (may_answer : ℕ → Type 0)
+    → AllByRecursion (λ one. now one ≡ phase.Over) seats → Zips (Stands sight told session now shards rules may_answer) sats seats → Zips (SeatServes shards rules may_answer) sats (map (at told session) seats)
+seats_over [] [] sight told session now shards rules may_answer all zips = tt
+seats_over (one ∷ seats) [] sight told session now shards rules may_answer all zips = absurd zips
+seats_over [] (sat ∷ sats) sight told session now shards rules may_answer all zips = absurd zips
+seats_over {S} {L} (one ∷ seats) (sat ∷ sats) sight told session now shards rules may_answer all zips =
+    let P : Phase L → Type 0 = λ p. SeatStands sight shards rules may_answer sat (told one) (session one) p in
+    (subst P all.0 zips.0, seats_over seats sats sight told session now shards rules may_answer all.1 zips.1)
 
 -- The seat at a place may be stepped.
-pub seat_steps : {S L : Type 0} (seats : List S) (sats : List SeatAt) (place : ℕ) (one : S) (sight : L → Sight) (told : S → DoorTold) (session : S → Session) (now : S → Phase L) (shards limit : ℕ) (may_answer : ℕ → Type 0)
-    → slice_get seats place ≡ Some one → Zips (Stands sight told session now shards limit may_answer) sats seats → CanStep (now one) (session one)
-seat_steps seats sats place one sight told session now shards limit may_answer here zips =
-    let met = met_at (Stands sight told session now shards limit may_answer) sats seats place one zips here in
-    can_step shards limit may_answer sight met.one (told one) (session one) (now one) met.met
+pub seat_steps : {S L : Type 0} (seats : List S) (sats : List SeatAt) (place : ℕ) (one : S) (sight : L → Sight) (told : S → DoorTold) (session : S → Session) (now : S → Phase L) (shards : ℕ) (rules : Rules) (may_answer : ℕ → Type 0)
+    → slice_get seats place ≡ Some one → Zips (Stands sight told session now shards rules may_answer) sats seats → CanStep (now one) (session one)
+seat_steps seats sats place one sight told session now shards rules may_answer here zips =
+    let met = met_at (Stands sight told session now shards rules may_answer) sats seats place one zips here in
+    can_step shards rules may_answer sight met.one (told one) (session one) (now one) met.met
 
 -- The workers of a thread are before their first turn.
 pub workers_begin : {W : Type 0} (workers : List W) (desk : W → Desk) → Zips Goes (map desk workers) (map desk workers)
@@ -155,19 +156,19 @@ pub parts_joined : {P S W D : Type 0} (crew parts : List P) (seats : List S) (wo
     → map door_of (flat_map own crew) ≡ doors
     → AreLanes sizes.seats sizes.shards sizes.ring (map (λ seat. (at seat).ends) (flat_map own crew)) (map ends_of (map desk_of (flat_map working crew)))
     → AllByRecursion (IsFresh sizes) (map desk_of (flat_map working crew))
-    → Zips (λ part part'. Zips (SeatServes sizes.shards sizes.value may_answer) (map at (own part)) (map at (own part')) × Zips Finishes (map desk_of (working part)) (map desk_of (working part'))) crew parts
+    → Zips (λ part part'. Zips (SeatServes sizes.shards (rules_of sizes) may_answer) (map at (own part)) (map at (own part')) × Zips Finishes (map desk_of (working part)) (map desk_of (working part'))) crew parts
     → seats ≡ flat_map own parts → workers ≡ flat_map working parts
     → AreJoined sizes may_answer (flat_map own crew) seats (flat_map working crew) workers doors back at door_of desk_of told
 parts_joined {P} {S} {W} {D} crew parts seats workers doors back own working at door_of desk_of told sizes may_answer seen doors_are lanes fresh done seats_are workers_are =
-    let Rise : P → P → Type 0 = λ part part'. Zips (SeatServes sizes.shards sizes.value may_answer) (map at (own part)) (map at (own part')) in
+    let Rise : P → P → Type 0 = λ part part'. Zips (SeatServes sizes.shards (rules_of sizes) may_answer) (map at (own part)) (map at (own part')) in
     let End : P → P → Type 0 = λ part part'. Zips Finishes (map desk_of (working part)) (map desk_of (working part')) in
-    let Q : List S → Type 0 = λ xs. Zips (SeatServes sizes.shards sizes.value may_answer) (map at (flat_map own crew)) (map at xs) in
+    let Q : List S → Type 0 = λ xs. Zips (SeatServes sizes.shards (rules_of sizes) may_answer) (map at (flat_map own crew)) (map at xs) in
     let F : List W → Type 0 = λ xs. Zips Finishes (map desk_of (flat_map working crew)) (map desk_of xs) in
     record {
       seen = seen;
       doors_are = doors_are;
       lanes = lanes;
       fresh = fresh;
-      served = subst Q (sym seats_are) (zips_flat crew parts own at (SeatServes sizes.shards sizes.value may_answer) (zips_each _ Rise crew parts done (λ i x y here there met. met.0)));
+      served = subst Q (sym seats_are) (zips_flat crew parts own at (SeatServes sizes.shards (rules_of sizes) may_answer) (zips_each _ Rise crew parts done (λ i x y here there met. met.0)));
       finished = subst F (sym workers_are) (zips_flat crew parts working desk_of Finishes (zips_each _ End crew parts done (λ i x y here there met. met.1)));
     }

@@ -18,7 +18,7 @@ use Rattle.mc_conn.specs.Fits.{CameFrom, KeysFit, Serves, Tells, reply_of}
 use Rattle.mc_conn.specs.Told.{Told, all_texts, commands_of}
 use Rattle.mc_conn.proofs.Serving.{keys_came}
 use Rattle.mc_conn.proofs.Telling.{ran_on-same, tells}
-use Rattle.mc_core.specs.Sizes.{Sizes}
+use Rattle.mc_core.specs.Sizes.{Sizes, rules_of}
 use Rattle.mc_core.specs.Log.{Entry, of_asker, on_shard, pieces_in, replies_in}
 use Rattle.mc_core.specs.Desk.{Desk, end_come}
 use Rattle.mc_crew.specs.Zips.{Zips}
@@ -34,19 +34,20 @@ use Rattle.mc_serve.proofs.Served.{IsJoined, all_come, entries_same, moments_of,
 use Rattle.mc_serve.proofs.Tying.{as_many_replies, none_came, pieces_ran, ran_of, replies_ran, same_pieces, same_replies, to_end}
 use Rattle.mc_serve.specs.Seats.{AllFit, SeatAt, SeatServes, ServesLine, ServesLines}
 use Rattle.mc_serve.specs.Served.{ExplainsHistory, ExplainsSeat}
+use Rattle.mc_command.specs.declared.rules.Rules.{Rules}
 
 -- What is known of a line that was served, by what its connection was told.
 pub record Core (may_answer : ℕ → Type 0) (line : LineTold) (before after : Ends Near) (told : Told) (received : ℕ → List Shown) : Type 0 where
   pub exchanges : Exchanges before after told received
   pub serves : Serves told.shards told.taken told.accepted received
-  pub story : Story told.limit line.begin line.now line.broke told.taken (all_texts told)
+  pub story : Story told.rules line.begin line.now line.broke told.taken (all_texts told)
   pub moments : AllByRecursion (λ (one : Taken). may_answer one.moment) told.taken
   pub counted : line.commands ≡ length told.taken
-  pub reads : KeysFit told.shards told.taken received → ReadsOwingNothing told.limit line.begin line.now (commands_of told.taken) (all_texts told)
+  pub reads : KeysFit told.shards told.taken received → ReadsOwingNothing told.rules line.begin line.now (commands_of told.taken) (all_texts told)
   pub complete : KeysFit told.shards told.taken received → length (all_texts told) ≡ length told.taken
 
-core_of : (shards limit : ℕ) (may_answer : ℕ → Type 0) (line : LineTold) (before after : Ends Near) (conn : Conn) → (served : LineServed shards limit may_answer line.begin line.now before after conn line.commands line.broke) → Core may_answer line before after served.told served.received
-core_of shards limit may_answer line before after conn served = record {
+core_of : (shards : ℕ) (rules : Rules) (may_answer : ℕ → Type 0) (line : LineTold) (before after : Ends Near) (conn : Conn) → (served : LineServed shards rules may_answer line.begin line.now before after conn line.commands line.broke) → Core may_answer line before after served.told served.received
+core_of shards rules may_answer line before after conn served = record {
   exchanges = served.exchanges;
   serves = served.serves;
   story = served.story;
@@ -57,37 +58,37 @@ core_of shards limit may_answer line before after conn served = record {
 }
 
 -- told under these sizes
-abbrev pub sized : ℕ → ℕ → Told → Told
-sized shards limit told = record told { shards = shards; limit = limit }
+abbrev pub sized : ℕ → Rules → Told → Told
+sized shards rules told = record told { shards = shards; rules = rules }
 
-same_sized : (shards limit : ℕ) (told : Told) → told.shards ≡ shards → told.limit ≡ limit → told ≡ sized shards limit told
-same_sized shards limit told shards_is limit_is = λ i. record told { shards = shards_is i; limit = limit_is i }
+same_sized : (shards : ℕ) (rules : Rules) (told : Told) → told.shards ≡ shards → told.rules ≡ rules → told ≡ sized shards rules told
+same_sized shards rules told shards_is rules_are = λ i. record told { shards = shards_is i; rules = rules_are i }
 
 -- A line that was served under these sizes.
-pub record Served (shards limit : ℕ) (may_answer : ℕ → Type 0) (line : LineTold) (before after : Ends Near) : Type 0 where
+pub record Served (shards : ℕ) (rules : Rules) (may_answer : ℕ → Type 0) (line : LineTold) (before after : Ends Near) : Type 0 where
   pub told : Told
   pub received : ℕ → List Shown
-  pub core : Core may_answer line before after (sized shards limit told) received
+  pub core : Core may_answer line before after (sized shards rules told) received
 
-served_of : (shards limit : ℕ) (may_answer : ℕ → Type 0) (line : LineTold) (before after : Ends Near) → ServesLine shards limit may_answer line before after → Served shards limit may_answer line before after
-served_of shards limit may_answer line before after serves =
+served_of : (shards : ℕ) (rules : Rules) (may_answer : ℕ → Type 0) (line : LineTold) (before after : Ends Near) → ServesLine shards rules may_answer line before after → Served shards rules may_answer line before after
+served_of shards rules may_answer line before after serves =
     let told = serves.served.told in
     let received = serves.served.received in
     let P : Told → Type 0 = λ t. Core may_answer line before after t received in
     record {
       told = told;
       received = received;
-      core = subst P (same_sized shards limit told serves.served.shards_is serves.served.limit_is) (core_of shards limit may_answer line before after serves.conn serves.served);
+      core = subst P (same_sized shards rules told serves.served.shards_is serves.served.rules_are) (core_of shards rules may_answer line before after serves.conn serves.served);
     }
 
-module _ (shards limit : ℕ) (may_answer : ℕ → Type 0) where
+module _ (shards : ℕ) (rules : Rules) (may_answer : ℕ → Type 0) where
   abbrev pub Chain : List LineTold → Ends Near → Ends Near → Type 0
   Chain [] before after = after ≡ before
-  Chain (line ∷ lines) before after = (mid : Ends Near) × Served shards limit may_answer line before mid × Chain lines mid after
+  Chain (line ∷ lines) before after = (mid : Ends Near) × Served shards rules may_answer line before mid × Chain lines mid after
 
-  pub chain_of : (lines : List LineTold) (before after : Ends Near) → ServesLines shards limit may_answer lines before after → Chain lines before after
+  pub chain_of : (lines : List LineTold) (before after : Ends Near) → ServesLines shards rules may_answer lines before after → Chain lines before after
   chain_of [] before after are = are
-  chain_of (line ∷ lines) before after are = (are.0, served_of shards limit may_answer line before are.0 are.1, chain_of lines are.0 after are.2)
+  chain_of (line ∷ lines) before after are = (are.0, served_of shards rules may_answer line before are.0 are.1, chain_of lines are.0 after are.2)
 
   -- the pieces that were due at a shard for all the lines, and the replies that came from it
   abbrev pub all_due : (lines : List LineTold) (before after : Ends Near) → Chain lines before after → ℕ → List Piece
@@ -134,7 +135,7 @@ module _ (shards limit : ℕ) (may_answer : ℕ → Type 0) where
   ChainFits [] before after chain = Unit {0}
   ChainFits (line ∷ lines) before after chain = KeysFit shards chain.1.told.taken chain.1.received × ChainFits lines chain.0 after chain.2
 
-  fits_all : (lines : List LineTold) (before after : Ends Near) (are : ServesLines shards limit may_answer lines before after) → ChainFits lines before after (chain_of lines before after are) → AllFit shards limit may_answer lines before after are
+  fits_all : (lines : List LineTold) (before after : Ends Near) (are : ServesLines shards rules may_answer lines before after) → ChainFits lines before after (chain_of lines before after are) → AllFit shards rules may_answer lines before after are
   unfolding chain_of served_of
   fits_all [] before after are fits = tt
   fits_all (line ∷ lines) before after are fits =
@@ -246,12 +247,12 @@ record LineRan (sizes : Sizes) (may_answer : ℕ → Type 0) (line : LineTold) (
   explains : ExplainsHistory sizes may_answer line history
   ran : (shard : ℕ) → shard < sizes.shards → mine shard ≡ on_shard shard (log_of sizes.shards seat history)
 
-line_ran : (sizes : Sizes) (may_answer : ℕ → Type 0) (line : LineTold) (before after : Ends Near) (seat : ℕ) (mine : ℕ → List Entry) → 0 < sizes.shards → (at : Served sizes.shards sizes.value may_answer line before after)
+line_ran : (sizes : Sizes) (may_answer : ℕ → Type 0) (line : LineTold) (before after : Ends Near) (seat : ℕ) (mine : ℕ → List Entry) → 0 < sizes.shards → (at : Served sizes.shards (rules_of sizes) may_answer line before after)
     → ((shard : ℕ) → shard < sizes.shards → AreRun (due.due sizes.shards shard at.told.taken) (at.received shard) (mine shard))
     → ((shard : ℕ) → shard < sizes.shards → AllByRecursion (IsMine shard seat) (mine shard))
     → LineRan sizes may_answer line seat mine at.told.taken at.received
 line_ran sizes may_answer line before after seat mine some at runs owned =
-    let told = sized sizes.shards sizes.value at.told in
+    let told = sized sizes.shards (rules_of sizes) at.told in
     let received = at.received in
     let core = at.core in
     let fit : KeysFit sizes.shards told.taken received =
@@ -269,8 +270,8 @@ line_ran sizes may_answer line before after seat mine some at runs owned =
     let history = history_at told.taken in
     let same : map taken_of history ≡ told.taken = (let P : List Taken → Type 0 = λ ts. map taken_of (history_at ts) ≡ ts in subst P whole t.same) in
     let texts : all_texts told ≡ map text_done history = sym all ∙ (t.texts ∙ ap (λ ts. map text_done (history_at ts)) whole) in
-    let S : List Taken → List (List ℕ) → Type 0 = λ taken texts. Story sizes.value line.begin line.now line.broke taken texts in
-    let R : List _ → List (List ℕ) → Type 0 = λ commands texts. ReadsOwingNothing sizes.value line.begin line.now commands texts in
+    let S : List Taken → List (List ℕ) → Type 0 = λ taken texts. Story (rules_of sizes) line.begin line.now line.broke taken texts in
+    let R : List _ → List (List ℕ) → Type 0 = λ commands texts. ReadsOwingNothing (rules_of sizes) line.begin line.now commands texts in
     let commands_are : commands_of told.taken ≡ entries_of history = ap commands_of (sym same) ∙ entries_same history in
     let M : List Taken → Type 0 = λ ts. AllByRecursion (λ (one : Taken). may_answer one.moment) ts in
     let long = ap length same in
@@ -291,14 +292,14 @@ line_ran sizes may_answer line before after seat mine some at runs owned =
     }
 
 -- All lines of the seat, by what each shard ran for it.
-record SeatRan (sizes : Sizes) (may_answer : ℕ → Type 0) (lines : List LineTold) (seat : ℕ) (mine : ℕ → List Entry) (before after : Ends Near) (chain : Chain sizes.shards sizes.value may_answer lines before after) : Type 0 where
-  fits : ChainFits sizes.shards sizes.value may_answer lines before after chain
+record SeatRan (sizes : Sizes) (may_answer : ℕ → Type 0) (lines : List LineTold) (seat : ℕ) (mine : ℕ → List Entry) (before after : Ends Near) (chain : Chain sizes.shards (rules_of sizes) may_answer lines before after) : Type 0 where
+  fits : ChainFits sizes.shards (rules_of sizes) may_answer lines before after chain
   histories : List (List Done)
   each : Zips (ExplainsHistory sizes may_answer) lines histories
   ran : (shard : ℕ) → shard < sizes.shards → mine shard ≡ flat_map (λ history. on_shard shard (log_of sizes.shards seat history)) histories
 
-seat_ran : (sizes : Sizes) (may_answer : ℕ → Type 0) (seat : ℕ) → 0 < sizes.shards → (lines : List LineTold) (before after : Ends Near) (mine : ℕ → List Entry) → (chain : Chain sizes.shards sizes.value may_answer lines before after)
-    → ((shard : ℕ) → shard < sizes.shards → AreRun (all_due sizes.shards sizes.value may_answer lines before after chain shard) (all_got sizes.shards sizes.value may_answer lines before after chain shard) (mine shard))
+seat_ran : (sizes : Sizes) (may_answer : ℕ → Type 0) (seat : ℕ) → 0 < sizes.shards → (lines : List LineTold) (before after : Ends Near) (mine : ℕ → List Entry) → (chain : Chain sizes.shards (rules_of sizes) may_answer lines before after)
+    → ((shard : ℕ) → shard < sizes.shards → AreRun (all_due sizes.shards (rules_of sizes) may_answer lines before after chain shard) (all_got sizes.shards (rules_of sizes) may_answer lines before after chain shard) (mine shard))
     → ((shard : ℕ) → shard < sizes.shards → AllByRecursion (IsMine shard seat) (mine shard))
     → SeatRan sizes may_answer lines seat mine before after chain
 seat_ran sizes may_answer seat some [] before after mine chain runs owned = record { fits = tt; histories = []; each = tt; ran = λ s below. none_run (mine s) (runs s below).pieces }
@@ -307,7 +308,7 @@ seat_ran sizes may_answer seat some (line ∷ lines) before after mine chain run
     let first : ℕ → List Entry = λ s. take (many s) (mine s) in
     let others : ℕ → List Entry = λ s. drop (many s) (mine s) in
     let cuts = λ (s : ℕ) (below : s < sizes.shards).
-    cut (due.due sizes.shards s chain.1.told.taken) (all_due sizes.shards sizes.value may_answer lines chain.0 after chain.2 s) (chain.1.received s) (all_got sizes.shards sizes.value may_answer lines chain.0 after chain.2 s) (mine s) (chain.1.core.exchanges.answered s) (runs s below) in
+    cut (due.due sizes.shards s chain.1.told.taken) (all_due sizes.shards (rules_of sizes) may_answer lines chain.0 after chain.2 s) (chain.1.received s) (all_got sizes.shards (rules_of sizes) may_answer lines chain.0 after chain.2 s) (mine s) (chain.1.core.exchanges.answered s) (runs s below) in
     let one = line_ran sizes may_answer line before chain.0 seat first some chain.1 (λ s below. (cuts s below).first) (λ s below. all_take (IsMine s seat) (many s) (mine s) (owned s below)) in
     let rest = seat_ran sizes may_answer seat some lines chain.0 after others chain.2 (λ s below. (cuts s below).rest) (λ s below. all_drop (IsMine s seat) (many s) (mine s) (owned s below)) in
     record {
@@ -320,30 +321,30 @@ seat_ran sizes may_answer seat some (line ∷ lines) before after mine chain run
     }
 
 -- What is known of a seat: its lines are explained, and the keys of their replies fit.
-pub record IsSeatKnown (sizes : Sizes) (may_answer : ℕ → Type 0) (log : List Entry) (seat : ℕ) (sat rose : SeatAt) (serves : SeatServes sizes.shards sizes.value may_answer sat rose) : Type 0 where
+pub record IsSeatKnown (sizes : Sizes) (may_answer : ℕ → Type 0) (log : List Entry) (seat : ℕ) (sat rose : SeatAt) (serves : SeatServes sizes.shards (rules_of sizes) may_answer sat rose) : Type 0 where
   pub explains : ExplainsSeat sizes may_answer log seat serves.lines
-  pub fits : AllFit sizes.shards sizes.value may_answer serves.lines sat.ends serves.served serves.lines_are
+  pub fits : AllFit sizes.shards (rules_of sizes) may_answer serves.lines sat.ends serves.served serves.lines_are
 
 -- The workers' logs explain the lines of the seat.
-pub explains_seat : (sizes : Sizes) (capacity number : ℕ) (may_answer : ℕ → Type 0) (sat rose : SeatAt) (desks : List Desk) (logs : List (List Entry)) → (serves : SeatServes sizes.shards sizes.value may_answer sat rose)
+pub explains_seat : (sizes : Sizes) (capacity number : ℕ) (may_answer : ℕ → Type 0) (sat rose : SeatAt) (desks : List Desk) (logs : List (List Entry)) → (serves : SeatServes sizes.shards (rules_of sizes) may_answer sat rose)
     → AreNewEnds number sizes.shards capacity sat.ends → IsJoined sizes rose.ends desks logs → IsSeatKnown sizes may_answer (together logs) rose.ends.number sat rose serves
 explains_seat sizes capacity number may_answer sat rose desks logs serves new joined =
     let shards = sizes.shards in
-    let limit = sizes.value in
+    let rules = rules_of sizes in
     let seat = rose.ends.number in
-    let chain = chain_of shards limit may_answer serves.lines sat.ends serves.served serves.lines_are in
-    let same = chain_same shards limit may_answer serves.lines sat.ends serves.served chain in
-    let asked : ℕ → List Piece = all_due shards limit may_answer serves.lines sat.ends serves.served chain in
-    let got : ℕ → List Shown = all_got shards limit may_answer serves.lines sat.ends serves.served chain in
+    let chain = chain_of shards rules may_answer serves.lines sat.ends serves.served serves.lines_are in
+    let same = chain_same shards rules may_answer serves.lines sat.ends serves.served chain in
+    let asked : ℕ → List Piece = all_due shards rules may_answer serves.lines sat.ends serves.served chain in
+    let got : ℕ → List Shown = all_got shards rules may_answer serves.lines sat.ends serves.served chain in
     let mine : ℕ → List Entry = λ s. of_asker seat (on_shard s (together logs)) in
     let sent = λ (s : ℕ) (below : s < shards).
     (let none : sent_on sat.ends s ≡ [] = none_read (λ (near : Near). near.past.sent) (λ near unused. unused.sent) sat.ends.lanes s new.unused in
     let there : s < length serves.served.lanes = (let count = same.count in let counted = new.counted in omega (arith, below, count, counted)) in
-    let all : sent_on rose.ends s ≡ to_end (asked s) = serves.closed.sent s there ∙ ap (λ ps. ps ++ parcel.End ∷ []) (chain_sent shards limit may_answer serves.lines sat.ends serves.served chain s below ∙ ap (λ ps. ps ++ map parcel.Piece (asked s)) none) in
+    let all : sent_on rose.ends s ≡ to_end (asked s) = serves.closed.sent s there ∙ ap (λ ps. ps ++ parcel.End ∷ []) (chain_sent shards rules may_answer serves.lines sat.ends serves.served chain s below ∙ ap (λ ps. ps ++ map parcel.Piece (asked s)) none) in
     all) in
     let came = λ (s : ℕ) (below : s < shards).
     (let none : received_on sat.ends s ≡ [] = none_read (λ (near : Near). near.past.received) (λ near unused. unused.received) sat.ends.lanes s new.unused in
-    let all : received_on rose.ends s ≡ got s = serves.closed.received s ∙ (chain_came shards limit may_answer serves.lines sat.ends serves.served chain s below ∙ ap (λ rs. rs ++ got s) none) in
+    let all : received_on rose.ends s ≡ got s = serves.closed.received s ∙ (chain_came shards rules may_answer serves.lines sat.ends serves.served chain s below ∙ ap (λ rs. rs ++ got s) none) in
     all) in
     let runs = λ (s : ℕ) (below : s < shards).
     (let count = joined.count in
@@ -352,12 +353,12 @@ explains_seat sizes capacity number may_answer sat rose desks logs serves new jo
     let is : IsLogOf sizes s worker.desk worker.log = rw at at worker.is in
     let its : on_shard s (together logs) ≡ worker.log = rw at at worker.its in
     let P : List Entry → Type 0 = λ log. AreRun (asked s) (got s) (of_asker seat log) in
-    let run : P (on_shard s (together logs)) = subst P (sym its) (lane_run sizes s rose.ends worker.desk (asked s) (got s) worker.log joined.seat (sent s below) (came s below) (chain_many shards limit may_answer serves.lines sat.ends serves.served chain s) is (joined.tied s worker.desk worker.here)) in
+    let run : P (on_shard s (together logs)) = subst P (sym its) (lane_run sizes s rose.ends worker.desk (asked s) (got s) worker.log joined.seat (sent s below) (came s below) (chain_many shards rules may_answer serves.lines sat.ends serves.served chain s) is (joined.tied s worker.desk worker.here)) in
     run) in
     let owned = λ (s : ℕ) (below : s < shards).
     all_mine s seat (mine s) (filter_keeps (λ entry. entry.shard ≡ s) (λ entry. entry.asker == seat) (on_shard s (together logs)) (shard_of s (together logs))) (asked_by seat (on_shard s (together logs))) in
     let ran = seat_ran sizes may_answer seat joined.some serves.lines sat.ends serves.served mine chain runs owned in
     record {
       explains = record { histories = ran.histories; each = ran.each; ran = ran.ran };
-      fits = fits_all shards limit may_answer serves.lines sat.ends serves.served serves.lines_are ran.fits;
+      fits = fits_all shards rules may_answer serves.lines sat.ends serves.served serves.lines_are ran.fits;
     }

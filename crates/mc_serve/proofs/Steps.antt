@@ -22,27 +22,28 @@ use Rattle.mc_serve.specs.declared.sitting.Phase.{Phase}
 use Rattle.mc_serve.specs.declared.sitting.Phase.TheVariants as phase
 use Rattle.mc_serve.specs.Seats.{CanStep, ClosesOn, LineFits, SeatAt, SeatServes, SeatStands, ServesDoor, ServesLine, SitsBeginning, SitsClosing, SitsFree, SitsServing, seat_at}
 use Rattle.mc_serve.proofs.Chain.{OneMore, one_more, passes_none}
+use Rattle.mc_command.specs.declared.rules.Rules.{Rules}
 
-module _ (shards limit : ℕ) (may_answer : ℕ → Type 0) where
+module _ (shards : ℕ) (rules : Rules) (may_answer : ℕ → Type 0) where
   -- A seat that has just sat down.
-  pub sits_first : (door : DoorTold) (session : Session) (window : ℕ) → IsFree door → length session.courier.ends.lanes ≡ shards → IsVacant limit window session → SitsFree shards limit may_answer (seat_at door session.courier.ends) door session
+  pub sits_first : (door : DoorTold) (session : Session) (window : ℕ) → IsFree door → length session.courier.ends.lanes ≡ shards → IsVacant rules window session → SitsFree shards rules may_answer (seat_at door session.courier.ends) door session
   sits_first door session window free width vacant = record { free = free; lines = []; passed = passes_none door; lines_are = refl; width = width; window = window; vacant = vacant }
 
   -- The door had no line.
-  pub stays_free : (sat : SeatAt) (door door' : DoorTold) (session : Session) → door' ≡ door → SitsFree shards limit may_answer sat door session → SitsFree shards limit may_answer sat door' session
-  stays_free sat door door' session same sits = let S : DoorTold → Type 0 = λ d. SitsFree shards limit may_answer sat d session in subst S (sym same) sits
+  pub stays_free : (sat : SeatAt) (door door' : DoorTold) (session : Session) → door' ≡ door → SitsFree shards rules may_answer sat door session → SitsFree shards rules may_answer sat door' session
+  stays_free sat door door' session same sits = let S : DoorTold → Type 0 = λ d. SitsFree shards rules may_answer sat d session in subst S (sym same) sits
 
   -- A line came in.
-  pub comes_in : (sat : SeatAt) (door door' : DoorTold) (begin : Sight) (session : Session) → IsNext begin door → door' ≡ let_in begin door → SitsFree shards limit may_answer sat door session → SitsBeginning shards limit may_answer sat door' begin session
+  pub comes_in : (sat : SeatAt) (door door' : DoorTold) (begin : Sight) (session : Session) → IsNext begin door → door' ≡ let_in begin door → SitsFree shards rules may_answer sat door session → SitsBeginning shards rules may_answer sat door' begin session
   comes_in sat door door' begin session next came sits = record { before = door; sits = sits; next = next; came = came }
 
   -- The line that came in begins to be served.
   pub begins : (sat : SeatAt) (door : DoorTold) (begin : Sight) (session session' : Session)
-      → ((limit window : ℕ) (line : Sight) → IsVacant limit window session → IsServing (length session.courier.ends.lanes) limit may_answer line line session.courier.ends session')
-      → SitsBeginning shards limit may_answer sat door begin session → SitsServing shards limit may_answer sat door begin session'
+      → ((rules : Rules) (window : ℕ) (line : Sight) → IsVacant rules window session → IsServing (length session.courier.ends.lanes) rules may_answer line line session.courier.ends session')
+      → SitsBeginning shards rules may_answer sat door begin session → SitsServing shards rules may_answer sat door begin session'
   begins sat door begin session session' serves came =
       let sits = came.sits in
-      let S : ℕ → Type 0 = λ n. IsServing n limit may_answer begin begin session.courier.ends session' in
+      let S : ℕ → Type 0 = λ n. IsServing n rules may_answer begin begin session.courier.ends session' in
       record {
         free = sits.free;
         lines = sits.lines;
@@ -54,15 +55,15 @@ module _ (shards limit : ℕ) (may_answer : ℕ → Type 0) where
         came = came.came;
         lines_are = sits.lines_are;
         width = sits.width;
-        serving = subst S sits.width (serves limit sits.window begin sits.vacant);
+        serving = subst S sits.width (serves rules sits.window begin sits.vacant);
       }
 
   -- The line waits, with the session as it was.
-  pub still_begins : (sat : SeatAt) (door : DoorTold) (begin : Sight) (session session' : Session) → session' ≡ session → SitsBeginning shards limit may_answer sat door begin session → SitsBeginning shards limit may_answer sat door begin session'
-  still_begins sat door begin session session' same came = let S : Session → Type 0 = λ s. SitsBeginning shards limit may_answer sat door begin s in subst S (sym same) came
+  pub still_begins : (sat : SeatAt) (door : DoorTold) (begin : Sight) (session session' : Session) → session' ≡ session → SitsBeginning shards rules may_answer sat door begin session → SitsBeginning shards rules may_answer sat door begin session'
+  still_begins sat door begin session session' same came = let S : Session → Type 0 = λ s. SitsBeginning shards rules may_answer sat door begin s in subst S (sym same) came
 
   -- No line comes any more.
-  pub comes_none : (sat : SeatAt) (door door' : DoorTold) (session : Session) → door' ≡ closed door → IsDone door → SitsFree shards limit may_answer sat door session → SitsClosing shards limit may_answer 0 sat door' session.courier.ends
+  pub comes_none : (sat : SeatAt) (door door' : DoorTold) (session : Session) → door' ≡ closed door → IsDone door → SitsFree shards rules may_answer sat door session → SitsClosing shards rules may_answer 0 sat door' session.courier.ends
   comes_none sat door door' session now done sits = record {
     served = session.courier.ends;
     serves = record { lines = sits.lines; passed = door; door = sits.passed; lines_are = sits.lines_are; over = λ fits. record { done = done; now = now } };
@@ -71,8 +72,8 @@ module _ (shards limit : ℕ) (may_answer : ℕ → Type 0) where
 
   -- The line that is out was served a step further.
   pub serves_on : (sat : SeatAt) (door : DoorTold) (now now' : Sight) (session session' : Session)
-      → ((begin : Sight) (before : Ends Near) → IsServing shards limit may_answer begin now before session → IsServing shards limit may_answer begin now' before session')
-      → SitsServing shards limit may_answer sat door now session → SitsServing shards limit may_answer sat door now' session'
+      → ((begin : Sight) (before : Ends Near) → IsServing shards rules may_answer begin now before session → IsServing shards rules may_answer begin now' before session')
+      → SitsServing shards rules may_answer sat door now session → SitsServing shards rules may_answer sat door now' session'
   serves_on sat door now now' session session' goes sits = record {
     free = sits.free;
     lines = sits.lines;
@@ -88,11 +89,11 @@ module _ (shards limit : ℕ) (may_answer : ℕ → Type 0) where
   }
 
   -- the line is served over the ends as they are called once the session was renewed
-  abbrev renewed : (begin now : Sight) (before ends ends' : Ends Near) (conn : Conn) (commands : ℕ) (broke : Bool) → ends' ≡ ends → LineServed shards limit may_answer begin now before ends conn commands broke → LineServed shards limit may_answer begin now before ends' conn commands broke
+  abbrev renewed : (begin now : Sight) (before ends ends' : Ends Near) (conn : Conn) (commands : ℕ) (broke : Bool) → ends' ≡ ends → LineServed shards rules may_answer begin now before ends conn commands broke → LineServed shards rules may_answer begin now before ends' conn commands broke
   renewed begin now before ends ends' conn commands broke same served = record {
     told = served.told;
     shards_is = served.shards_is;
-    limit_is = served.limit_is;
+    rules_are = served.rules_are;
     conn_is = served.conn_is;
     over = served.over;
     out = served.out;
@@ -110,34 +111,34 @@ module _ (shards limit : ℕ) (may_answer : ℕ → Type 0) where
   -- what renewing a session does
   pub record Renews (another : Bool) (old new : Session) : Type 0 where
     pub when : (service : Service) (told : ConnTold) → old.service ≡ Some service → IsConn service.conn told → IsTrue another ↔ (IsAtRest told × IsOver told)
-    pub vacant : IsTrue another → (service : Service) (told : ConnTold) → old.service ≡ Some service → IsConn service.conn told → told.shards ≡ length old.courier.ends.lanes → IsIdle old.courier.under_way.items → IsVacant told.limit told.window new
+    pub vacant : IsTrue another → (service : Service) (told : ConnTold) → old.service ≡ Some service → IsConn service.conn told → told.shards ≡ length old.courier.ends.lanes → IsIdle old.courier.under_way.items → IsVacant told.rules told.window new
     pub ends : new.courier.ends ≡ old.courier.ends
 
   -- The line that was out was served and went back, and the session was renewed, or can't be.
   module _ (sat : SeatAt) (door door' : DoorTold) (now now' : Sight) (commands : ℕ) (broke another : Bool) (session session' last : Session)
-      (goes : (begin : Sight) (before : Ends Near) → IsServing shards limit may_answer begin now before session → HasServed shards limit may_answer begin now' before session' commands broke)
-      (back : door' ≡ took_back now' commands broke door) (renews : Renews another session' last) (sits : SitsServing shards limit may_answer sat door now session) where
+      (goes : (begin : Sight) (before : Ends Near) → IsServing shards rules may_answer begin now before session → HasServed shards rules may_answer begin now' before session' commands broke)
+      (back : door' ≡ took_back now' commands broke door) (renews : Renews another session' last) (sits : SitsServing shards rules may_answer sat door now session) where
     -- what the line was served by
-    abbrev by : SomeAnd session'.service (λ service. WasServedBy shards limit may_answer sits.begin now' sits.ends session'.courier service commands broke)
-    by = some_and session'.service (λ service. WasServedBy shards limit may_answer sits.begin now' sits.ends session'.courier service commands broke) (goes sits.begin sits.ends sits.serving)
+    abbrev by : SomeAnd session'.service (λ service. WasServedBy shards rules may_answer sits.begin now' sits.ends session'.courier service commands broke)
+    by = some_and session'.service (λ service. WasServedBy shards rules may_answer sits.begin now' sits.ends session'.courier service commands broke) (goes sits.begin sits.ends sits.serving)
 
     abbrev line : LineTold
     line = record { begin = sits.begin; now = now'; commands = commands; broke = broke }
 
-    abbrev this : ServesLine shards limit may_answer line sits.ends last.courier.ends
+    abbrev this : ServesLine shards rules may_answer line sits.ends last.courier.ends
     this = record { conn = by.some.conn; served = renewed sits.begin now' sits.ends session'.courier.ends last.courier.ends by.some.conn commands broke renews.ends by.holds.served }
 
-    abbrev more : OneMore shards limit may_answer sat (seat_at door' last.courier.ends) another
-    more = one_more shards limit may_answer sat (seat_at door' last.courier.ends) sits.lines line sits.before door sits.ends another sits.free sits.passed sits.next sits.came back sits.lines_are this
+    abbrev more : OneMore shards rules may_answer sat (seat_at door' last.courier.ends) another
+    more = one_more shards rules may_answer sat (seat_at door' last.courier.ends) sits.lines line sits.before door sits.ends another sits.free sits.passed sits.next sits.came back sits.lines_are this
         (λ stopped fits. (let served = by.holds.served in let again : IsTrue another = (renews.when by.some served.told by.is served.conn_is).1 (served.rest fits, served.over) in absurd (cc)))
 
     wide : length session'.courier.ends.lanes ≡ shards
     wide = by.holds.served.exchanges.same.count ∙ sits.width
 
-    pub serves_another : another ≡ true → SitsFree shards limit may_answer sat door' last
+    pub serves_another : another ≡ true → SitsFree shards rules may_answer sat door' last
     serves_another is =
         let served = by.holds.served in
-        let V : ℕ → Type 0 = λ n. IsVacant n served.told.window last in
+        let V : Rules → Type 0 = λ n. IsVacant n served.told.window last in
         record {
           free = sits.free;
           lines = more.lines;
@@ -145,10 +146,10 @@ module _ (shards limit : ℕ) (may_answer : ℕ → Type 0) where
           lines_are = more.lines_are;
           width = rw renews.ends wide;
           window = served.told.window;
-          vacant = subst V served.limit_is (renews.vacant is by.some served.told by.is served.conn_is (served.shards_is ∙ sym wide) by.holds.idle);
+          vacant = subst V served.rules_are (renews.vacant is by.some served.told by.is served.conn_is (served.shards_is ∙ sym wide) by.holds.idle);
         }
 
-    pub serves_no_more : another ≡ false → SitsClosing shards limit may_answer 0 sat door' last.courier.ends
+    pub serves_no_more : another ≡ false → SitsClosing shards rules may_answer 0 sat door' last.courier.ends
     serves_no_more is = record {
       served = last.courier.ends;
       serves = record { lines = more.lines; passed = door'; door = more.door; lines_are = more.lines_are; over = λ fits. absurd (more.stops is fits) };
@@ -158,7 +159,7 @@ module _ (shards limit : ℕ) (may_answer : ℕ → Type 0) where
   -- One lane more was closed.
   pub closes_on : {L : Type 0} (sight : L → Sight) (sat : SeatAt) (count : ℕ) (door : DoorTold) (old new : Session) (now : Phase L)
       → ((served : Ends Near) → EndsFirst count served old.courier.ends → ClosesOn served now new.courier.ends)
-      → SitsClosing shards limit may_answer count sat door old.courier.ends → SeatStands sight shards limit may_answer sat door new now
+      → SitsClosing shards rules may_answer count sat door old.courier.ends → SeatStands sight shards rules may_answer sat door new now
   closes_on sight sat count door old new phase.Free closes sits = absurd (closes sits.served sits.closed)
   closes_on sight sat count door old new (phase.Came line) closes sits = absurd (closes sits.served sits.closed)
   closes_on sight sat count door old new (phase.Serving line) closes sits = absurd (closes sits.served sits.closed)
@@ -168,9 +169,9 @@ module _ (shards limit : ℕ) (may_answer : ℕ → Type 0) where
       record { lines = serves.lines; passed = serves.passed; door = serves.door; served = sits.served; lines_are = serves.lines_are; over = serves.over; closed = closes sits.served sits.closed }
 
   -- A seat that stands may go a step further.
-  pub can_step : {L : Type 0} (sight : L → Sight) (sat : SeatAt) (door : DoorTold) (session : Session) (now : Phase L) → SeatStands sight shards limit may_answer sat door session now → CanStep now session
+  pub can_step : {L : Type 0} (sight : L → Sight) (sat : SeatAt) (door : DoorTold) (session : Session) (now : Phase L) → SeatStands sight shards rules may_answer sat door session now → CanStep now session
   can_step sight sat door session phase.Free stands = tt
   can_step sight sat door session (phase.Came line) stands = tt
-  can_step sight sat door session (phase.Serving line) stands = may_serve shards limit may_answer stands.begin (sight line) stands.ends session.courier session.service stands.serving
+  can_step sight sat door session (phase.Serving line) stands = may_serve shards rules may_answer stands.begin (sight line) stands.ends session.courier session.service stands.serving
   can_step sight sat door session (phase.Closing count) stands = tt
   can_step sight sat door session phase.Over stands = tt

@@ -2,7 +2,7 @@
 use Rattle.std.specs.Prelude.{ℕ, ◌≡◌, ◌<◌, List, [], ◌∷◌, length, map, Some}
 use Rattle.std.specs.List.{AllByRecursion, flat_map, slice_get}
 use Rattle.mc_conn.specs.History.{Done, IsAnswered, entries_of, taken_of, text_done}
-use Rattle.mc_core.specs.Sizes.{Sizes}
+use Rattle.mc_core.specs.Sizes.{Sizes, rules_of}
 use Rattle.mc_core.specs.Log.{Entry, of_asker, on_shard}
 use Rattle.mc_crew.specs.Zips.{Zips}
 use Rattle.mc_seat.specs.Story.{Story}
@@ -13,9 +13,9 @@ use Rattle.mc_serve.specs.Told.{DoorTold, IsDone, Passes, closed}
 -- The line's commands, each with its moment and answers, explain what was read of it and what it took.
 pub record ExplainsHistory (sizes : Sizes) (may_answer : ℕ → Type 0) (line : LineTold) (history : List Done) : Type 0 where
   -- The commands are those of the bytes read, and the line took the texts of their replies.
-  pub story : Story sizes.value line.begin line.now line.broke (map taken_of history) (map text_done history)
+  pub story : Story (rules_of sizes) line.begin line.now line.broke (map taken_of history) (map text_done history)
   -- It was read only where all replies to the bytes read so far were written out.
-  pub reads : ReadsOwingNothing sizes.value line.begin line.now (entries_of history) (map text_done history)
+  pub reads : ReadsOwingNothing (rules_of sizes) line.begin line.now (entries_of history) (map text_done history)
   pub answered : AllByRecursion (IsAnswered sizes.shards) history
   pub moments : AllByRecursion (λ done. may_answer done.moment) history
   pub counted : line.commands ≡ length history

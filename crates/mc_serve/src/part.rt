@@ -1,4 +1,5 @@
 //! What one thread serves.
+ghost use Rattle.mc_server.specs.Sizes.{rules_of};
 ghost use Rattle.std.specs.Prelude.{◌≡◌, ℕ, List, IfOk, IsTrue, map};
 ghost use Rattle.std.specs.Bool.{OnTrue};
 ghost use Rattle.std.specs.List.{AllByRecursion};
@@ -60,8 +61,8 @@ impl<D: Door + Drop, G: Gate + Drop, K: Clock + Drop> Part<D, G, K> {
         sizes: Sizes,
         clock: K,
     ) -> Result<Part<D, G, K>, AllocError>
-        requires { AllByRecursion (λ one. HasSatDown sizes.shards sizes.value (D.told one.door) one.session one.phase) seats.items }
-        ensures ready { IfOk result (λ part. AllByRecursion (λ one. HasSatDown part.sizes.shards part.sizes.value (D.told one.door) one.session one.phase) part.seats.all.items) }
+        requires { AllByRecursion (λ one. HasSatDown sizes.shards (rules_of sizes) (D.told one.door) one.session one.phase) seats.items }
+        ensures ready { IfOk result (λ part. AllByRecursion (λ one. HasSatDown part.sizes.shards (rules_of part.sizes) (D.told one.door) one.session one.phase) part.seats.all.items) }
         ensures seats { IfOk result (λ part. part.seats.all ≡ seats) }
         ensures workers { IfOk result (λ part. part.workers ≡ workers) }
         ensures sizes { IfOk result (λ part. part.sizes ≡ sizes) }
@@ -88,8 +89,8 @@ impl<D: Door + Drop, G: Gate + Drop, K: Clock + Drop> Part<D, G, K> {
 
     /// Serves by turns until each seat has closed its lanes and each worker has ended.
     fn run<R: Wait>(&mut self, rt: &R)
-        requires { AllByRecursion (λ one. HasSatDown self.old.sizes.shards self.old.sizes.value (D.told one.door) one.session one.phase) self.old.seats.all.items }
-        ensures seats { Zips (SeatServes self.old.sizes.shards self.old.sizes.value (K.may_answer self.old.clock))
+        requires { AllByRecursion (λ one. HasSatDown self.old.sizes.shards (rules_of self.old.sizes) (D.told one.door) one.session one.phase) self.old.seats.all.items }
+        ensures seats { Zips (SeatServes self.old.sizes.shards (rules_of self.old.sizes) (K.may_answer self.old.clock))
             (map (λ one. seat_at (D.told one.door) one.session.courier.ends) self.old.seats.all.items)
             (map (λ one. seat_at (D.told one.door) one.session.courier.ends) self.new.seats.all.items) }
         ensures workers { Zips Finishes (map (λ one. one.worker) self.old.workers.items) (map (λ one. one.worker) self.new.workers.items) }
@@ -158,9 +159,9 @@ fn have_ended<G: Gate + Drop>(workers: &Vec<Working<G>>) -> bool
 }
 
 impl<D: Door + Drop, G: Gate + Drop, K: Clock + Drop> Task for Part<D, G, K> {
-    ghost is_ready = { λ part. AllByRecursion (λ one. HasSatDown part.sizes.shards part.sizes.value (D.told one.door) one.session one.phase) part.seats.all.items };
+    ghost is_ready = { λ part. AllByRecursion (λ one. HasSatDown part.sizes.shards (rules_of part.sizes) (D.told one.door) one.session one.phase) part.seats.all.items };
 
-    ghost does = { λ sat rose. Zips (SeatServes sat.sizes.shards sat.sizes.value (K.may_answer sat.clock))
+    ghost does = { λ sat rose. Zips (SeatServes sat.sizes.shards (rules_of sat.sizes) (K.may_answer sat.clock))
         (map (λ one. seat_at (D.told one.door) one.session.courier.ends) sat.seats.all.items)
         (map (λ one. seat_at (D.told one.door) one.session.courier.ends) rose.seats.all.items)
         × Zips Finishes (map (λ one. one.worker) sat.workers.items) (map (λ one. one.worker) rose.workers.items) };

@@ -1,4 +1,5 @@
 //! The seats of one thread.
+ghost use Rattle.mc_command.specs.declared.rules.Rules.{Rules};
 ghost use Rattle.std.specs.Prelude.{◌≡◌, ℕ, List, IfOk, IsTrue};
 ghost use Rattle.std.specs.List.{AllByRecursion};
 ghost use Rattle.mc_crew.specs.Zips.{Zips};
@@ -41,11 +42,11 @@ impl<D: Door + Drop> Seats<D> {
         clock: &K,
         rooms: &mut Rooms,
     ) -> bool
-        requires { (shards limit : ℕ) × (sats : List SeatAt) ×
-            Zips (λ sat one. SeatStands (λ line. D.Line.sight line) shards limit (K.may_answer clock.now) sat (D.told one.door) one.session one.phase) sats self.old.all.items }
-        ensures { (shards limit : ℕ) (sats : List SeatAt) →
-            Zips (λ sat one. SeatStands (λ line. D.Line.sight line) shards limit (K.may_answer clock.now) sat (D.told one.door) one.session one.phase) sats self.old.all.items →
-            Zips (λ sat one. SeatStands (λ line. D.Line.sight line) shards limit (K.may_answer clock.now) sat (D.told one.door) one.session one.phase) sats self.new.all.items }
+        requires { (shards : ℕ) × (rules : Rules) × (sats : List SeatAt) ×
+            Zips (λ sat one. SeatStands (λ line. D.Line.sight line) shards rules (K.may_answer clock.now) sat (D.told one.door) one.session one.phase) sats self.old.all.items }
+        ensures { (shards : ℕ) (rules : Rules) (sats : List SeatAt) →
+            Zips (λ sat one. SeatStands (λ line. D.Line.sight line) shards rules (K.may_answer clock.now) sat (D.told one.door) one.session one.phase) sats self.old.all.items →
+            Zips (λ sat one. SeatStands (λ line. D.Line.sight line) shards rules (K.may_answer clock.now) sat (D.told one.door) one.session one.phase) sats self.new.all.items }
     {
         let mut did = false;
         for word in 0..self.due.len() {
@@ -64,11 +65,11 @@ impl<D: Door + Drop> Seats<D> {
         clock: &K,
         rooms: &mut Rooms,
     ) -> bool
-        requires { (shards limit : ℕ) × (sats : List SeatAt) ×
-            Zips (λ sat one. SeatStands (λ line. D.Line.sight line) shards limit (K.may_answer clock.now) sat (D.told one.door) one.session one.phase) sats self.old.all.items }
-        ensures { (shards limit : ℕ) (sats : List SeatAt) →
-            Zips (λ sat one. SeatStands (λ line. D.Line.sight line) shards limit (K.may_answer clock.now) sat (D.told one.door) one.session one.phase) sats self.old.all.items →
-            Zips (λ sat one. SeatStands (λ line. D.Line.sight line) shards limit (K.may_answer clock.now) sat (D.told one.door) one.session one.phase) sats self.new.all.items }
+        requires { (shards : ℕ) × (rules : Rules) × (sats : List SeatAt) ×
+            Zips (λ sat one. SeatStands (λ line. D.Line.sight line) shards rules (K.may_answer clock.now) sat (D.told one.door) one.session one.phase) sats self.old.all.items }
+        ensures { (shards : ℕ) (rules : Rules) (sats : List SeatAt) →
+            Zips (λ sat one. SeatStands (λ line. D.Line.sight line) shards rules (K.may_answer clock.now) sat (D.told one.door) one.session one.phase) sats self.old.all.items →
+            Zips (λ sat one. SeatStands (λ line. D.Line.sight line) shards rules (K.may_answer clock.now) sat (D.told one.door) one.session one.phase) sats self.new.all.items }
     {
         let marked = self.marked(word, sleeper);
         let mut again = 0u64;
@@ -112,11 +113,11 @@ impl<D: Door + Drop> Seats<D> {
         clock: &K,
         rooms: &mut Rooms,
     ) -> Stepped
-        requires { (shards limit : ℕ) × (sats : List SeatAt) ×
-            Zips (λ sat one. SeatStands (λ line. D.Line.sight line) shards limit (K.may_answer clock.now) sat (D.told one.door) one.session one.phase) sats self.old.all.items }
-        ensures { (shards limit : ℕ) (sats : List SeatAt) →
-            Zips (λ sat one. SeatStands (λ line. D.Line.sight line) shards limit (K.may_answer clock.now) sat (D.told one.door) one.session one.phase) sats self.old.all.items →
-            Zips (λ sat one. SeatStands (λ line. D.Line.sight line) shards limit (K.may_answer clock.now) sat (D.told one.door) one.session one.phase) sats self.new.all.items }
+        requires { (shards : ℕ) × (rules : Rules) × (sats : List SeatAt) ×
+            Zips (λ sat one. SeatStands (λ line. D.Line.sight line) shards rules (K.may_answer clock.now) sat (D.told one.door) one.session one.phase) sats self.old.all.items }
+        ensures { (shards : ℕ) (rules : Rules) (sats : List SeatAt) →
+            Zips (λ sat one. SeatStands (λ line. D.Line.sight line) shards rules (K.may_answer clock.now) sat (D.told one.door) one.session one.phase) sats self.old.all.items →
+            Zips (λ sat one. SeatStands (λ line. D.Line.sight line) shards rules (K.may_answer clock.now) sat (D.told one.door) one.session one.phase) sats self.new.all.items }
     {
         if place >= self.all.len() {
             return Stepped::Waits;

@@ -3,7 +3,7 @@ ghost use Rattle.std.specs.Prelude.{◌≡◌, ◌≢◌, ◌<◌, ◌≤◌, []
 ghost use Rattle.std.specs.List.{AllByRecursion, flat_map};
 ghost use Rattle.std.specs.Vec.Iter.{into_iter_items};
 ghost use Rattle.mc_ring.specs.Made.{AreLanes};
-ghost use Rattle.mc_server.specs.Sizes.{sizes_of};
+ghost use Rattle.mc_server.specs.Sizes.{sizes_of, rules_of};
 ghost use Rattle.mc_serve.specs.Sizes.{MayServe};
 ghost use Rattle.mc_threads.specs.Workers.{IsFresh, ends_of};
 ghost use Rattle.mc_serve.specs.declared.refusal.ServeRefusal.TheVariants.{Bind};
@@ -162,7 +162,7 @@ fn sit_down<D: Door + Drop>(
     requires free { AllByRecursion (λ door. IsFree (D.told door)) doors.items }
     ensures ends { IfOk result (λ seats. map (λ one. one.session.courier.ends) seats.items ≡ ends.items) }
     ensures doors { IfOk result (λ seats. map (λ one. one.door) seats.items ≡ doors.items) }
-    ensures begin { IfOk result (λ seats. AllByRecursion (λ one. HasSatDown sizes.shards sizes.value (D.told one.door) one.session one.phase) seats.items) }
+    ensures begin { IfOk result (λ seats. AllByRecursion (λ one. HasSatDown sizes.shards (rules_of sizes) (D.told one.door) one.session one.phase) seats.items) }
 {
     let mut seats = Vec::with_capacity(alloc, ends.len())?;
     let mut doors = doors.into_iter();
@@ -216,7 +216,7 @@ fn start_parts<
 where
     D::Line: Send + 'static,
     requires none { crew.old ≡ [] }
-    requires begin { AllByRecursion (λ one. HasSatDown sizes.shards sizes.value (D.told one.door) one.session one.phase) seats.items }
+    requires begin { AllByRecursion (λ one. HasSatDown sizes.shards (rules_of sizes) (D.told one.door) one.session one.phase) seats.items }
     // Each seat and each worker stands in just one part, in their order.
     ensures seats { OnOk result (flat_map (λ part. part.seats.all.items) crew.new ≡ seats.items) }
     ensures workers { OnOk result (flat_map (λ part. part.workers.items) crew.new ≡ workers.items) }

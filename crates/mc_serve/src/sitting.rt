@@ -1,4 +1,6 @@
 //! A seat that serves the lines of a door, one after another, by steps of which none waits.
+ghost use Rattle.mc_server.specs.Sizes.{rules_of};
+ghost use Rattle.mc_command.specs.declared.rules.Rules.{Rules};
 ghost use Rattle.std.specs.Prelude.{◌≡◌, ◌<◌, ◌≤◌, ℕ, IfOk, IsTrue, length};
 ghost use Rattle.mc_ring.specs.Ends.{Ends};
 ghost use Rattle.mc_ring.specs.Lane.{Near};
@@ -64,12 +66,12 @@ impl<D: Door + Drop> Sitting<D> {
         requires value { sizes.value ≤ GREATEST_VALUE_LIMIT }
         requires window { 0 < sizes.window }
         requires width { length ends.lanes ≡ sizes.shards }
-        ensures vacant { IfOk result (λ sitting. IsVacant sizes.value sizes.window sitting.session) }
+        ensures vacant { IfOk result (λ sitting. IsVacant (rules_of sizes) sizes.window sitting.session) }
         ensures free { IfOk result (λ sitting. sitting.phase ≡ phase.Free) }
         ensures door { IfOk result (λ sitting. sitting.door ≡ door) }
         ensures ends { IfOk result (λ sitting. sitting.session.courier.ends ≡ ends) }
     {
-        let session = Session::new(alloc, ends, shards, sizes.ring, sizes.value, sizes.window)?;
+        let session = Session::new(alloc, ends, shards, sizes.ring, sizes.rules(), sizes.window)?;
         Ok(Sitting {
             session,
             phase: Phase::Free,
@@ -86,9 +88,9 @@ impl<D: Door + Drop> Sitting<D> {
         rooms: &mut Rooms,
     ) -> Stepped
         requires { CanStep self.old.phase self.old.session }
-        ensures { (shards limit : ℕ) (sat : SeatAt) →
-            SeatStands (λ line. D.Line.sight line) shards limit (K.may_answer clock.now) sat (D.told self.old.door) self.old.session self.old.phase →
-            SeatStands (λ line. D.Line.sight line) shards limit (K.may_answer clock.now) sat (D.told self.new.door) self.new.session self.new.phase }
+        ensures { (shards : ℕ) (rules : Rules) (sat : SeatAt) →
+            SeatStands (λ line. D.Line.sight line) shards rules (K.may_answer clock.now) sat (D.told self.old.door) self.old.session self.old.phase →
+            SeatStands (λ line. D.Line.sight line) shards rules (K.may_answer clock.now) sat (D.told self.new.door) self.new.session self.new.phase }
     {
         match mem::replace(&mut self.phase, Phase::Over) {
             Phase::Free => self.accept(clock),
@@ -101,9 +103,9 @@ impl<D: Door + Drop> Sitting<D> {
 
     /// Asks the door for a line, and begins to serve it.
     fn accept<K: Clock>(&mut self, clock: &K) -> Stepped
-        ensures { (shards limit : ℕ) (sat : SeatAt) →
-            SitsFree shards limit (K.may_answer clock.now) sat (D.told self.old.door) self.old.session →
-            SeatStands (λ line. D.Line.sight line) shards limit (K.may_answer clock.now) sat (D.told self.new.door) self.new.session self.new.phase }
+        ensures { (shards : ℕ) (rules : Rules) (sat : SeatAt) →
+            SitsFree shards rules (K.may_answer clock.now) sat (D.told self.old.door) self.old.session →
+            SeatStands (λ line. D.Line.sight line) shards rules (K.may_answer clock.now) sat (D.told self.new.door) self.new.session self.new.phase }
     {
         match self.door.accept() {
             Arrival::Came(line) => self.begin(line, clock),
@@ -120,9 +122,9 @@ impl<D: Door + Drop> Sitting<D> {
 
     /// Begins to serve the line that is out. Where memory for it is refused the line waits, and the next step asks again.
     fn begin<K: Clock>(&mut self, line: D::Line, clock: &K) -> Stepped
-        ensures { (shards limit : ℕ) (sat : SeatAt) →
-            SitsBeginning shards limit (K.may_answer clock.now) sat (D.told self.old.door) (D.Line.sight line) self.old.session →
-            SeatStands (λ line. D.Line.sight line) shards limit (K.may_answer clock.now) sat (D.told self.new.door) self.new.session self.new.phase }
+        ensures { (shards : ℕ) (rules : Rules) (sat : SeatAt) →
+            SitsBeginning shards rules (K.may_answer clock.now) sat (D.told self.old.door) (D.Line.sight line) self.old.session →
+            SeatStands (λ line. D.Line.sight line) shards rules (K.may_answer clock.now) sat (D.told self.new.door) self.new.session self.new.phase }
     {
         match self.session.begin(clock) {
             Ok(()) => {
@@ -139,9 +141,9 @@ impl<D: Door + Drop> Sitting<D> {
     /// Serves the line that is out a step further, and gives it back once it was served.
     fn serve<K: Clock>(&mut self, line: D::Line, clock: &K, rooms: &mut Rooms) -> Stepped
         requires { MayStep self.old.session }
-        ensures { (shards limit : ℕ) (sat : SeatAt) →
-            SitsServing shards limit (K.may_answer clock.now) sat (D.told self.old.door) (D.Line.sight line) self.old.session →
-            SeatStands (λ line. D.Line.sight line) shards limit (K.may_answer clock.now) sat (D.told self.new.door) self.new.session self.new.phase }
+        ensures { (shards : ℕ) (rules : Rules) (sat : SeatAt) →
+            SitsServing shards rules (K.may_answer clock.now) sat (D.told self.old.door) (D.Line.sight line) self.old.session →
+            SeatStands (λ line. D.Line.sight line) shards rules (K.may_answer clock.now) sat (D.told self.new.door) self.new.session self.new.phase }
     {
         let mut line = line;
         match self.session.step(&mut line, clock, rooms) {

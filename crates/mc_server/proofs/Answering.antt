@@ -72,7 +72,7 @@ answers_next sizes told shards log place piece answer was shard answers next got
     record {
       some = answers.some;
       same = answers.same;
-      limit = answers.limit;
+      rules_are = answers.rules_are;
       count = length-set shards place shard ∙ answers.count;
       backs = Backs-push sizes shards log was shard entry got answers.backs steps;
       mine = all_push (λ (e : Entry). e.asker ≡ 0) log entry answers.mine refl;

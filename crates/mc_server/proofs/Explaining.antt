@@ -23,7 +23,7 @@ use Rattle.mc_conn.proofs.Places.{lane-append}
 use Rattle.mc_conn.proofs.Serving.{keys_came}
 use Rattle.mc_conn.proofs.Staying.{is_sound}
 use Rattle.mc_conn.proofs.Telling.{ran_on-same, tells}
-use Rattle.mc_core.specs.Sizes.{Sizes}
+use Rattle.mc_core.specs.Sizes.{Sizes, rules_of}
 use Rattle.mc_core.specs.Sized.{empty_shard}
 use Rattle.mc_core.specs.Log.{Entry, on_shard, pieces_in, reply_to}
 use Rattle.mc_core.specs.Alone.{empty_shards}
@@ -155,7 +155,7 @@ explains sizes may_answer begin now told broke commands conn last shards log is 
     let t = tells_all sizes told shards log conn is ran in
     let long = ap length t.same in
     let commands_are : commands_of told.taken ≡ entries_of history = ap commands_of (sym t.same) ∙ map-map (λ (one : Taken). one.entry) taken_of history in
-    let story : Story sizes.value begin now broke (map taken_of history) (map text_done history) = rw (← answers.limit, t.same, ← t.texts) served.story in
+    let story : Story (rules_of sizes) begin now broke (map taken_of history) (map text_done history) = rw (← answers.rules_are, t.same, ← t.texts) served.story in
     let answered : AllByRecursion (IsAnswered sizes.shards) history = rw (← answers.same) t.answered in
     let logged : (s : ℕ) → due.on_shard s (due.log_of sizes.shards history) ≡ map ran_of (on_shard s log) = λ s. rw (← answers.same) (on_shard_is sizes told shards log history ran t s) in
     let mine : (s : ℕ) → AllByRecursion (λ (entry : Entry). entry.asker ≡ 0) (on_shard s log) = λ s. mine_on s log answers.mine in
@@ -172,7 +172,7 @@ explains sizes may_answer begin now told broke commands conn last shards log is 
       explained = record {
         history = history;
         story = story;
-        reads = rw (← answers.limit, ← commands_are, ← t.texts) (served.reads (keys_fit sizes told shards log answers));
+        reads = rw (← answers.rules_are, ← commands_are, ← t.texts) (served.reads (keys_fit sizes told shards log answers));
         answered = answered;
         moments = all_unmap (λ (one : Taken). may_answer one.moment) taken_of history (rw t.same moments);
         counted = omega (arith, counted, long, length-map history taken_of);

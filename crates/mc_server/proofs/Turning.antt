@@ -15,7 +15,7 @@ use Rattle.mc_conn.specs.Told.{Told, all_pieces, all_texts, commands_of, told_no
 use Rattle.mc_conn.proofs.Fitting.{fits_none, fits_take, pieces_from-append}
 use Rattle.mc_conn.proofs.Gets.{all_push}
 use Rattle.mc_conn.proofs.Staying.{is_sound, keeps_take}
-use Rattle.mc_core.specs.Sizes.{Sizes}
+use Rattle.mc_core.specs.Sizes.{Sizes, rules_of}
 use Rattle.mc_core.specs.Log.{Entry}
 use Rattle.mc_seat.specs.declared.seat.Turn.{Turn}
 use Rattle.mc_seat.specs.internal.Stands.{handed_texts}
@@ -30,13 +30,13 @@ use Rattle.mc_server.proofs.Answering.{told_more}
 use Rattle.mc_server.proofs.Explaining.{RanAll, all_complete, explains, keys_fit}
 
 -- nothing has happened yet
-pub turns_first : (sizes : Sizes) (may_answer : ℕ → Type 0) (now : Sight) (unread : List ℕ) (conn : Conn) (shards : List Shard) (window : ℕ) → 0 < sizes.shards → length shards ≡ sizes.shards → Backs sizes shards [] → unread ≡ [] → IsConn conn (told_nothing sizes.shards sizes.value window) → Turns sizes may_answer now now unread conn shards 0
+pub turns_first : (sizes : Sizes) (may_answer : ℕ → Type 0) (now : Sight) (unread : List ℕ) (conn : Conn) (shards : List Shard) (window : ℕ) → 0 < sizes.shards → length shards ≡ sizes.shards → Backs sizes shards [] → unread ≡ [] → IsConn conn (told_nothing sizes.shards (rules_of sizes) window) → Turns sizes may_answer now now unread conn shards 0
 turns_first sizes may_answer now unread conn shards window some count backs none is = record {
-  told = told_nothing sizes.shards sizes.value window;
+  told = told_nothing sizes.shards (rules_of sizes) window;
   log = [];
   conn_is = is;
-  answers = record { some = some; same = refl; limit = refl; count = count; backs = backs; mine = tt; ran = refl; fits = fits_none sizes.shards };
-  serving = rw none (stands_first sizes.value (KeysFit sizes.shards [] (replies_on [])) now);
+  answers = record { some = some; same = refl; rules_are = refl; count = count; backs = backs; mine = tt; ran = refl; fits = fits_none sizes.shards };
+  serving = rw none (stands_first (rules_of sizes) (KeysFit sizes.shards [] (replies_on [])) now);
   moments = tt;
   unbroken = refl;
   counted = refl;
@@ -50,7 +50,7 @@ answers_take sizes told shards log one conn is answers =
     record {
       some = answers.some;
       same = answers.same;
-      limit = answers.limit;
+      rules_are = answers.rules_are;
       count = answers.count;
       backs = answers.backs;
       mine = answers.mine;
@@ -67,15 +67,15 @@ turns_take sizes may_answer begin now unread conn new shards commands later mome
     let keeps = keeps_take conn told opens.one turns.conn_is in
     let answers = turns.answers in
     let fits = keys_fit sizes told shards turns.log answers in
-    let short = begins_length told.limit told.fed (commands_of taken) opens.next in
+    let short = begins_length told.rules told.fed (commands_of taken) opens.next in
     let number = opens.number in
     record {
       told = record told { taken = taken };
       log = turns.log;
       conn_is = opens.now;
       answers = answers_take sizes told shards turns.log opens.one conn turns.conn_is answers;
-      serving = serving_along told.limit (replies_on turns.log) begin now unread told.fed told.ended told.shards taken (handed_texts told) _ (sym keeps.same)
-          (stands_take told.limit (KeysFit told.shards told.taken (replies_on turns.log)) (KeysFit told.shards taken (replies_on turns.log)) begin now unread told.fed told.ended told.taken (handed_texts told) opens.one (λ _. fits) turns.serving);
+      serving = serving_along told.rules (replies_on turns.log) begin now unread told.fed told.ended told.shards taken (handed_texts told) _ (sym keeps.same)
+          (stands_take told.rules (KeysFit told.shards told.taken (replies_on turns.log)) (KeysFit told.shards taken (replies_on turns.log)) begin now unread told.fed told.ended told.taken (handed_texts told) opens.one (λ _. fits) turns.serving);
       moments = all_push (λ (x : Taken). may_answer x.moment) told.taken opens.one turns.moments (rw opens.moment_is may);
       unbroken = turns.unbroken;
       counted = omega (arith, later_is, number, short, length-map taken (λ (x : Taken). x.entry), length-append told.taken (opens.one ∷ []));
@@ -117,14 +117,14 @@ answers_stop sizes may_answer begin now unread conn new shards after commands st
     let rest = all sizes told turns.log turns.conn_is turns.answers in
     let more = rest.0 in
     let fits = keys_fit sizes told shards turns.log turns.answers in
-    let stands = stands_fits told.limit (KeysFit told.shards told.taken (replies_on turns.log)) (KeysFit told.shards told.taken (replies_on more.log)) begin now unread told.fed told.ended told.taken (handed_texts told) fits turns.serving in
+    let stands = stands_fits told.rules (KeysFit told.shards told.taken (replies_on turns.log)) (KeysFit told.shards told.taken (replies_on more.log)) begin now unread told.fed told.ended told.taken (handed_texts told) fits turns.serving in
     record {
       turns = record {
         told = told_more told more;
         log = more.log;
         conn_is = more.conn_is;
         answers = more.answers;
-        serving = serving_along told.limit (replies_on more.log) begin now unread told.fed told.ended told.shards told.taken (handed_texts told) (handed_texts (told_more told more)) (sym more.handed.same) stands;
+        serving = serving_along told.rules (replies_on more.log) begin now unread told.fed told.ended told.shards told.taken (handed_texts told) (handed_texts (told_more told more)) (sym more.handed.same) stands;
         moments = turns.moments;
         unbroken = turns.unbroken;
         counted = turns.counted;
@@ -142,7 +142,7 @@ turns_go sizes may_answer begin now left conn new shards commands turns later un
   answers = record {
     some = turns.answers.some;
     same = turns.answers.same;
-    limit = turns.answers.limit;
+    rules_are = turns.answers.rules_are;
     count = turns.answers.count;
     backs = turns.answers.backs;
     mine = turns.answers.mine;

@@ -5,7 +5,7 @@ use Rattle.mc_wire.specs.Outlet.{Sight}
 use Rattle.mc_conn.specs.History.{Done, IsAnswered, entries_of, taken_of, text_done}
 use Rattle.mc_conn.specs.Due.{Ran}
 use Rattle.mc_conn.specs.Due as due
-use Rattle.mc_core.specs.Sizes.{Sizes}
+use Rattle.mc_core.specs.Sizes.{Sizes, rules_of}
 use Rattle.mc_core.specs.Log.{Entry, IsLawful, of_asker, on_shard}
 use Rattle.mc_core.specs.Alone.{HadMemory, alone}
 use Rattle.mc_seat.specs.Story.{Story}
@@ -35,9 +35,9 @@ pub record IsLogOf (sizes : Sizes) (lines : ℕ) (log : List Entry) : Type 0 whe
 pub record ExplainsLine (sizes : Sizes) (may_answer : ℕ → Type 0) (log : List Entry) (number : ℕ) (line : LineTold) : Type 0 where
   pub history : List Done
   -- The commands are those of the bytes read, and the line took the texts of their replies.
-  pub story : Story sizes.value line.begin line.now line.broke (map taken_of history) (map text_done history)
+  pub story : Story (rules_of sizes) line.begin line.now line.broke (map taken_of history) (map text_done history)
   -- It was read only where all replies to the bytes read so far were written out.
-  pub reads : ReadsOwingNothing sizes.value line.begin line.now (entries_of history) (map text_done history)
+  pub reads : ReadsOwingNothing (rules_of sizes) line.begin line.now (entries_of history) (map text_done history)
   pub answered : AllByRecursion (IsAnswered sizes.shards) history
   pub moments : AllByRecursion (λ done. may_answer done.moment) history
   pub counted : line.commands ≡ length history

@@ -1,11 +1,16 @@
 -- The sizes of a server, as its definitions name them.
 use Rattle.std.specs.Prelude.{ℕ}
+use Rattle.mc_command.specs.declared.rules.Rules.{Rules}
 use Rattle.mc_core.specs.Sizes.{Sizes}
 use Rattle.mc_server.specs.declared.serve as serve
 
+-- the rules by which lines are read
+abbrev pub rules_of : serve.Sizes.Sizes → Rules
+rules_of sizes = record { profile = sizes.profile; value_limit = sizes.value }
+
 -- those of a server with so many lines
 abbrev pub sizes_of : ℕ → serve.Sizes.Sizes → Sizes
-sizes_of seats sizes = record { seats = seats; shards = sizes.shards; bytes = sizes.bytes; ring = sizes.ring; value = sizes.value; window = sizes.window }
+sizes_of seats sizes = record { profile = sizes.profile; seats = seats; shards = sizes.shards; bytes = sizes.bytes; ring = sizes.ring; value = sizes.value; window = sizes.window }
 
 -- those of a server with one line
 abbrev pub line_sizes : serve.Sizes.Sizes → Sizes

@@ -4,6 +4,7 @@ ghost use Rattle.mc_server.specs.Explains.{IsExplained};
 ghost use Rattle.mc_server.specs.Sizes.{line_sizes};
 ghost use Rattle.mc_server.specs.internal.Answering.{AnswersAll, Backs, CanAnswer};
 
+use mc_command::{Profile, Rules};
 use mc_conn::{Conn, Taken};
 use mc_ring::Reply;
 use mc_seat::{Clock, Line, Rooms, Seat, Served, Turn};
@@ -18,9 +19,11 @@ use std::thread;
 /// So many pieces, or replies, a ring of the program holds.
 pub const DEFAULT_RING: usize = 20;
 
-/// How large a server is.
+/// How large a server is, and whose rules it follows.
 #[derive(Clone, Copy, Debug, PartialEq, Eq)]
 pub struct Sizes {
+    /// Whose rules it follows.
+    pub profile: Profile,
     /// How many shards there are.
     pub shards: usize,
     /// What the items of a shard may cost together, in bytes.
@@ -31,6 +34,20 @@ pub struct Sizes {
     pub value: usize,
     /// How many commands of a line may be open: taken, and their replies not handed out.
     pub window: usize,
+}
+
+impl Sizes {
+    ghost use Rattle.mc_server.specs.Sizes.{rules_of};
+
+    /// The rules by which lines are read.
+    pub fn rules(self) -> Rules
+        ensures { result ≡ rules_of self }
+    {
+        Rules {
+            profile: self.profile,
+            value_limit: self.value,
+        }
+    }
 }
 
 /// Why a line was not served. Nothing was read of it nor written to it.
@@ -109,7 +126,7 @@ pub fn serve_one<R: Wait + RandomSource, L: Line, K: Clock>(
 {
     let (Ok(mut shards), Ok(mut conn), Ok(mut rooms)) = (
         make_shards(rt, alloc, sizes),
-        Conn::new(alloc, sizes.shards, sizes.value, sizes.window),
+        Conn::under(alloc, sizes.shards, sizes.rules(), sizes.window),
         Rooms::new(alloc),
     ) else {
         return Err(ServeRefusal::Memory);

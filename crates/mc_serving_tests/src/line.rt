@@ -2,6 +2,7 @@
 //! The worked rows stand in the crate mc_rows.
 use crate::asserting::{equal, holds};
 use crate::memory_line::MemoryLine;
+use mc_command::Profile;
 use mc_seat::Clock;
 use mc_server::{DEFAULT_RING, ServeRefusal, Sizes, StillClock, serve_one};
 use mc_wire::DEFAULT_VALUE_LIMIT;
@@ -12,6 +13,7 @@ use std::sync::Wait;
 use std::test::Fail;
 
 const SIZES: Sizes = Sizes {
+    profile: Profile::Own,
     shards: 2,
     bytes: 1_024,
     ring: DEFAULT_RING,

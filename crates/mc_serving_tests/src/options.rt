@@ -1,5 +1,6 @@
 //! The calls of the program, read from their words.
 use crate::asserting::{equal, holds};
+use mc_command::Profile;
 use mc_options::{Limits, OptionFault, Options, read_options};
 use std::alloc::{AllocError, Global};
 
@@ -38,6 +39,7 @@ fn each_call(rt: HostRuntime) -> Result<(), Fail> {
     let words = words_of(alloc, "mcd")?;
     let options = read_options(alloc, words.as_slice())?;
     let limits = Limits {
+        profile: Profile::Own,
         shards: 2,
         bytes: 16_777_216,
         value: 1_048_576,
@@ -58,10 +60,11 @@ fn each_call(rt: HostRuntime) -> Result<(), Fail> {
     );
     let words = words_of(
         alloc,
-        "mcd --stdio --at 1000 --shards 016 --bytes 1024 --value-limit=8388608 --window 1",
+        "mcd --stdio --at 1000 --drop-in --shards 016 --bytes 1024 --value-limit=8388608 --window 1",
     )?;
     let options = read_options(alloc, words.as_slice())?;
     let limits = Limits {
+        profile: Profile::DropIn,
         shards: 16,
         bytes: 1_024,
         value: 8_388_608,
@@ -135,6 +138,8 @@ fn faults(rt: HostRuntime) -> Result<(), Fail> {
         ("mcd --connections 0", 2),
         ("mcd --replay a --stdio", 2),
         ("mcd --replay a --shards 2", 2),
+        ("mcd --replay a --drop-in", 2),
+        ("mcd --drop-in=true", 2),
         ("mcd --port 11211", 2),
         ("mcd --bytes 64k --memory 1m", 2),
         ("mcd --memory 2047", 2),

@@ -1,6 +1,7 @@
 //! Lines of which nothing is read where the threads that were to serve them can't all be started.
 use crate::asserting::{equal, holds};
 use crate::memory_line::MemoryLine;
+use mc_command::Profile;
 use mc_core::OpenGate;
 use mc_seat::{Line, LineFault};
 use mc_serve::{ServeRefusal, Sizes, serve_over};
@@ -54,6 +55,7 @@ fn two_lines(
 }
 
 const SIZES: Sizes = Sizes {
+    profile: Profile::Own,
     shards: 2,
     bytes: 65_536,
     ring: 64,

@@ -1,5 +1,6 @@
 //! A connection over a stream that takes and gives little at a call, and whose calls a signal interrupts.
 use crate::asserting::{equal, holds};
+use mc_command::Profile;
 use mc_seat::Unwritten;
 use mc_serve::{TcpLine, VectoredWrite};
 use mc_server::{Sizes, StillClock, serve_one};
@@ -106,6 +107,7 @@ fn a_line_is_served_over_it(rt: HostRuntime) -> Result<(), Fail> {
     let mut stream = Slow::new(rt.alloc(), input);
     let mut line = TcpLine::new(&mut stream);
     let sizes = Sizes {
+        profile: Profile::Own,
         shards: 2,
         bytes: 1_024,
         ring: 1,

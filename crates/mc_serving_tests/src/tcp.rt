@@ -2,6 +2,7 @@
 ghost use Rattle.std.specs.Prelude.{◌≤◌};
 
 use crate::asserting::equal;
+use mc_command::Profile;
 use mc_serve::{Sizes, serve_tcp};
 use mc_server::StillClock;
 use mc_watch::{Counts, Patience, Seconds, ShardTotals, Totals, Watch};
@@ -53,6 +54,7 @@ fn serve_client<
     let own = *rt;
     let client = thread::spawn(rt, move || talk(&own, alloc, server, commands))?;
     let sizes = Sizes {
+        profile: Profile::Own,
         shards: 2,
         bytes: 65_536,
         ring,
@@ -104,6 +106,7 @@ fn serve_three<
     let second = thread::spawn(rt, move || talk(&own, alloc, server, b"get a\r\nquit\r\n"))?;
     let third = thread::spawn(rt, move || talk(&own, alloc, server, b"mg a b\r\nquit\r\n"))?;
     let sizes = Sizes {
+        profile: Profile::Own,
         shards: 2,
         bytes: 65_536,
         ring: 1,

@@ -92,7 +92,7 @@ fn words_numbers_and_items(rt: HostRuntime) {
 fn name_of(next: &Next) -> &'static str {
     match next {
         Next::Command(Command::MetaNoop) => "mn",
-        Next::Command(Command::Version) => "version",
+        Next::Command(Command::Version(_)) => "version",
         Next::Command(Command::Verbosity { .. }) => "verbosity",
         Next::Command(Command::Quit) => "quit",
         Next::Command(Command::Refused(Refusal::Unknown)) => "unknown",

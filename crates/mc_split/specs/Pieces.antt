@@ -32,7 +32,7 @@ pieces_of shards (command.Delete key noreply) = asked_of shards key (op.Delete k
 pieces_of shards (command.Count key direction amount noreply) = asked_of shards key (op.Count key direction amount) ∷ []
 pieces_of shards (command.Touch key exptime noreply) = asked_of shards key (op.Touch key exptime) ∷ []
 pieces_of shards (command.FlushAll delay noreply) = map (λ shard. record { shard = shard; op = op.Flush delay }) (range_with_len 0 shards)
-pieces_of shards command.Version = []
+pieces_of shards (command.Version profile) = []
 pieces_of shards (command.Verbosity noreply) = []
 pieces_of shards command.Quit = []
 pieces_of shards command.MetaNoop = []

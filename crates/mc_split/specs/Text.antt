@@ -6,6 +6,8 @@ use Rattle.mc_command.specs.declared.meta.MetaFlags.{MetaFlags}
 use Rattle.mc_command.specs.declared.meta.ReturnFlag.{ReturnFlag}
 use Rattle.mc_command.specs.declared.meta.ReturnFlag.TheVariants as return_flag
 use Rattle.mc_command.specs.declared.refusal.Refusal.{Refusal}
+use Rattle.mc_command.specs.declared.rules.Profile.{Profile}
+use Rattle.mc_command.specs.declared.rules.Profile.TheVariants as profile
 use Rattle.mc_command.specs.declared.refusal.Refusal.TheVariants as refusal
 use Rattle.mc_item.specs.declared.answer.Answer.{Answer}
 use Rattle.mc_item.specs.declared.answer.Answer.TheVariants.{Stored, NotStored, Exists, NotFound, TooLarge, NoCas, NoMemory, Hit, Miss, Number, NonNumeric, Deleted, Touched, Done}
@@ -32,12 +34,19 @@ refusal_line refusal.TooLarge = codes "SERVER_ERROR object too large for cache\r
 refusal_line refusal.BadChunk = codes "CLIENT_ERROR bad data chunk\r\n"
 refusal_line refusal.LineTooLong = codes "CLIENT_ERROR line too long\r\n"
 refusal_line refusal.Memory = codes "SERVER_ERROR out of memory\r\n"
+refusal_line refusal.WordCount = codes "ERROR\r\n"
+refusal_line refusal.Hidden = []
+
+-- the line of `version`; by memcached's rules that of the release that they follow, whose parts clients compare as numbers
+abbrev pub version_line : Profile → List ℕ
+version_line profile.Own = codes "VERSION 1.6.0-sharded\r\n"
+version_line profile.DropIn = codes "VERSION 1.6.18\r\n"
 
 -- a reply that no answer changes
 abbrev pub fixed_text : Fixed → List ℕ
 fixed_text fixed.Nothing = []
 fixed_text fixed.Ok = codes "OK\r\n"
-fixed_text fixed.Version = codes "VERSION 1.6.0-sharded\r\n"
+fixed_text (fixed.Version profile) = version_line profile
 fixed_text fixed.MetaNoop = codes "MN\r\n"
 fixed_text (fixed.Refused refusal) = refusal_line refusal
 

@@ -6,6 +6,7 @@ use Rattle.mc_command.specs.declared.command.Command.{Command}
 use Rattle.mc_command.specs.declared.command.Command.TheVariants as command
 use Rattle.mc_command.specs.declared.meta.MetaFlags.{MetaFlags}
 use Rattle.mc_command.specs.declared.meta.ReturnFlag.{ReturnFlag}
+use Rattle.mc_command.specs.declared.refusal.Refusal.TheVariants as refusal
 use Rattle.mc_command.specs.FlagOrder.{returned_in, with_returned}
 use Rattle.mc_item.specs.declared.answer.Answer.{Answer}
 use Rattle.mc_item.specs.Kind.{is_lawful, kind_of}
@@ -27,7 +28,7 @@ hides kind flags value [] = false
 hides kind flags value (answer ∷ answers) = flags.quiet && is_hidden kind value answer
 
 -- Nothing is shown of the command: of `quit`, where `noreply` stands, and where `q` hides what was answered. A
--- refusal and a get are always shown.
+-- refusal that isn't a hidden one is always shown, and so is a get.
 abbrev pub is_silent : Command → List Answer → Bool
 is_silent (command.Store storage) answers = storage.noreply
 is_silent (command.Get retrieval) answers = false
@@ -35,7 +36,7 @@ is_silent (command.Delete key noreply) answers = noreply
 is_silent (command.Count key direction amount noreply) answers = noreply
 is_silent (command.Touch key exptime noreply) answers = noreply
 is_silent (command.FlushAll delay noreply) answers = noreply
-is_silent command.Version answers = false
+is_silent (command.Version profile) answers = false
 is_silent (command.Verbosity noreply) answers = noreply
 is_silent command.Quit answers = true
 is_silent command.MetaNoop answers = false
@@ -43,7 +44,8 @@ is_silent (command.MetaGet get) answers = hides kind.Get get.flags get.value ans
 is_silent (command.MetaSet set) answers = hides kind.Set set.flags false answers
 is_silent (command.MetaDelete delete) answers = hides kind.Delete delete.flags false answers
 is_silent (command.MetaArithmetic arithmetic) answers = hides kind.Arithmetic arithmetic.flags arithmetic.value answers
-is_silent (command.Refused refusal) answers = false
+is_silent (command.Refused refusal.Hidden) answers = true
+is_silent (command.Refused refused) answers = false
 
 -- The reply to a command is empty just where it is silent.
 abbrev pub IsEmptyWhereSilent : Type 0
@@ -62,7 +64,7 @@ loud (command.Delete key noreply) = command.Delete key false
 loud (command.Count key direction amount noreply) = command.Count key direction amount false
 loud (command.Touch key exptime noreply) = command.Touch key exptime false
 loud (command.FlushAll delay noreply) = command.FlushAll delay false
-loud command.Version = command.Version
+loud (command.Version profile) = command.Version profile
 loud (command.Verbosity noreply) = command.Verbosity false
 loud command.Quit = command.Quit
 loud command.MetaNoop = command.MetaNoop

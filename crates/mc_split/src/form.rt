@@ -3,7 +3,7 @@ ghost use Rattle.std.specs.Prelude.{◌≡◌, ◌<◌, ◌↔◌, ◌∷◌, []
 ghost use Rattle.mc_split.specs.Slots.{missing_in};
 
 use crate::plan::Ticket;
-use mc_command::{Keys, MetaFlags, MetaKind, Refusal};
+use mc_command::{Keys, MetaFlags, MetaKind, Profile, Refusal};
 use mc_item::{Answer, Kind};
 use mc_wire::Key;
 use std::alloc::{AllocError, Global};
@@ -42,8 +42,8 @@ pub enum Fixed {
     Nothing,
     /// `OK`, to `verbosity`.
     Ok,
-    /// `VERSION ..`.
-    Version,
+    /// `VERSION ..`, by the profile.
+    Version(Profile),
     /// `MN`.
     MetaNoop,
     /// The line of a refusal.

@@ -110,7 +110,7 @@ impl Splitter {
                 noreply,
             } => self.touch(queue, key, exptime, noreply),
             Command::FlushAll { delay, noreply } => self.flush_all(queue, delay, noreply),
-            Command::Version => Ok(self.fixed(Fixed::Version)),
+            Command::Version(profile) => Ok(self.fixed(Fixed::Version(profile))),
             Command::Verbosity { noreply: false } => Ok(self.fixed(Fixed::Ok)),
             Command::Verbosity { noreply: true } | Command::Quit => Ok(self.fixed(Fixed::Nothing)),
             Command::MetaNoop => Ok(self.fixed(Fixed::MetaNoop)),

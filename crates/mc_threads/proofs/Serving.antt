@@ -34,6 +34,7 @@ use Rattle.mc_threads.specs.Serving.{IsIdle}
 use Rattle.mc_threads.specs.internal.Carrying.{AllOut, Carries, CarriesOn, IsKept, MayCarry, MovesOn, carried, sent_to}
 use Rattle.mc_threads.specs.internal.Turns.{Stops, Turns}
 use Rattle.mc_threads.proofs.Carrying.{some_shards}
+use Rattle.mc_command.specs.declared.rules.Rules.{Rules}
 
 -- all counts are 0
 pub all_zero : (counts : List ℕ) → list_all (λ count. count == 0) counts ≡ true → IsIdle counts
@@ -45,8 +46,8 @@ all_zero (count ∷ counts) e =
     ] refl e
 
 -- before anything was carried
-carries_first : (ends : Ends Near) (ways : List ℕ) (limit window : ℕ) → length ways ≡ length ends.lanes → IsIdle ways → Carries ends ends ways (told_nothing (length ends.lanes) limit window) (λ s. [])
-carries_first ends ways limit window each idle = record {
+carries_first : (ends : Ends Near) (ways : List ℕ) (rules : Rules) (window : ℕ) → length ways ≡ length ends.lanes → IsIdle ways → Carries ends ends ways (told_nothing (length ends.lanes) rules window) (λ s. [])
+carries_first ends ways rules window each idle = record {
   width = refl;
   each = each;
   same = same_ends-refl ends;
@@ -56,17 +57,17 @@ carries_first ends ways limit window each idle = record {
   serves = serves_none (length ends.lanes);
 }
 
-pub turns_first : (may_answer : ℕ → Type 0) (now : Sight) (ends : Ends Near) (ways unread : List ℕ) (conn : Conn) (limit window : ℕ) → length ways ≡ length ends.lanes → IsIdle ways → unread ≡ [] → IsConn conn (told_nothing (length ends.lanes) limit window) → Turns (length ends.lanes) limit may_answer now now ends ends ways unread conn 0
-turns_first may_answer now ends ways unread conn limit window each idle none is = record {
-  told = told_nothing (length ends.lanes) limit window;
+pub turns_first : (may_answer : ℕ → Type 0) (now : Sight) (ends : Ends Near) (ways unread : List ℕ) (conn : Conn) (rules : Rules) (window : ℕ) → length ways ≡ length ends.lanes → IsIdle ways → unread ≡ [] → IsConn conn (told_nothing (length ends.lanes) rules window) → Turns (length ends.lanes) rules may_answer now now ends ends ways unread conn 0
+turns_first may_answer now ends ways unread conn rules window each idle none is = record {
+  told = told_nothing (length ends.lanes) rules window;
   received = λ s. [];
   shards_is = refl;
-  limit_is = refl;
+  rules_are = refl;
   conn_is = is;
-  carries = carries_first ends ways limit window each idle;
+  carries = carries_first ends ways rules window each idle;
   serving =
-      let P : List ℕ → Type 0 = λ bytes. Serving (λ s. []) now now bytes (told_nothing (length ends.lanes) limit window) in
-      subst P (sym none) (stands_first limit (KeysFit (length ends.lanes) [] (λ s. [])) now);
+      let P : List ℕ → Type 0 = λ bytes. Serving (λ s. []) now now bytes (told_nothing (length ends.lanes) rules window) in
+      subst P (sym none) (stands_first rules (KeysFit (length ends.lanes) [] (λ s. [])) now);
   moments = tt;
   unbroken = refl;
   counted = refl;
@@ -83,8 +84,8 @@ keys_kept : (shards : ℕ) (taken : List Taken) (received later : ℕ → List S
 keys_kept shards taken received later kept keys s i p reply asked came = keys s i p reply asked (kept s i reply came)
 
 -- the condition under which nothing was owed is a stronger one
-stands_where : (limit : ℕ) (fits after : Type 0) (begin now : Sight) (unread fed : List ℕ) (ended : Bool) (taken : List Taken) (texts : List (List ℕ)) → (after → fits) → Stands limit fits begin now unread fed ended taken texts → Stands limit after begin now unread fed ended taken texts
-stands_where limit fits after begin now unread fed ended taken texts weaker stands = record {
+stands_where : (rules : Rules) (fits after : Type 0) (begin now : Sight) (unread fed : List ℕ) (ended : Bool) (taken : List Taken) (texts : List (List ℕ)) → (after → fits) → Stands rules fits begin now unread fed ended taken texts → Stands rules after begin now unread fed ended taken texts
+stands_where rules fits after begin now unread fed ended taken texts weaker stands = record {
   read_is = stands.read_is;
   ended_is = stands.ended_is;
   taken_is = stands.taken_is;
@@ -111,36 +112,36 @@ carries_take before ends ways told received one conn is carries =
       serves = serves_take told.shards told.taken one told.accepted received carries.serves;
     }
 
-pub turns_take : (shards limit : ℕ) (may_answer : ℕ → Type 0) (begin now : Sight) (before ends : Ends Near) (ways unread : List ℕ) (conn new : Conn) (commands later moment : ℕ) (ticket : Ticket) → may_answer moment → TakeSays conn moment (took.Opened ticket) new → later ≡ min (ticket.0 + 1) (2 ^ 64 - 1) →
-    Turns shards limit may_answer begin now before ends ways unread conn commands → Turns shards limit may_answer begin now before ends ways unread new later
-turns_take shards limit may_answer begin now before ends ways unread conn new commands later moment ticket may says later_is turns =
+pub turns_take : (shards : ℕ) (rules : Rules) (may_answer : ℕ → Type 0) (begin now : Sight) (before ends : Ends Near) (ways unread : List ℕ) (conn new : Conn) (commands later moment : ℕ) (ticket : Ticket) → may_answer moment → TakeSays conn moment (took.Opened ticket) new → later ≡ min (ticket.0 + 1) (2 ^ 64 - 1) →
+    Turns shards rules may_answer begin now before ends ways unread conn commands → Turns shards rules may_answer begin now before ends ways unread new later
+turns_take shards rules may_answer begin now before ends ways unread conn new commands later moment ticket may says later_is turns =
     let told = turns.told in
     let opens : Opens told moment ticket new = says told turns.conn_is in
     let taken : List Taken = told.taken ++ opens.one ∷ [] in
     let keeps = keeps_take conn told opens.one turns.conn_is in
-    let short = begins_length told.limit told.fed (commands_of taken) opens.next in
+    let short = begins_length told.rules told.fed (commands_of taken) opens.next in
     let number = opens.number in
     record {
       told = record told { taken = taken };
       received = turns.received;
       shards_is = turns.shards_is;
-      limit_is = turns.limit_is;
+      rules_are = turns.rules_are;
       conn_is = opens.now;
       carries = carries_take before ends ways told turns.received opens.one conn turns.conn_is turns.carries;
-      serving = serving_along told.limit turns.received begin now unread told.fed told.ended told.shards taken (handed_texts told) _ (sym keeps.same)
-          (stands_take told.limit (KeysFit told.shards told.taken turns.received) (KeysFit told.shards taken turns.received) begin now unread told.fed told.ended told.taken (handed_texts told) opens.one (keys_before told.shards told.taken opens.one turns.received) turns.serving);
+      serving = serving_along told.rules turns.received begin now unread told.fed told.ended told.shards taken (handed_texts told) _ (sym keeps.same)
+          (stands_take told.rules (KeysFit told.shards told.taken turns.received) (KeysFit told.shards taken turns.received) begin now unread told.fed told.ended told.taken (handed_texts told) opens.one (keys_before told.shards told.taken opens.one turns.received) turns.serving);
       moments = all_push (λ (x : Taken). may_answer x.moment) told.taken opens.one turns.moments (rw opens.moment_is may);
       unbroken = turns.unbroken;
       counted = omega (arith, later_is, number, short, length-map taken (λ (x : Taken). x.entry), length-append told.taken (opens.one ∷ []));
     }
 
 -- the same, of the connection as it is now
-turns_now : (shards limit : ℕ) (may_answer : ℕ → Type 0) (begin now : Sight) (before ends : Ends Near) (ways unread : List ℕ) (conn new : Conn) (commands : ℕ) → (turns : Turns shards limit may_answer begin now before ends ways unread conn commands) → IsConn new turns.told → Turns shards limit may_answer begin now before ends ways unread new commands
-turns_now shards limit may_answer begin now before ends ways unread conn new commands turns is = record {
+turns_now : (shards : ℕ) (rules : Rules) (may_answer : ℕ → Type 0) (begin now : Sight) (before ends : Ends Near) (ways unread : List ℕ) (conn new : Conn) (commands : ℕ) → (turns : Turns shards rules may_answer begin now before ends ways unread conn commands) → IsConn new turns.told → Turns shards rules may_answer begin now before ends ways unread new commands
+turns_now shards rules may_answer begin now before ends ways unread conn new commands turns is = record {
   told = turns.told;
   received = turns.received;
   shards_is = turns.shards_is;
-  limit_is = turns.limit_is;
+  rules_are = turns.rules_are;
   conn_is = is;
   carries = turns.carries;
   serving = turns.serving;
@@ -149,48 +150,48 @@ turns_now shards limit may_answer begin now before ends ways unread conn new com
   counted = turns.counted;
 }
 
-pub stops_take : (shards limit : ℕ) (may_answer : ℕ → Type 0) (begin now : Sight) (before ends : Ends Near) (ways unread : List ℕ) (conn new : Conn) (commands moment : ℕ) (stop : Took) → TakeSays conn moment stop new → ((ticket : Ticket) → stop ≡ took.Opened ticket → ⊥) →
-    Turns shards limit may_answer begin now before ends ways unread conn commands → Stops shards limit may_answer begin now before ends ways unread new commands stop
+pub stops_take : (shards : ℕ) (rules : Rules) (may_answer : ℕ → Type 0) (begin now : Sight) (before ends : Ends Near) (ways unread : List ℕ) (conn new : Conn) (commands moment : ℕ) (stop : Took) → TakeSays conn moment stop new → ((ticket : Ticket) → stop ≡ took.Opened ticket → ⊥) →
+    Turns shards rules may_answer begin now before ends ways unread conn commands → Stops shards rules may_answer begin now before ends ways unread new commands stop
 unfolding turns_now
-stops_take shards limit may_answer begin now before ends ways unread conn new commands moment (took.Opened ticket) says other turns = absurd (other ticket refl)
-stops_take shards limit may_answer begin now before ends ways unread conn new commands moment took.NeedMore says other turns =
+stops_take shards rules may_answer begin now before ends ways unread conn new commands moment (took.Opened ticket) says other turns = absurd (other ticket refl)
+stops_take shards rules may_answer begin now before ends ways unread conn new commands moment took.NeedMore says other turns =
     let needs = says turns.told turns.conn_is in
-    record { turns = turns_now shards limit may_answer begin now before ends ways unread conn new commands turns needs.now; stops = (needs.all, needs.comes) }
-stops_take shards limit may_answer begin now before ends ways unread conn new commands moment took.Full says other turns =
+    record { turns = turns_now shards rules may_answer begin now before ends ways unread conn new commands turns needs.now; stops = (needs.all, needs.comes) }
+stops_take shards rules may_answer begin now before ends ways unread conn new commands moment took.Full says other turns =
     let full = says turns.told turns.conn_is in
-    record { turns = turns_now shards limit may_answer begin now before ends ways unread conn new commands turns full.now; stops = tt }
-stops_take shards limit may_answer begin now before ends ways unread conn new commands moment took.Closed says other turns =
+    record { turns = turns_now shards rules may_answer begin now before ends ways unread conn new commands turns full.now; stops = tt }
+stops_take shards rules may_answer begin now before ends ways unread conn new commands moment took.Closed says other turns =
     let over = says turns.told turns.conn_is in
-    record { turns = turns_now shards limit may_answer begin now before ends ways unread conn new commands turns over.1; stops = over.0 }
+    record { turns = turns_now shards rules may_answer begin now before ends ways unread conn new commands turns over.1; stops = over.0 }
 
-pub can_settle : (shards limit : ℕ) (may_answer : ℕ → Type 0) (begin now : Sight) (before ends : Ends Near) (ways unread : List ℕ) (conn : Conn) (commands : ℕ) (stop : Took) → Stops shards limit may_answer begin now before ends ways unread conn commands stop → MayCarry ends ways conn
-can_settle shards limit may_answer begin now before ends ways unread conn commands stop stops =
+pub can_settle : (shards : ℕ) (rules : Rules) (may_answer : ℕ → Type 0) (begin now : Sight) (before ends : Ends Near) (ways unread : List ℕ) (conn : Conn) (commands : ℕ) (stop : Took) → Stops shards rules may_answer begin now before ends ways unread conn commands stop → MayCarry ends ways conn
+can_settle shards rules may_answer begin now before ends ways unread conn commands stop stops =
     let turns = stops.turns in
     record { before = before; told = turns.told; received = turns.received; conn_is = turns.conn_is; carries = turns.carries }
 
 -- all pieces of the commands taken were sent, and as many replies received
-pub record Settled (shards limit : ℕ) (may_answer : ℕ → Type 0) (begin now : Sight) (before ends : Ends Near) (ways unread : List ℕ) (conn : Conn) (commands : ℕ) (stop : Took) : Type 0 where
-  pub stopped : Stops shards limit may_answer begin now before ends ways unread conn commands stop
+pub record Settled (shards : ℕ) (rules : Rules) (may_answer : ℕ → Type 0) (begin now : Sight) (before ends : Ends Near) (ways unread : List ℕ) (conn : Conn) (commands : ℕ) (stop : Took) : Type 0 where
+  pub stopped : Stops shards rules may_answer begin now before ends ways unread conn commands stop
   pub all : stopped.turns.told.out ≡ length (all_pieces stopped.turns.told)
   pub idle : IsIdle ways
 
 -- pieces and replies were carried
-stops_on : (shards limit : ℕ) (may_answer : ℕ → Type 0) (begin now : Sight) (before ends ends' : Ends Near) (ways ways' unread : List ℕ) (conn new : Conn) (commands : ℕ) (stop : Took) → (stops : Stops shards limit may_answer begin now before ends ways unread conn commands stop)
-    → CarriesOn before stops.turns.told stops.turns.received ends' ways' new → Stops shards limit may_answer begin now before ends' ways' unread new commands stop
-stops_on shards limit may_answer begin now before ends ends' ways ways' unread conn new commands stop stops on =
+stops_on : (shards : ℕ) (rules : Rules) (may_answer : ℕ → Type 0) (begin now : Sight) (before ends ends' : Ends Near) (ways ways' unread : List ℕ) (conn new : Conn) (commands : ℕ) (stop : Took) → (stops : Stops shards rules may_answer begin now before ends ways unread conn commands stop)
+    → CarriesOn before stops.turns.told stops.turns.received ends' ways' new → Stops shards rules may_answer begin now before ends' ways' unread new commands stop
+stops_on shards rules may_answer begin now before ends ends' ways ways' unread conn new commands stop stops on =
     let turns = stops.turns in
     let told = turns.told in
     let later : Told = carried told on.out on.lent on.accepted in
-    let stands = stands_where told.limit (KeysFit told.shards told.taken turns.received) (KeysFit told.shards told.taken on.later) begin now unread told.fed told.ended told.taken (handed_texts told) (keys_kept told.shards told.taken turns.received on.later on.kept) turns.serving in
+    let stands = stands_where told.rules (KeysFit told.shards told.taken turns.received) (KeysFit told.shards told.taken on.later) begin now unread told.fed told.ended told.taken (handed_texts told) (keys_kept told.shards told.taken turns.received on.later on.kept) turns.serving in
     record {
       turns = record {
         told = later;
         received = on.later;
         shards_is = turns.shards_is;
-        limit_is = turns.limit_is;
+        rules_are = turns.rules_are;
         conn_is = on.conn_is;
         carries = on.carries;
-        serving = serving_along told.limit on.later begin now unread told.fed told.ended told.shards told.taken (handed_texts told) (handed_texts later) (sym on.handed.same) stands;
+        serving = serving_along told.rules on.later begin now unread told.fed told.ended told.shards told.taken (handed_texts told) (handed_texts later) (sym on.handed.same) stands;
         moments = turns.moments;
         unbroken = turns.unbroken;
         counted = turns.counted;
@@ -199,16 +200,16 @@ stops_on shards limit may_answer begin now before ends ends' ways ways' unread c
     }
 
 -- the same, of whatever was carried
-pub stops_move : (says : Told → ℕ → Type 0) (shards limit : ℕ) (may_answer : ℕ → Type 0) (begin now : Sight) (before ends ends' : Ends Near) (ways ways' unread : List ℕ) (conn new : Conn) (commands : ℕ) (stop : Took) → MovesOn says ends ways conn ends' ways' new → Stops shards limit may_answer begin now before ends ways unread conn commands stop → Stops shards limit may_answer begin now before ends' ways' unread new commands stop
-stops_move says shards limit may_answer begin now before ends ends' ways ways' unread conn new commands stop moves stops =
+pub stops_move : (says : Told → ℕ → Type 0) (shards : ℕ) (rules : Rules) (may_answer : ℕ → Type 0) (begin now : Sight) (before ends ends' : Ends Near) (ways ways' unread : List ℕ) (conn new : Conn) (commands : ℕ) (stop : Took) → MovesOn says ends ways conn ends' ways' new → Stops shards rules may_answer begin now before ends ways unread conn commands stop → Stops shards rules may_answer begin now before ends' ways' unread new commands stop
+stops_move says shards rules may_answer begin now before ends ends' ways ways' unread conn new commands stop moves stops =
     let said = moves.moves before stops.turns.told stops.turns.received stops.turns.conn_is stops.turns.carries in
-    stops_on shards limit may_answer begin now before ends ends' ways ways' unread conn new commands stop stops said.0
+    stops_on shards rules may_answer begin now before ends ends' ways ways' unread conn new commands stop stops said.0
 
-pub settles : (shards limit : ℕ) (may_answer : ℕ → Type 0) (begin now : Sight) (before ends ends' : Ends Near) (ways ways' unread : List ℕ) (conn new : Conn) (commands : ℕ) (stop : Took) → MovesOn AllOut ends ways conn ends' ways' new → IsIdle ways' → Stops shards limit may_answer begin now before ends ways unread conn commands stop → Settled shards limit may_answer begin now before ends' ways' unread new commands stop
+pub settles : (shards : ℕ) (rules : Rules) (may_answer : ℕ → Type 0) (begin now : Sight) (before ends ends' : Ends Near) (ways ways' unread : List ℕ) (conn new : Conn) (commands : ℕ) (stop : Took) → MovesOn AllOut ends ways conn ends' ways' new → IsIdle ways' → Stops shards rules may_answer begin now before ends ways unread conn commands stop → Settled shards rules may_answer begin now before ends' ways' unread new commands stop
 unfolding stops_on
-settles shards limit may_answer begin now before ends ends' ways ways' unread conn new commands stop moves idle stops =
+settles shards rules may_answer begin now before ends ends' ways ways' unread conn new commands stop moves idle stops =
     let said = moves.moves before stops.turns.told stops.turns.received stops.turns.conn_is stops.turns.carries in
-    record { stopped = stops_on shards limit may_answer begin now before ends ends' ways ways' unread conn new commands stop stops said.0; all = said.1; idle = idle }
+    record { stopped = stops_on shards rules may_answer begin now before ends ends' ways ways' unread conn new commands stop stops said.0; all = said.1; idle = idle }
 
 -- where all pieces have left, those sent to a shard are all that is due there
 sent_all : (told : Told) (shard : ℕ) → told.out ≡ length (all_pieces told) → sent_to told shard ≡ due told.shards shard told.taken
@@ -242,19 +243,19 @@ complete_all told received conn is serves many keys =
     omega (arith, come, most)
 
 -- what handing out and reading on said of a turn whose commands were all answered
-pub turn_said : (shards limit : ℕ) (may_answer : ℕ → Type 0) (begin now after : Sight) (before ends : Ends Near) (ways unread left : List ℕ) (conn new : Conn) (commands : ℕ) (stop : Took) (turn : Turn) → (settled : Settled shards limit may_answer begin now before ends ways unread conn commands stop) → GoOnSays turn stop conn unread now new left after → TurnSays turn settled.stopped.turns.received begin after settled.stopped.turns.told new left
-turn_said shards limit may_answer begin now after before ends ways unread left conn new commands stop turn settled says =
+pub turn_said : (shards : ℕ) (rules : Rules) (may_answer : ℕ → Type 0) (begin now after : Sight) (before ends : Ends Near) (ways unread left : List ℕ) (conn new : Conn) (commands : ℕ) (stop : Took) (turn : Turn) → (settled : Settled shards rules may_answer begin now before ends ways unread conn commands stop) → GoOnSays turn stop conn unread now new left after → TurnSays turn settled.stopped.turns.received begin after settled.stopped.turns.told new left
+turn_said shards rules may_answer begin now after before ends ways unread left conn new commands stop turn settled says =
     let turns = settled.stopped.turns in
     let many = received_all before ends ways turns.told turns.received conn turns.conn_is turns.carries settled.all settled.idle in
     says turns.received begin turns.told turns.conn_is turns.serving turns.unbroken settled.stopped.stops (complete_all turns.told turns.received conn turns.conn_is turns.carries.serves many)
 
 -- the replies were handed out, and perhaps more was read
-pub turns_go : (shards limit : ℕ) (may_answer : ℕ → Type 0) (begin now after : Sight) (before ends : Ends Near) (ways left unread : List ℕ) (conn new : Conn) (commands : ℕ) (turns : Turns shards limit may_answer begin now before ends ways left conn commands) → GoesOn turns.received begin after turns.told new unread → Turns shards limit may_answer begin after before ends ways unread new commands
-turns_go shards limit may_answer begin now after before ends ways left unread conn new commands turns goes = record {
+pub turns_go : (shards : ℕ) (rules : Rules) (may_answer : ℕ → Type 0) (begin now after : Sight) (before ends : Ends Near) (ways left unread : List ℕ) (conn new : Conn) (commands : ℕ) (turns : Turns shards rules may_answer begin now before ends ways left conn commands) → GoesOn turns.received begin after turns.told new unread → Turns shards rules may_answer begin after before ends ways unread new commands
+turns_go shards rules may_answer begin now after before ends ways left unread conn new commands turns goes = record {
   told = record turns.told { fed = goes.fed; ended = goes.ended; handed = length (all_texts turns.told) };
   received = turns.received;
   shards_is = turns.shards_is;
-  limit_is = turns.limit_is;
+  rules_are = turns.rules_are;
   conn_is = goes.conn_is;
   carries = record {
     width = turns.carries.width;
@@ -277,15 +278,15 @@ stops_handed (took.Opened ticket) told handed stops = stops
 stops_handed stop told handed stops = stops
 
 -- the replies were handed out, and the line had nothing to give yet
-pub stops_rest : (shards limit : ℕ) (may_answer : ℕ → Type 0) (begin now after : Sight) (before ends : Ends Near) (ways left unread : List ℕ) (conn new : Conn) (commands : ℕ) (stop : Took) → (settled : Settled shards limit may_answer begin now before ends ways left conn commands stop)
-    → Rests settled.stopped.turns.received begin after settled.stopped.turns.told new unread → Stops shards limit may_answer begin after before ends ways unread new commands stop
+pub stops_rest : (shards : ℕ) (rules : Rules) (may_answer : ℕ → Type 0) (begin now after : Sight) (before ends : Ends Near) (ways left unread : List ℕ) (conn new : Conn) (commands : ℕ) (stop : Took) → (settled : Settled shards rules may_answer begin now before ends ways left conn commands stop)
+    → Rests settled.stopped.turns.received begin after settled.stopped.turns.told new unread → Stops shards rules may_answer begin after before ends ways unread new commands stop
 unfolding turns_go
-stops_rest shards limit may_answer begin now after before ends ways left unread conn new commands stop settled rests =
+stops_rest shards rules may_answer begin now after before ends ways left unread conn new commands stop settled rests =
     let turns = settled.stopped.turns in
     let told = turns.told in
     let goes : GoesOn turns.received begin after told new unread = record { fed = told.fed; ended = told.ended; conn_is = rests.conn_is; serving = rests.serving } in
     record {
-      turns = turns_go shards limit may_answer begin now after before ends ways left unread conn new commands turns goes;
+      turns = turns_go shards rules may_answer begin now after before ends ways left unread conn new commands turns goes;
       stops = stops_handed stop told (length (all_texts told)) settled.stopped.stops;
     }
 
@@ -295,8 +296,8 @@ at_rest told true handed sent rest whole = record { sent = sent; done = whole }
 at_rest told false handed sent rest whole = record { sent = sent; done = ((rest refl).0, (rest refl).1 ∙ whole) }
 
 -- the line was served
-pub turn_ends : (shards limit : ℕ) (may_answer : ℕ → Type 0) (begin now after : Sight) (before ends : Ends Near) (ways unread : List ℕ) (conn last : Conn) (commands : ℕ) (stop : Took) (broke : Bool) → (settled : Settled shards limit may_answer begin now before ends ways unread conn commands stop) → IsServed settled.stopped.turns.received begin after settled.stopped.turns.told broke last → LineServed shards limit may_answer begin after before ends last commands broke
-turn_ends shards limit may_answer begin now after before ends ways unread conn last commands stop broke settled served =
+pub turn_ends : (shards : ℕ) (rules : Rules) (may_answer : ℕ → Type 0) (begin now after : Sight) (before ends : Ends Near) (ways unread : List ℕ) (conn last : Conn) (commands : ℕ) (stop : Took) (broke : Bool) → (settled : Settled shards rules may_answer begin now before ends ways unread conn commands stop) → IsServed settled.stopped.turns.received begin after settled.stopped.turns.told broke last → LineServed shards rules may_answer begin after before ends last commands broke
+turn_ends shards rules may_answer begin now after before ends ways unread conn last commands stop broke settled served =
     let turns = settled.stopped.turns in
     let told = turns.told in
     let carries = turns.carries in
@@ -304,7 +305,7 @@ turn_ends shards limit may_answer begin now after before ends ways unread conn l
     record {
       told = record told { broken = broke; handed = served.handed };
       shards_is = turns.shards_is;
-      limit_is = turns.limit_is;
+      rules_are = turns.rules_are;
       conn_is = served.conn_is;
       over = served.over;
       out = settled.all;

@@ -16,6 +16,7 @@ use Rattle.mc_threads.specs.Session.{IsReady, IsVacant, StepSays}
 use Rattle.mc_threads.specs.internal.Turns.{Turns}
 use Rattle.mc_threads.proofs.Serving.{can_settle, turns_first}
 use Rattle.mc_threads.proofs.Writing.{stops_none_waits}
+use Rattle.mc_command.specs.declared.rules.Rules.{Rules}
 
 -- There is something, of which this holds.
 pub record SomeAnd {A : Type 0} (o : Option A) (P : A → Type 0) : Type 0 where
@@ -34,41 +35,41 @@ pub some_is : {A : Type 0} (o : Option A) (x : A) (P : A → Type 0) → o ≡ S
 some_is {A} o x P is holds = let S : Option A → Type 0 = λ it. IsSomeAnd it P in subst S is holds
 
 -- What a step says of the line is so of the session.
-pub steps_on : (stepped : Stepped) (shards limit : ℕ) (may_answer : ℕ → Type 0) (begin now : Sight) (before : Ends Near) (session : Session) (service : Service) → session.service ≡ Some service → ServiceSays stepped shards limit may_answer begin now before session.courier service → StepSays stepped shards limit may_answer begin now before session
-steps_on stepped.Did shards limit may_answer begin now before session service is says = some_so session.service service (IsServedBy shards limit may_answer begin now before session.courier) is says
-steps_on stepped.Waits shards limit may_answer begin now before session service is says = some_so session.service service (IsServedBy shards limit may_answer begin now before session.courier) is says
-steps_on (stepped.Ended served) shards limit may_answer begin now before session service is says =
-    some_so session.service service (λ it. WasServedBy shards limit may_answer begin now before session.courier it served.commands served.broke) is says
+pub steps_on : (stepped : Stepped) (shards : ℕ) (rules : Rules) (may_answer : ℕ → Type 0) (begin now : Sight) (before : Ends Near) (session : Session) (service : Service) → session.service ≡ Some service → ServiceSays stepped shards rules may_answer begin now before session.courier service → StepSays stepped shards rules may_answer begin now before session
+steps_on stepped.Did shards rules may_answer begin now before session service is says = some_so session.service service (IsServedBy shards rules may_answer begin now before session.courier) is says
+steps_on stepped.Waits shards rules may_answer begin now before session service is says = some_so session.service service (IsServedBy shards rules may_answer begin now before session.courier) is says
+steps_on (stepped.Ended served) shards rules may_answer begin now before session service is says =
+    some_so session.service service (λ it. WasServedBy shards rules may_answer begin now before session.courier it served.commands served.broke) is says
 
 -- What is served may be served on.
-pub may_serve : (shards limit : ℕ) (may_answer : ℕ → Type 0) (begin now : Sight) (before : Ends Near) (courier : Courier) (o : Option Service) → IsSomeAnd o (IsServedBy shards limit may_answer begin now before courier) → IsSomeAnd o (MayServe courier)
-may_serve shards limit may_answer begin now before courier (Some service) served = can_settle shards limit may_answer begin _ before _ _ _ _ _ _ served.stopped
-may_serve shards limit may_answer begin now before courier None served = absurd served
+pub may_serve : (shards : ℕ) (rules : Rules) (may_answer : ℕ → Type 0) (begin now : Sight) (before : Ends Near) (courier : Courier) (o : Option Service) → IsSomeAnd o (IsServedBy shards rules may_answer begin now before courier) → IsSomeAnd o (MayServe courier)
+may_serve shards rules may_answer begin now before courier (Some service) served = can_settle shards rules may_answer begin _ before _ _ _ _ _ _ served.stopped
+may_serve shards rules may_answer begin now before courier None served = absurd served
 
 -- Where no room was made yet, one that is made for the session's sizes is as new.
-pub made_new : (limit window : ℕ) (session : Session) (service : Service) → session.service ≡ None → IsNew session.shards session.limit session.window service → IsVacant limit window session → IsNew (length session.courier.ends.lanes) limit window service
-made_new limit window session service none made vacant =
+pub made_new : (rules : Rules) (window : ℕ) (session : Session) (service : Service) → session.service ≡ None → IsNew session.shards session.rules session.window service → IsVacant rules window session → IsNew (length session.courier.ends.lanes) rules window service
+made_new rules window session service none made vacant =
     let shards = length session.courier.ends.lanes in
-    let R : Option Service → Type 0 = λ o. IsReady shards limit window session o in
+    let R : Option Service → Type 0 = λ o. IsReady shards rules window session o in
     let sized = subst R none vacant.ready in
-    let S : ℕ → Type 0 = λ n. IsNew n session.limit session.window service in
-    let L : ℕ → Type 0 = λ n. IsNew shards n session.window service in
-    let W : ℕ → Type 0 = λ n. IsNew shards limit n service in
+    let S : ℕ → Type 0 = λ n. IsNew n session.rules session.window service in
+    let L : Rules → Type 0 = λ n. IsNew shards n session.window service in
+    let W : ℕ → Type 0 = λ n. IsNew shards rules n service in
     subst W sized.2 (subst L sized.1 (subst S sized.0 made))
 
 -- Where there is a room, it is as new.
-pub kept_new : (limit window : ℕ) (session : Session) (service : Service) → session.service ≡ Some service → IsVacant limit window session → IsNew (length session.courier.ends.lanes) limit window service
-kept_new limit window session service some vacant = let R : Option Service → Type 0 = λ o. IsReady (length session.courier.ends.lanes) limit window session o in subst R some vacant.ready
+pub kept_new : (rules : Rules) (window : ℕ) (session : Session) (service : Service) → session.service ≡ Some service → IsVacant rules window session → IsNew (length session.courier.ends.lanes) rules window service
+kept_new rules window session service some vacant = let R : Option Service → Type 0 = λ o. IsReady (length session.courier.ends.lanes) rules window session o in subst R some vacant.ready
 
 -- Commands were taken of a line that begins.
-pub begins_new : (may_answer : ℕ → Type 0) (line : Sight) (limit window : ℕ) (courier : Courier) (service after : Service) → IsIdle courier.under_way.items → IsNew (length courier.ends.lanes) limit window service
-    → TakesFor may_answer service after → text_in after.unwritten ≡ text_in service.unwritten → IsServedBy (length courier.ends.lanes) limit may_answer line line courier.ends courier after
-begins_new may_answer line limit window courier service after idle new takes same =
+pub begins_new : (may_answer : ℕ → Type 0) (line : Sight) (rules : Rules) (window : ℕ) (courier : Courier) (service after : Service) → IsIdle courier.under_way.items → IsNew (length courier.ends.lanes) rules window service
+    → TakesFor may_answer service after → text_in after.unwritten ≡ text_in service.unwritten → IsServedBy (length courier.ends.lanes) rules may_answer line line courier.ends courier after
+begins_new may_answer line rules window courier service after idle new takes same =
     let ends = courier.ends in
     let ways = courier.under_way.items in
-    let T : ℕ → Type 0 = λ n. Turns (length ends.lanes) limit may_answer line line ends ends ways service.seat.unread service.conn n in
-    let turns = subst T (sym new.none_taken) (turns_first may_answer line ends ways service.seat.unread service.conn limit window courier.each_shard idle new.none_read new.conn_is) in
+    let T : ℕ → Type 0 = λ n. Turns (length ends.lanes) rules may_answer line line ends ends ways service.seat.unread service.conn n in
+    let turns = subst T (sym new.none_taken) (turns_first may_answer line ends ways service.seat.unread service.conn rules window courier.each_shard idle new.none_read new.conn_is) in
     record {
-      stopped = stops_none_waits _ _ _ _ _ _ _ _ _ _ _ _ _ (same ∙ new.none_waits) (takes (length ends.lanes) limit line line ends ends ways turns);
+      stopped = stops_none_waits _ _ _ _ _ _ _ _ _ _ _ _ _ (same ∙ new.none_waits) (takes (length ends.lanes) rules line line ends ends ways turns);
       grown = omega arith;
     }

@@ -15,46 +15,47 @@ use Rattle.mc_threads.specs.declared.session.Stepped.TheVariants as stepped
 use Rattle.mc_threads.specs.Serving.{IsIdle}
 use Rattle.mc_threads.specs.internal.Carrying.{CanCarry}
 use Rattle.mc_threads.specs.internal.Turns.{Stops, Turns}
+use Rattle.mc_command.specs.declared.rules.Rules.{Rules}
 
 -- Nothing was taken of the line, nor read, and no reply waits: nothing is left of an earlier line.
-pub record IsNew (shards limit window : ℕ) (service : Service) : Type 0 where
-  pub conn_is : IsConn service.conn (told_nothing shards limit window)
+pub record IsNew (shards : ℕ) (rules : Rules) (window : ℕ) (service : Service) : Type 0 where
+  pub conn_is : IsConn service.conn (told_nothing shards rules window)
   pub none_read : service.seat.unread ≡ []
   pub none_waits : text_in service.unwritten ≡ []
   pub none_taken : service.commands ≡ 0
 
 -- No further command of the line was taken, by what is seen of the line once it took the replies that wait.
-abbrev pub HasStopped : ℕ → ℕ → (ℕ → Type 0) → Sight → Sight → Ends Near → Courier → Service → Type 0
-HasStopped shards limit may_answer begin now before courier service =
-    Stops shards limit may_answer begin now before courier.ends courier.under_way.items service.seat.unread service.conn service.commands service.stop
+abbrev pub HasStopped : ℕ → Rules → (ℕ → Type 0) → Sight → Sight → Ends Near → Courier → Service → Type 0
+HasStopped shards rules may_answer begin now before courier service =
+    Stops shards rules may_answer begin now before courier.ends courier.under_way.items service.seat.unread service.conn service.commands service.stop
 
 -- The line is being served; it began so and is so now, since the ends were as before.
-pub record IsServedBy (shards limit : ℕ) (may_answer : ℕ → Type 0) (begin now : Sight) (before : Ends Near) (courier : Courier) (service : Service) : Type 0 where
-  pub stopped : HasStopped shards limit may_answer begin (took (text_in service.unwritten) now) before courier service
+pub record IsServedBy (shards : ℕ) (rules : Rules) (may_answer : ℕ → Type 0) (begin now : Sight) (before : Ends Near) (courier : Courier) (service : Service) : Type 0 where
+  pub stopped : HasStopped shards rules may_answer begin (took (text_in service.unwritten) now) before courier service
   pub grown : HasGrown begin now
 
 -- The line was served, and nothing is under way.
-pub record WasServedBy (shards limit : ℕ) (may_answer : ℕ → Type 0) (begin now : Sight) (before : Ends Near) (courier : Courier) (service : Service) (commands : ℕ) (broke : Bool) : Type 0 where
-  pub served : LineServed shards limit may_answer begin now before courier.ends service.conn commands broke
+pub record WasServedBy (shards : ℕ) (rules : Rules) (may_answer : ℕ → Type 0) (begin now : Sight) (before : Ends Near) (courier : Courier) (service : Service) (commands : ℕ) (broke : Bool) : Type 0 where
+  pub served : LineServed shards rules may_answer begin now before courier.ends service.conn commands broke
   pub idle : IsIdle courier.under_way.items
 
 -- What a step says of the line.
-abbrev pub ServiceSays : Stepped → ℕ → ℕ → (ℕ → Type 0) → Sight → Sight → Ends Near → Courier → Service → Type 0
-ServiceSays stepped.Did shards limit may_answer begin now before courier service = IsServedBy shards limit may_answer begin now before courier service
-ServiceSays stepped.Waits shards limit may_answer begin now before courier service = IsServedBy shards limit may_answer begin now before courier service
-ServiceSays (stepped.Ended served) shards limit may_answer begin now before courier service = WasServedBy shards limit may_answer begin now before courier service served.commands served.broke
+abbrev pub ServiceSays : Stepped → ℕ → Rules → (ℕ → Type 0) → Sight → Sight → Ends Near → Courier → Service → Type 0
+ServiceSays stepped.Did shards rules may_answer begin now before courier service = IsServedBy shards rules may_answer begin now before courier service
+ServiceSays stepped.Waits shards rules may_answer begin now before courier service = IsServedBy shards rules may_answer begin now before courier service
+ServiceSays (stepped.Ended served) shards rules may_answer begin now before courier service = WasServedBy shards rules may_answer begin now before courier service served.commands served.broke
 
 -- Some line is being served.
 abbrev pub MayServe : Courier → Service → Type 0
 MayServe courier service = CanCarry courier service.conn
 
 -- Commands of the line may be taken.
-abbrev pub MayTake : ℕ → ℕ → (ℕ → Type 0) → Sight → Sight → Ends Near → Ends Near → List ℕ → Service → Type 0
-MayTake shards limit may_answer begin now before ends under_way service =
-    Turns shards limit may_answer begin now before ends under_way service.seat.unread service.conn service.commands
+abbrev pub MayTake : ℕ → Rules → (ℕ → Type 0) → Sight → Sight → Ends Near → Ends Near → List ℕ → Service → Type 0
+MayTake shards rules may_answer begin now before ends under_way service =
+    Turns shards rules may_answer begin now before ends under_way service.seat.unread service.conn service.commands
 
 -- The commands of the line were taken, as far as there are any.
 abbrev pub TakesFor : (ℕ → Type 0) → Service → Service → Type 0
 TakesFor may_answer old new =
-    (shards limit : ℕ) (begin now : Sight) (before ends : Ends Near) (under_way : List ℕ) → MayTake shards limit may_answer begin now before ends under_way old
-    → Stops shards limit may_answer begin now before ends under_way new.seat.unread new.conn new.commands new.stop
+    (shards : ℕ) (rules : Rules) (begin now : Sight) (before ends : Ends Near) (under_way : List ℕ) → MayTake shards rules may_answer begin now before ends under_way old
+    → Stops shards rules may_answer begin now before ends under_way new.seat.unread new.conn new.commands new.stop

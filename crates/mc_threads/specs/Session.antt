@@ -9,31 +9,32 @@ use Rattle.mc_threads.specs.declared.session.Stepped.{Stepped}
 use Rattle.mc_threads.specs.declared.session.Stepped.TheVariants as stepped
 use Rattle.mc_threads.specs.Serving.{IsIdle}
 use Rattle.mc_threads.specs.Service.{IsNew, IsServedBy, MayServe, WasServedBy}
+use Rattle.mc_command.specs.declared.rules.Rules.{Rules}
 
--- The room for a line is as new, or is made for so many shards, for values up to the limit and with this window.
-abbrev pub IsReady : ℕ → ℕ → ℕ → Session → Option Service → Type 0
-IsReady shards limit window session None = (session.shards ≡ shards) × (session.limit ≡ limit) × (session.window ≡ window)
-IsReady shards limit window session (Some service) = IsNew shards limit window service
+-- The room for a line is as new, or is made for so many shards, for these rules and with this window.
+abbrev pub IsReady : ℕ → Rules → ℕ → Session → Option Service → Type 0
+IsReady shards rules window session None = (session.shards ≡ shards) × (session.rules ≡ rules) × (session.window ≡ window)
+IsReady shards rules window session (Some service) = IsNew shards rules window service
 
--- It serves no line, and may begin to serve one, for values up to the limit and with this window.
-pub record IsVacant (limit window : ℕ) (session : Session) : Type 0 where
-  pub ready : IsReady (length session.courier.ends.lanes) limit window session session.service
+-- It serves no line, and may begin to serve one, for these rules and with this window.
+pub record IsVacant (rules : Rules) (window : ℕ) (session : Session) : Type 0 where
+  pub ready : IsReady (length session.courier.ends.lanes) rules window session session.service
   pub idle : IsIdle session.courier.under_way.items
 
 -- It serves a line, which began so and is so now, since its ends were as before.
-abbrev pub IsServing : ℕ → ℕ → (ℕ → Type 0) → Sight → Sight → Ends Near → Session → Type 0
-IsServing shards limit may_answer begin now before session = IsSomeAnd session.service (IsServedBy shards limit may_answer begin now before session.courier)
+abbrev pub IsServing : ℕ → Rules → (ℕ → Type 0) → Sight → Sight → Ends Near → Session → Type 0
+IsServing shards rules may_answer begin now before session = IsSomeAnd session.service (IsServedBy shards rules may_answer begin now before session.courier)
 
 -- It has served the line, and nothing is under way.
-abbrev pub HasServed : ℕ → ℕ → (ℕ → Type 0) → Sight → Sight → Ends Near → Session → ℕ → Bool → Type 0
-HasServed shards limit may_answer begin now before session commands broke =
-    IsSomeAnd session.service (λ service. WasServedBy shards limit may_answer begin now before session.courier service commands broke)
+abbrev pub HasServed : ℕ → Rules → (ℕ → Type 0) → Sight → Sight → Ends Near → Session → ℕ → Bool → Type 0
+HasServed shards rules may_answer begin now before session commands broke =
+    IsSomeAnd session.service (λ service. WasServedBy shards rules may_answer begin now before session.courier service commands broke)
 
 -- What a step says of the line.
-abbrev pub StepSays : Stepped → ℕ → ℕ → (ℕ → Type 0) → Sight → Sight → Ends Near → Session → Type 0
-StepSays stepped.Did shards limit may_answer begin now before session = IsServing shards limit may_answer begin now before session
-StepSays stepped.Waits shards limit may_answer begin now before session = IsServing shards limit may_answer begin now before session
-StepSays (stepped.Ended served) shards limit may_answer begin now before session = HasServed shards limit may_answer begin now before session served.commands served.broke
+abbrev pub StepSays : Stepped → ℕ → Rules → (ℕ → Type 0) → Sight → Sight → Ends Near → Session → Type 0
+StepSays stepped.Did shards rules may_answer begin now before session = IsServing shards rules may_answer begin now before session
+StepSays stepped.Waits shards rules may_answer begin now before session = IsServing shards rules may_answer begin now before session
+StepSays (stepped.Ended served) shards rules may_answer begin now before session = HasServed shards rules may_answer begin now before session served.commands served.broke
 
 -- It serves some line.
 abbrev pub MayStep : Session → Type 0

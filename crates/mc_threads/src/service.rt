@@ -1,8 +1,10 @@
 //! A seat serves one line step by step. No step waits for a shard.
+ghost use Rattle.mc_command.specs.declared.rules.Rules.{Rules};
 ghost use Rattle.std.specs.Prelude.{◌≡◌, ◌<◌, ◌≤◌, ◌↔◌, ℕ, IfOk, IsTrue};
 
 use crate::courier::Courier;
 use crate::session::Stepped;
+use mc_command::Rules;
 use mc_conn::{Conn, Taken};
 use mc_seat::{Clock, Line, Rooms, Seat, Served, Turn, Unwritten};
 use mc_wire::GREATEST_VALUE_LIMIT;
@@ -32,19 +34,19 @@ impl Service {
     ghost use Rattle.mc_threads.specs.Serving.{AreCalled};
     ghost use Rattle.mc_threads.specs.Service.{IsNew, IsServedBy, MayServe, ServiceSays, TakesFor};
 
-    /// Of a line of which nothing was taken yet, over so many shards, for values up to the limit and with this window.
+    /// Of a line of which nothing was taken yet, over so many shards, for these rules and with this window.
     pub(crate) fn new(
         alloc: Global,
         shards: usize,
-        limit: usize,
+        rules: Rules,
         window: usize,
     ) -> Result<Service, AllocError>
         requires some { 0 < shards }
-        requires value { limit ≤ GREATEST_VALUE_LIMIT }
+        requires value { rules.value_limit ≤ GREATEST_VALUE_LIMIT }
         requires window { 0 < window }
-        ensures { IfOk result (λ service. IsNew shards limit window service) }
+        ensures { IfOk result (λ service. IsNew shards rules window service) }
     {
-        let Ok(conn) = Conn::new(alloc, shards, limit, window) else {
+        let Ok(conn) = Conn::under(alloc, shards, rules, window) else {
             return Err(AllocError);
         };
         Ok(Service {
@@ -85,9 +87,9 @@ impl Service {
         rooms: &mut Rooms,
     ) -> Stepped
         requires { MayServe courier.old self.old }
-        ensures says { (shards limit : ℕ) (begin : Sight) (before : Ends Near) →
-            IsServedBy shards limit (K.may_answer clock.now) begin (L.sight line.old) before courier.old self.old →
-            ServiceSays result shards limit (K.may_answer clock.now) begin (L.sight line.new) before courier.new self.new }
+        ensures says { (shards : ℕ) (rules : Rules) (begin : Sight) (before : Ends Near) →
+            IsServedBy shards rules (K.may_answer clock.now) begin (L.sight line.old) before courier.old self.old →
+            ServiceSays result shards rules (K.may_answer clock.now) begin (L.sight line.new) before courier.new self.new }
         // Where it waits, each shard of which replies are awaited was called after the last piece was sent.
         ensures called { result ≡ Stepped.Waits → AreCalled courier.new.shards courier.new.under_way.items }
     {
@@ -137,7 +139,7 @@ impl Service {
     /// it did.
     pub(crate) fn renew(&mut self) -> bool
         ensures when { (told : Told) → IsConn self.old.conn told → IsTrue result ↔ (IsAtRest told × IsOver told) }
-        ensures new { IsTrue result → (told : Told) → IsConn self.old.conn told → IsNew told.shards told.limit told.window self.new }
+        ensures new { IsTrue result → (told : Told) → IsConn self.old.conn told → IsNew told.shards told.rules told.window self.new }
     {
         self.seat.renew();
         self.unwritten.clear();

@@ -1,10 +1,12 @@
 //! A seat serves lines step by step, one after another.
+ghost use Rattle.mc_command.specs.declared.rules.Rules.{Rules};
 ghost use Rattle.std.specs.Prelude.{◌≡◌, ◌<◌, ◌≤◌, ◌↔◌, ℕ, [], Some, false, IfOk, IsTrue, OnErr, OnOk, length};
 ghost use Rattle.std.specs.Bool.{OnFalse, OnTrue};
 ghost use Rattle.mc_wire.specs.declared.TheConstants.{GREATEST_VALUE_LIMIT};
 
 use crate::courier::Courier;
 use crate::service::Service;
+use mc_command::Rules;
 use mc_ring::SeatEnds;
 use mc_seat::{Clock, Line, Rooms, Served};
 use mc_wake::Wakers;
@@ -30,12 +32,12 @@ pub struct Session {
     pub(crate) courier: Courier,
     /// What the room is made for.
     shards: usize,
-    limit: usize,
+    rules: Rules,
     window: usize,
     /// What lines are served by, once the first has come.
     service: Option<Service>,
     ghost some_shards: { 0 < shards },
-    ghost small_values: { limit ≤ GREATEST_VALUE_LIMIT },
+    ghost small_values: { rules.value_limit ≤ GREATEST_VALUE_LIMIT },
     ghost some_commands: { 0 < window },
 }
 
@@ -51,20 +53,20 @@ impl Session {
     ghost use Rattle.mc_threads.specs.Service.{IsNew};
     ghost use Rattle.mc_threads.specs.Session.{IsVacant, IsServing, MayStep, StepSays};
 
-    /// A seat that serves no line yet, over new ends of its lanes, whose rings have so many places. The wakers are those of the
-    /// shards.
+    /// A seat that serves no line yet, over new ends of its lanes, whose rings have so many places, by these rules. The wakers are those
+    /// of the shards.
     pub fn new(
         alloc: Global,
         ends: SeatEnds,
         shards: Wakers,
         places: usize,
-        limit: usize,
+        rules: Rules,
         window: usize,
     ) -> Result<Session, AllocError>
         requires some { 0 < length ends.lanes }
-        requires value { limit ≤ GREATEST_VALUE_LIMIT }
+        requires value { rules.value_limit ≤ GREATEST_VALUE_LIMIT }
         requires window { 0 < window }
-        ensures vacant { IfOk result (λ session. IsVacant limit window session) }
+        ensures vacant { IfOk result (λ session. IsVacant rules window session) }
         ensures ends { IfOk result (λ session. session.courier.ends ≡ ends) }
     {
         let count = ends.shards();
@@ -73,7 +75,7 @@ impl Session {
             alloc,
             courier,
             shards: count,
-            limit,
+            rules,
             window,
             service: None,
         })
@@ -81,8 +83,8 @@ impl Session {
 
     /// Begins to serve a line. Where memory for its room is refused nothing has changed, and it may be tried again.
     pub fn begin<K: Clock>(&mut self, clock: &K) -> Result<(), AllocError>
-        ensures serving { OnOk result ((limit window : ℕ) (line : Sight) → IsVacant limit window self.old →
-            IsServing (length self.old.courier.ends.lanes) limit (K.may_answer clock.now) line line self.old.courier.ends self.new) }
+        ensures serving { OnOk result ((rules : Rules) (window : ℕ) (line : Sight) → IsVacant rules window self.old →
+            IsServing (length self.old.courier.ends.lanes) rules (K.may_answer clock.now) line line self.old.courier.ends self.new) }
         ensures refused { OnErr result (self.new ≡ self.old) }
         ensures ends { self.new.courier.ends ≡ self.old.courier.ends }
     {
@@ -94,23 +96,23 @@ impl Session {
 
     /// Takes out what lines are served by; where no line has come yet, it is made.
     fn take_service(&mut self) -> Result<Service, AllocError>
-        ensures new { IfOk result (λ service. (limit window : ℕ) → IsVacant limit window self.old →
-            IsNew (length self.old.courier.ends.lanes) limit window service) }
+        ensures new { IfOk result (λ service. (rules : Rules) (window : ℕ) → IsVacant rules window self.old →
+            IsNew (length self.old.courier.ends.lanes) rules window service) }
         ensures refused { OnErr result (self.new ≡ self.old) }
         ensures courier { self.new.courier ≡ self.old.courier }
     {
         match self.service.take() {
             Some(service) => Ok(service),
-            None => Service::new(self.alloc, self.shards, self.limit, self.window),
+            None => Service::new(self.alloc, self.shards, self.rules, self.window),
         }
     }
 
     /// Serves the line a step further, as [`Service::step`] does.
     pub fn step<L: Line, K: Clock>(&mut self, line: &mut L, clock: &K, rooms: &mut Rooms) -> Stepped
         requires { MayStep self.old }
-        ensures says { (shards limit : ℕ) (begin : Sight) (before : Ends Near) →
-            IsServing shards limit (K.may_answer clock.now) begin (L.sight line.old) before self.old →
-            StepSays result shards limit (K.may_answer clock.now) begin (L.sight line.new) before self.new }
+        ensures says { (shards : ℕ) (rules : Rules) (begin : Sight) (before : Ends Near) →
+            IsServing shards rules (K.may_answer clock.now) begin (L.sight line.old) before self.old →
+            StepSays result shards rules (K.may_answer clock.now) begin (L.sight line.new) before self.new }
         // Where it waits, each shard of which replies are awaited was called after the last piece was sent.
         ensures called { result ≡ Stepped.Waits → AreCalled self.new.courier.shards self.new.courier.under_way.items }
     {
@@ -126,7 +128,7 @@ impl Session {
         ensures when { (service : Service) (told : Told) → self.old.service ≡ Some service → IsConn service.conn told →
             IsTrue result ↔ (IsAtRest told × IsOver told) }
         ensures vacant { IsTrue result → (service : Service) (told : Told) → self.old.service ≡ Some service → IsConn service.conn told →
-            told.shards ≡ length self.old.courier.ends.lanes → IsIdle self.old.courier.under_way.items → IsVacant told.limit told.window self.new }
+            told.shards ≡ length self.old.courier.ends.lanes → IsIdle self.old.courier.under_way.items → IsVacant told.rules told.window self.new }
         ensures ends { self.new.courier.ends ≡ self.old.courier.ends }
     {
         let Some(service) = &mut self.service else {

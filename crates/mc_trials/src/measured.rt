@@ -2,6 +2,7 @@
 use crate::line::MemoryLine;
 use crate::load::{Loads, wrong_among};
 use crate::server::Server;
+use mc_command::Profile;
 use mc_serve::{ServedLine, Sizes};
 use mc_wire::number_u64;
 use std::alloc::Global;
@@ -18,6 +19,7 @@ const TOLD: &str = "/proc/self/stat";
 
 /// How large the server of a measured load is, but for its shards.
 pub const SIZES: Sizes = Sizes {
+    profile: Profile::Own,
     shards: 1,
     bytes: 67_108_864,
     ring: 64,

@@ -6,6 +6,7 @@ use crate::load::{Loads, wrong_among};
 use crate::rising::Rising;
 use crate::server::{MOMENT, Server};
 use crate::text::split_line;
+use mc_command::Profile;
 use mc_core::OpenGate;
 use mc_serve::{ServedLine, Sizes};
 use mc_server::StillClock;
@@ -120,6 +121,7 @@ const MOST_KEYS: usize = 32_766;
 /// A server of so many shards, with rings and windows of these sizes.
 fn sizes(shards: usize, ring: usize, window: usize) -> Sizes {
     Sizes {
+        profile: Profile::Own,
         shards,
         bytes: 65_536,
         ring,

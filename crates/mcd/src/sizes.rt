@@ -5,11 +5,12 @@ ghost use Rattle.mcd.specs.Served.{sizes_by};
 use mc_options::Limits;
 use mc_server::{DEFAULT_RING, Sizes};
 
-/// How large the server is, over TCP as over standard input and output.
+/// How large the server is and whose rules it follows, over TCP as over standard input and output.
 pub fn sizes_of(limits: Limits) -> Sizes
     ensures { result ≡ sizes_by limits }
 {
     Sizes {
+        profile: limits.profile,
         shards: limits.shards,
         bytes: limits.bytes,
         ring: DEFAULT_RING,

@@ -13,6 +13,7 @@ use Rattle.mc_command.specs.declared.meta.MetaKind.{MetaKind}
 use Rattle.mc_command.specs.declared.meta.MetaKind.TheVariants.{Set, Arithmetic}
 use Rattle.mc_command.specs.declared.refusal.Refusal.{Refusal}
 use Rattle.mc_command.specs.declared.refusal.Refusal.TheVariants.{BadFormat, InvalidFlag, DuplicateFlag, OpaqueTooLong}
+use Rattle.mc_command.specs.declared.rules.Rules.{Rules}
 use Rattle.mc_command.specs.Field.{then_of}
 use Rattle.mc_command.specs.Meta.{letters_of, is_among, mode_of, direction_of, return_flag}
 
@@ -100,10 +101,10 @@ pub record IsCounted (reader : FlagReader) : Type 0 where
   pub shown : length reader.asked.flags.returned ≡ shown_count reader.seen
 
 -- with one flag more
-abbrev pub with_word : MetaKind → FlagReader → List ℕ → Result FlagReader Refusal
-with_word name reader [] = Err InvalidFlag
-with_word name reader (letter ∷ token) =
-    if not (is_among (letters_of name) letter) then Err InvalidFlag
+abbrev pub with_word : Rules → MetaKind → FlagReader → List ℕ → Result FlagReader Refusal
+with_word rules name reader [] = Err InvalidFlag
+with_word rules name reader (letter ∷ token) =
+    if not (is_among (letters_of rules name) letter) then Err InvalidFlag
     else (if slice_index_or reader.seen letter false then Err DuplicateFlag
     else then_of (flag_of name letter token) (λ said. Ok (record {
       seen = slice_set reader.seen letter true;

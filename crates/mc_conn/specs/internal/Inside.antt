@@ -21,7 +21,7 @@ pub record HasBeenTold (conn : Conn) (told : Told) : Type 0 where
   pub shards : conn.dispatcher.shards ≡ told.shards
   pub window : conn.dispatcher.joiner.window ≡ told.window
   pub broken : conn.broken ≡ told.broken
-  pub read : IsReader conn.reader told.limit told.fed told.ended given
+  pub read : IsReader conn.reader told.rules told.fed told.ended given
   -- The commands taken are those that the reader gave.
   pub spelled : entries_of given ≡ commands_of told.taken
   pub may : AllByRecursion MayBeTaken told.taken

@@ -1,16 +1,18 @@
 //! The sizes of a simulated core, as they are asked for.
-ghost use Rattle.std.specs.Prelude.{◌↔◌, IsTrue};
-ghost use Rattle.mc_core.specs.Sizes.{AreWithin};
+ghost use Rattle.std.specs.Prelude.{◌≡◌, ◌↔◌, IsTrue};
+ghost use Rattle.mc_core.specs.Sizes.{AreWithin, rules_of};
 ghost use Rattle.mc_core.specs.Numbers.{sizes_of};
 
 use crate::sizes::{
     LEAST, LEAST_BYTES, LEAST_VALUE, MOST_BYTES, MOST_RING, MOST_SEATS, MOST_SHARDS, MOST_VALUE,
     MOST_WINDOW,
 };
+use mc_command::{Profile, Rules};
 
-/// How large a core is.
+/// How large a core is, and whose rules it follows.
 #[derive(Clone, Copy, Debug)]
 pub(crate) struct Numbers {
+    pub(crate) profile: Profile,
     pub(crate) seats: usize,
     pub(crate) shards: usize,
     /// How many bytes the items of a shard may cost together.
@@ -34,5 +36,15 @@ impl Numbers {
             && (LEAST..=MOST_RING).contains(&self.ring)
             && (LEAST_VALUE..=MOST_VALUE).contains(&self.value)
             && (LEAST..=MOST_WINDOW).contains(&self.window)
+    }
+
+    /// The rules by which its lines are read.
+    pub(crate) fn rules(&self) -> Rules
+        ensures { result ≡ rules_of (sizes_of self.now) }
+    {
+        Rules {
+            profile: self.profile,
+            value_limit: self.value,
+        }
     }
 }

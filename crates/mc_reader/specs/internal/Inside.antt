@@ -1,18 +1,19 @@
--- What a reader is inside, by its value limit, what it was fed and what it gave.
+-- What a reader is inside, by its rules, what it was fed and what it gave.
 use Rattle.std.specs.Prelude.{ℕ, ◌≡◌, ◌+◌, ◌<◌, Bool, List, length, MatchBool}
 use Rattle.std.specs.List.{AllByRecursion}
 use Rattle.mc_reader.specs.declared.reader.Reader.{Reader}
 use Rattle.mc_reader.specs.declared.state.State.TheVariants as state
 use Rattle.mc_reader.specs.Spelling.{Given, MayBeGiven, SpellsFront, entries_of, is_closed, most_commands}
 use Rattle.mc_reader.specs.internal.State.{Holds}
+use Rattle.mc_command.specs.declared.rules.Rules.{Rules}
 
 -- The bytes fed spell the commands given, and what follows them is unread. Where the last of them closes the
 -- stream, nothing more is read; else the reader's state is what the unread bytes are.
-pub record HasGiven (reader : Reader) (limit : ℕ) (fed : List ℕ) (ended : Bool) (given : List Given) : Type 0 where
+pub record HasGiven (reader : Reader) (rules : Rules) (fed : List ℕ) (ended : Bool) (given : List Given) : Type 0 where
   pub unread : List ℕ
-  pub limit_is : reader.limit ≡ limit
+  pub rules_are : reader.rules ≡ rules
   pub ended_is : reader.ended ≡ ended
   pub left : reader.commands_left + length given ≡ most_commands
   pub may : AllByRecursion MayBeGiven given
-  pub front : SpellsFront limit 0 fed (entries_of given) unread
-  pub now : MatchBool (is_closed (entries_of given)) (reader.state ≡ state.Closed) ((0 < reader.commands_left) × Holds limit reader.state reader.buffer unread)
+  pub front : SpellsFront rules 0 fed (entries_of given) unread
+  pub now : MatchBool (is_closed (entries_of given)) (reader.state ≡ state.Closed) ((0 < reader.commands_left) × Holds rules reader.state reader.buffer unread)

@@ -8,6 +8,7 @@ use Rattle.mc_command.specs.Line.{Says}
 use Rattle.mc_reader.specs.declared.state.State.{State}
 use Rattle.mc_reader.specs.declared.state.State.TheVariants as state
 use Rattle.mc_reader.specs.Spelling.{Given, IsGiven, HasNoEnd, Spells, line_says}
+use Rattle.mc_command.specs.declared.rules.Rules.{Rules}
 
 -- so many bytes stand before the first line feed
 pub record IsFirstLine (bytes : List ℕ) (long : ℕ) : Type 0 where
@@ -23,42 +24,42 @@ EndsAt bytes None = HasNoEnd bytes
 EndsAt bytes (Some long) = IsFirstLine bytes long
 
 -- The unread bytes spell what is shown, and then come the others.
-pub record IsWhole (limit : ℕ) (shown : Command) (others unread : List ℕ) : Type 0 where
+pub record IsWhole (rules : Rules) (shown : Command) (others unread : List ℕ) : Type 0 where
   pub text : List ℕ
   pub one : Given
   pub unread_are : unread ≡ text ++ others
-  pub spelled : Spells limit text one.entry
+  pub spelled : Spells rules text one.entry
   pub given : IsGiven shown one
 
 -- A beginning of the bytes spells something.
-abbrev pub SpellsSomething : ℕ → List ℕ → Type 0
-SpellsSomething limit bytes = (text after : List ℕ) × (entry : Command) × (bytes ≡ text ++ after) × Spells limit text entry
+abbrev pub SpellsSomething : Rules → List ℕ → Type 0
+SpellsSomething rules bytes = (text after : List ℕ) × (entry : Command) × (bytes ≡ text ++ after) × Spells rules text entry
 
 -- The unread bytes are a storage line, these bytes of its block and the block's end, and then the others.
-pub record IsInBlock (limit : ℕ) (asked : Command) (count : ℕ) (bytes others unread : List ℕ) : Type 0 where
+pub record IsInBlock (rules : Rules) (asked : Command) (count : ℕ) (bytes others unread : List ℕ) : Type 0 where
   pub line : List ℕ
   pub no_end : HasNoEnd line
   pub short : length line < LINE_LIMIT
-  pub says : line_says limit line ≡ Data asked count
+  pub says : line_says rules line ≡ Data asked count
   pub unread_are : unread ≡ line ++ 10 ∷ (bytes ++ others)
   pub behind : length bytes < count + 2 → others ≡ []
 
 -- The unread bytes are a line that is refused, all but so many of the bytes that are skipped, and then the others.
-pub record IsInSkip (limit : ℕ) (refusal : Refusal) (left : ℕ) (others unread : List ℕ) : Type 0 where
+pub record IsInSkip (rules : Rules) (refusal : Refusal) (left : ℕ) (others unread : List ℕ) : Type 0 where
   pub line : List ℕ
   pub skipped : List ℕ
   pub no_end : HasNoEnd line
   pub short : length line < LINE_LIMIT
-  pub says : Says (line_says limit line) (Skip refusal (length skipped + left))
+  pub says : Says (line_says rules line) (Skip refusal (length skipped + left))
   pub unread_are : unread ≡ line ++ 10 ∷ (skipped ++ others)
   pub behind : 0 < left → others ≡ []
 
 -- What is unread, by the state and the bytes of the buffer.
-abbrev pub Holds : ℕ → State → List ℕ → List ℕ → Type 0
-Holds limit (state.Line long) buffer unread = (unread ≡ buffer) × (length buffer ≤ LINE_LIMIT) × EndsAt buffer long
-Holds limit (state.Block block) buffer unread = IsInBlock limit block.command block.count block.bytes.items buffer unread
-Holds limit (state.Skip skipped) buffer unread = IsInSkip limit skipped.refusal skipped.left buffer unread
-Holds limit state.Closed buffer unread = ⊥
+abbrev pub Holds : Rules → State → List ℕ → List ℕ → Type 0
+Holds rules (state.Line long) buffer unread = (unread ≡ buffer) × (length buffer ≤ LINE_LIMIT) × EndsAt buffer long
+Holds rules (state.Block block) buffer unread = IsInBlock rules block.command block.count block.bytes.items buffer unread
+Holds rules (state.Skip skipped) buffer unread = IsInSkip rules skipped.refusal skipped.left buffer unread
+Holds rules state.Closed buffer unread = ⊥
 
 -- a line end that was found stands in the bytes
 abbrev pub fits_in : Option ℕ → List ℕ → Bool

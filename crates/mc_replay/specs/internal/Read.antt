@@ -3,4 +3,4 @@ use Rattle.mc_core.specs.Sizes.{Sizes}
 use Rattle.mc_replay.specs.declared.header.Header.{Header}
 
 abbrev pub sizes_in : Header → Sizes
-sizes_in header = record { seats = header.seats; shards = header.shards; bytes = header.bytes; ring = header.ring; value = header.value; window = header.window }
+sizes_in header = record { profile = header.profile; seats = header.seats; shards = header.shards; bytes = header.bytes; ring = header.ring; value = header.value; window = header.window }

@@ -8,9 +8,10 @@ use Rattle.mc_conn.specs.Fits.{KeysFit}
 use Rattle.mc_conn.specs.Told.{Told, all_texts, commands_of}
 use Rattle.mc_wire.specs.Outlet.{Read, Sight, with_reads}
 use Rattle.mc_seat.specs.Reads.{OwesNothing}
+use Rattle.mc_command.specs.declared.rules.Rules.{Rules}
 
 -- Between begin and now the line gave the bytes fed and those unread, and took these texts.
-pub record Stands (limit : ℕ) (fits : Type 0) (begin now : Sight) (unread fed : List ℕ) (ended : Bool) (taken : List Taken) (texts : List (List ℕ)) : Type 0 where
+pub record Stands (rules : Rules) (fits : Type 0) (begin now : Sight) (unread fed : List ℕ) (ended : Bool) (taken : List Taken) (texts : List (List ℕ)) : Type 0 where
   pub read_is : now.given ≡ with_bytes begin.given (fed ++ unread)
   pub ended_is : ended ≡ true → (now.ended ≡ true) × (unread ≡ [])
   pub taken_is : now.taken ≡ with_bytes begin.taken (concat texts)
@@ -18,7 +19,7 @@ pub record Stands (limit : ℕ) (fits : Type 0) (begin now : Sight) (unread fed 
   pub reads : List Read
   pub reads_are : now.reads ≡ with_reads begin.reads reads
   -- Where the answers fit, the line was read only where nothing was owed.
-  pub owes_nothing : fits → AllByRecursion (OwesNothing limit begin (commands_of taken) texts) reads
+  pub owes_nothing : fits → AllByRecursion (OwesNothing rules begin (commands_of taken) texts) reads
 
 -- the texts that were handed out
 abbrev pub handed_texts : Told → List (List ℕ)
@@ -27,4 +28,4 @@ handed_texts told = take told.handed (all_texts told)
 -- By what its connection was told, and what the shards sent.
 abbrev pub Serving : (ℕ → List Shown) → Sight → Sight → List ℕ → Told → Type 0
 Serving received begin now unread told =
-    Stands told.limit (KeysFit told.shards told.taken received) begin now unread told.fed told.ended told.taken (handed_texts told)
+    Stands told.rules (KeysFit told.shards told.taken received) begin now unread told.fed told.ended told.taken (handed_texts told)

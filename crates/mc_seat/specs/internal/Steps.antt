@@ -44,8 +44,8 @@ pub record IsServed (received : ℕ → List Shown) (begin now : Sight) (told : 
   pub over : IsOver (record told { broken = broke; handed = handed })
   -- Of one that didn't fail every command was taken, and every reply handed out.
   pub rest : broke ≡ false → IsAllTaken told × (handed ≡ length (all_texts told))
-  pub story : Story told.limit begin now broke told.taken (all_texts told)
-  pub reads : KeysFit told.shards told.taken received → ReadsOwingNothing told.limit begin now (commands_of told.taken) (all_texts told)
+  pub story : Story told.rules begin now broke told.taken (all_texts told)
+  pub reads : KeysFit told.shards told.taken received → ReadsOwingNothing told.rules begin now (commands_of told.taken) (all_texts told)
 
 abbrev pub TurnSays : Turn → (ℕ → List Shown) → Sight → Sight → Told → Conn → List ℕ → Type 0
 TurnSays Goes received begin now told conn unread = GoesOn received begin now told conn unread

@@ -10,7 +10,7 @@ use Rattle.mc_conn.specs.declared.conn.Conn.{Conn}
 use Rattle.mc_conn.specs.Conn.{IsConn}
 use Rattle.mc_conn.specs.Fits.{Fits}
 use Rattle.mc_conn.specs.Told.{KeepsHanded, Told, all_pieces}
-use Rattle.mc_core.specs.Sizes.{Sizes}
+use Rattle.mc_core.specs.Sizes.{Sizes, rules_of}
 use Rattle.mc_core.specs.Log.{Entry, Leaves, on_shard, replies_in}
 
 -- Each shard is what its part of the log leads to, from the empty state.
@@ -30,7 +30,7 @@ replies_on log shard = replies_in (on_shard shard log)
 pub record Answers (sizes : Sizes) (told : Told) (shards : List Shard) (log : List Entry) : Type 0 where
   pub some : 0 < sizes.shards
   pub same : told.shards ≡ sizes.shards
-  pub limit : told.limit ≡ sizes.value
+  pub rules_are : told.rules ≡ rules_of sizes
   pub count : length shards ≡ sizes.shards
   pub backs : Backs sizes shards log
   pub mine : AllByRecursion (λ entry. entry.asker ≡ 0) log

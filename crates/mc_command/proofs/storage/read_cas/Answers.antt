@@ -1,4 +1,8 @@
-use Rattle.mc_command.proofs.StorageLines.{cas_says}
+use Rattle.std.proofs.Common.{◌≡◌, Err, rules, sym}
+use Rattle.mc_wire.specs.Words.{words_left}
+use Rattle.mc_command.specs.Classic.{cas_words}
+use Rattle.mc_command.specs.Field.{word_count_refusal}
+use Rattle.mc_command.proofs.StorageLines.{cas_says, fifth_word, fourth_word}
 use Rattle.mc_command.proofs.storage.read_cas.Goals as goal
 
 pub returns-in-Some-Some-Some-Some-Some-None : goal.returns-in-Some-Some-Some-Some-Some-None
@@ -10,6 +14,14 @@ returns-in-Some-Some-Some-Some-Some-None c =
     let fourth = rw arm.is-3 at c.next-count.ensures.steps in
     let fifth = rw arm.is-4 at c.next-unique.ensures.steps in
     let none = rw arm.is-5 at c.next-more.ensures.steps in
-    let block = rw arm.is-3 at c.announced-block.ensures in
-    let said = cas_says c.args.limit _ _ _ _ _ _ _ _ arm.key arm.flags arm.exptime arm.field-0-3 arm.unique c.next-noreply.result c.guarded.result first second third fourth fifth c.next-noreply.ensures.steps none c.guarded.ensures in
+    let block = rw (arm.is-3, arm.is-4) at c.announced_by_cas-block.ensures in
+    let said = cas_says c.args.rules _ _ _ _ _ _ _ _ arm.key arm.flags arm.exptime arm.field-0-3 arm.unique c.next-noreply.result c.guarded.result first second third fourth fifth c.next-noreply.ensures.steps none c.guarded.ensures in
     rw (c.block_line.ensures, block) said
+
+pub returns-in_default : goal.returns-in_default
+returns-in_default c =
+    let words = words_left c.args.walk in
+    let fourth = fourth_word words _ _ _ _ _ _ _ _ c.next-key.ensures.steps c.next-flags.ensures.steps c.next-exptime.ensures.steps c.next-count.ensures.steps in
+    let fifth = fifth_word words _ _ _ _ _ _ _ _ _ _ c.next-key.ensures.steps c.next-flags.ensures.steps c.next-exptime.ensures.steps c.next-count.ensures.steps c.next-unique.ensures.steps in
+    let few : cas_words c.args.rules words ≡ Err (word_count_refusal c.args.rules) = search rules in
+    rw (fourth, fifth, few, sym c.announced_by_cas-block.ensures) c.miscounted.ensures

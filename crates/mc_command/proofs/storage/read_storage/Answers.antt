@@ -10,5 +10,5 @@ returns-in-Some-Some-Some-Some-None c =
     let fourth = rw arm.is-3 at c.next-count.ensures.steps in
     let none = rw arm.is-4 at c.next-more.ensures.steps in
     let block = rw arm.is-3 at c.announced-block.ensures in
-    let said = storage_says c.args.limit c.args.mode _ _ _ _ _ _ _ arm.key arm.flags arm.exptime arm.field-0-3 c.next-noreply.result c.storage.result first second third fourth c.next-noreply.ensures.steps none c.storage.ensures in
+    let said = storage_says c.args.rules c.args.mode _ _ _ _ _ _ _ arm.key arm.flags arm.exptime arm.field-0-3 c.next-noreply.result c.storage.result first second third fourth c.next-noreply.ensures.steps none c.storage.ensures in
     rw (c.block_line.ensures, block) said

@@ -5,6 +5,7 @@ use Rattle.mc_threads.proofs.Orders.{all_first, all_more, all_rest, order_all, o
 use Rattle.mc_serve.specs.Seats.{HasSatDown}
 use Rattle.mc_serve.specs.Told.{IsFree}
 use Rattle.mc_serve.proofs.serving.sit_down.Goals as goal
+use Rattle.mc_server.specs.Sizes.{rules_of}
 
 pub loop-ends-preserved : goal.loop-ends-preserved
 loop-ends-preserved g c =
@@ -24,7 +25,7 @@ loop-ends-preserved g c =
       free = all_rest (λ door. IsFree (g.D.Door.told door)) _ c.in-Some-next.door _ door.0 was.free;
       ends = order_more (λ one. one.session.courier.ends) c.loop-ends.seats.items _ c.in_ok-sitting.sitting c.in-Some.ends _ _ grown made.ends (rw step.0 at was.ends);
       doors = order_more (λ one. one.door) c.loop-ends.seats.items _ c.in_ok-sitting.sitting c.in-Some-next.door _ _ grown made.door (rw door.0 at was.doors);
-      begin = all_more (λ one. HasSatDown c.args.sizes.shards c.args.sizes.value (g.D.Door.told one.door) one.session one.phase) c.loop-ends.seats.items _ c.in_ok-sitting.sitting grown was.begin
+      begin = all_more (λ one. HasSatDown c.args.sizes.shards (rules_of c.args.sizes) (g.D.Door.told one.door) one.session one.phase) c.loop-ends.seats.items _ c.in_ok-sitting.sitting grown was.begin
           (record { none = made.free; free = rw made.door free; width = rw made.ends wide; window = c.args.sizes.window; vacant = made.vacant });
     }
 

@@ -5,6 +5,7 @@ use Rattle.std.specs.Vec.Iter.{into_iter_items}
 use Rattle.mc_serve.specs.Seats.{HasSatDown}
 use Rattle.mc_serve.specs.Told.{IsFree}
 use Rattle.mc_serve.proofs.serving.sit_down.Given as goal
+use Rattle.mc_server.specs.Sizes.{rules_of}
 
 abbrev pub invariant-loop-ends : goal.invariant-loop-ends
 invariant-loop-ends g l = record {
@@ -13,5 +14,5 @@ invariant-loop-ends g l = record {
   free : AllByRecursion (λ door. IsFree (g.D.Door.told door)) (into_iter_items l.doors);
   ends : map (λ one. one.session.courier.ends) l.seats.items ++ into_iter_items l.ends-iterator ≡ l.fn.ends.items;
   doors : map (λ one. one.door) l.seats.items ++ into_iter_items l.doors ≡ l.fn.doors.items;
-  begin : AllByRecursion (λ one. HasSatDown l.fn.sizes.shards l.fn.sizes.value (g.D.Door.told one.door) one.session one.phase) l.seats.items;
+  begin : AllByRecursion (λ one. HasSatDown l.fn.sizes.shards (rules_of l.fn.sizes) (g.D.Door.told one.door) one.session one.phase) l.seats.items;
 }

@@ -11,7 +11,7 @@ loop-init g c =
     let made = c.in-Ok-Ok-Ok.ensures in (
       tt,
       tt,
-      turns_first (line_sizes c.args.sizes) (g.K.Clock.may_answer c.args.clock.now) (g.L.Outlet.sight c.args.line.now) c.new-seat.result.unread c.in-Ok-Ok-Ok.conn c.in-Ok-Ok-Ok.shards.items c.args.sizes.window c.requires.shards made.len made.empty c.new-seat.ensures c.in-Ok-Ok-Ok.ensures',
+      turns_first (line_sizes c.args.sizes) (g.K.Clock.may_answer c.args.clock.now) (g.L.Outlet.sight c.args.line.now) c.new-seat.result.unread c.in-Ok-Ok-Ok.conn c.in-Ok-Ok-Ok.shards.items c.args.sizes.window c.requires.shards made.len made.empty c.new-seat.ensures (rw c.rules.ensures at c.in-Ok-Ok-Ok.ensures'),
     )
 
 pub loop-preserved-in-Opened : goal.loop-preserved-in-Opened

@@ -3,6 +3,7 @@ use Rattle.std.proofs.Common.{map, refl}
 use Rattle.mc_serve.specs.Seats.{seat_at}
 use Rattle.mc_serve.proofs.Parts.{seats_begin, seats_over, workers_begin, workers_end}
 use Rattle.mc_serve.proofs.part.Part.run.Goals as goal
+use Rattle.mc_server.specs.Sizes.{rules_of}
 
 pub loop-init : goal.loop-init
 loop-init g c =
@@ -10,14 +11,14 @@ loop-init g c =
     record {
       next = (tt, tt);
       clock = refl;
-      seats = seats_begin c.args.self.now.seats.all.items (λ line. g.D.Line.Outlet.sight line) (λ one. g.D.Door.told one.door) (λ one. one.session) (λ one. one.phase) sizes.shards sizes.value (g.K.Clock.may_answer c.args.self.now.clock) c.requires;
+      seats = seats_begin c.args.self.now.seats.all.items (λ line. g.D.Line.Outlet.sight line) (λ one. g.D.Door.told one.door) (λ one. one.session) (λ one. one.phase) sizes.shards (rules_of sizes) (g.K.Clock.may_answer c.args.self.now.clock) c.requires;
       workers = workers_begin c.args.self.now.workers.items (λ one. one.worker);
     }
 
 pub step-stepped-requires : goal.step-stepped-requires
 step-stepped-requires g c =
     let sizes = c.args.self.now.sizes in
-    (sizes.shards, sizes.value, map (λ one. seat_at (g.D.Door.told one.door) one.session.courier.ends) c.args.self.now.seats.all.items, c.loop.invariant.seats)
+    (sizes.shards, rules_of sizes, map (λ one. seat_at (g.D.Door.told one.door) one.session.courier.ends) c.args.self.now.seats.all.items, c.loop.invariant.seats)
 
 pub loop-preserved-then-served : goal.loop-preserved-then-served
 loop-preserved-then-served g c =
@@ -25,7 +26,7 @@ loop-preserved-then-served g c =
     record {
       next = (tt, tt);
       clock = c.loop.invariant.clock;
-      seats = c.step-stepped.ensures sizes.shards sizes.value (map (λ one. seat_at (g.D.Door.told one.door) one.session.courier.ends) c.args.self.now.seats.all.items) c.loop.invariant.seats;
+      seats = c.step-stepped.ensures sizes.shards (rules_of sizes) (map (λ one. seat_at (g.D.Door.told one.door) one.session.courier.ends) c.args.self.now.seats.all.items) c.loop.invariant.seats;
       workers = c.serve_callers-served.ensures (map (λ one. one.worker) c.args.self.now.workers.items) c.loop.invariant.workers;
     }
 
@@ -35,7 +36,7 @@ loop-preserved g c =
     record {
       next = (tt, tt);
       clock = c.loop.invariant.clock;
-      seats = c.step-stepped.ensures sizes.shards sizes.value (map (λ one. seat_at (g.D.Door.told one.door) one.session.courier.ends) c.args.self.now.seats.all.items) c.loop.invariant.seats;
+      seats = c.step-stepped.ensures sizes.shards (rules_of sizes) (map (λ one. seat_at (g.D.Door.told one.door) one.session.courier.ends) c.args.self.now.seats.all.items) c.loop.invariant.seats;
       workers = c.serve_callers-served.ensures (map (λ one. one.worker) c.args.self.now.workers.items) c.loop.invariant.workers;
     }
 
@@ -44,8 +45,8 @@ returns-then-is_done-clause-seats g c =
     let sizes = c.args.self.now.sizes in
     let sats = map (λ one. seat_at (g.D.Door.told one.door) one.session.courier.ends) c.args.self.now.seats.all.items in
     rw (← c.loop.invariant.clock)
-    (seats_over c.step-stepped.new.self.all.items sats (λ line. g.D.Line.Outlet.sight line) (λ one. g.D.Door.told one.door) (λ one. one.session) (λ one. one.phase) sizes.shards sizes.value (g.K.Clock.may_answer c.loop.self.clock)
-    (c.if-is_done.ensures.over refl) (c.step-stepped.ensures sizes.shards sizes.value sats c.loop.invariant.seats))
+    (seats_over c.step-stepped.new.self.all.items sats (λ line. g.D.Line.Outlet.sight line) (λ one. g.D.Door.told one.door) (λ one. one.session) (λ one. one.phase) sizes.shards (rules_of sizes) (g.K.Clock.may_answer c.loop.self.clock)
+    (c.if-is_done.ensures.over refl) (c.step-stepped.ensures sizes.shards (rules_of sizes) sats c.loop.invariant.seats))
 
 pub returns-then-is_done-clause-workers : goal.returns-then-is_done-clause-workers
 returns-then-is_done-clause-workers g c =

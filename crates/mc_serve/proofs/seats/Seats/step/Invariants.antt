@@ -3,8 +3,9 @@ use Rattle.std.proofs.Common.{ℕ, List}
 use Rattle.mc_crew.specs.Zips.{Zips}
 use Rattle.mc_serve.specs.Seats.{SeatAt, SeatStands}
 use Rattle.mc_serve.proofs.seats.Seats.step.Given as goal
+use Rattle.mc_command.specs.declared.rules.Rules.{Rules}
 
 abbrev pub invariant-loop-word : goal.invariant-loop-word
-invariant-loop-word g l = (shards limit : ℕ) (sats : List SeatAt)
-    → Zips (λ sat one. SeatStands (λ line. g.D.Line.Outlet.sight line) shards limit (g.K.Clock.may_answer l.fn.clock) sat (g.D.Door.told one.door) one.session one.phase) sats l.fn.self.all.items
-    → Zips (λ sat one. SeatStands (λ line. g.D.Line.Outlet.sight line) shards limit (g.K.Clock.may_answer l.fn.clock) sat (g.D.Door.told one.door) one.session one.phase) sats l.self.all.items
+invariant-loop-word g l = (shards : ℕ) (rules : Rules) (sats : List SeatAt)
+    → Zips (λ sat one. SeatStands (λ line. g.D.Line.Outlet.sight line) shards rules (g.K.Clock.may_answer l.fn.clock) sat (g.D.Door.told one.door) one.session one.phase) sats l.fn.self.all.items
+    → Zips (λ sat one. SeatStands (λ line. g.D.Line.Outlet.sight line) shards rules (g.K.Clock.may_answer l.fn.clock) sat (g.D.Door.told one.door) one.session one.phase) sats l.self.all.items

@@ -6,7 +6,7 @@ use Rattle.mc_serve.proofs.Zipped.{zips_set}
 use Rattle.mc_serve.proofs.seats.Seats.step_at.Goals as goal
 
 pub returns-then-place-len : goal.returns-then-place-len
-returns-then-place-len g c shards limit sats zips = zips
+returns-then-place-len g c shards rules sats zips = zips
 
 pub step-requires : goal.step-requires
 step-requires g c =
@@ -17,9 +17,9 @@ step-requires g c =
     seat_steps items c.requires.2 c.args.place old (λ line. g.D.Line.Outlet.sight line) (λ one. g.D.Door.told one.door) (λ one. one.session) (λ one. one.phase) c.requires.0 c.requires.1 (g.K.Clock.may_answer c.args.clock.now) here c.requires.3
 
 pub returns : goal.returns
-returns g c shards limit sats zips =
+returns g c shards rules sats zips =
     let items = c.args.self.now.all.items in
     let below : c.args.place < length items = omega arith in
     let old = c.index_mut-sitting.result.now in
     let here = slice_get_read items (length items) c.args.place old refl below c.index_mut-sitting.ensures.value in
-    zips_set _ sats items c.args.place old c.step.new.self here (λ sat. c.step.ensures shards limit sat) zips
+    zips_set _ sats items c.args.place old c.step.new.self here (λ sat. c.step.ensures shards rules sat) zips

@@ -5,7 +5,7 @@ use Rattle.mc_threads.specs.Service.{IsServedBy}
 use Rattle.mc_threads.proofs.session.Session.step.Goals as goal
 
 pub returns-clause-says : goal.returns-clause-says
-returns-clause-says g c shards limit begin before serving =
+returns-clause-says g c shards rules begin before serving =
     let may_answer = g.K.Clock.may_answer c.args.clock.now in
-    let served = some_is _ _ (IsServedBy shards limit may_answer begin (g.L.Outlet.sight c.args.line.now) before c.args.self.now.courier) c.in-Some.is serving in
-    steps_on c.step.result shards limit may_answer begin _ before _ c.step.new.self refl (c.step.ensures.says shards limit begin before served)
+    let served = some_is _ _ (IsServedBy shards rules may_answer begin (g.L.Outlet.sight c.args.line.now) before c.args.self.now.courier) c.in-Some.is serving in
+    steps_on c.step.result shards rules may_answer begin _ before _ c.step.new.self refl (c.step.ensures.says shards rules begin before served)

@@ -1,0 +1,173 @@
+-- Worked lines by both rules, where they differ: what the server's own rules say of each, and what memcached's do. The second are
+-- what memcached 1.6.18 answered.
+use Rattle.std.proofs.Common.{◌≡◌, ℕ, Bool, true, false, List, [], ◌∷◌, ◌++◌, Option, Some, None, refl, codes, ℤ, pos, negsuc, replicate}
+use Rattle.std.specs.Prelude.{map}
+use Rattle.std.specs.Int.{int_wrap}
+use Rattle.mc_wire.specs.Words.{words_of}
+use Rattle.mc_wire.specs.Number.{number_of}
+use Rattle.mc_wire.specs.declared.TheConstants.{DEFAULT_VALUE_LIMIT}
+use Rattle.mc_command.specs.declared.command.Command.{Command}
+use Rattle.mc_command.specs.declared.command.Command.TheVariants as command
+use Rattle.mc_command.specs.declared.command.StoreMode.TheVariants as store
+use Rattle.mc_command.specs.declared.command.Direction.TheVariants.{Increment}
+use Rattle.mc_command.specs.declared.meta.MetaMode.{MetaMode}
+use Rattle.mc_command.specs.declared.meta.MetaMode.TheVariants as mode
+use Rattle.mc_command.specs.declared.refusal.Refusal.TheVariants.{Unknown, BadFormat, BadKey, DuplicateFlag, Hidden, InvalidFlag, TooLarge, WordCount}
+use Rattle.mc_command.specs.declared.rules.Profile.TheVariants.{Own, DropIn}
+use Rattle.mc_command.specs.declared.line.Line.{Line}
+use Rattle.mc_command.specs.declared.line.Line.TheVariants.{Whole, Data, Refused, Skip}
+use Rattle.mc_command.specs.Classic.{keys_of}
+use Rattle.mc_command.specs.Field.{is_key, word_count_refusal}
+use Rattle.mc_command.specs.Meta.{meta_line_of}
+use Rattle.mc_command.specs.Name.{name_of}
+use Rattle.mc_command.specs.Rules.{drop_in, own}
+use Rattle.mc_command.specs.Table.{line_of}
+
+-- a line, what it is by the one rules and by the others
+abbrev Rows : Type 0
+Rows = List (List ℕ × Line × Line)
+
+abbrev AreSo : Rows → Type 0
+AreSo rows =
+    (map (λ row. line_of (own DEFAULT_VALUE_LIMIT) (words_of row.0)) rows ≡ map (λ row. row.1) rows)
+    × (map (λ row. line_of (drop_in DEFAULT_VALUE_LIMIT) (words_of row.0)) rows ≡ map (λ row. row.2) rows)
+
+abbrev a : List ℕ
+a = codes "a"
+
+abbrev set : ℤ → Bool → Command
+set exptime noreply = command.Store (record { key = a; mode = store.Set; flags = 0; exptime = exptime; noreply = noreply; block = [] })
+
+-- `set` with this exptime and a block of one byte
+abbrev until : ℤ → Line
+until exptime = Data (set exptime false) 1
+
+-- 4294967295 is -1, and from 2147483648 on an exptime lies in the past
+exptimes : AreSo (
+    (codes "set a 0 2147483647 1", until (pos 2147483647), until (pos 2147483647))
+    ∷ (codes "set a 0 2147483648 1", until (pos 2147483648), until (negsuc 2147483647))
+    ∷ (codes "set a 0 4294967295 1", until (pos 4294967295), until (negsuc 0))
+    ∷ (codes "set a 0 4294967396 1", until (pos 4294967396), until (pos 100))
+    ∷ (codes "set a 0 -2147483648 1", until (negsuc 2147483647), until (negsuc 2147483647))
+    ∷ (codes "set a 0 -2147483649 1", until (negsuc 2147483648), until (pos 2147483647))
+    ∷ (codes "set a 0 9223372036854775807 1", until (pos 9223372036854775807), until (negsuc 0))
+    ∷ (codes "set a 0 9223372036854775808 1", Skip BadFormat 3, Skip BadFormat 3)
+    ∷ (codes "touch a 4294967396", Whole (command.Touch a (pos 4294967396) false), Whole (command.Touch a (pos 100) false))
+    ∷ (codes "flush_all 4294967295", Whole (command.FlushAll (pos 4294967295) false), Whole (command.FlushAll (negsuc 0) false))
+    ∷ []
+    )
+unfolding line_of words_of name_of is_key number_of int_wrap
+exptimes = (refl, refl)
+
+-- Too few words or too many are no command, and a block is skipped where a count stands; but `cas` without its unique has none.
+word_counts : AreSo (
+    (codes "get", Refused BadFormat, Refused WordCount)
+    ∷ (codes "gat 0", Refused BadFormat, Refused WordCount)
+    ∷ (codes "set a", Refused BadFormat, Refused WordCount)
+    ∷ (codes "set a 0 0 6 x y", Skip BadFormat 8, Skip WordCount 8)
+    ∷ (codes "cas a 0 0 6", Skip BadFormat 8, Refused WordCount)
+    ∷ (codes "cas a 0 0 6 7 x y", Skip BadFormat 8, Skip WordCount 8)
+    ∷ (codes "incr a", Refused BadFormat, Refused WordCount)
+    ∷ (codes "delete", Refused BadFormat, Refused WordCount)
+    ∷ (codes "touch a", Refused BadFormat, Refused WordCount)
+    ∷ (codes "verbosity", Refused BadFormat, Refused WordCount)
+    ∷ (codes "flush_all 0 0 0", Refused BadFormat, Refused WordCount)
+    ∷ (codes "mg", Refused BadFormat, Refused WordCount)
+    ∷ (codes "ms", Refused BadFormat, Refused WordCount)
+    ∷ (codes "ms a", Refused BadFormat, Refused BadFormat)
+    ∷ (codes "nothing", Refused Unknown, Refused Unknown)
+    ∷ []
+    )
+unfolding line_of words_of name_of is_key keys_of number_of meta_line_of word_count_refusal
+word_counts = (refl, refl)
+
+-- A last word that isn't `noreply` is ignored, but behind `delete`.
+last_words : AreSo (
+    (codes "set a 0 0 1 noreplx", Skip BadFormat 3, Data (set (pos 0) false) 1)
+    ∷ (codes "set a 0 0 1 noreply", Data (set (pos 0) true) 1, Data (set (pos 0) true) 1)
+    ∷ (codes "incr a 1 x", Refused BadFormat, Whole (command.Count a Increment 1 false))
+    ∷ (codes "touch a 0 x", Refused BadFormat, Whole (command.Touch a (pos 0) false))
+    ∷ (codes "flush_all 0 zz", Refused BadFormat, Whole (command.FlushAll (pos 0) false))
+    ∷ (codes "verbosity 1 x", Refused BadFormat, Whole (command.Verbosity false))
+    ∷ (codes "delete a noreplx", Refused BadFormat, Refused BadFormat)
+    ∷ []
+    )
+unfolding line_of words_of name_of is_key number_of int_wrap
+last_words = (refl, refl)
+
+-- No fault of a line that ends in `noreply` is shown, but that of its name or of the number of its words.
+hidden_faults : AreSo (
+    (codes "verbosity noreply", Refused BadFormat, Refused Hidden)
+    ∷ (codes "set a x 0 1 noreply", Skip BadFormat 3, Skip Hidden 3)
+    ∷ (codes "set a 0 0 1048577 noreply", Skip TooLarge 1048579, Skip Hidden 1048579)
+    ∷ (codes "set a 0 0 x noreply", Refused BadFormat, Refused Hidden)
+    ∷ (codes "set a 0 noreply", Refused BadFormat, Refused WordCount)
+    ∷ (codes "incr a x noreply", Refused BadFormat, Refused Hidden)
+    ∷ (codes "delete a 1 noreply", Refused BadFormat, Refused Hidden)
+    ∷ (codes "set a x 0 1", Skip BadFormat 3, Skip BadFormat 3)
+    ∷ (codes "get " ++ (replicate 251 107 ++ codes " noreply"), Refused BadKey, Refused BadKey)
+    ∷ []
+    )
+unfolding line_of words_of name_of is_key keys_of number_of word_count_refusal
+hidden_faults = (refl, refl)
+
+-- Counts from 2^31 - 2 on are refused at once, and no block is awaited.
+counts : AreSo (
+    (codes "set a 0 0 2147483645", Skip TooLarge 2147483647, Skip TooLarge 2147483647)
+    ∷ (codes "set a 0 0 2147483646", Skip TooLarge 2147483648, Refused BadFormat)
+    ∷ (codes "set a 0 0 4294967295", Skip TooLarge 4294967297, Refused BadFormat)
+    ∷ (codes "cas a 0 0 2147483646 1", Skip TooLarge 2147483648, Refused BadFormat)
+    ∷ (codes "ms a 2147483645", Skip TooLarge 2147483647, Skip TooLarge 2147483647)
+    ∷ (codes "ms a 2147483646", Skip TooLarge 2147483648, Refused BadFormat)
+    ∷ []
+    )
+unfolding line_of words_of name_of is_key number_of meta_line_of
+counts = (refl, refl)
+
+versions : AreSo ((codes "version", Whole (command.Version Own), Whole (command.Version DropIn)) ∷ [])
+unfolding line_of words_of name_of
+versions = (refl, refl)
+
+-- `ms` in this mode that compares with this unique, with this exptime and a block of one byte
+abbrev ms_until : ℤ → MetaMode → Option ℕ → Line
+ms_until exptime mode compare =
+    Data (command.MetaSet (record {
+      key = a;
+      flags = record { base64 = false; quiet = false; returned = []; opaque = [] };
+      mode = mode;
+      compare = compare;
+      unique = None;
+      client_flags = 0;
+      exptime = exptime;
+      block = [];
+    })) 1
+
+abbrev ms : MetaMode → Option ℕ → Line
+ms mode compare = ms_until (pos 0) mode compare
+
+-- `C` with a mode other than S
+compares : AreSo (
+    (codes "ms a 1 C1", ms mode.Set (Some 1), ms mode.Set (Some 1))
+    ∷ (codes "ms a 1 C0", ms mode.Set (Some 0), ms mode.Set (Some 0))
+    ∷ (codes "ms a 1 C1 MR", Skip BadFormat 3, ms mode.Replace (Some 1))
+    ∷ (codes "ms a 1 C1 MA", Skip BadFormat 3, ms mode.Append (Some 1))
+    ∷ (codes "ms a 1 C0 MA", Skip BadFormat 3, ms mode.Append None)
+    ∷ (codes "ms a 1 C0 MP", Skip BadFormat 3, ms mode.Prepend None)
+    ∷ (codes "ms a 1 C1 ME", Skip BadFormat 3, ms mode.Add None)
+    ∷ []
+    )
+unfolding line_of words_of name_of is_key number_of meta_line_of
+compares = (refl, refl)
+
+-- Hints for proxies, and flags of `ms` that do nothing; a ttl of 4294967295 is -1.
+flags : AreSo (
+    (codes "ms a 1 I N30 Pto Lb", Skip InvalidFlag 3, ms mode.Set None)
+    ∷ (codes "ms a 1 N", Skip InvalidFlag 3, Skip BadFormat 3)
+    ∷ (codes "ms a 1 T4294967295", ms_until (pos 4294967295) mode.Set None, ms_until (negsuc 0) mode.Set None)
+    ∷ (codes "md a P P", Refused InvalidFlag, Refused DuplicateFlag)
+    ∷ (codes "mg a P Q", Refused InvalidFlag, Refused InvalidFlag)
+    ∷ (codes "ma a L D", Refused InvalidFlag, Refused BadFormat)
+    ∷ []
+    )
+unfolding line_of words_of name_of is_key number_of meta_line_of int_wrap
+flags = (refl, refl)

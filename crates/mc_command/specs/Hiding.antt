@@ -1,0 +1,47 @@
+-- Which faults are hidden: memcached shows none of a line that ends in `noreply`, but that its name or the number of its
+-- words is wrong (protocol.txt, "Commands": "noreply" instructs the server to not send the reply).
+use Rattle.std.specs.Prelude.{ℕ, Bool, true, false, ◌&&◌, List, [], ◌∷◌}
+use Rattle.mc_command.specs.declared.line.Line.{Line}
+use Rattle.mc_command.specs.declared.line.Line.TheVariants.{Refused, Skip}
+use Rattle.mc_command.specs.declared.name.CommandName.{CommandName}
+use Rattle.mc_command.specs.declared.name.CommandName.TheVariants as name
+use Rattle.mc_command.specs.declared.refusal.Refusal.{Refusal}
+use Rattle.mc_command.specs.declared.refusal.Refusal.TheVariants.{Hidden, Memory, WordCount}
+use Rattle.mc_command.specs.declared.rules.Rules.{Rules}
+use Rattle.mc_command.specs.Field.{is_noreply}
+use Rattle.mc_command.specs.Rules.{is_drop_in}
+
+-- whether the last of the words is `noreply`; where there is none, whether that was so before
+abbrev pub noreply_from : Bool → List (List ℕ) → Bool
+noreply_from last [] = last
+noreply_from last (word ∷ words) = noreply_from (is_noreply word) words
+
+abbrev pub ends_in_noreply : List (List ℕ) → Bool
+ends_in_noreply words = noreply_from false words
+
+-- whether a line of this name may end in `noreply`
+abbrev pub takes_noreply : CommandName → Bool
+takes_noreply (name.Store mode) = true
+takes_noreply name.CompareAndSwap = true
+takes_noreply name.Delete = true
+takes_noreply (name.Count direction) = true
+takes_noreply name.Touch = true
+takes_noreply name.FlushAll = true
+takes_noreply name.Verbosity = true
+takes_noreply other = false
+
+abbrev pub hides_faults : Rules → CommandName → List (List ℕ) → Bool
+hides_faults rules name words = takes_noreply name && (is_drop_in rules && ends_in_noreply words)
+
+-- a refusal, or that it is hidden
+abbrev pub shown_refusal : Bool → Refusal → Refusal
+shown_refusal true Memory = Memory
+shown_refusal true WordCount = WordCount
+shown_refusal true other = Hidden
+shown_refusal false refusal = refusal
+
+-- a line whose refusal, if it has one, may be hidden
+abbrev pub shown_line : Bool → Line → Line
+shown_line hides (Refused refusal) = Refused (shown_refusal hides refusal)
+shown_line hides (Skip refusal count) = Skip (shown_refusal hides refusal) count
+shown_line hides line = line

@@ -1,0 +1,86 @@
+//! Which faults are hidden (protocol.txt, "Commands": "noreply" instructs the server to not send the reply).
+ghost use Rattle.std.specs.Prelude.{◌≡◌, codes};
+ghost use Rattle.std.specs.Str.{bytes_eq};
+ghost use Rattle.mc_wire.specs.Words.{words_left, words_of};
+ghost use Rattle.mc_command.specs.Field.{is_noreply};
+ghost use Rattle.mc_command.specs.Hiding.{ends_in_noreply, hides_faults, shown_line, shown_refusal, takes_noreply};
+
+use crate::line::Line;
+use crate::name::CommandName;
+use crate::refusal::Refusal;
+use crate::rules::Rules;
+use mc_wire::{WordWalk, words};
+
+/// Hides the refusal of a line where memcached shows none: where its name may end in `noreply`, and the text behind it
+/// does.
+#[inline(always)]
+pub(crate) fn hide_fault(line: &mut Line, rules: Rules, name: CommandName, behind: &[u8])
+    ensures { line.new ≡ shown_line (hides_faults rules name (words_of behind.now)) line.old }
+{
+    match line {
+        Line::Refused(refusal) => {
+            *refusal = shown_refusal(hides_faults(rules, name, behind), *refusal);
+        }
+        Line::Skip(refusal, _) => {
+            *refusal = shown_refusal(hides_faults(rules, name, behind), *refusal);
+        }
+        Line::Whole(_) | Line::Data(..) => {}
+    }
+}
+
+/// Whether the faults of such a line are hidden.
+fn hides_faults(rules: Rules, name: CommandName, behind: &[u8]) -> bool
+    ensures { result ≡ hides_faults rules name (words_of behind.now) }
+{
+    takes_noreply(name) && rules.is_drop_in() && ends_in_noreply(words(behind))
+}
+
+/// A refusal, or that it is hidden.
+fn shown_refusal(hides: bool, refusal: Refusal) -> Refusal
+    ensures { result ≡ shown_refusal hides refusal }
+{
+    match refusal {
+        Refusal::Memory | Refusal::WordCount => refusal,
+        _ if hides => Refusal::Hidden,
+        _ => refusal,
+    }
+}
+
+/// Whether a line of this name may end in `noreply`.
+fn takes_noreply(name: CommandName) -> bool
+    ensures { result ≡ takes_noreply name }
+{
+    match name {
+        CommandName::Store(_)
+        | CommandName::CompareAndSwap
+        | CommandName::Delete
+        | CommandName::Count(_)
+        | CommandName::Touch
+        | CommandName::FlushAll
+        | CommandName::Verbosity => true,
+        CommandName::Get { .. }
+        | CommandName::GetAndTouch { .. }
+        | CommandName::Version
+        | CommandName::Quit
+        | CommandName::MetaNoop
+        | CommandName::Meta(_) => false,
+    }
+}
+
+/// Whether the last of the words is `noreply`.
+fn ends_in_noreply(words: WordWalk<'_>) -> bool
+    ensures { result ≡ ends_in_noreply (words_left words.entry) }
+{
+    let mut last = false;
+    for word in words {
+        last = is_noreply(word);
+    }
+    last
+}
+
+/// Whether a word is `noreply`.
+pub(crate) fn is_noreply(word: &[u8]) -> bool
+    ensures { result ≡ is_noreply word.now }
+{
+    matches!(word, b"noreply")
+}
