@@ -113,13 +113,18 @@ fn put_each<O: Outlet>(out: &mut O, forms: &HeapCircularBuffer<Form>) -> Result<
     Ok(())
 }
 
-/// Lets the first forms go.
+/// Lets the first forms go. Where none is left the next ones come to lie in the same places, so that a connection whose client
+/// waits for its replies uses few of them.
 pub(crate) fn drop_first(forms: &mut HeapCircularBuffer<Form>, count: usize)
     requires { count ≤ length forms.old.items }
     ensures items { forms.new.items ≡ drop count forms.old.items }
     ensures capacity { forms.new.capacity ≡ forms.old.capacity }
 {
     let left = forms.len() - count;
+    if left == 0 {
+        forms.clear();
+        return;
+    }
     forms.truncate_front(left);
 }
 
