@@ -20,7 +20,7 @@ shown_behind : (hides : Bool) (line : Line) → bytes_behind (shown_line hides l
 shown_behind hides (Whole asked) = refl
 shown_behind hides (Data asked count) = refl
 shown_behind hides (Refused refusal) = refl
-shown_behind hides (Skip refusal count) = refl
+shown_behind hides (Skip discarded refusal count) = refl
 
 before_limit : (rules : Rules) (limit : ℕ) (count unique : Option (List ℕ)) → count_before (record rules { value_limit = limit }) count unique ≡ count_before rules count unique
 before_limit rules limit count None = refl

@@ -12,7 +12,7 @@ use Rattle.mc_command.specs.declared.line.Line.{Line}
 use Rattle.mc_command.specs.declared.line.Line.TheVariants.{Whole, Data, Refused, Skip}
 use Rattle.mc_command.specs.Command.{can_give_up}
 use Rattle.mc_command.specs.Line.{bytes_behind, is_given_up}
-use Rattle.mc_command.specs.Blocks.{block_count, block_line, bytes_with, whole_line, MayBeGivenUp}
+use Rattle.mc_command.specs.Blocks.{block_count, block_line, bytes_with, discarded_by, whole_line, MayBeGivenUp}
 use Rattle.mc_command.specs.Field.{word_count_refusal}
 use Rattle.mc_command.specs.Hiding.{hides_faults, shown_line}
 use Rattle.mc_command.specs.Classic.{cas_count_in, count_in}
@@ -40,26 +40,26 @@ lawful_whole : (limit : ℕ) (read : Result Command Refusal) → Told read → I
 lawful_whole limit (Ok command) told = record { told = told; block = tt; behind_is = refl }
 lawful_whole limit (Err refusal) told = record { told = told; block = tt; behind_is = refl }
 
-lawful_block : (limit : ℕ) (count : Option ℕ) (read : Result Command Refusal) → MayBeGivenUp read → IsLawful limit (bytes_with count) (block_line limit count read)
-lawful_block limit (Some count) (Ok command) may =
-    cond_both (nat_lt limit count) (Skip TooLarge (count + 2)) (Data command count) (IsLawful limit (count + 2))
+lawful_block : (rules : Rules) (count : Option ℕ) (read : Result Command Refusal) → MayBeGivenUp read → IsLawful rules.value_limit (bytes_with count) (block_line rules count read)
+lawful_block rules (Some count) (Ok command) may =
+    cond_both (nat_lt rules.value_limit count) (Skip (discarded_by rules command) TooLarge (count + 2)) (Data command count) (IsLawful rules.value_limit (count + 2))
     (λ large. record { told = refl; block = tt; behind_is = refl })
-    (λ small. record { told = no_memory_command command may; block = (may, ltb-false limit count small); behind_is = refl })
-lawful_block limit (Some count) (Err refusal) may = record { told = no_memory refusal may; block = tt; behind_is = refl }
-lawful_block limit None (Ok command) may = lawful_whole limit (Err BadFormat) refl
-lawful_block limit None (Err refusal) may = lawful_whole limit (Err refusal) (no_memory refusal may)
+    (λ small. record { told = no_memory_command command may; block = (may, ltb-false rules.value_limit count small); behind_is = refl })
+lawful_block rules (Some count) (Err refusal) may = record { told = no_memory refusal may; block = tt; behind_is = refl }
+lawful_block rules None (Ok command) may = lawful_whole rules.value_limit (Err BadFormat) refl
+lawful_block rules None (Err refusal) may = lawful_whole rules.value_limit (Err refusal) (no_memory refusal may)
 
 lawful_meta : (rules : Rules) (name : MetaKind) (words : List (List ℕ)) → IsLawful rules.value_limit (bytes_with (meta_count_in rules name words)) (meta_line_of rules name words)
 unfolding meta_line_of
-lawful_meta rules Set (word ∷ count ∷ words) = lawful_block rules.value_limit (block_count rules count) _ (meta_given_up rules Set word words)
+lawful_meta rules Set (word ∷ count ∷ words) = lawful_block rules (block_count rules count) _ (meta_given_up rules Set word words)
 lawful_meta rules Set (word ∷ []) = lawful_whole rules.value_limit (Err BadFormat) refl
 lawful_meta rules Set [] = lawful_whole rules.value_limit (Err (word_count_refusal rules)) (words_told rules)
 lawful_meta rules name [] = lawful_whole rules.value_limit (Err (word_count_refusal rules)) (words_told rules)
 lawful_meta rules name (word ∷ words) = lawful_whole rules.value_limit _ (told_may _ (meta_given_up rules name word words))
 
 pub lawful_named : (rules : Rules) (name : CommandName) (words : List (List ℕ)) → IsLawful rules.value_limit (bytes_with (count_named rules name words)) (line_named rules name words)
-lawful_named rules (name.Store mode) words = lawful_block rules.value_limit (count_in rules words) _ (storage_may rules mode words)
-lawful_named rules name.CompareAndSwap words = lawful_block rules.value_limit (cas_count_in rules words) _ (cas_may rules words)
+lawful_named rules (name.Store mode) words = lawful_block rules (count_in rules words) _ (storage_may rules mode words)
+lawful_named rules name.CompareAndSwap words = lawful_block rules (cas_count_in rules words) _ (cas_may rules words)
 lawful_named rules (name.Get with_unique) words = lawful_whole rules.value_limit _ (told_may _ (get_may rules with_unique words))
 lawful_named rules (name.GetAndTouch with_unique) words = lawful_whole rules.value_limit _ (told_may _ (gat_may rules with_unique words))
 lawful_named rules name.Delete words = lawful_whole rules.value_limit _ (told_may _ (delete_may rules words))
@@ -75,7 +75,7 @@ shown_lawful : (limit behind : ℕ) (hides : Bool) (line : Line) → IsLawful li
 shown_lawful limit behind hides (Whole asked) lawful = lawful
 shown_lawful limit behind hides (Data asked count) lawful = lawful
 shown_lawful limit behind hides (Refused refusal) lawful = record { told = shown_told hides refusal ∙ lawful.told; block = tt; behind_is = lawful.behind_is }
-shown_lawful limit behind hides (Skip refusal count) lawful = record { told = shown_told hides refusal ∙ lawful.told; block = tt; behind_is = lawful.behind_is }
+shown_lawful limit behind hides (Skip discarded refusal count) lawful = record { told = shown_told hides refusal ∙ lawful.told; block = tt; behind_is = lawful.behind_is }
 
 lawful_if_named : (rules : Rules) (name : Option CommandName) (words : List (List ℕ)) → (behind : ℕ) × IsLawful rules.value_limit behind (line_if_named rules name words)
 lawful_if_named rules None words = (0, record { told = refl; block = tt; behind_is = refl })

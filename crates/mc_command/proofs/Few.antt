@@ -16,7 +16,7 @@ use Rattle.mc_command.specs.declared.refusal.Refusal.TheVariants.{BadKey, TooLar
 use Rattle.mc_command.specs.declared.line.Line.{Line}
 use Rattle.mc_command.specs.declared.line.Line.TheVariants.{Whole, Data, Refused, Skip}
 use Rattle.mc_command.specs.Field.{exptime_of, is_key, is_noreply, then_of}
-use Rattle.mc_command.specs.Blocks.{block_count, block_line, whole_line}
+use Rattle.mc_command.specs.Blocks.{discarded_by, block_count, block_line, whole_line}
 use Rattle.mc_command.specs.Hiding.{hides_faults, shown_line}
 use Rattle.mc_command.specs.Classic.{cas_count_in, cas_words, count_in, count_words, delete_words, flush_of, flush_words, gat_words, get_words, keys_of, retrieval_of, storage_words, touch_words, verbosity_words}
 use Rattle.mc_command.specs.Meta.{asked_of, command_by, compare_refusal, flags_refusal, has_flag, meta_command_of, meta_key_of, meta_line_of, set_by, unless}
@@ -54,11 +54,11 @@ few_whole : (most : ℕ) (asked : Result Command Refusal) → FewAsked most aske
 few_whole most (Ok asked) few = few
 few_whole most (Err refusal) few = tt
 
-few_block : (most limit : ℕ) (count : Option ℕ) (asked : Result Command Refusal) → FewAsked most asked → FewLine most (block_line limit count asked)
-few_block most limit (Some count) (Ok asked) few = cond_both (nat_lt limit count) (Skip TooLarge (count + 2)) (Data asked count) (FewLine most) (λ large. tt) (λ small. few)
-few_block most limit (Some count) (Err refusal) few = tt
-few_block most limit None (Ok asked) few = tt
-few_block most limit None (Err refusal) few = tt
+few_block : (most : ℕ) (rules : Rules) (count : Option ℕ) (asked : Result Command Refusal) → FewAsked most asked → FewLine most (block_line rules count asked)
+few_block most rules (Some count) (Ok asked) few = cond_both (nat_lt rules.value_limit count) (Skip (discarded_by rules asked) TooLarge (count + 2)) (Data asked count) (FewLine most) (λ large. tt) (λ small. few)
+few_block most rules (Some count) (Err refusal) few = tt
+few_block most rules None (Ok asked) few = tt
+few_block most rules None (Err refusal) few = tt
 
 few_retrieval : (most : ℕ) (with_unique : Bool) (touch : Option ℤ) (words : List (List ℕ)) → length words ≤ most → FewAsked most (retrieval_of with_unique touch words)
 unfolding keys_of
@@ -123,14 +123,14 @@ few_meta most rules name word words = few_unless most (flags_refusal rules name 
 
 few_meta_line : (most : ℕ) (rules : Rules) (name : MetaKind) (words : List (List ℕ)) → FewLine most (meta_line_of rules name words)
 unfolding meta_line_of
-few_meta_line most rules meta.Set (word ∷ count ∷ words) = few_block most rules.value_limit (block_count rules count) (meta_command_of rules meta.Set word words) (few_meta most rules meta.Set word words)
+few_meta_line most rules meta.Set (word ∷ count ∷ words) = few_block most rules (block_count rules count) (meta_command_of rules meta.Set word words) (few_meta most rules meta.Set word words)
 few_meta_line most rules meta.Set words = tt
 few_meta_line most rules name [] = tt
 few_meta_line most rules name (word ∷ words) = few_whole most (meta_command_of rules name word words) (few_meta most rules name word words)
 
 few_named : (most : ℕ) (rules : Rules) (name : CommandName) (words : List (List ℕ)) → length words ≤ most → FewLine most (line_named rules name words)
-few_named most rules (name.Store mode) words few = few_block most rules.value_limit (count_in rules words) (storage_words rules mode words) (few_storage most rules mode words)
-few_named most rules name.CompareAndSwap words few = few_block most rules.value_limit (cas_count_in rules words) (cas_words rules words) (few_cas most rules words)
+few_named most rules (name.Store mode) words few = few_block most rules (count_in rules words) (storage_words rules mode words) (few_storage most rules mode words)
+few_named most rules name.CompareAndSwap words few = few_block most rules (cas_count_in rules words) (cas_words rules words) (few_cas most rules words)
 few_named most rules (name.Get with_unique) words few = few_whole most (get_words rules with_unique words) (few_get most rules with_unique words few)
 few_named most rules (name.GetAndTouch with_unique) words few = few_whole most (gat_words rules with_unique words) (few_gat most rules with_unique words few)
 few_named most rules name.Delete words few = few_whole most (delete_words rules words) (few_delete most rules words)
@@ -145,7 +145,7 @@ few_shown : (most : ℕ) (hides : Bool) (line : Line) → FewLine most line → 
 few_shown most hides (Whole asked) few = few
 few_shown most hides (Data asked count) few = few
 few_shown most hides (Refused refusal) few = tt
-few_shown most hides (Skip refusal count) few = tt
+few_shown most hides (Skip discarded refusal count) few = tt
 
 few_if_named : (most : ℕ) (rules : Rules) (name : Option CommandName) (words : List (List ℕ)) → length words ≤ most → FewLine most (line_if_named rules name words)
 few_if_named most rules None words few = tt

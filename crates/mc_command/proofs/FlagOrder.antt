@@ -1,11 +1,12 @@
 -- Flags in another order are lawful if they were, and each look-up in them finds the same.
 use Rattle.std.proofs.Common.{◌≡◌, ℕ, ◌+◌, ◌==◌, ◌||◌, Bool, true, false, cond, List, [], ◌∷◌, ◌++◌, Option, Some, None, nat_lt, refl, sym, ap, ap₂, ◌∙◌, arith, Result, Ok, Err, IsPermutation}
-use Rattle.std.specs.Prelude.{find}
+use Rattle.std.specs.Prelude.{find, if◌then◌else◌}
 use Rattle.std.specs.List.{filter_map}
 use Rattle.std.specs.Option.{option_or}
 use Rattle.std.proofs.lemmas.Bool.{eqb-false, eqb-true, or_parts}
 use Rattle.std.proofs.lemmas.List.Sorted.{list_any-IsPermutation, IsPermutation-sym}
 use Rattle.mc_command.specs.declared.command.Command.{Command}
+use Rattle.mc_command.specs.declared.command.Command.TheVariants as command
 use Rattle.mc_command.specs.declared.line.Line.{Line}
 use Rattle.mc_command.specs.declared.line.Line.TheVariants.{Whole, Data, Refused, Skip}
 use Rattle.mc_command.specs.declared.meta.ReturnFlag.{ReturnFlag}
@@ -14,12 +15,13 @@ use Rattle.mc_command.specs.declared.meta.MetaKind.{MetaKind}
 use Rattle.mc_command.specs.declared.meta.MetaKind.TheVariants.{Set}
 use Rattle.mc_command.specs.declared.refusal.Refusal.{Refusal}
 use Rattle.mc_command.specs.declared.refusal.Refusal.TheVariants.{InvalidFlag, DuplicateFlag, TooLarge}
-use Rattle.mc_command.specs.Blocks.{block_count, block_line, whole_line}
+use Rattle.mc_command.specs.Blocks.{block_count, block_line, discarded_by, key_set, whole_line}
 use Rattle.mc_command.specs.Hiding.{shown_line}
 use Rattle.mc_command.specs.Field.{then_of}
-use Rattle.mc_command.specs.FlagOrder.{with_flags, IsReordered, SameButOrder, before_flags}
+use Rattle.mc_command.specs.FlagOrder.{with_flags, with_returned, returned_in, IsReordered, SameButOrder, before_flags}
 use Rattle.mc_command.specs.Meta.{has_letter, has_flag, shown_flag, flags_of, flag_refusal, flags_refusal, unless, meta_key_of, compare_refusal, set_by, asked_of, command_by, meta_command_of, meta_line_of}
 use Rattle.mc_command.specs.Name.{name_of}
+use Rattle.mc_command.specs.Rules.{is_drop_in}
 use Rattle.mc_command.specs.Table.{line_of}
 use Rattle.mc_command.proofs.MetaCounts.{eq_comm}
 use Rattle.mc_command.proofs.MetaLookups.{has_flag-append}
@@ -155,29 +157,40 @@ same_whole (Ok asked) (Ok other) same = same
 same_whole (Err refusal) (Err other) same = tt
 same_whole asked other same = absurd same
 
-same_sized : (large : Bool) (asked other : Command) (count : ℕ) → IsReordered asked other →
-    SameButOrder (cond large (Skip TooLarge (count + 2)) (Data asked count)) (cond large (Skip TooLarge (count + 2)) (Data other count))
-same_sized true asked other count same = refl
-same_sized false asked other count same = (same, refl)
+-- The flags that are given back don't tell which item is discarded.
+same_key : (asked : Command) (returned : List ReturnFlag) → key_set asked ≡ key_set (with_returned asked returned)
+same_key (command.MetaGet get) returned = refl
+same_key (command.MetaSet set) returned = refl
+same_key (command.MetaDelete delete) returned = refl
+same_key (command.MetaArithmetic arithmetic) returned = refl
+same_key other returned = refl
 
-same_block : (limit : ℕ) (count : Option ℕ) (asked other : Result Command Refusal) → SameAsked asked other → SameButOrder (block_line limit count asked) (block_line limit count other)
-same_block limit (Some count) (Ok asked) (Ok other) same = same_sized (nat_lt limit count) asked other count same
-same_block limit (Some count) (Err refusal) (Err other) same = refl
-same_block limit None (Ok asked) (Ok other) same = tt
-same_block limit None (Err refusal) (Err other) same = tt
-same_block limit count asked other same = absurd same
+same_discarded : (rules : Rules) (asked other : Command) → IsReordered asked other → discarded_by rules asked ≡ discarded_by rules other
+same_discarded rules asked other same = ap (λ key. if is_drop_in rules then key else None) (same_key asked (returned_in other) ∙ ap key_set (sym same.same))
+
+same_sized : (rules : Rules) (large : Bool) (asked other : Command) (count : ℕ) → IsReordered asked other →
+    SameButOrder (cond large (Skip (discarded_by rules asked) TooLarge (count + 2)) (Data asked count)) (cond large (Skip (discarded_by rules other) TooLarge (count + 2)) (Data other count))
+same_sized rules true asked other count same = (same_discarded rules asked other same, refl)
+same_sized rules false asked other count same = (same, refl)
+
+same_block : (rules : Rules) (count : Option ℕ) (asked other : Result Command Refusal) → SameAsked asked other → SameButOrder (block_line rules count asked) (block_line rules count other)
+same_block rules (Some count) (Ok asked) (Ok other) same = same_sized rules (nat_lt rules.value_limit count) asked other count same
+same_block rules (Some count) (Err refusal) (Err other) same = (refl, refl)
+same_block rules None (Ok asked) (Ok other) same = tt
+same_block rules None (Err refusal) (Err other) same = tt
+same_block rules count asked other same = absurd same
 
 -- A meta line hides no fault.
 same_shown : (line other : Line) → SameButOrder line other → SameButOrder (shown_line false line) (shown_line false other)
 same_shown (Whole asked) (Whole other) same = same
 same_shown (Data asked count) (Data other counted) same = same
 same_shown (Refused refusal) (Refused other) same = same
-same_shown (Skip refusal count) (Skip other counted) same = same
+same_shown (Skip discarded refusal count) (Skip let_go other counted) same = same
 same_shown line other same = absurd same
 
 -- a meta line with its flags in another order
 pub flags_reordered : (rules : Rules) (name : MetaKind) (key count : List ℕ) (flags others : List (List ℕ)) → IsPermutation flags others →
     SameButOrder (line_of rules (before_flags name key count ++ flags)) (line_of rules (before_flags name key count ++ others))
 unfolding line_of name_of meta_line_of
-flags_reordered rules Set key count flags others moved = same_shown _ _ (same_block rules.value_limit (block_count rules count) _ _ (same_asked rules Set key flags others moved))
+flags_reordered rules Set key count flags others moved = same_shown _ _ (same_block rules (block_count rules count) _ _ (same_asked rules Set key flags others moved))
 flags_reordered rules name key count flags others moved = same_shown _ _ (same_whole _ _ (same_asked rules name key flags others moved))

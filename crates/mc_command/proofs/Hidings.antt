@@ -1,5 +1,5 @@
 -- A line whose faults are hidden, or not.
-use Rattle.std.proofs.Common.{◌≡◌, ℕ, Bool, true, false, refl, ap}
+use Rattle.std.proofs.Common.{◌≡◌, ℕ, Bool, true, false, None, refl, ap}
 use Rattle.std.specs.Prelude.{IsTrue, MatchBool}
 use Rattle.mc_command.specs.declared.line.Line.{Line}
 use Rattle.mc_command.specs.declared.line.Line.TheVariants.{Whole, Data, Refused, Skip}
@@ -25,13 +25,13 @@ line_shown : (hides : Bool) (line : Line) → CanGiveUpLine line → CanGiveUpLi
 line_shown hides (Whole asked) may = may
 line_shown hides (Refused refusal) may = takes_shown hides refusal may
 line_shown hides (Data asked count) may = may
-line_shown hides (Skip refusal count) may = may
+line_shown hides (Skip discarded refusal count) may = may
 
 block_shown : (hides : Bool) (line : Line) (skipped : ℕ) → CanGiveUpBlock line skipped → CanGiveUpBlock (shown_line hides line) skipped
 block_shown hides (Whole asked) skipped may = may
 block_shown hides (Refused refusal) skipped may = may
 block_shown hides (Data asked count) skipped may = may
-block_shown hides (Skip refusal count) skipped may = (may.0, takes_shown hides refusal may.1)
+block_shown hides (Skip discarded refusal count) skipped may = (may.0, takes_shown hides refusal may.1)
 
 either : (P Q P' Q' : Type 0) (test other : Bool) → other ≡ test → (P → P') → (Q → Q') → MatchBool test P Q → MatchBool other P' Q'
 either P Q P' Q' true true same give tell said = give said
@@ -46,13 +46,13 @@ says_shown hides line (Data asked count) says = ap (shown_line hides) says
 says_shown hides line (Refused refusal) says =
     either (CanGiveUpLine line) (line ≡ Refused refusal) (CanGiveUpLine (shown_line hides line)) (shown_line hides line ≡ Refused (shown_refusal hides refusal)) (is_memory refusal) (is_memory (shown_refusal hides refusal)) (shown_told hides refusal)
     (λ may. line_shown hides line may) (λ is. ap (shown_line hides) is) says
-says_shown hides line (Skip refusal count) says =
-    either (CanGiveUpBlock line count) (line ≡ Skip refusal count) (CanGiveUpBlock (shown_line hides line) count) (shown_line hides line ≡ Skip (shown_refusal hides refusal) count) (is_memory refusal) (is_memory (shown_refusal hides refusal)) (shown_told hides refusal)
-    (λ may. block_shown hides line count may) (λ is. ap (shown_line hides) is) says
+says_shown hides line (Skip discarded refusal count) says =
+    either ((discarded ≡ None) × CanGiveUpBlock line count) (line ≡ Skip discarded refusal count) ((discarded ≡ None) × CanGiveUpBlock (shown_line hides line) count) (shown_line hides line ≡ Skip discarded (shown_refusal hides refusal) count) (is_memory refusal) (is_memory (shown_refusal hides refusal)) (shown_told hides refusal)
+    (λ may. (may.0, block_shown hides line count may.1)) (λ is. ap (shown_line hides) is) says
 
 -- A line that hides nothing is shown as it is.
 pub shown_as_it_is : (line : Line) → shown_line false line ≡ line
 shown_as_it_is (Whole asked) = refl
 shown_as_it_is (Data asked count) = refl
 shown_as_it_is (Refused refusal) = refl
-shown_as_it_is (Skip refusal count) = refl
+shown_as_it_is (Skip discarded refusal count) = refl

@@ -51,7 +51,7 @@ exptimes : AreSo (
     ∷ (codes "set a 0 -2147483648 1", until (negsuc 2147483647), until (negsuc 2147483647))
     ∷ (codes "set a 0 -2147483649 1", until (negsuc 2147483648), until (pos 2147483647))
     ∷ (codes "set a 0 9223372036854775807 1", until (pos 9223372036854775807), until (negsuc 0))
-    ∷ (codes "set a 0 9223372036854775808 1", Skip BadFormat 3, Skip BadFormat 3)
+    ∷ (codes "set a 0 9223372036854775808 1", Skip None BadFormat 3, Skip None BadFormat 3)
     ∷ (codes "touch a 4294967396", Whole (command.Touch a (pos 4294967396) false), Whole (command.Touch a (pos 100) false))
     ∷ (codes "flush_all 4294967295", Whole (command.FlushAll (pos 4294967295) false), Whole (command.FlushAll (negsuc 0) false))
     ∷ []
@@ -64,9 +64,9 @@ word_counts : AreSo (
     (codes "get", Refused BadFormat, Refused WordCount)
     ∷ (codes "gat 0", Refused BadFormat, Refused WordCount)
     ∷ (codes "set a", Refused BadFormat, Refused WordCount)
-    ∷ (codes "set a 0 0 6 x y", Skip BadFormat 8, Skip WordCount 8)
-    ∷ (codes "cas a 0 0 6", Skip BadFormat 8, Refused WordCount)
-    ∷ (codes "cas a 0 0 6 7 x y", Skip BadFormat 8, Skip WordCount 8)
+    ∷ (codes "set a 0 0 6 x y", Skip None BadFormat 8, Skip None WordCount 8)
+    ∷ (codes "cas a 0 0 6", Skip None BadFormat 8, Refused WordCount)
+    ∷ (codes "cas a 0 0 6 7 x y", Skip None BadFormat 8, Skip None WordCount 8)
     ∷ (codes "incr a", Refused BadFormat, Refused WordCount)
     ∷ (codes "delete", Refused BadFormat, Refused WordCount)
     ∷ (codes "touch a", Refused BadFormat, Refused WordCount)
@@ -83,7 +83,7 @@ word_counts = (refl, refl)
 
 -- A last word that isn't `noreply` is ignored, but behind `delete`.
 last_words : AreSo (
-    (codes "set a 0 0 1 noreplx", Skip BadFormat 3, Data (set (pos 0) false) 1)
+    (codes "set a 0 0 1 noreplx", Skip None BadFormat 3, Data (set (pos 0) false) 1)
     ∷ (codes "set a 0 0 1 noreply", Data (set (pos 0) true) 1, Data (set (pos 0) true) 1)
     ∷ (codes "incr a 1 x", Refused BadFormat, Whole (command.Count a Increment 1 false))
     ∷ (codes "touch a 0 x", Refused BadFormat, Whole (command.Touch a (pos 0) false))
@@ -98,27 +98,47 @@ last_words = (refl, refl)
 -- No fault of a line that ends in `noreply` is shown, but that of its name or of the number of its words.
 hidden_faults : AreSo (
     (codes "verbosity noreply", Refused BadFormat, Refused Hidden)
-    ∷ (codes "set a x 0 1 noreply", Skip BadFormat 3, Skip Hidden 3)
-    ∷ (codes "set a 0 0 1048577 noreply", Skip TooLarge 1048579, Skip Hidden 1048579)
+    ∷ (codes "set a x 0 1 noreply", Skip None BadFormat 3, Skip None Hidden 3)
+    ∷ (codes "set a 0 0 1048577 noreply", Skip None TooLarge 1048579, Skip (Some a) Hidden 1048579)
     ∷ (codes "set a 0 0 x noreply", Refused BadFormat, Refused Hidden)
     ∷ (codes "set a 0 noreply", Refused BadFormat, Refused WordCount)
     ∷ (codes "incr a x noreply", Refused BadFormat, Refused Hidden)
     ∷ (codes "delete a 1 noreply", Refused BadFormat, Refused Hidden)
-    ∷ (codes "set a x 0 1", Skip BadFormat 3, Skip BadFormat 3)
+    ∷ (codes "set a x 0 1", Skip None BadFormat 3, Skip None BadFormat 3)
     ∷ (codes "get " ++ (replicate 251 107 ++ codes " noreply"), Refused BadKey, Refused BadKey)
     ∷ []
     )
 unfolding line_of words_of name_of is_key keys_of number_of word_count_refusal
 hidden_faults = (refl, refl)
 
+-- Where a value is too large the item under the key goes: of `set`, and of `ms` in each of its modes.
+too_large : AreSo (
+    (codes "set a 0 0 1048577", Skip None TooLarge 1048579, Skip (Some a) TooLarge 1048579)
+    ∷ (codes "set a 0 0 1048576", Data (set (pos 0) false) 1048576, Data (set (pos 0) false) 1048576)
+    ∷ (codes "add a 0 0 1048577", Skip None TooLarge 1048579, Skip None TooLarge 1048579)
+    ∷ (codes "replace a 0 0 1048577", Skip None TooLarge 1048579, Skip None TooLarge 1048579)
+    ∷ (codes "append a 0 0 1048577", Skip None TooLarge 1048579, Skip None TooLarge 1048579)
+    ∷ (codes "prepend a 0 0 1048577", Skip None TooLarge 1048579, Skip None TooLarge 1048579)
+    ∷ (codes "cas a 0 0 1048577 1", Skip None TooLarge 1048579, Skip None TooLarge 1048579)
+    ∷ (codes "ms a 1048577", Skip None TooLarge 1048579, Skip (Some a) TooLarge 1048579)
+    ∷ (codes "ms a 1048577 ME", Skip None TooLarge 1048579, Skip (Some a) TooLarge 1048579)
+    ∷ (codes "ms a 1048577 MA", Skip None TooLarge 1048579, Skip (Some a) TooLarge 1048579)
+    ∷ (codes "ms a 1048577 MP", Skip None TooLarge 1048579, Skip (Some a) TooLarge 1048579)
+    ∷ (codes "ms a 1048577 MR", Skip None TooLarge 1048579, Skip (Some a) TooLarge 1048579)
+    ∷ (codes "set a x 0 1048577", Skip None BadFormat 1048579, Skip None BadFormat 1048579)
+    ∷ []
+    )
+unfolding line_of words_of name_of is_key number_of meta_line_of int_wrap
+too_large = (refl, refl)
+
 -- Counts from 2^31 - 2 on are refused at once, and no block is awaited.
 counts : AreSo (
-    (codes "set a 0 0 2147483645", Skip TooLarge 2147483647, Skip TooLarge 2147483647)
-    ∷ (codes "set a 0 0 2147483646", Skip TooLarge 2147483648, Refused BadFormat)
-    ∷ (codes "set a 0 0 4294967295", Skip TooLarge 4294967297, Refused BadFormat)
-    ∷ (codes "cas a 0 0 2147483646 1", Skip TooLarge 2147483648, Refused BadFormat)
-    ∷ (codes "ms a 2147483645", Skip TooLarge 2147483647, Skip TooLarge 2147483647)
-    ∷ (codes "ms a 2147483646", Skip TooLarge 2147483648, Refused BadFormat)
+    (codes "set a 0 0 2147483645", Skip None TooLarge 2147483647, Skip (Some a) TooLarge 2147483647)
+    ∷ (codes "set a 0 0 2147483646", Skip None TooLarge 2147483648, Refused BadFormat)
+    ∷ (codes "set a 0 0 4294967295", Skip None TooLarge 4294967297, Refused BadFormat)
+    ∷ (codes "cas a 0 0 2147483646 1", Skip None TooLarge 2147483648, Refused BadFormat)
+    ∷ (codes "ms a 2147483645", Skip None TooLarge 2147483647, Skip (Some a) TooLarge 2147483647)
+    ∷ (codes "ms a 2147483646", Skip None TooLarge 2147483648, Refused BadFormat)
     ∷ []
     )
 unfolding line_of words_of name_of is_key number_of meta_line_of
@@ -149,11 +169,11 @@ ms mode compare = ms_until (pos 0) mode compare
 compares : AreSo (
     (codes "ms a 1 C1", ms mode.Set (Some 1), ms mode.Set (Some 1))
     ∷ (codes "ms a 1 C0", ms mode.Set (Some 0), ms mode.Set (Some 0))
-    ∷ (codes "ms a 1 C1 MR", Skip BadFormat 3, ms mode.Replace (Some 1))
-    ∷ (codes "ms a 1 C1 MA", Skip BadFormat 3, ms mode.Append (Some 1))
-    ∷ (codes "ms a 1 C0 MA", Skip BadFormat 3, ms mode.Append None)
-    ∷ (codes "ms a 1 C0 MP", Skip BadFormat 3, ms mode.Prepend None)
-    ∷ (codes "ms a 1 C1 ME", Skip BadFormat 3, ms mode.Add None)
+    ∷ (codes "ms a 1 C1 MR", Skip None BadFormat 3, ms mode.Replace (Some 1))
+    ∷ (codes "ms a 1 C1 MA", Skip None BadFormat 3, ms mode.Append (Some 1))
+    ∷ (codes "ms a 1 C0 MA", Skip None BadFormat 3, ms mode.Append None)
+    ∷ (codes "ms a 1 C0 MP", Skip None BadFormat 3, ms mode.Prepend None)
+    ∷ (codes "ms a 1 C1 ME", Skip None BadFormat 3, ms mode.Add None)
     ∷ []
     )
 unfolding line_of words_of name_of is_key number_of meta_line_of
@@ -161,8 +181,8 @@ compares = (refl, refl)
 
 -- Hints for proxies, and flags of `ms` that do nothing; a ttl of 4294967295 is -1.
 flags : AreSo (
-    (codes "ms a 1 I N30 Pto Lb", Skip InvalidFlag 3, ms mode.Set None)
-    ∷ (codes "ms a 1 N", Skip InvalidFlag 3, Skip BadFormat 3)
+    (codes "ms a 1 I N30 Pto Lb", Skip None InvalidFlag 3, ms mode.Set None)
+    ∷ (codes "ms a 1 N", Skip None InvalidFlag 3, Skip None BadFormat 3)
     ∷ (codes "ms a 1 T4294967295", ms_until (pos 4294967295) mode.Set None, ms_until (negsuc 0) mode.Set None)
     ∷ (codes "md a P P", Refused InvalidFlag, Refused DuplicateFlag)
     ∷ (codes "mg a P Q", Refused InvalidFlag, Refused InvalidFlag)

@@ -37,6 +37,6 @@ gets = refl
 
 -- two faults: the one that comes first is told, and as many bytes are skipped
 faults : map line (codes "mg a b b ?" ∷ codes "mg a ? b b" ∷ codes "ms a 2 b b ?" ∷ codes "ms a 2 ? b b" ∷ [])
-    ≡ Refused DuplicateFlag ∷ Refused InvalidFlag ∷ Skip DuplicateFlag 4 ∷ Skip InvalidFlag 4 ∷ []
+    ≡ Refused DuplicateFlag ∷ Refused InvalidFlag ∷ Skip None DuplicateFlag 4 ∷ Skip None InvalidFlag 4 ∷ []
 unfolding line_of name_of meta_line_of words_of number_of is_key word_count_refusal
 faults = refl

@@ -51,7 +51,7 @@ foreign_letters :
     ++ map md (map codes ("a c" ∷ "a s" ∷ "a v" ∷ "a t" ∷ "a x" ∷ "a N1" ∷ "a D1" ∷ "a F1" ∷ []))
     ++ map ma (map codes ("a s" ∷ "a f" ∷ "a h" ∷ "a l" ∷ "a I" ∷ "a R1" ∷ "a F1" ∷ []))
     ++ map ms (map codes ("a 0 v" ∷ "a 0 t" ∷ "a 0 I" ∷ "a 0 N1" ∷ "a 0 R1" ∷ "a 0 D1" ∷ "a 0 J1" ∷ []))
-    ≡ replicate 25 (Refused InvalidFlag) ++ replicate 7 (Skip InvalidFlag 2)
+    ≡ replicate 25 (Refused InvalidFlag) ++ replicate 7 (Skip None InvalidFlag 2)
 unfolding meta_line_of words_of number_of word_count_refusal
 foreign_letters = refl
 
@@ -67,7 +67,7 @@ faults_in_order :
     map mg ((replicate 251 107 ++ codes " ?") ∷ (replicate 251 107 ++ codes " v v") ∷ replicate 251 107 ∷ (97 ∷ 127 ∷ []) ∷ [])
     ++ map ms (codes "a x ?" ∷ codes "a x v" ∷ codes "a x O1 O2" ∷ (97 ∷ 127 ∷ codes " x") ∷ (97 ∷ 127 ∷ codes " 3") ∷ (97 ∷ 127 ∷ codes " 3 ?") ∷ (97 ∷ 127 ∷ codes " 1048577") ∷ codes "a x" ∷ codes "a x C1 ME" ∷ [])
     ≡ Refused InvalidFlag ∷ Refused DuplicateFlag ∷ Refused BadKey ∷ Refused BadKey
-    ∷ Refused InvalidFlag ∷ Refused InvalidFlag ∷ Refused DuplicateFlag ∷ Refused BadKey ∷ Skip BadKey 5 ∷ Skip InvalidFlag 5 ∷ Skip BadKey 1048579 ∷ Refused BadFormat ∷ Refused BadFormat ∷ []
+    ∷ Refused InvalidFlag ∷ Refused InvalidFlag ∷ Refused DuplicateFlag ∷ Refused BadKey ∷ Skip None BadKey 5 ∷ Skip None InvalidFlag 5 ∷ Skip None BadKey 1048579 ∷ Refused BadFormat ∷ Refused BadFormat ∷ []
 unfolding meta_line_of words_of number_of is_key word_count_refusal
 faults_in_order = refl
 
@@ -80,27 +80,27 @@ bad_tokens :
     ++ map ma (map codes ("a D+1" ∷ "a N+1" ∷ "a T--1" ∷ "a T-" ∷ []))
     ++ map ms (map codes ("a 1 F" ∷ "a 1 F4294967296" ∷ "a 1 F-1" ∷ "a 1 C" ∷ "a 1 T" ∷ "a 1 M" ∷ "a 1 MX" ∷ "a 1 MI" ∷ []))
     ++ map ms (map codes ("a 1 MSS" ∷ "a 1 E" ∷ "a 1 Ex" ∷ "a 1 E000000000000000000001" ∷ []))
-    ≡ replicate 30 (Refused BadFormat) ++ replicate 12 (Skip BadFormat 3)
+    ≡ replicate 30 (Refused BadFormat) ++ replicate 12 (Skip None BadFormat 3)
 unfolding meta_line_of words_of number_of word_count_refusal
 bad_tokens = refl
 
 -- a readable count skips its block; a large value and `C` in another mode are refused last
 counts : map ms (codes "a 4294967296" ∷ codes "a -1" ∷ codes "a 000000000000000000001" ∷ codes "a 4294967295" ∷ codes "a 1048577" ∷ codes "a 1048577 C1 MA" ∷ codes "a 2 C1 Ma" ∷ codes "a 2 Me C1" ∷ codes "a 2 C1 MP" ∷ codes "a 2 C1 Mr" ∷ [])
-    ≡ Refused BadFormat ∷ Refused BadFormat ∷ Refused BadFormat ∷ Skip TooLarge 4294967297 ∷ Skip TooLarge 1048579 ∷ Skip BadFormat 1048579 ∷ replicate 4 (Skip BadFormat 4)
+    ≡ Refused BadFormat ∷ Refused BadFormat ∷ Refused BadFormat ∷ Skip None TooLarge 4294967297 ∷ Skip None TooLarge 1048579 ∷ Skip None BadFormat 1048579 ∷ replicate 4 (Skip None BadFormat 4)
 unfolding meta_line_of words_of number_of is_key word_count_refusal
 counts = refl
 
 -- the limit is the most that a value may have, whatever limit is chosen
-limits : map (λ limit. map (λ count. block_line limit (Some count) (Ok MetaNoop)) ((limit - 1) ∷ limit ∷ (limit + 1) ∷ [])) (LEAST_VALUE_LIMIT ∷ DEFAULT_VALUE_LIMIT ∷ GREATEST_VALUE_LIMIT ∷ [])
-    ≡ (Data MetaNoop 1023 ∷ Data MetaNoop 1024 ∷ Skip TooLarge 1027 ∷ [])
-    ∷ (Data MetaNoop 1048575 ∷ Data MetaNoop 1048576 ∷ Skip TooLarge 1048579 ∷ [])
-    ∷ (Data MetaNoop 8388607 ∷ Data MetaNoop 8388608 ∷ Skip TooLarge 8388611 ∷ [])
+limits : map (λ limit. map (λ count. block_line (own limit) (Some count) (Ok MetaNoop)) ((limit - 1) ∷ limit ∷ (limit + 1) ∷ [])) (LEAST_VALUE_LIMIT ∷ DEFAULT_VALUE_LIMIT ∷ GREATEST_VALUE_LIMIT ∷ [])
+    ≡ (Data MetaNoop 1023 ∷ Data MetaNoop 1024 ∷ Skip None TooLarge 1027 ∷ [])
+    ∷ (Data MetaNoop 1048575 ∷ Data MetaNoop 1048576 ∷ Skip None TooLarge 1048579 ∷ [])
+    ∷ (Data MetaNoop 8388607 ∷ Data MetaNoop 8388608 ∷ Skip None TooLarge 8388611 ∷ [])
     ∷ []
 limits = refl
 
 line_limits : map (λ text. line_of (own LEAST_VALUE_LIMIT) (words_of text)) (map codes ("ms a 1025" ∷ "set a 0 0 1025" ∷ "cas a 0 0 1025 1" ∷ []))
     ++ map (λ text. line_of (own GREATEST_VALUE_LIMIT) (words_of text)) (map codes ("ms a 8388609" ∷ "set a 0 0 8388609" ∷ "cas a 0 0 8388609 1" ∷ []))
-    ≡ replicate 3 (Skip TooLarge 1027) ++ replicate 3 (Skip TooLarge 8388611)
+    ≡ replicate 3 (Skip None TooLarge 1027) ++ replicate 3 (Skip None TooLarge 8388611)
 unfolding line_of name_of meta_line_of words_of number_of is_key word_count_refusal
 line_limits = refl
 
@@ -158,7 +158,7 @@ unfolding meta_line_of words_of decoded_key base64_bytes base64_on_literals word
 base64_keys = refl
 
 base64_refused : map mg (codes "YR== b" ∷ codes "YQ b" ∷ codes "Y?== b" ∷ (replicate 252 65 ++ codes " b") ∷ []) ++ map ms (codes "YR== 2 b" ∷ codes "YR== x b" ∷ [])
-    ≡ replicate 4 (Refused BadKey) ++ (Skip BadKey 4 ∷ Refused BadKey ∷ [])
+    ≡ replicate 4 (Refused BadKey) ++ (Skip None BadKey 4 ∷ Refused BadKey ∷ [])
 unfolding meta_line_of words_of number_of decoded_key base64_bytes base64_on_literals word_count_refusal
 base64_refused = refl
 
@@ -209,7 +209,7 @@ flags_before_keys :
     map mg ((97 ∷ 127 ∷ codes " Tx") ∷ (97 ∷ 127 ∷ codes " O" ++ replicate 33 120) ∷ codes "YR== b b" ∷ codes "YR== b ?" ∷ [])
     ++ map ms ((97 ∷ 127 ∷ codes " 2 C1 MA") ∷ (97 ∷ 127 ∷ codes " x C1 MA") ∷ codes "YR== 2 b b" ∷ codes "YR== x b ?" ∷ codes "YR== 1048577 b" ∷ codes "YR== 4294967296 b" ∷ [])
     ≡ Refused BadFormat ∷ Refused OpaqueTooLong ∷ Refused DuplicateFlag ∷ Refused InvalidFlag
-    ∷ Skip BadKey 4 ∷ Refused BadKey ∷ Skip DuplicateFlag 4 ∷ Refused InvalidFlag ∷ Skip BadKey 1048579 ∷ Refused BadKey ∷ []
+    ∷ Skip None BadKey 4 ∷ Refused BadKey ∷ Skip None DuplicateFlag 4 ∷ Refused InvalidFlag ∷ Skip None BadKey 1048579 ∷ Refused BadKey ∷ []
 unfolding meta_line_of words_of number_of is_key decoded_key base64_bytes base64_on_literals word_count_refusal
 flags_before_keys = refl
 

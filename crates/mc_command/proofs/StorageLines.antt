@@ -37,12 +37,12 @@ storage_words_last rules mode key flags exptime count (Some word) = refl
 pub storage_says : (rules : Rules) (mode : StoreMode) (words a b c d e end : List (List ℕ)) (key flags exptime count : Bor (List ℕ)) (noreply : Option (Bor (List ℕ))) (read : Result Command Refusal) →
     Steps words (Some key) a → Steps a (Some flags) b → Steps b (Some exptime) c → Steps c (Some count) d → Steps d noreply e → Steps e None end →
     Reads (storage_of rules mode key.now flags.now exptime.now (option_copied noreply)) read →
-    Says (storage_line rules mode words) (block_line rules.value_limit (block_count rules count.now) read)
+    Says (storage_line rules mode words) (block_line rules (block_count rules count.now) read)
 storage_says rules mode words a b c d e end key flags exptime count noreply read first second third fourth fifth none reads =
     let all : words ≡ key.now ∷ flags.now ∷ exptime.now ∷ count.now ∷ last_of (option_copied noreply) = first ∙ ap (λ l. key.now ∷ l) (second ∙ ap (λ l. flags.now ∷ l) (third ∙ ap (λ l. exptime.now ∷ l) (fourth ∙ ap (λ l. count.now ∷ l) (last_is d e end noreply fifth none)))) in
     let asked = storage_words_last rules mode key.now flags.now exptime.now count.now (option_copied noreply) in
     let may = storage_may rules mode (key.now ∷ flags.now ∷ exptime.now ∷ count.now ∷ last_of (option_copied noreply)) in
-    rw all (says_block rules.value_limit (block_count rules count.now) _ read (rw asked reads) may)
+    rw all (says_block rules (block_count rules count.now) _ read (rw asked reads) may)
 
 cas_words_last : (rules : Rules) (key flags exptime count unique : List ℕ) (noreply : Option (List ℕ)) → cas_words rules (key ∷ flags ∷ exptime ∷ count ∷ unique ∷ last_of noreply) ≡ cas_of rules key flags exptime unique noreply
 unfolding last_of
@@ -53,12 +53,12 @@ cas_words_last rules key flags exptime count unique (Some word) = refl
 pub cas_says : (rules : Rules) (words a b c d e f end : List (List ℕ)) (key flags exptime count unique : Bor (List ℕ)) (noreply : Option (Bor (List ℕ))) (read : Result Command Refusal) →
     Steps words (Some key) a → Steps a (Some flags) b → Steps b (Some exptime) c → Steps c (Some count) d → Steps d (Some unique) e → Steps e noreply f → Steps f None end →
     Reads (cas_of rules key.now flags.now exptime.now unique.now (option_copied noreply)) read →
-    Says (cas_line rules words) (block_line rules.value_limit (block_count rules count.now) read)
+    Says (cas_line rules words) (block_line rules (block_count rules count.now) read)
 cas_says rules words a b c d e f end key flags exptime count unique noreply read first second third fourth fifth sixth none reads =
     let all : words ≡ key.now ∷ flags.now ∷ exptime.now ∷ count.now ∷ unique.now ∷ last_of (option_copied noreply) = first ∙ ap (λ l. key.now ∷ l) (second ∙ ap (λ l. flags.now ∷ l) (third ∙ ap (λ l. exptime.now ∷ l) (fourth ∙ ap (λ l. count.now ∷ l) (fifth ∙ ap (λ l. unique.now ∷ l) (last_is e f end noreply sixth none))))) in
     let asked = cas_words_last rules key.now flags.now exptime.now count.now unique.now (option_copied noreply) in
     let may = cas_may rules (key.now ∷ flags.now ∷ exptime.now ∷ count.now ∷ unique.now ∷ last_of (option_copied noreply)) in
-    rw all (says_block rules.value_limit (block_count rules count.now) _ read (rw asked reads) may)
+    rw all (says_block rules (block_count rules count.now) _ read (rw asked reads) may)
 
 -- words by their places
 

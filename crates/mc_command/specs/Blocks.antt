@@ -1,6 +1,9 @@
 -- From what a line's words are to what the line is, with the block behind it or none.
 use Rattle.std.specs.Prelude.{ℕ, ◌+◌, ◌-◌, ◌^◌, List, Option, Some, None, nat_lt, if◌then◌else◌, Result, Ok, Err, IsTrue}
 use Rattle.mc_command.specs.declared.command.Command.{Command}
+use Rattle.mc_command.specs.declared.command.Command.TheVariants as command
+use Rattle.mc_command.specs.declared.command.StoreMode.{StoreMode}
+use Rattle.mc_command.specs.declared.command.StoreMode.TheVariants as mode
 use Rattle.mc_command.specs.declared.refusal.Refusal.{Refusal}
 use Rattle.mc_command.specs.declared.refusal.Refusal.TheVariants.{BadFormat, TooLarge}
 use Rattle.mc_command.specs.declared.line.Line.{Line}
@@ -15,14 +18,29 @@ abbrev pub whole_line : Result Command Refusal → Line
 whole_line (Ok command) = Whole command
 whole_line (Err refusal) = Refused refusal
 
+-- the key that a storage command of this mode sets, whatever stands under it
+abbrev pub key_set_by : StoreMode → List ℕ → Option (List ℕ)
+key_set_by mode.Set key = Some key
+key_set_by other key = None
+
+-- the key whose item goes where a command's value is too large: of `set`, and of `ms` in each of its modes
+abbrev pub key_set : Command → Option (List ℕ)
+key_set (command.Store storage) = key_set_by storage.mode storage.key
+key_set (command.MetaSet set) = Some set.key
+key_set other = None
+
+-- the key whose item goes where the value of a command is too large: memcached leaves no old value behind
+abbrev pub discarded_by : Rules → Command → Option (List ℕ)
+discarded_by rules asked = if is_drop_in rules then key_set asked else None
+
 -- A line that a block follows, with the count of its bytes where the word in that place is readable. A
 -- readable count tells what is skipped, whatever else is wrong; a value of more bytes than the limit is
 -- refused last.
-abbrev pub block_line : ℕ → Option ℕ → Result Command Refusal → Line
-block_line limit (Some count) (Ok command) = if nat_lt limit count then Skip TooLarge (count + 2) else Data command count
-block_line limit (Some count) (Err refusal) = Skip refusal (count + 2)
-block_line limit None (Ok command) = Refused BadFormat
-block_line limit None (Err refusal) = Refused refusal
+abbrev pub block_line : Rules → Option ℕ → Result Command Refusal → Line
+block_line rules (Some count) (Ok asked) = if nat_lt rules.value_limit count then Skip (discarded_by rules asked) TooLarge (count + 2) else Data asked count
+block_line rules (Some count) (Err refusal) = Skip None refusal (count + 2)
+block_line rules None (Ok asked) = Refused BadFormat
+block_line rules None (Err refusal) = Refused refusal
 
 -- A line that asks this may be given up where memory runs out.
 abbrev pub MayBeGivenUp : Result Command Refusal → Type 0

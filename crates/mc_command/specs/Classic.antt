@@ -38,7 +38,7 @@ storage_words rules mode (key ∷ flags ∷ exptime ∷ count ∷ noreply ∷ []
 storage_words rules mode words = Err (word_count_refusal rules)
 
 abbrev pub storage_line : Rules → StoreMode → List (List ℕ) → Line
-storage_line rules mode words = block_line rules.value_limit (count_in rules words) (storage_words rules mode words)
+storage_line rules mode words = block_line rules (count_in rules words) (storage_words rules mode words)
 
 -- the storage command that a unique guards
 abbrev pub cas_of : Rules → List ℕ → List ℕ → List ℕ → List ℕ → Option (List ℕ) → Result Command Refusal
@@ -66,7 +66,7 @@ abbrev pub cas_count_in : Rules → List (List ℕ) → Option ℕ
 cas_count_in rules words = count_before rules (slice_get words 3) (slice_get words 4)
 
 abbrev pub cas_line : Rules → List (List ℕ) → Line
-cas_line rules words = block_line rules.value_limit (cas_count_in rules words) (cas_words rules words)
+cas_line rules words = block_line rules (cas_count_in rules words) (cas_words rules words)
 
 -- keys, each of the words one
 unfoldable pub keys_of : List (List ℕ) → Result (List (List ℕ)) Refusal

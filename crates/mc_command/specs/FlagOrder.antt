@@ -37,12 +37,12 @@ pub record IsReordered (asked other : Command) : Type 0 where
   pub moved : IsPermutation (returned_in asked) (returned_in other)
 
 -- Two lines are the same command but for that order, with as many bytes in the block if there is one; or
--- both are refused, for what may be two faults, and as many bytes are skipped behind them.
+-- both are refused, for what may be two faults, with as many bytes skipped behind them and the same item discarded.
 abbrev pub SameButOrder : Line → Line → Type 0
 SameButOrder (Whole asked) (Whole other) = IsReordered asked other
 SameButOrder (Data asked count) (Data other counted) = IsReordered asked other × (count ≡ counted)
 SameButOrder (Refused refusal) (Refused other) = Unit {0}
-SameButOrder (Skip refusal count) (Skip other counted) = count ≡ counted
+SameButOrder (Skip discarded refusal count) (Skip let_go other counted) = (discarded ≡ let_go) × (count ≡ counted)
 SameButOrder line other = ⊥
 
 -- the words of a meta line before its flags: the name, the key and in `ms` the length of the block

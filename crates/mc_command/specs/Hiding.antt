@@ -43,5 +43,5 @@ shown_refusal false refusal = refusal
 -- a line whose refusal, if it has one, may be hidden
 abbrev pub shown_line : Bool → Line → Line
 shown_line hides (Refused refusal) = Refused (shown_refusal hides refusal)
-shown_line hides (Skip refusal count) = Skip (shown_refusal hides refusal) count
+shown_line hides (Skip discarded refusal count) = Skip discarded (shown_refusal hides refusal) count
 shown_line hides line = line

@@ -1,5 +1,5 @@
 -- What reading a line gives: what the command table says of it, or the refusal "out of memory".
-use Rattle.std.specs.Prelude.{ℕ, ◌≡◌, ◌+◌, Bool, IsTrue, MatchBool}
+use Rattle.std.specs.Prelude.{ℕ, ◌≡◌, ◌+◌, Bool, IsTrue, MatchBool, None}
 use Rattle.mc_command.specs.declared.line.Line.{Line}
 use Rattle.mc_command.specs.declared.line.Line.TheVariants.{Whole, Data, Refused, Skip}
 use Rattle.mc_command.specs.Command.{can_give_up, is_memory, is_memory_refusal, refusal_takes_memory}
@@ -9,32 +9,32 @@ abbrev pub CanGiveUpLine : Line → Type 0
 CanGiveUpLine (Whole command) = IsTrue (can_give_up command)
 CanGiveUpLine (Refused refusal) = IsTrue (refusal_takes_memory refusal)
 CanGiveUpLine (Data command count) = ⊥
-CanGiveUpLine (Skip refusal count) = ⊥
+CanGiveUpLine (Skip discarded refusal count) = ⊥
 
 -- A line with a block of so many bytes, its two last among them, may be given up.
 abbrev pub CanGiveUpBlock : Line → ℕ → Type 0
 CanGiveUpBlock (Data command count) skipped = skipped ≡ count + 2
-CanGiveUpBlock (Skip refusal count) skipped = (skipped ≡ count) × IsTrue (refusal_takes_memory refusal)
+CanGiveUpBlock (Skip discarded refusal count) skipped = (skipped ≡ count) × IsTrue (refusal_takes_memory refusal)
 CanGiveUpBlock (Whole command) skipped = ⊥
 CanGiveUpBlock (Refused refusal) skipped = ⊥
 
--- What was read is what the line says, or the refusal "out of memory", with the same bytes skipped.
+-- What was read is what the line says, or the refusal "out of memory", with the same bytes skipped and no item discarded.
 abbrev pub Says : Line → Line → Type 0
 Says line (Whole command) = line ≡ Whole command
 Says line (Data command count) = line ≡ Data command count
 Says line (Refused refusal) = MatchBool (is_memory refusal) (CanGiveUpLine line) (line ≡ Refused refusal)
-Says line (Skip refusal count) = MatchBool (is_memory refusal) (CanGiveUpBlock line count) (line ≡ Skip refusal count)
+Says line (Skip discarded refusal count) = MatchBool (is_memory refusal) ((discarded ≡ None) × CanGiveUpBlock line count) (line ≡ Skip discarded refusal count)
 
 -- the bytes behind a line that belong to it: its block and the line end of that
 abbrev pub bytes_behind : Line → ℕ
 bytes_behind (Whole command) = 0
 bytes_behind (Data command count) = count + 2
 bytes_behind (Refused refusal) = 0
-bytes_behind (Skip refusal count) = count
+bytes_behind (Skip discarded refusal count) = count
 
 -- whether a line is the refusal "out of memory", in any of its forms
 abbrev pub is_given_up : Line → Bool
 is_given_up (Whole command) = is_memory_refusal command
 is_given_up (Data command count) = is_memory_refusal command
 is_given_up (Refused refusal) = is_memory refusal
-is_given_up (Skip refusal count) = is_memory refusal
+is_given_up (Skip discarded refusal count) = is_memory refusal

@@ -294,7 +294,7 @@ line_without_block rules name (word ∷ words) = whole_line (meta_command_of rul
 abbrev pub line_with_block : Rules → List (List ℕ) → Line
 line_with_block rules [] = Refused (word_count_refusal rules)
 line_with_block rules (word ∷ []) = Refused BadFormat
-line_with_block rules (word ∷ count ∷ words) = block_line rules.value_limit (block_count rules count) (meta_command_of rules Set word words)
+line_with_block rules (word ∷ count ∷ words) = block_line rules (block_count rules count) (meta_command_of rules Set word words)
 
 -- what a line of this name is, by the words behind the name
 unfoldable pub meta_line_of : Rules → MetaKind → List (List ℕ) → Line

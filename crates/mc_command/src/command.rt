@@ -58,6 +58,11 @@ pub enum Command {
     MetaArithmetic(MetaArithmetic),
     /// A line, or its block, that is no command.
     Refused(Refusal),
+    /// A line whose value is too large, by memcached's rules: the item under the key goes, and the line is refused.
+    Discard {
+        key: Key,
+        refusal: Refusal,
+    },
 }
 
 impl Command {

@@ -21,7 +21,7 @@ pub(crate) fn hide_fault(line: &mut Line, rules: Rules, name: CommandName, behin
         Line::Refused(refusal) => {
             *refusal = shown_refusal(hides_faults(rules, name, behind), *refusal);
         }
-        Line::Skip(refusal, _) => {
+        Line::Skip { refusal, .. } => {
             *refusal = shown_refusal(hides_faults(rules, name, behind), *refusal);
         }
         Line::Whole(_) | Line::Data(..) => {}

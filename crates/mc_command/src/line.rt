@@ -3,20 +3,23 @@ ghost use Rattle.mc_wire.specs.Words.{words_of, words_left};
 ghost use Rattle.mc_command.specs.Line.{Says};
 ghost use Rattle.mc_command.specs.Rules.{own};
 ghost use Rattle.mc_command.specs.Table.{line_of, line_named, may_take_memory, takes_memory};
-ghost use Rattle.std.specs.Prelude.{◌≡◌, false};
+ghost use Rattle.std.specs.Prelude.{◌≡◌, ◌+◌, false};
+ghost use Rattle.mc_command.specs.declared.line.Line.TheVariants.{Skip};
+ghost use Rattle.mc_command.specs.declared.refusal.Refusal.TheVariants.{TooLarge};
+ghost use Rattle.mc_command.specs.Blocks.{discarded_by};
 ghost use Rattle.mc_command.specs.Blocks as spec;
 
 use crate::classic::{
     read_count, read_delete, read_flush_all, read_gat, read_get, read_touch, read_verbosity,
 };
-use crate::command::Command;
+use crate::command::{Command, Storage, StoreMode};
 use crate::hiding::hide_fault;
 use crate::meta_line::read_meta;
 use crate::name::{CommandName, read_name};
 use crate::refusal::Refusal;
 use crate::rules::Rules;
 use crate::storage::{read_cas, read_storage};
-use mc_wire::{WordWalk, words};
+use mc_wire::{Key, WordWalk, words};
 use std::alloc::Global;
 
 /// What a line is.
@@ -28,8 +31,13 @@ pub enum Line {
     Data(Command, u32),
     /// No command. Nothing behind the line is skipped.
     Refused(Refusal),
-    /// No command, and how many bytes behind the line are skipped: its block and the two that end it.
-    Skip(Refusal, u64),
+    /// No command, and how many bytes behind the line are skipped: its block and the two that end it. Where there is a key,
+    /// the item under it is discarded: by memcached's rules a value that is too large leaves no old one behind.
+    Skip {
+        discarded: Option<Key>,
+        refusal: Refusal,
+        count: u64,
+    },
 }
 
 /// Reads a line, without its end, by this server's own rules. A value has at most so many bytes as the limit says.
@@ -99,16 +107,58 @@ pub(crate) fn whole_line(read: Result<Command, Refusal>) -> Line
 /// A line that a block follows, with the count of its bytes where that is readable: what is skipped then
 /// is the block and its line end, whatever else is wrong with the line.
 #[inline(always)]
-pub(crate) fn block_line(limit: usize, count: Option<u32>, read: Result<Command, Refusal>) -> Line
-    ensures { result ≡ spec.block_line limit count read }
+pub(crate) fn block_line(rules: Rules, count: Option<u32>, read: Result<Command, Refusal>) -> Line
+    ensures { result ≡ spec.block_line rules count read }
 {
     match (count, read) {
-        (Some(count), Ok(_)) if count as usize > limit => {
-            Line::Skip(Refusal::TooLarge, u64::from(count) + 2)
+        (Some(count), Ok(command)) => {
+            if count as usize > rules.value_limit {
+                return too_large(rules, command, count);
+            }
+            Line::Data(command, count)
         }
-        (Some(count), Ok(command)) => Line::Data(command, count),
-        (Some(count), Err(refusal)) => Line::Skip(refusal, u64::from(count) + 2),
+        (Some(count), Err(refusal)) => Line::Skip {
+            discarded: None,
+            refusal,
+            count: u64::from(count) + 2,
+        },
         (None, Ok(_)) => Line::Refused(Refusal::BadFormat),
         (None, Err(refusal)) => Line::Refused(refusal),
+    }
+}
+
+/// A line whose value is too large.
+#[cold]
+#[inline(never)]
+fn too_large(rules: Rules, command: Command, count: u32) -> Line
+    ensures { result ≡ Skip (discarded_by rules command) TooLarge (count + 2) }
+{
+    let discarded = if rules.is_drop_in() {
+        key_set(command)
+    } else {
+        None
+    };
+    let skipped = u64::from(count) + 2;
+    Line::Skip {
+        discarded,
+        refusal: Refusal::TooLarge,
+        count: skipped,
+    }
+}
+
+/// The key whose item goes where a command's value is too large: of `set`, and of `ms` in each of its modes.
+fn key_set(command: Command) -> Option<Key>
+    ensures { result ≡ spec.key_set command }
+{
+    match command {
+        Command::Store(
+            Storage {
+                key,
+                mode: StoreMode::Set,
+                ..
+            },
+        ) => Some(key),
+        Command::MetaSet(set) => Some(set.key),
+        _ => None,
     }
 }

@@ -53,7 +53,7 @@ fn read_with_block(alloc: Global, mut walk: WordWalk<'_>, rules: Rules) -> Line
     };
     let count = read_block_count(rules, count);
     block_line(
-        rules.value_limit,
+        rules,
         count,
         read_command(alloc, rules, MetaKind::Set, word, walk),
     )

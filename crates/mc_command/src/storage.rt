@@ -33,7 +33,7 @@ pub(crate) fn read_storage(
     match (key, flags, exptime, count, more) {
         (Some(key), Some(flags), Some(exptime), Some(_), None) => {
             block_line(
-                rules.value_limit,
+                rules,
                 block,
                 storage(alloc, rules, mode, key, flags, exptime, noreply),
             )
@@ -52,7 +52,7 @@ pub(crate) fn read_cas(alloc: Global, mut walk: WordWalk<'_>, rules: Rules) -> L
     match (key, flags, exptime, count, unique, more) {
         (Some(key), Some(flags), Some(exptime), Some(_), Some(unique), None) => {
             block_line(
-                rules.value_limit,
+                rules,
                 block,
                 guarded(alloc, rules, key, flags, exptime, unique, noreply),
             )
@@ -64,9 +64,9 @@ pub(crate) fn read_cas(alloc: Global, mut walk: WordWalk<'_>, rules: Rules) -> L
 /// A line of too few words or too many, by the count of its block.
 #[tactic(auto, using(crate::proofs::Told::words_told))]
 fn miscounted(rules: Rules, block: Option<u32>) -> Line
-    ensures { Says (blocks.block_line rules.value_limit block (Err (word_count_refusal rules))) result }
+    ensures { Says (blocks.block_line rules block (Err (word_count_refusal rules))) result }
 {
-    block_line(rules.value_limit, block, Err(rules.word_count_refusal()))
+    block_line(rules, block, Err(rules.word_count_refusal()))
 }
 
 /// A storage command, by its words.

@@ -236,6 +236,7 @@ amid_skipped conn told h skips =
     record {
       line = skips.line;
       skipped = skips.skipped;
+      discarded = skips.discarded;
       refusal = skips.refusal;
       count = skips.count;
       front = subst Front (sym h.spelled) skips.front;

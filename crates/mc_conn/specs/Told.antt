@@ -1,5 +1,5 @@
 -- What a connection was told and what it told so far, as plain lists.
-use Rattle.std.specs.Prelude.{ℕ, ◌≡◌, ◌+◌, ◌<◌, ◌≤◌, Bool, false, ◌⊎◌, List, [], ◌∷◌, ◌++◌, length, map, take, drop, IsTrue, MatchBool}
+use Rattle.std.specs.Prelude.{ℕ, ◌≡◌, ◌+◌, ◌<◌, ◌≤◌, Bool, false, ◌⊎◌, Option, List, [], ◌∷◌, ◌++◌, length, map, take, drop, IsTrue, MatchBool}
 use Rattle.std.specs.List.{AllByRecursion, concat}
 use Rattle.mc_command.specs.declared.command.Command.{Command}
 use Rattle.mc_command.specs.declared.line.Line.TheVariants.{Skip}
@@ -103,12 +103,13 @@ IsUsedUp told = LeavesUnread told []
 pub record IsSkipping (told : Told) : Type 0 where
   pub line : List ℕ
   pub skipped : List ℕ
+  pub discarded : Option (List ℕ)
   pub refusal : Refusal
   pub count : ℕ
   pub front : SpellsFront told.rules 0 told.fed (commands_of told.taken) (line ++ 10 ∷ skipped)
   pub goes_on : is_closed (commands_of told.taken) ≡ false
   pub no_end : HasNoEnd line
-  pub says : line_says told.rules line ≡ Skip refusal count
+  pub says : line_says told.rules line ≡ Skip discarded refusal count
   pub behind : length skipped < count
 
 -- Nothing is under way. Every piece has left; and of a connection that isn't broken every command that the bytes fed spell

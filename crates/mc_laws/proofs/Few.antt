@@ -1,5 +1,5 @@
 -- How much the bytes of a connection ask for at most: so many commands, and so many pieces each.
-use Rattle.std.proofs.Common.{◌≡◌, ◌==◌, ◌||◌, ℕ, zero, suc, ◌+◌, ◌-◌, ◌*◌, ◌<◌, ◌≤◌, Bool, true, false, List, [], ◌∷◌, length, map, take, sym, ap, ◌∙◌, subst, arith, inl, inr, length-append, slice_index}
+use Rattle.std.proofs.Common.{◌≡◌, ◌==◌, ◌||◌, ℕ, zero, suc, ◌+◌, ◌-◌, ◌*◌, ◌<◌, ◌≤◌, Bool, true, false, List, [], ◌∷◌, length, map, take, sym, ap, ◌∙◌, subst, arith, inl, inr, length-append, slice_index, Option, Some, None}
 use Rattle.std.specs.List.{slice_split}
 use Rattle.std.proofs.lemmas.Bool.{cases_Bool, cases_lt}
 use Rattle.std.proofs.lemmas.Bool.Decides.{eqb_tells}
@@ -11,8 +11,9 @@ use Rattle.mc_wire.specs.Words.{is_filled, is_space, words_of}
 use Rattle.mc_command.specs.declared.command.Command.{Command}
 use Rattle.mc_command.specs.declared.command.Command.TheVariants as command
 use Rattle.mc_command.specs.Command.{with_block}
+use Rattle.mc_command.specs.declared.refusal.Refusal.{Refusal}
 use Rattle.mc_command.proofs.Few.{AsksFew, FewLine, few_line}
-use Rattle.mc_reader.specs.Spelling.{IsLine, Spells, SpellsFront, closes, is_last, line_says, most_commands, without_return}
+use Rattle.mc_reader.specs.Spelling.{IsLine, Spells, SpellsFront, closes, is_last, line_says, most_commands, skip_entry, without_return}
 use Rattle.mc_reader.specs.Spelling.Spells.{line as of_line, refused as of_refused, block as of_block, bad_block as of_bad_block, skipped as of_skipped, long as of_long}
 use Rattle.mc_reader.proofs.Fronts.{every_input}
 use Rattle.mc_split.specs.Pieces.{pieces_of}
@@ -58,6 +59,10 @@ with_few (command.MetaSet set) data_block few = tt
 with_few (command.Get retrieval) data_block few = few
 with_few other data_block few = tt
 
+skip_few : (discarded : Option (List ℕ)) (refusal : Refusal) → AsksFew 65536 (skip_entry discarded refusal)
+skip_few None refusal = tt
+skip_few (Some key) refusal = tt
+
 -- What is spelled asks for few keys.
 spells_few : (rules : Rules) (text : List ℕ) (entry : Command) → Spells rules text entry → AsksFew 65536 entry
 spells_few rules text entry (of_line line is said) = subst (FewLine 65536) said (says_few rules text line is)
@@ -65,7 +70,7 @@ spells_few rules text entry (of_refused line refusal is said entry_is) = subst (
 spells_few rules text entry (of_block head line data_block asked is text_is said entry_is) =
     subst (AsksFew 65536) (sym entry_is) (with_few asked data_block (subst (FewLine 65536) said (says_few rules head line is)))
 spells_few rules text entry (of_bad_block head line chunk ends asked is text_is two bad said entry_is) = subst (AsksFew 65536) (sym entry_is) tt
-spells_few rules text entry (of_skipped head line skipped refusal is text_is said entry_is) = subst (AsksFew 65536) (sym entry_is) tt
+spells_few rules text entry (of_skipped head line skipped discarded refusal is text_is said entry_is) = subst (AsksFew 65536) (sym entry_is) (skip_few discarded refusal)
 spells_few rules text entry (of_long is no_end entry_is) = subst (AsksFew 65536) (sym entry_is) tt
 
 -- So it has few pieces: one a key, or one a shard.

@@ -164,7 +164,7 @@ fn refusal_of(line: &Line) -> (Option<Refusal>, u64) {
         Line::Whole(_) => (None, 0),
         Line::Data(_, count) => (None, u64::from(*count) + 2),
         Line::Refused(refusal) => (Some(*refusal), 0),
-        Line::Skip(refusal, count) => (Some(*refusal), *count),
+        Line::Skip { refusal, count, .. } => (Some(*refusal), *count),
     }
 }
 

@@ -10,7 +10,7 @@ use mc_wire::DEFAULT_VALUE_LIMIT;
 fn command_of(line: Line) -> Option<Command> {
     match line {
         Line::Whole(command) | Line::Data(command, _) => Some(command),
-        Line::Refused(_) | Line::Skip(..) => None,
+        Line::Refused(_) | Line::Skip { .. } => None,
     }
 }
 

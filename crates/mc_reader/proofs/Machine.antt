@@ -1,5 +1,5 @@
 -- What the unread bytes are after each step of the reader's machine.
-use Rattle.std.proofs.Common.{inl, inr, ◌≡◌, ℕ, zero, suc, ◌+◌, ◌-◌, ◌<◌, ◌≤◌, Bool, true, false, List, [], ◌∷◌, ◌++◌, length, take, drop, min, refl, sym, ap, ◌∙◌, arith, append_assoc, append-nil, length-append, length-take, zero-add, add-zero, IsTrue}
+use Rattle.std.proofs.Common.{inl, inr, ◌≡◌, ℕ, zero, suc, ◌+◌, ◌-◌, ◌<◌, ◌≤◌, true, false, List, [], ◌∷◌, ◌++◌, length, take, drop, min, refl, sym, ap, ◌∙◌, arith, append_assoc, append-nil, length-append, length-take, zero-add, add-zero, IsTrue, Option, Some, None}
 use Rattle.std.proofs.lemmas.Bool.{cases_Bool, cond_both}
 use Rattle.std.proofs.lemmas.List.{take-append-drop, drop_all}
 use Rattle.std.proofs.Math.Seq.{take-add}
@@ -14,7 +14,7 @@ use Rattle.mc_command.specs.Command.{can_give_up, is_memory, with_block}
 use Rattle.mc_command.specs.Line.{Says, CanGiveUpBlock, CanGiveUpLine, bytes_behind}
 use Rattle.mc_command.proofs.Blocks.{data_stores}
 use Rattle.mc_wire.specs.Words.{words_of}
-use Rattle.mc_reader.specs.Spelling.{HasNoEnd, Spells, SpellsNothing, block_entry, is_block_end, line_says, without_return}
+use Rattle.mc_reader.specs.Spelling.{HasNoEnd, Spells, SpellsNothing, block_entry, is_block_end, line_says, skip_entry, without_return}
 use Rattle.mc_reader.specs.internal.State.{IsWhole, IsInBlock, IsInSkip}
 use Rattle.mc_reader.proofs.Texts.{Reads, entry_after, spells, nothing_yet}
 use Rattle.mc_command.specs.declared.rules.Rules.{Rules}
@@ -49,8 +49,8 @@ block_fed rules asked count bytes others unread piece n m part n_is = record {
 }
 
 -- A piece comes while bytes are skipped.
-pub skip_fed : (rules : Rules) (refusal : Refusal) (left after : ℕ) (others unread piece : List ℕ) (n m : ℕ) → IsInSkip rules refusal left others unread → n ≡ min left (length piece) → after + n ≡ left → IsInSkip rules refusal after (others ++ take m (drop n piece)) (unread ++ take (n + m) piece)
-skip_fed rules refusal left after others unread piece n m part n_is after_is =
+pub skip_fed : (rules : Rules) (discarded : Option (List ℕ)) (refusal : Refusal) (left after : ℕ) (others unread piece : List ℕ) (n m : ℕ) → IsInSkip rules discarded refusal left others unread → n ≡ min left (length piece) → after + n ≡ left → IsInSkip rules discarded refusal after (others ++ take m (drop n piece)) (unread ++ take (n + m) piece)
+skip_fed rules discarded refusal left after others unread piece n m part n_is after_is =
     let long : length (part.skipped ++ take n piece) + after ≡ length part.skipped + left = omega (arith, length-append part.skipped (take n piece), length-take n piece) in
     record {
       line = part.line;
@@ -74,8 +74,8 @@ block_begun rules line asked count others n none short says n_is = record {
 }
 
 -- Skipping begins with what the buffer has of it.
-pub skip_begun : (rules : Rules) (line : List ℕ) (refusal : Refusal) (left after : ℕ) (others : List ℕ) (n : ℕ) → HasNoEnd line → length line < LINE_LIMIT → Says (line_says rules line) (Skip refusal left) → n ≡ min left (length others) → after + n ≡ left → IsInSkip rules refusal after (drop n others) (line ++ 10 ∷ others)
-skip_begun rules line refusal left after others n none short says n_is after_is =
+pub skip_begun : (rules : Rules) (line : List ℕ) (discarded : Option (List ℕ)) (refusal : Refusal) (left after : ℕ) (others : List ℕ) (n : ℕ) → HasNoEnd line → length line < LINE_LIMIT → Says (line_says rules line) (Skip discarded refusal left) → n ≡ min left (length others) → after + n ≡ left → IsInSkip rules discarded refusal after (drop n others) (line ++ 10 ∷ others)
+skip_begun rules line discarded refusal left after others n none short says n_is after_is =
     let long : length (take n others) + after ≡ left = omega (arith, length-take n others) in
     record {
       line = line;
@@ -168,24 +168,26 @@ given_up_at_once rules line asked count behind none short says enough =
 
 may_block : (said : Line) (n : ℕ) (tail : List ℕ) → ((asked : Command) (count : ℕ) → said ≡ Data asked count → IsTrue (can_give_up asked)) → CanGiveUpBlock said n → (n ≡ bytes_behind said) × IsTrue (can_give_up (entry_after said tail))
 may_block (Data asked count) n tail stores may = (may, block_given_up asked count tail (stores asked count refl))
-may_block (Skip refusal count) n tail stores may = may
+may_block (Skip None refusal count) n tail stores may = may
+may_block (Skip (Some key) refusal count) n tail stores may = (may.0, refl)
 may_block said n tail stores may = absurd may
 
 -- a line that is given up with bytes behind it
-may_skip : (rules : Rules) (refusal : Refusal) (left : ℕ) (others unread : List ℕ) (part : IsInSkip rules refusal left others unread) → is_memory refusal ≡ true →
+may_skip : (rules : Rules) (discarded : Option (List ℕ)) (refusal : Refusal) (left : ℕ) (others unread : List ℕ) (part : IsInSkip rules discarded refusal left others unread) → is_memory refusal ≡ true →
     (length part.skipped + left ≡ bytes_behind (line_says rules part.line)) × IsTrue (can_give_up (entry_after (line_says rules part.line) part.skipped))
-may_skip rules refusal left others unread part memory =
-    may_block (line_says rules part.line) (length part.skipped + left) part.skipped (data_stores rules (words_of (without_return part.line))) (rw memory at part.says)
+may_skip rules discarded refusal left others unread part memory =
+    may_block (line_says rules part.line) (length part.skipped + left) part.skipped (data_stores rules (words_of (without_return part.line))) (rw memory at part.says).1
 
 -- All bytes that are skipped have come.
-pub whole_skip : (rules : Rules) (refusal : Refusal) (others unread : List ℕ) → IsInSkip rules refusal 0 others unread → IsWhole rules (command.Refused refusal) others unread
-whole_skip rules refusal others unread part = elim (cases_Bool (is_memory refusal)) [
+pub whole_skip : (rules : Rules) (discarded : Option (List ℕ)) (refusal : Refusal) (others unread : List ℕ) → IsInSkip rules discarded refusal 0 others unread → IsWhole rules (skip_entry discarded refusal) others unread
+whole_skip rules discarded refusal others unread part = elim (cases_Bool (is_memory refusal)) [
   | inl memory ↦
-      let may = may_skip rules refusal 0 others unread part memory in
-      given_up rules part.line part.skipped others unread refusal part.unread_are part.no_end part.short (sym (add-zero (length part.skipped)) ∙ may.0) may.1 memory
+      let may = may_skip rules discarded refusal 0 others unread part memory in
+      let none : discarded ≡ None = (rw memory at part.says).0 in
+      rw none (given_up rules part.line part.skipped others unread refusal part.unread_are part.no_end part.short (sym (add-zero (length part.skipped)) ∙ may.0) may.1 memory)
   | inr told ↦
-      let e : line_says rules part.line ≡ Skip refusal (length part.skipped + 0) = rw told at part.says in
-      itself rules part.line part.skipped others unread (command.Refused refusal) part.unread_are part.no_end part.short (rw e (sym (add-zero (length part.skipped)))) (rw e refl)
+      let e : line_says rules part.line ≡ Skip discarded refusal (length part.skipped + 0) = rw told at part.says in
+      itself rules part.line part.skipped others unread (skip_entry discarded refusal) part.unread_are part.no_end part.short (rw e (sym (add-zero (length part.skipped)))) (rw e refl)
 ]
 
 -- A line that is too long.
@@ -206,11 +208,11 @@ nothing_in_block rules asked count bytes others unread part few =
     rw part.unread_are (nothing_yet rules part.line (bytes ++ others) part.no_end part.short (rw (says, none, append-nil bytes) few))
 
 -- While bytes are skipped, nothing is spelled.
-pub nothing_in_skip : (rules : Rules) (refusal : Refusal) (left : ℕ) (others unread : List ℕ) → IsInSkip rules refusal left others unread → 0 < left → SpellsNothing rules unread
-nothing_in_skip rules refusal left others unread part more =
+pub nothing_in_skip : (rules : Rules) (discarded : Option (List ℕ)) (refusal : Refusal) (left : ℕ) (others unread : List ℕ) → IsInSkip rules discarded refusal left others unread → 0 < left → SpellsNothing rules unread
+nothing_in_skip rules discarded refusal left others unread part more =
     let long : bytes_behind (line_says rules part.line) ≡ length part.skipped + left = elim (cases_Bool (is_memory refusal)) [
-      | inl memory ↦ sym (may_skip rules refusal left others unread part memory).0
-      | inr told ↦ let e : line_says rules part.line ≡ Skip refusal (length part.skipped + left) = rw told at part.says in rw e refl
+      | inl memory ↦ sym (may_skip rules discarded refusal left others unread part memory).0
+      | inr told ↦ let e : line_says rules part.line ≡ Skip discarded refusal (length part.skipped + left) = rw told at part.says in rw e refl
     ] in
     let none = part.behind more in
     rw part.unread_are (nothing_yet rules part.line (part.skipped ++ others) part.no_end part.short (rw (long, none, append-nil part.skipped) (omega arith)))

@@ -1,5 +1,5 @@
 -- What a reader has given after each of its calls.
-use Rattle.std.proofs.Common.{◌≡◌, ℕ, subst, take, drop, ◌+◌, ◌-◌, ◌<◌, ◌≤◌, ◌==◌, ◌||◌, ◌↔◌, Bool, true, false, List, [], ◌∷◌, ◌++◌, length, refl, sym, ap, ◌∙◌, arith, IsTrue, MatchBool, length-append, append-nil, add-zero, zero-add, ◌⊎◌, inl, inr, if◌then◌else◌}
+use Rattle.std.proofs.Common.{◌≡◌, ℕ, subst, take, drop, ◌+◌, ◌-◌, ◌<◌, ◌≤◌, ◌==◌, ◌||◌, ◌↔◌, Bool, true, false, List, [], ◌∷◌, ◌++◌, length, refl, sym, ap, ◌∙◌, arith, IsTrue, MatchBool, length-append, append-nil, add-zero, zero-add, ◌⊎◌, inl, inr, Option, if◌then◌else◌}
 use Rattle.std.specs.Bool.{OnTrue}
 use Rattle.std.specs.List.{AllByRecursion}
 use Rattle.std.proofs.Math.Bool.{or-false}
@@ -267,15 +267,15 @@ closed_is rules reader fed ended given test says h = elim (cases_Bool (is_closed
 ]
 
 -- Amid a line's skipped bytes no block is open.
-no_block : (rules : Rules) (at : State) (buffer unread line skipped : List ℕ) (refusal : Refusal) (count : ℕ) → Holds rules at buffer unread → unread ≡ line ++ 10 ∷ skipped → HasNoEnd line → line_says rules line ≡ Skip refusal count → held_in at ≡ 0
-no_block rules (state.Block block) buffer unread line skipped refusal count h is none says =
+no_block : (rules : Rules) (at : State) (buffer unread line skipped : List ℕ) (discarded : Option (List ℕ)) (refusal : Refusal) (count : ℕ) → Holds rules at buffer unread → unread ≡ line ++ 10 ∷ skipped → HasNoEnd line → line_says rules line ≡ Skip discarded refusal count → held_in at ≡ 0
+no_block rules (state.Block block) buffer unread line skipped discarded refusal count h is none says =
     let lines = one_line h.line line (block.bytes.items ++ buffer) skipped h.no_end none (sym h.unread_are ∙ is) in
-    let same : Data block.command block.count ≡ Skip refusal count = sym h.says ∙ (ap (line_says rules) lines.0 ∙ says) in
+    let same : Data block.command block.count ≡ Skip discarded refusal count = sym h.says ∙ (ap (line_says rules) lines.0 ∙ says) in
     absurd cc
-no_block rules at buffer unread line skipped refusal count h is none says = refl
+no_block rules at buffer unread line skipped discarded refusal count h is none says = refl
 
 pub nothing_in_blocks : (rules : Rules) (reader : Reader) (fed : List ℕ) (ended : Bool) (given : List Given) → HasGiven reader rules fed ended given → IsAmidSkipped rules fed given → held_in reader.state ≡ 0
 nothing_in_blocks rules reader fed ended given h amid =
     let at = still_open rules reader fed ended given h amid.goes_on in
-    no_block rules reader.state reader.buffer at.0 amid.line amid.skipped amid.refusal amid.count at.2
+    no_block rules reader.state reader.buffer at.0 amid.line amid.skipped amid.discarded amid.refusal amid.count at.2
     (same_rest rules (entries_of given) 0 fed at.0 (amid.line ++ 10 ∷ amid.skipped) at.1 amid.front) amid.no_end amid.says

@@ -1,5 +1,5 @@
 -- Worked texts with what they spell, and worked streams with their commands.
-use Rattle.std.proofs.Common.{◌≡◌, ℕ, ◌<◌, Bool, true, false, ◌||◌, List, [], ◌∷◌, ◌++◌, length, ◌==◌, refl, codes, pos, lit<}
+use Rattle.std.proofs.Common.{◌≡◌, ℕ, ◌<◌, Bool, false, ◌||◌, List, [], ◌∷◌, ◌++◌, length, ◌==◌, refl, codes, pos, lit<}
 use Rattle.std.proofs.lemmas.Bool.{or_parts}
 use Rattle.mc_wire.specs.declared.TheConstants.{DEFAULT_VALUE_LIMIT, LINE_LIMIT}
 use Rattle.mc_wire.specs.Number.{number_of}

@@ -1,5 +1,5 @@
 -- What a state and the buffer show of the unread bytes after each call.
-use Rattle.std.proofs.Common.{◌≡◌, ℕ, suc, ◌+◌, ◌-◌, ◌<◌, ◌≤◌, Bool, true, false, List, [], ◌∷◌, ◌++◌, length, take, drop, min, refl, sym, ap, subst, ◌∙◌, arith, Option, Some, None, IsTrue, ◌↔◌, nat_lt, append_assoc, length-append, length-drop, length-take}
+use Rattle.std.proofs.Common.{◌≡◌, ℕ, suc, ◌+◌, ◌-◌, ◌<◌, ◌≤◌, Bool, true, false, List, [], ◌∷◌, ◌++◌, length, take, drop, min, refl, sym, ap, subst, ◌∙◌, arith, Option, Some, None, IsTrue, ◌↔◌, nat_lt, length-drop}
 use Rattle.std.proofs.lemmas.Bool.{true_from_ne_false}
 use Rattle.std.proofs.lemmas.Bool.Decides.{nat_tests}
 use Rattle.std.specs.Option.{IfNone, is_some}
@@ -10,13 +10,13 @@ use Rattle.mc_command.specs.declared.command.Command.{Command}
 use Rattle.mc_command.specs.declared.command.Command.TheVariants as command
 use Rattle.mc_command.specs.declared.refusal.Refusal.{Refusal}
 use Rattle.mc_command.specs.declared.refusal.Refusal.TheVariants.{LineTooLong}
-use Rattle.mc_command.specs.declared.line.Line.TheVariants.{Whole, Data, Refused, Skip}
+use Rattle.mc_command.specs.declared.line.Line.TheVariants.{Data, Skip}
 use Rattle.mc_command.specs.Line.{Says, bytes_behind}
 use Rattle.mc_reader.specs.declared.block.OpenBlock.{OpenBlock}
 use Rattle.mc_reader.specs.declared.block.Skipped.{Skipped}
 use Rattle.mc_reader.specs.declared.state.State.{State}
 use Rattle.mc_reader.specs.declared.state.State.TheVariants as state
-use Rattle.mc_reader.specs.Spelling.{HasNoEnd, SpellsNothing, block_entry, line_says}
+use Rattle.mc_reader.specs.Spelling.{HasNoEnd, SpellsNothing, block_entry, line_says, skip_entry}
 use Rattle.mc_reader.specs.internal.State.{Completes, EndsAt, Holds, IsFirstLine, IsInBlock, IsInSkip, IsWhole, SpellsSomething, Waits, is_opened}
 use Rattle.mc_reader.proofs.Lines.{at_line, line_in, ends_behind, ends_found, ends_more, no_end_append}
 use Rattle.mc_reader.proofs.Machine.{block_begun, block_fed, nothing_in_block, nothing_in_skip, skip_begun, skip_fed, whole_block, whole_long, whole_skip}
@@ -34,7 +34,7 @@ nothing_awaited rules (state.Block block) buffer unread more opened h =
     (nothing_in_block rules block.command block.count block.bytes.items buffer unread h few, few)
 nothing_awaited rules (state.Skip skipped) buffer unread more opened h =
     let few : 0 < skipped.left = omega (arith, more) in
-    (nothing_in_skip rules skipped.refusal skipped.left buffer unread h few, few)
+    (nothing_in_skip rules skipped.discarded skipped.refusal skipped.left buffer unread h few, few)
 nothing_awaited rules state.Closed buffer unread more opened h = absurd h
 
 pub finished_line : (rules : Rules) (s : State) (buffer after unread : List ℕ) (long : Option ℕ) → s ≡ state.Line long → Completes s buffer → IsTrue (is_opened s) → Holds rules s buffer unread → after ≡ [] → IsWhole rules (command.Refused LineTooLong) after unread
@@ -50,11 +50,11 @@ finished_block rules s buffer unread block entry e full within entry_is h =
 pub not_complete : {P : Type 0} (test : Bool) → test ≡ false → (P → IsTrue test) → P → ⊥
 not_complete test e f p = let yes = f p in absurd cc
 
-pub finished_skip : (rules : Rules) (s : State) (buffer unread : List ℕ) (skipped : Skipped) → s ≡ state.Skip skipped → Completes s buffer → Holds rules s buffer unread → IsWhole rules (command.Refused skipped.refusal) buffer unread
-finished_skip rules s buffer unread skipped e full h =
+pub finished_skip : (rules : Rules) (s : State) (buffer unread : List ℕ) (skipped : Skipped) (entry : Command) → s ≡ state.Skip skipped → Completes s buffer → Holds rules s buffer unread → entry ≡ skip_entry skipped.discarded skipped.refusal → IsWhole rules entry buffer unread
+finished_skip rules s buffer unread skipped entry e full h entry_is =
     let none : skipped.left ≡ 0 = rw e at full in
-    let part : IsInSkip rules skipped.refusal skipped.left buffer unread = rw e at h in
-    whole_skip rules skipped.refusal buffer unread (rw none at part)
+    let part : IsInSkip rules skipped.discarded skipped.refusal skipped.left buffer unread = rw e at h in
+    rw entry_is (whole_skip rules skipped.discarded skipped.refusal buffer unread (rw none at part))
 
 -- A line end is found in a piece.
 pub found_in_piece : (bytes piece all : List ℕ) (long : Option ℕ) (place : ℕ) → is_some long ≡ false → EndsAt bytes long → IsFirstByte (is_byte 10) piece (Some place) → all ≡ bytes ++ piece → IsFirstLine all (length bytes + place)
@@ -76,10 +76,10 @@ pub fed_block : (rules : Rules) (s : State) (old new : OpenBlock) (buffer after 
 fed_block rules s old new buffer after unread piece behind n m e same_command same_count bytes_are n_is behind_is after_is h =
     rw (same_command, same_count, bytes_are, after_is, behind_is) (block_fed rules old.command old.count old.bytes.items buffer unread piece n m (rw e at h) n_is)
 
-pub fed_skip : (rules : Rules) (s : State) (old new : Skipped) (buffer after unread piece behind : List ℕ) (n m : ℕ) → s ≡ state.Skip old → new.refusal ≡ old.refusal → new.left + n ≡ old.left →
-    n ≡ min old.left (length piece) → behind ≡ drop n piece → after ≡ buffer ++ take m behind → Holds rules s buffer unread → IsInSkip rules new.refusal new.left after (unread ++ take (n + m) piece)
-fed_skip rules s old new buffer after unread piece behind n m e same left n_is behind_is after_is h =
-    rw (same, after_is, behind_is) (skip_fed rules old.refusal old.left new.left buffer unread piece n m (rw e at h) n_is left)
+pub fed_skip : (rules : Rules) (s : State) (old new : Skipped) (buffer after unread piece behind : List ℕ) (n m : ℕ) → s ≡ state.Skip old → new.refusal ≡ old.refusal → new.discarded ≡ old.discarded → new.left + n ≡ old.left →
+    n ≡ min old.left (length piece) → behind ≡ drop n piece → after ≡ buffer ++ take m behind → Holds rules s buffer unread → IsInSkip rules new.discarded new.refusal new.left after (unread ++ take (n + m) piece)
+fed_skip rules s old new buffer after unread piece behind n m e same gone left n_is behind_is after_is h =
+    rw (same, gone, after_is, behind_is) (skip_fed rules old.discarded old.refusal old.left new.left buffer unread piece n m (rw e at h) n_is left)
 
 -- the unread bytes by the first line of the buffer
 record FirstLine (buffer after unread : List ℕ) (long : ℕ) : Type 0 where
@@ -107,10 +107,10 @@ read_head rules P s buffer after unread long e after_is holds h =
     let first = first_line rules s buffer after unread long e after_is h in
     subst P (sym first.unread_are) (holds first.no_end first.short)
 
-pub begun_skip : (rules : Rules) (new : Skipped) (refusal : Refusal) (left : ℕ) (buffer after bytes line : List ℕ) (n : ℕ) → new.refusal ≡ refusal → new.left + n ≡ left → n ≡ min left (length bytes) → bytes ≡ buffer → after ≡ drop n buffer →
-    HasNoEnd line → length line < LINE_LIMIT → Says (line_says rules line) (Skip refusal left) → IsInSkip rules new.refusal new.left after (line ++ 10 ∷ buffer)
-begun_skip rules new refusal left buffer after bytes line n same left_is n_is bytes_are after_is none short says =
-    rw (same, after_is) (skip_begun rules line refusal left new.left buffer n none short says (rw bytes_are at n_is) left_is)
+pub begun_skip : (rules : Rules) (new : Skipped) (discarded : Option (List ℕ)) (refusal : Refusal) (left : ℕ) (buffer after bytes line : List ℕ) (n : ℕ) → new.refusal ≡ refusal → new.discarded ≡ discarded → new.left + n ≡ left → n ≡ min left (length bytes) → bytes ≡ buffer → after ≡ drop n buffer →
+    HasNoEnd line → length line < LINE_LIMIT → Says (line_says rules line) (Skip discarded refusal left) → IsInSkip rules new.discarded new.refusal new.left after (line ++ 10 ∷ buffer)
+begun_skip rules new discarded refusal left buffer after bytes line n same gone left_is n_is bytes_are after_is none short says =
+    rw (same, gone, after_is) (skip_begun rules line discarded refusal left new.left buffer n none short says (rw bytes_are at n_is) left_is)
 
 pub begun_block : (rules : Rules) (new : OpenBlock) (asked : Command) (count : ℕ) (buffer after bytes line : List ℕ) (n : ℕ) → new.command ≡ asked → new.count ≡ count → new.bytes.items ≡ take n bytes → n ≡ min (count + 2 - 0) (length bytes) → bytes ≡ buffer → after ≡ drop n buffer →
     HasNoEnd line → length line < LINE_LIMIT → line_says rules line ≡ Data asked count → IsInBlock rules new.command new.count new.bytes.items after (line ++ 10 ∷ buffer)
@@ -128,8 +128,8 @@ something_awaited rules (state.Block block) buffer unread full opened h =
     let within = block.within in
     shows rules (whole_block rules block.command block.count block.bytes.items buffer unread h (omega arith)) refl
 something_awaited rules (state.Skip skipped) buffer unread full opened h =
-    let part : IsInSkip rules skipped.refusal skipped.left buffer unread = h in
-    shows rules (whole_skip rules skipped.refusal buffer unread (rw full at part)) refl
+    let part : IsInSkip rules skipped.discarded skipped.refusal skipped.left buffer unread = h in
+    shows rules (whole_skip rules skipped.discarded skipped.refusal buffer unread (rw full at part)) refl
 something_awaited rules state.Closed buffer unread full opened h = absurd h
 
 -- A test whether all has come tells whether something is spelled.

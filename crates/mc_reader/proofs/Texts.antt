@@ -11,7 +11,7 @@ use Rattle.mc_command.specs.declared.line.Line.{Line}
 use Rattle.mc_command.specs.declared.line.Line.TheVariants.{Whole, Data, Refused, Skip}
 use Rattle.mc_command.specs.Command.{with_block}
 use Rattle.mc_command.specs.Line.{bytes_behind}
-use Rattle.mc_reader.specs.Spelling.{HasNoEnd, IsLine, Spells, SpellsNothing, block_entry, is_block_end, line_says}
+use Rattle.mc_reader.specs.Spelling.{HasNoEnd, IsLine, Spells, SpellsNothing, block_entry, is_block_end, line_says, skip_entry}
 use Rattle.mc_reader.specs.internal.State.{SpellsSomething}
 use Rattle.mc_command.specs.declared.rules.Rules.{Rules}
 
@@ -44,7 +44,7 @@ abbrev pub entry_after : Line → List ℕ → Command
 entry_after (Whole entry) tail = entry
 entry_after (Refused refusal) tail = command.Refused refusal
 entry_after (Data asked count) tail = block_entry asked count tail
-entry_after (Skip refusal count) tail = command.Refused refusal
+entry_after (Skip discarded refusal count) tail = skip_entry discarded refusal
 
 -- the text is a line, its end, and the bytes that belong to it
 pub record IsLined (rules : Rules) (text : List ℕ) (entry : Command) (line tail : List ℕ) : Type 0 where
@@ -86,7 +86,7 @@ reads rules text entry (Spells.bad_block head line chunk ends asked is text_is t
       tail_long = rw says (omega (arith, two, length-append chunk ends));
       entry_is = rw (says, drop-append_seam chunk ends, not_end) e;
     })
-reads rules text entry (Spells.skipped head line skipped refusal is text_is says e) =
+reads rules text entry (Spells.skipped head line skipped discarded refusal is text_is says e) =
     lined line skipped (record {
       text_is = with_tail head line skipped text is text_is;
       no_end = is.no_end;
@@ -107,8 +107,8 @@ spells_lined rules (Whole given) text line tail entry says text_is none short lo
 spells_lined rules (Refused refusal) text line tail entry says text_is none short long e =
     let bare : text ≡ line ++ 10 ∷ [] = rw (nil_from_length tail long) at text_is in
     Spells.refused line refusal (rw bare (is_line line none short)) says e
-spells_lined rules (Skip refusal count) text line tail entry says text_is none short long e =
-    Spells.skipped (line ++ 10 ∷ []) line tail refusal (is_line line none short) (text_is ∙ sym (append_assoc line (10 ∷ []) tail)) (rw long says) e
+spells_lined rules (Skip discarded refusal count) text line tail entry says text_is none short long e =
+    Spells.skipped (line ++ 10 ∷ []) line tail discarded refusal (is_line line none short) (text_is ∙ sym (append_assoc line (10 ∷ []) tail)) (rw long says) e
 spells_lined rules (Data asked count) text line tail entry says text_is none short long e = by_end (is_block_end (drop count tail)) refl e where
   parted : tail ≡ take count tail ++ drop count tail
   parted = sym (take-append-drop count tail)

@@ -1,6 +1,6 @@
 -- What texts spell, and the commands of a whole stream (protocol.txt, "Protocol": a line ends with a line
 -- feed, and a storage line is followed by its data block).
-use Rattle.std.specs.Prelude.{ℕ, ◌≡◌, ◌+◌, ◌-◌, ◌≤◌, ◌^◌, Bool, true, false, ◌||◌, List, [], ◌∷◌, ◌++◌, length, map, take, drop, MatchBool, IsTrue, slice_index, ◌==◌, nat_eq, if◌then◌else◌}
+use Rattle.std.specs.Prelude.{ℕ, ◌≡◌, ◌+◌, ◌-◌, ◌≤◌, ◌^◌, Bool, true, false, ◌||◌, Option, Some, None, List, [], ◌∷◌, ◌++◌, length, map, take, drop, MatchBool, IsTrue, slice_index, ◌==◌, nat_eq, if◌then◌else◌}
 use Rattle.std.specs.Bool.{OnTrue}
 use Rattle.std.specs.List.{AllByRecursion}
 use Rattle.std.specs.Cmp.Lexicographic.{pointwise}
@@ -41,6 +41,11 @@ is_block_end ends = pointwise nat_eq ends (13 ∷ 10 ∷ [])
 abbrev pub block_entry : Command → ℕ → List ℕ → Command
 block_entry asked count bytes = if is_block_end (drop count bytes) then with_block asked (take count bytes) else command.Refused BadChunk
 
+-- what a line is whose bytes are skipped: its refusal, and with it the item under a key is discarded, where there is one
+abbrev pub skip_entry : Option (List ℕ) → Refusal → Command
+skip_entry None refusal = command.Refused refusal
+skip_entry (Some key) refusal = command.Discard key refusal
+
 -- the whole text spells the entry, and nothing is left over
 pub data Spells (rules : Rules) (text : List ℕ) (entry : Command) : Type 0 where
   -- a line that is a command
@@ -56,8 +61,8 @@ pub data Spells (rules : Rules) (text : List ℕ) (entry : Command) : Type 0 whe
       length ends ≡ 2 → is_block_end ends ≡ false →
       line_says rules line ≡ Data asked (length chunk) → entry ≡ command.Refused BadChunk → Spells rules text entry
   -- a line that is refused, with the bytes that are skipped
-  skipped : (head line skipped : List ℕ) (refusal : Refusal) → IsLine head line → text ≡ head ++ skipped →
-      line_says rules line ≡ Skip refusal (length skipped) → entry ≡ command.Refused refusal → Spells rules text entry
+  skipped : (head line skipped : List ℕ) (discarded : Option (List ℕ)) (refusal : Refusal) → IsLine head line → text ≡ head ++ skipped →
+      line_says rules line ≡ Skip discarded refusal (length skipped) → entry ≡ skip_entry discarded refusal → Spells rules text entry
   -- a line that is too long
   long : length text ≡ LINE_LIMIT → HasNoEnd text → entry ≡ command.Refused LineTooLong → Spells rules text entry
 

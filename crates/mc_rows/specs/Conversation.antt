@@ -14,7 +14,7 @@ use Rattle.mc_item.specs.Expiry.{expiry_of}
 use Rattle.mc_item.specs.Kind.{key_of}
 use Rattle.mc_command.specs.Rules.{own}
 use Rattle.mc_command.specs.declared.rules.Profile.TheVariants.{Own}
-use Rattle.mc_reader.specs.Spelling.{line_says, block_entry}
+use Rattle.mc_reader.specs.Spelling.{line_says, block_entry, skip_entry}
 use Rattle.mc_conn.specs.History.{Taken}
 use Rattle.mc_core.specs.Sizes.{Sizes}
 use Rattle.mc_core.specs.Alone.{alone}
@@ -33,7 +33,7 @@ abbrev pub entry_of : Line → List ℕ → Command
 entry_of (Whole entry) behind = entry
 entry_of (Data asked count) behind = block_entry asked count behind
 entry_of (Refused refusal) behind = command.Refused refusal
-entry_of (Skip refusal count) behind = command.Refused refusal
+entry_of (Skip discarded refusal count) behind = skip_entry discarded refusal
 
 abbrev pub spelled : Sent → Command
 spelled sent = entry_of (line_says (own DEFAULT_VALUE_LIMIT) sent.line) sent.behind

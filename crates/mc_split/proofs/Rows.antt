@@ -5,6 +5,7 @@ use Rattle.mc_wire.specs.Key.{fnv_of}
 use Rattle.mc_command.specs.declared.command.Command.{Command}
 use Rattle.mc_command.specs.declared.command.Command.TheVariants as command
 use Rattle.mc_command.specs.declared.command.Direction.TheVariants as direction
+use Rattle.mc_command.specs.declared.refusal.Refusal.TheVariants.{TooLarge}
 use Rattle.mc_command.specs.declared.meta.MetaFlags.{MetaFlags}
 use Rattle.mc_command.specs.declared.meta.ReturnFlag.TheVariants as flag
 use Rattle.mc_item.specs.declared.op.Op.TheVariants as op
@@ -27,8 +28,9 @@ other_pieces : (pieces_of 3 (command.FlushAll (pos 5) true)
     ≡ record { shard = 0; op = op.Flush (pos 5) } ∷ record { shard = 1; op = op.Flush (pos 5) } ∷ record { shard = 2; op = op.Flush (pos 5) } ∷ [])
     × (pieces_of 2 (command.Count (codes "d") direction.Decrement 9 true) ≡ record { shard = 1; op = op.Count (codes "d") direction.Decrement 9 } ∷ [])
     × (pieces_of 2 command.Quit ≡ [])
+    × (pieces_of 2 (command.Discard (codes "d") TooLarge) ≡ record { shard = 1; op = op.Delete (codes "d") } ∷ [])
 unfolding pieces_of fnv_of
-other_pieces = (refl, refl, refl)
+other_pieces = (refl, refl, refl, refl)
 
 -- ma with N30 and J13
 abbrev flags_k : MetaFlags
@@ -47,5 +49,6 @@ shapes : (shape_of (deletion flags_k) ≡ shape.Meta kind.Delete flags_k false (
     × (shape_of (deletion (record flags_k { returned = flag.TimeLeft ∷ [] })) ≡ shape.Meta kind.Delete (record flags_k { returned = flag.TimeLeft ∷ [] }) false None)
     × (shape_of (command.Verbosity true) ≡ shape.Fixed fixed.Nothing)
     × (shape_of (command.Verbosity false) ≡ shape.Fixed fixed.Ok)
+    × (shape_of (command.Discard (codes "a") TooLarge) ≡ shape.Fixed (fixed.Refused TooLarge))
 unfolding shape_of
 shapes = (refl, refl, refl, refl)

@@ -21,7 +21,7 @@ use Rattle.mc_split.specs.declared.form.Shape.TheVariants as shape
 use Rattle.mc_split.specs.Pieces.{pieces_of}
 use Rattle.mc_split.specs.Shape.{shape_of, shown_key}
 use Rattle.mc_split.specs.Text.{answer_line, coded_text, is_hidden, is_no_memory, memory_line, item_text, refusal_line, shape_text, text_of, version_line}
-use Rattle.mc_split.specs.TextLaws.{AnswersTo, is_silent}
+use Rattle.mc_split.specs.TextLaws.{AnswersTo, is_hidden_refusal, is_silent}
 
 -- a text with a byte behind it isn't empty
 some_behind : (front back : List ℕ) (byte : ℕ) → front ++ byte ∷ back ≡ [] → ⊥
@@ -89,10 +89,10 @@ meta_silent piece meta kind flags value key given lawful =
       told : is_hidden kind value given ≡ true → list_any is_no_memory (given ∷ []) ≡ false
       told e = rw (hidden_is_told given kind value e) refl
 
-refused_shown : (refused : Refusal) (answers : List Answer) → (refusal_line refused ≡ []) ↔ IsTrue (is_silent (command.Refused refused) answers)
-refused_shown refusal.Unknown answers = (λ e. absurd cc, λ e. absurd cc)
-refused_shown refusal.Hidden answers = (λ e. refl, λ e. refl)
-refused_shown refused answers = (λ e. absurd cc, λ e. absurd cc)
+refused_shown : (refused : Refusal) → (refusal_line refused ≡ []) ↔ IsTrue (is_hidden_refusal refused)
+refused_shown refusal.Unknown = (λ e. absurd cc, λ e. absurd cc)
+refused_shown refusal.Hidden = (λ e. refl, λ e. refl)
+refused_shown refused = (λ e. absurd cc, λ e. absurd cc)
 
 version_shown : (profile : Profile) (answers : List Answer) → (version_line profile ≡ []) ↔ IsTrue (is_silent (command.Version profile) answers)
 version_shown Own answers = (λ e. absurd cc, λ e. absurd cc)
@@ -124,7 +124,8 @@ empty_where_silent shards some (command.MetaGet get) (given ∷ []) h = meta_sil
 empty_where_silent shards some (command.MetaSet set) (given ∷ []) h = meta_silent MetaStore refl kind.Set set.flags false (shown_key set.flags set.key) given h.0
 empty_where_silent shards some (command.MetaDelete delete) (given ∷ []) h = meta_silent MetaDelete refl kind.Delete delete.flags false (shown_key delete.flags delete.key) given h.0
 empty_where_silent shards some (command.MetaArithmetic arithmetic) (given ∷ []) h = meta_silent MetaCount refl kind.Arithmetic arithmetic.flags arithmetic.value (shown_key arithmetic.flags arithmetic.key) given h.0
-empty_where_silent shards some (command.Refused refused) answers h = refused_shown refused answers
+empty_where_silent shards some (command.Refused refused) answers h = refused_shown refused
+empty_where_silent shards some (command.Discard key refused) answers h = refused_shown refused
 empty_where_silent shards some (command.Version profile) answers h = version_shown profile answers
 empty_where_silent shards some (command.Verbosity true) answers h = (λ e. refl, λ e. refl)
 -- other answers are of no such command, and the other texts are plain to see

@@ -44,3 +44,4 @@ pieces_of shards (command.MetaDelete delete) =
 pieces_of shards (command.MetaArithmetic arithmetic) =
     asked_of shards arithmetic.key (op.MetaCount (record { key = arithmetic.key; compare = arithmetic.compare; unique = arithmetic.unique; direction = arithmetic.direction; amount = arithmetic.amount; exptime = arithmetic.exptime; vivify = vivify_of arithmetic.vivify arithmetic.initial })) ∷ []
 pieces_of shards (command.Refused refusal) = []
+pieces_of shards (command.Discard key refusal) = asked_of shards key (op.Delete key) ∷ []

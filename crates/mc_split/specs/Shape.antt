@@ -44,3 +44,4 @@ shape_of (command.MetaDelete delete) = Meta kind.Delete delete.flags false (show
 shape_of (command.MetaArithmetic arithmetic) =
     Meta kind.Arithmetic arithmetic.flags arithmetic.value (shown_key arithmetic.flags arithmetic.key)
 shape_of (command.Refused refusal) = Fixed (fixed.Refused refusal)
+shape_of (command.Discard key refusal) = Fixed (fixed.Refused refusal)

@@ -6,6 +6,7 @@ use Rattle.mc_command.specs.declared.command.Command.{Command}
 use Rattle.mc_command.specs.declared.command.Command.TheVariants as command
 use Rattle.mc_command.specs.declared.meta.MetaFlags.{MetaFlags}
 use Rattle.mc_command.specs.declared.meta.ReturnFlag.{ReturnFlag}
+use Rattle.mc_command.specs.declared.refusal.Refusal.{Refusal}
 use Rattle.mc_command.specs.declared.refusal.Refusal.TheVariants as refusal
 use Rattle.mc_command.specs.FlagOrder.{returned_in, with_returned}
 use Rattle.mc_item.specs.declared.answer.Answer.{Answer}
@@ -27,6 +28,11 @@ abbrev pub hides : MetaKind → MetaFlags → Bool → List Answer → Bool
 hides kind flags value [] = false
 hides kind flags value (answer ∷ answers) = flags.quiet && is_hidden kind value answer
 
+-- Nothing is shown of the refusal.
+abbrev pub is_hidden_refusal : Refusal → Bool
+is_hidden_refusal refusal.Hidden = true
+is_hidden_refusal refused = false
+
 -- Nothing is shown of the command: of `quit`, where `noreply` stands, and where `q` hides what was answered. A
 -- refusal that isn't a hidden one is always shown, and so is a get.
 abbrev pub is_silent : Command → List Answer → Bool
@@ -44,8 +50,8 @@ is_silent (command.MetaGet get) answers = hides kind.Get get.flags get.value ans
 is_silent (command.MetaSet set) answers = hides kind.Set set.flags false answers
 is_silent (command.MetaDelete delete) answers = hides kind.Delete delete.flags false answers
 is_silent (command.MetaArithmetic arithmetic) answers = hides kind.Arithmetic arithmetic.flags arithmetic.value answers
-is_silent (command.Refused refusal.Hidden) answers = true
-is_silent (command.Refused refused) answers = false
+is_silent (command.Refused refused) answers = is_hidden_refusal refused
+is_silent (command.Discard key refused) answers = is_hidden_refusal refused
 
 -- The reply to a command is empty just where it is silent.
 abbrev pub IsEmptyWhereSilent : Type 0
@@ -73,6 +79,7 @@ loud (command.MetaSet set) = command.MetaSet (record set { flags = without_quiet
 loud (command.MetaDelete delete) = command.MetaDelete (record delete { flags = without_quiet delete.flags })
 loud (command.MetaArithmetic arithmetic) = command.MetaArithmetic (record arithmetic { flags = without_quiet arithmetic.flags })
 loud (command.Refused refusal) = command.Refused refusal
+loud (command.Discard key refusal) = command.Discard key refusal
 
 -- The reply to a quiet command is empty or that to the loud one, whatever was answered.
 abbrev pub IsEmptyOrLoud : Type 0

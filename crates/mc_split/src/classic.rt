@@ -5,10 +5,10 @@ ghost use Rattle.mc_split.specs.Pieces.{pieces_of, asked_of};
 ghost use Rattle.mc_split.specs.Shape.{shape_of};
 ghost use Rattle.mc_split.specs.internal.Splits.{Splits};
 
-use crate::form::{Form, Shape};
+use crate::form::{Fixed, Form, Shape};
 use crate::plan::Piece;
 use crate::splitter::Splitter;
-use mc_command::{Block, Command, Direction, Retrieval, Storage};
+use mc_command::{Block, Command, Direction, Refusal, Retrieval, Storage};
 use mc_item::{Kind, NoMemory, Op, Value};
 use mc_wire::Key;
 use std::collections::VecDeque;
@@ -88,6 +88,22 @@ impl Splitter {
     {
         let shard = key.place(self.shards);
         self.one(queue, Shape::Line { noreply }, shard, Op::Delete { key })
+    }
+
+    /// A set whose value is too large, by memcached's rules: the item goes, whatever the shard answers, and the line is refused.
+    #[tactic(auto, unfolding(crate::specs::Pieces::pieces_of, crate::specs::Shape::shape_of))]
+    pub fn discard(
+        self,
+        queue: &mut VecDeque<(usize, Piece)>,
+        key: Key,
+        refusal: Refusal,
+    ) -> Result<Form, NoMemory>
+        requires { 0 < self.shards }
+        ensures { Splits result self.ticket self.moment (shape_of (Command.Discard key refusal)) (pieces_of self.shards (Command.Discard key refusal)) queue.old.items queue.new.items }
+    {
+        let shard = key.place(self.shards);
+        let shape = Shape::Fixed(Fixed::Refused(refusal));
+        self.one(queue, shape, shard, Op::Delete { key })
     }
 
     /// `incr`, `decr`.

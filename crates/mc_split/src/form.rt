@@ -13,7 +13,7 @@ use std::{mem, slice};
 /// What the text of a reply depends on beside the answers.
 #[derive(Drop)]
 pub enum Shape {
-    /// No shard is asked.
+    /// A text that no answer changes.
     Fixed(Fixed),
     /// The line of the answer, or nothing.
     Line {

@@ -119,6 +119,7 @@ impl Splitter {
             Command::MetaDelete(delete) => self.meta_delete(queue, delete),
             Command::MetaArithmetic(arithmetic) => self.meta_arithmetic(queue, arithmetic),
             Command::Refused(refusal) => Ok(self.fixed(Fixed::Refused(refusal))),
+            Command::Discard { key, refusal } => self.discard(queue, key, refusal),
         }
     }
 }

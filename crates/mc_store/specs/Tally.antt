@@ -1,5 +1,5 @@
 -- What a piece counts as, and what its answer does, as memcached counts them (protocol.txt, "General-purpose statistics").
-use Rattle.std.specs.Prelude.{ℕ, Option, Some, None}
+use Rattle.std.specs.Prelude.{ℕ, ◌+◌, ◌*◌, ◌^◌, ◌%◌, Option, Some, None, slice_index, slice_set}
 use Rattle.mc_command.specs.declared.command.Direction.{Direction}
 use Rattle.mc_command.specs.declared.command.Direction.TheVariants as direction
 use Rattle.mc_command.specs.declared.command.StoreMode.TheVariants as mode
@@ -11,6 +11,7 @@ use Rattle.mc_store.specs.declared.tally.Asked.{Asked}
 use Rattle.mc_store.specs.declared.tally.Asked.TheVariants as asked
 use Rattle.mc_store.specs.declared.tally.Status.{Status}
 use Rattle.mc_store.specs.declared.tally.Status.TheVariants as status
+use Rattle.mc_store.specs.declared.tally.Tally.{Tally}
 
 abbrev pub counting : Direction → Asked
 counting direction.Increment = asked.Incr
@@ -46,3 +47,38 @@ status_of answer.TooLarge = status.Refused
 status_of answer.NoCas = status.Refused
 status_of answer.NonNumeric = status.Refused
 status_of _ = status.Hit
+
+-- the number of a kind
+abbrev pub kind_number : Asked → ℕ
+kind_number asked.Get = 0
+kind_number asked.Set = 1
+kind_number asked.Cas = 2
+kind_number asked.Touch = 3
+kind_number asked.Delete = 4
+kind_number asked.Incr = 5
+kind_number asked.Decr = 6
+kind_number asked.Flush = 7
+
+-- the number of a status
+abbrev pub status_number : Status → ℕ
+status_number status.Hit = 0
+status_number status.Miss = 1
+status_number status.BadValue = 2
+status_number status.NoMemory = 3
+status_number status.Refused = 4
+
+-- so many counters there are: one for each kind and status
+abbrev pub counters : ℕ
+counters = 40
+
+-- the counter of a kind and a status
+abbrev pub counter : Asked → Status → ℕ
+counter asked status = kind_number asked * 5 + status_number status
+
+-- how often this was asked and came to that
+abbrev pub counted : Tally → Asked → Status → ℕ
+counted tally asked status = slice_index tally.counts (counter asked status)
+
+-- the counts where this was asked once more and came to that, and no other changed; a count starts anew after 2^64 - 1
+abbrev pub noted : Tally → Asked → Status → Tally
+noted tally asked status = record tally { counts = slice_set tally.counts (counter asked status) ((counted tally asked status + 1) % (2 ^ 64)) }

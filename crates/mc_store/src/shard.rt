@@ -11,6 +11,7 @@ ghost use Rattle.mc_item.specs.Kind.{kind_of, is_lawful};
 ghost use Rattle.mc_store.specs.internal.Found.{live, unique_for, given_after};
 ghost use Rattle.mc_store.specs.internal.Listed.{Fits};
 ghost use Rattle.mc_store.specs.Rows.{expiry_from, done_of};
+ghost use Rattle.mc_store.specs.Tally.{asked_of, noted, status_of};
 
 mod counting;
 mod deleting;
@@ -106,6 +107,7 @@ impl Shard {
     pub fn run(&mut self, alloc: Global, op: Op, moment: u64) -> Answer
         ensures step { Steps self.old op moment result self.new }
         ensures lawful { is_lawful (kind_of op) result ≡ true }
+        ensures noted { self.new.tally ≡ noted self.old.tally (asked_of op) (status_of result) }
     {
         let asked = Asked::of(&op);
         let answer = self.answer(alloc, op, moment);
@@ -119,6 +121,7 @@ impl Shard {
     fn answer(&mut self, alloc: Global, op: Op, moment: u64) -> Answer
         ensures step { Steps self.old op moment result self.new }
         ensures lawful { is_lawful (kind_of op) result ≡ true }
+        ensures tally { self.new.tally ≡ self.old.tally }
     {
         self.arrive(moment);
         match op {
@@ -181,7 +184,8 @@ impl Shard {
 
     /// Moves the time to the moment, unless that is past, and runs a flush that is due.
     fn arrive(&mut self, moment: u64)
-        ensures { (state : State) → IsShard self.old state → IsShard self.new (arrived state moment) }
+        ensures state { (state : State) → IsShard self.old state → IsShard self.new (arrived state moment) }
+        ensures tally { self.new.tally ≡ self.old.tally }
     {
         self.time = self.time.max(moment.min(LATEST_MOMENT));
         if self.is_flush_due() {
@@ -201,7 +205,8 @@ impl Shard {
 
     /// Removes all items, and a pending flush.
     fn remove_all(&mut self)
-        ensures { (state : State) → IsShard self.old state → IsShard self.new (flushed state) }
+        ensures state { (state : State) → IsShard self.old state → IsShard self.new (flushed state) }
+        ensures tally { self.new.tally ≡ self.old.tally }
     {
         self.items.clear();
         self.flush = None;
@@ -221,7 +226,8 @@ impl Shard {
 
     /// Removes the item under the key where it is dead.
     fn remove_dead(&mut self, key: &Key)
-        ensures { (state : State) → IsShard self.old state → IsShard self.new (without_dead state (Some key.now)) }
+        ensures state { (state : State) → IsShard self.old state → IsShard self.new (without_dead state (Some key.now)) }
+        ensures tally { self.new.tally ≡ self.old.tally }
     {
         let Some(item) = self.items.peek(key) else {
             return;
@@ -246,7 +252,8 @@ impl Shard {
     /// Counts a unique that the shard gave.
     fn count_given(&mut self, token: Option<u64>)
         requires { token ≡ None → self.old.given + 1 < 2 ^ 64 }
-        ensures { held_of self.new ≡ record (held_of self.old) { given = given_after token self.old.given } }
+        ensures held { held_of self.new ≡ record (held_of self.old) { given = given_after token self.old.given } }
+        ensures tally { self.new.tally ≡ self.old.tally }
     {
         if token.is_none() {
             self.given += 1;
@@ -274,6 +281,7 @@ impl Shard {
         requires fits { Fits self.old.items.budget key item.value }
         ensures does { (reply : ℕ → TheAnswer) → Does self.old key (λ settled. numbered settled token (λ unique after. (reply unique, entered after key (record item { unique = unique })))) (answered reply result) self.new }
         ensures refused { IfErr result (λ answer. (answer ≡ Answer.NoCas) ⊎ (answer ≡ Answer.NoMemory)) }
+        ensures tally { self.new.tally ≡ self.old.tally }
     {
         let Some(unique) = self.unique_for(token) else {
             self.remove_dead(&key);
@@ -299,6 +307,7 @@ impl Shard {
         requires fits { Fits self.old.items.budget key item.value }
         ensures does { (reply : TheDone → TheAnswer) → Does self.old key (λ settled. numbered settled token (λ unique after. (reply (done_of (record item { unique = unique }) number settled.time), entered after key (record item { unique = unique })))) (answered reply result) self.new }
         ensures refused { IfErr result (λ answer. (answer ≡ Answer.NoCas) ⊎ (answer ≡ Answer.NoMemory)) }
+        ensures tally { self.new.tally ≡ self.old.tally }
     {
         let size = item.value.len() as u64;
         let left = item.expiry.seconds_left(self.time);

@@ -1,6 +1,6 @@
 //! How often a shard was asked for what, and what came of it: what who runs the server sees of its commands.
-ghost use Rattle.std.specs.Prelude.{◌≡◌, ◌<◌};
-ghost use Rattle.mc_store.specs.Tally.{asked_of, counting, status_of};
+ghost use Rattle.std.specs.Prelude.{◌≡◌, ◌<◌, replicate};
+ghost use Rattle.mc_store.specs.Tally.{asked_of, counted, counter, counters, counting, noted, status_of};
 
 use mc_command::{Direction, StoreMode};
 use mc_item::{Answer, Op};
@@ -110,19 +110,25 @@ impl Status {
 
 impl Tally {
     /// Nothing was asked.
-    pub const fn new() -> Tally {
+    pub const fn new() -> Tally
+        ensures { result.counts ≡ replicate counters 0 }
+    {
         Tally {
             counts: [0; KINDS * STATUSES],
         }
     }
 
     /// How often this was asked and came to that.
-    pub fn count(&self, asked: Asked, status: Status) -> u64 {
+    pub fn count(&self, asked: Asked, status: Status) -> u64
+        ensures { result ≡ counted self.now asked status }
+    {
         self.counts[place_of(asked, status)]
     }
 
     /// Counts what was asked, and what came of it.
-    pub(crate) fn note(&mut self, asked: Asked, status: Status) {
+    pub(crate) fn note(&mut self, asked: Asked, status: Status)
+        ensures { self.new ≡ noted self.old asked status }
+    {
         let count = &mut self.counts[place_of(asked, status)];
         *count = count.wrapping_add(1);
     }
@@ -130,7 +136,8 @@ impl Tally {
 
 /// Where a kind and a status are counted.
 fn place_of(asked: Asked, status: Status) -> usize
-    ensures { result < 40 }
+    ensures place { result ≡ counter asked status }
+    ensures within { result < counters }
 {
     asked as usize * STATUSES + status as usize
 }

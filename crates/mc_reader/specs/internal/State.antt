@@ -45,12 +45,12 @@ pub record IsInBlock (rules : Rules) (asked : Command) (count : ℕ) (bytes othe
   pub behind : length bytes < count + 2 → others ≡ []
 
 -- The unread bytes are a line that is refused, all but so many of the bytes that are skipped, and then the others.
-pub record IsInSkip (rules : Rules) (refusal : Refusal) (left : ℕ) (others unread : List ℕ) : Type 0 where
+pub record IsInSkip (rules : Rules) (discarded : Option (List ℕ)) (refusal : Refusal) (left : ℕ) (others unread : List ℕ) : Type 0 where
   pub line : List ℕ
   pub skipped : List ℕ
   pub no_end : HasNoEnd line
   pub short : length line < LINE_LIMIT
-  pub says : Says (line_says rules line) (Skip refusal (length skipped + left))
+  pub says : Says (line_says rules line) (Skip discarded refusal (length skipped + left))
   pub unread_are : unread ≡ line ++ 10 ∷ (skipped ++ others)
   pub behind : 0 < left → others ≡ []
 
@@ -58,7 +58,7 @@ pub record IsInSkip (rules : Rules) (refusal : Refusal) (left : ℕ) (others unr
 abbrev pub Holds : Rules → State → List ℕ → List ℕ → Type 0
 Holds rules (state.Line long) buffer unread = (unread ≡ buffer) × (length buffer ≤ LINE_LIMIT) × EndsAt buffer long
 Holds rules (state.Block block) buffer unread = IsInBlock rules block.command block.count block.bytes.items buffer unread
-Holds rules (state.Skip skipped) buffer unread = IsInSkip rules skipped.refusal skipped.left buffer unread
+Holds rules (state.Skip skipped) buffer unread = IsInSkip rules skipped.discarded skipped.refusal skipped.left buffer unread
 Holds rules state.Closed buffer unread = ⊥
 
 -- a line end that was found stands in the bytes

@@ -106,6 +106,7 @@ impl Shard {
     pub(super) fn fetch(&mut self, key: &Key, touch: Option<i64>) -> Answer
         ensures acts { Acts self.old (op.Fetch key.now touch) result self.new }
         ensures lawful { is_lawful Kind.Fetch result ≡ true }
+        ensures tally { self.new.tally ≡ self.old.tally }
     {
         let access = self.access(touch, Reader::Classic);
         let Ok(found) = self.items.read(key, access) else {
@@ -122,6 +123,7 @@ impl Shard {
     pub(super) fn touch(&mut self, key: &Key, exptime: i64) -> Answer
         ensures acts { Acts self.old (op.Touch key.now exptime) result self.new }
         ensures lawful { is_lawful Kind.Touch result ≡ true }
+        ensures tally { self.new.tally ≡ self.old.tally }
     {
         let Some(item) = self.find(key) else {
             self.items.remove(key);
@@ -142,6 +144,7 @@ impl Shard {
     pub(super) fn meta_get(&mut self, asked: MetaGet) -> Answer
         ensures acts { Acts self.old (op.MetaGet asked) result self.new }
         ensures lawful { is_lawful Kind.MetaGet result ≡ true }
+        ensures tally { self.new.tally ≡ self.old.tally }
     {
         let access = self.access(asked.touch, Reader::Meta(asked.recache));
         let Ok(found) = self.items.read(&asked.key, access) else {
@@ -158,6 +161,7 @@ impl Shard {
     fn meta_get_absent(&mut self, key: Key, vivify: Option<i64>) -> Answer
         ensures does { Does self.old key (λ settled. absent_meta_get settled key vivify) result self.new }
         ensures lawful { is_lawful Kind.MetaGet result ≡ true }
+        ensures tally { self.new.tally ≡ self.old.tally }
     {
         let Some(exptime) = vivify else {
             self.remove_dead(&key);

@@ -6,4 +6,4 @@ pub returns : goal.returns
 returns c =
     let arm = c.in-Some-Some in
     let count = c.in-Some.ensures in
-    (omega (arith, count.1, c.requires), meta_set_line c.args.rules _ _ _ arm.word arm.count c.in-Some.count c.text-flags.result.now arm.ensures.steps arm.ensures'.steps c.text-flags.ensures count.0 count.1)
+    (omega (arith, count.1, c.requires), count.1, meta_set_line c.args.rules _ _ _ arm.word arm.count c.in-Some.count c.text-flags.result.now arm.ensures.steps arm.ensures'.steps c.text-flags.ensures count.0)

@@ -9,4 +9,4 @@ returns-in-Block-clause-holds c rules unread h =
 pub returns-in-Skip-clause-holds : goal.returns-in-Skip-clause-holds
 returns-in-Skip-clause-holds c rules unread h =
     let f = c.fill-count-in-Skip.ensures in
-    fed_skip rules c.args.self.now c.in-Skip.skipped c.fill-count-in-Skip.new.self c.args.buffer.now c.push-in-Skip.new.self unread c.args.piece.now c.split_at-in-Skip.result.1.now c.fill-count-in-Skip.result c.push-in-Skip.result c.in-Skip.is f.same f.left f.count c.split_at-in-Skip.ensures.back c.push-in-Skip.ensures.bytes h
+    fed_skip rules c.args.self.now c.in-Skip.skipped c.fill-count-in-Skip.new.self c.args.buffer.now c.push-in-Skip.new.self unread c.args.piece.now c.split_at-in-Skip.result.1.now c.fill-count-in-Skip.result c.push-in-Skip.result c.in-Skip.is f.same f.discarded f.left f.count c.split_at-in-Skip.ensures.back c.push-in-Skip.ensures.bytes h

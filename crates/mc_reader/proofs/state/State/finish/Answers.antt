@@ -17,4 +17,4 @@ returns-in-Block-clause-some c rules unread opened h =
 
 pub returns-in-Skip-clause-some : goal.returns-in-Skip-clause-some
 returns-in-Skip-clause-some c rules unread opened h =
-    finished_skip rules c.args.self.now c.args.buffer.now unread c.in-Skip.skipped (sym c.replace.ensures.value ∙ c.in-Skip.is) (c.is_complete.ensures.0 c.if-not-is_complete.false) h
+    finished_skip rules c.args.self.now c.args.buffer.now unread c.in-Skip.skipped c.entry.result (sym c.replace.ensures.value ∙ c.in-Skip.is) (c.is_complete.ensures.0 c.if-not-is_complete.false) h c.entry.ensures
