@@ -51,4 +51,4 @@ shapes : (shape_of (deletion flags_k) ≡ shape.Meta kind.Delete flags_k false (
     × (shape_of (command.Verbosity false) ≡ shape.Fixed fixed.Ok)
     × (shape_of (command.Discard (codes "a") TooLarge) ≡ shape.Fixed (fixed.Refused TooLarge))
 unfolding shape_of
-shapes = (refl, refl, refl, refl)
+shapes = (refl, refl, refl, refl, refl)

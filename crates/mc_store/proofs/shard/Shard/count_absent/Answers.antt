@@ -18,7 +18,7 @@ returns-in_default-clause-does c = λ reply state h.
 
 pub returns-in_default-of_number-clause-does : goal.returns-in_default-of_number-clause-does
 unfolding IsShard
-returns-in_default-of_number-clause-does c = λ reply state h. (without_dead state (Some c.args.key), inl (refl, refl), c.remove_dead-in_default-of_number.ensures state h)
+returns-in_default-of_number-clause-does c = λ reply state h. (without_dead state (Some c.args.key), inl (refl, refl), c.remove_dead-in_default-of_number.ensures.state state h)
 
 pub returns-clause-does : goal.returns-clause-does
 unfolding IsShard

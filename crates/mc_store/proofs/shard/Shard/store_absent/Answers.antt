@@ -30,5 +30,5 @@ returns-in_default-clause-does c = λ reply state h.
       settled,
       inr (absent_refused settled c.args.key
           (asked_in c.args.asked) reply c.args.asked.mode c.args.asked.compare c.if-is_some.ensures c.in_default.not-Set c.in_default.not-Add),
-      c.remove_dead-in_default.ensures state h,
+      c.remove_dead-in_default.ensures.state state h,
     )
