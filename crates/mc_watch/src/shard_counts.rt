@@ -1,4 +1,7 @@
 //! What a shard holds and what it was asked, where any thread can read it.
+ghost use Rattle.std.specs.Prelude.{◌≡◌};
+ghost use Rattle.mc_watch.specs.Totals.{commands_of_both, shards_of_both};
+
 use crate::counter::Counter;
 use mc_store::{Asked, Shard, Status};
 
@@ -65,7 +68,9 @@ pub struct ShardCounts {
 
 impl CommandTotals {
     /// The sum of both.
-    fn and(self, other: CommandTotals) -> CommandTotals {
+    fn and(self, other: CommandTotals) -> CommandTotals
+        ensures { result ≡ commands_of_both self other }
+    {
         CommandTotals {
             hits: self.hits.saturating_add(other.hits),
             misses: self.misses.saturating_add(other.misses),
@@ -78,7 +83,9 @@ impl CommandTotals {
 
 impl ShardTotals {
     /// The sum of both.
-    pub fn and(self, other: ShardTotals) -> ShardTotals {
+    pub fn and(self, other: ShardTotals) -> ShardTotals
+        ensures { result ≡ shards_of_both self other }
+    {
         ShardTotals {
             items: self.items.saturating_add(other.items),
             bytes: self.bytes.saturating_add(other.bytes),
