@@ -50,11 +50,16 @@ def the_completion_tells_the_options():
     equal(options_of(offered, r"^--([a-z-]+)$"), options_of_the_help())
 
 
+def service_options(default):
+    """The words by which the service starts the program, of the text of its defaults or of its unit."""
+    return re.search(r'^(?:MCD_OPTIONS="|Environment="MCD_OPTIONS=)(.*)"$', default, re.M)[1].split()
+
+
 def the_service_calls_the_program_rightly():
-    default = (TOP / "packaging/mcd.default").read_text()
-    words = re.search(r'^MCD_OPTIONS="(.*)"$', default, re.M)[1].split()
-    unknown = [it for it in words if it.startswith("--") and it[2:] not in options_of_the_help()]
-    equal(unknown, [])
+    for name in ("mcd.default", "mcd.service"):
+        words = service_options((TOP / "packaging" / name).read_text())
+        unknown = [it for it in words if it.startswith("--") and it[2:] not in options_of_the_help()]
+        equal((name, unknown, "--drop-in" in words), (name, [], True))
 
 
 def the_version_names_the_toolchain():
@@ -99,14 +104,18 @@ def lintian_finds_no_error(package):
 
 
 def the_installed_program_serves():
-    """The program of the package starts as the service starts it, on a port that the system chooses."""
-    process = started(["/usr/bin/mcd", "--listen", "127.0.0.1:0", "--seats", "64"], stderr=subprocess.PIPE)
+    """The program of the package starts by the options of the service, on a port that the system chooses, and follows
+    memcached's rules."""
+    words = service_options(pathlib.Path("/etc/default/mcd").read_text())
+    words[words.index("--listen") + 1] = "127.0.0.1:0"
+    process = started(["/usr/bin/mcd", *words], stderr=subprocess.PIPE)
     try:
         ready, _, _ = select.select([process.stderr], [], [], 30)
         equal(bool(ready), True)
         port = int(re.fullmatch(rb"listening 127\.0\.0\.1:(\d+)\n", process.stderr.readline())[1])
         with Line(port) as line:
             line.ask(b"set a 0 0 2\r\nhi\r\nget a\r\n", b"STORED\r\nVALUE a 0 2\r\nhi\r\nEND\r\n")
+            line.ask(b"set a 0 4294967295 2\r\nhi\r\nget a\r\n", b"STORED\r\nEND\r\n")
     finally:
         process.kill()
         process.wait()

@@ -1,12 +1,13 @@
 #!/usr/bin/env python3
 """Sends the same random commands to mcd and to memcached 1.6, and compares their replies one by one.
 
-    tools/clients/beside_memcached.py [--seed N] [--commands N] [--as-installed]
+    tools/clients/beside_memcached.py [--drop-in] [--seed N] [--commands N] [--as-installed]
 
 Classic and meta commands on a few keys, well formed and not, each followed by a `mg` of a key that nothing lies under, so that
 the end of its reply is known. A difference that docs/PROTOCOL.md names is counted under its name there, and its keys are removed
 on both servers, so that it has no later effect. Any other difference is shown, and fails: forty commands of a stream of 3,000
-did, before their differences stood on that page. Uniques count differently on the two servers and are
+did, before their differences stood on that page. With `--drop-in` mcd is started so, what the page says is gone then is no
+difference that it names, and the commands have more of what memcached takes. Uniques count differently on the two servers and are
 compared by whether they are there; seconds may differ by one, since the servers' clocks don't tick together. It isn't part of
 the gate, since memcached's own replies to a stream differ now and then from run to run.
 
@@ -28,6 +29,8 @@ ENCODED = {b"YXBwbGU=": b"apple", b"cGVhcg==": b"pear", b"bjE=": b"n1"}
 TOO_LARGE = 1024 * 1024 + 1
 # No item lies under this key: the reply to this command ends that of the command before it.
 FENCE, FENCE_REPLY = b"mg nothing Othe-end\r\n", b"EN Othe-end\r\n"
+# Flags for a proxy, which memcached takes with each meta command.
+FOR_A_PROXY = [b"P", b"L"]
 ALL_SECONDS = 280
 
 
@@ -59,8 +62,9 @@ class Peer:
 class Maker:
     """Makes random commands. A command is given as a function of a peer, since uniques differ."""
 
-    def __init__(self, seed):
+    def __init__(self, seed, drop_in):
         self.random = random.Random(seed)
+        self.drop_in = drop_in
 
     def one_of(self, *choices):
         return self.random.choice(choices)
@@ -78,7 +82,7 @@ class Maker:
         return self.one_of(b"", b"5", b"10", b"99", b"abc", b"18446744073709551615", b"x" * self.random.randrange(1, 200), b"a\r\nb")
 
     def noreply(self):
-        return self.one_of(b"", b"", b"", b" noreply")
+        return self.one_of(b"", b"", b"", b" noreply", *[b" another"] * self.drop_in)
 
     def command(self):
         """A command and the keys that it names."""
@@ -128,7 +132,7 @@ class Maker:
         """Some of these flags, each with a token where it takes one, in any order."""
         tokens = {b"O": [b"77", b"o" * 31], b"N": [b"0", b"30"], b"R": [b"20", b"0"], b"T": [b"0", b"100", b"-1"], b"F": [b"0", b"9"],
                   b"D": [b"1", b"10"], b"J": [b"0", b"13"]}
-        some = self.random.sample(letters, self.random.randrange(0, most))
+        some = self.random.sample([*letters, *FOR_A_PROXY * self.drop_in], self.random.randrange(0, most))
         return b"".join(b" " + it + self.one_of(*tokens.get(it, [b""])) for it in some)
 
     def named(self):
@@ -148,7 +152,7 @@ class Maker:
         key, text, form = self.named()
         value, mode = self.value(), self.one_of(b"", b"", b"", b" ME", b" MA", b" MP", b" MR", b" MS")
         right = self.one_of(None, None, None, True, False)
-        flags = form + self.flags([b"k", b"O", b"q", b"c", b"F", b"T"], 5) + mode
+        flags = form + self.flags([b"k", b"O", b"q", b"c", b"F", b"T", *[b"I", b"N"] * self.drop_in], 5) + mode
         behind = self.one_of(*[b"\r\n"] * 9, b"xy")
 
         def made(peer):
@@ -175,13 +179,24 @@ class Maker:
                            b"touch " + key, b"touch " + key + b" x", b"get " + b"k" * 251, b"delete " + b"k" * 251, b"incr " + b"k" * 251 + b" 1", b"set " + key, b"set", b"cas " + key + b" 0 0",
                            b"verbosity", b"flush_all x", b"mg", b"mg " + key + b" v v", b"mg " + key + b" !", b"mg " + b"k" * 251 + b" v", b"md", b"ma", b"ms", b"ms " + key,
                            b"ma " + key + b" Dx", b"ma " + key + b" MX", b"mg " + key + b" O" + b"o" * 33, b"mg YQ= b v", b"gets", b"set " + key + b" 0 0 x", b"ms " + key + b" x")
+        if self.drop_in and self.random.random() < 0.3:
+            line = self.one_of(*self.broken_by_memcached(key))
         return [key], lambda peer: line + b"\r\n"
+
+    def broken_by_memcached(self, key):
+        """Lines that memcached reads in another way, or refuses by another line."""
+        return [b"set " + key + b" 0 0 2147483647", b"set " + key + b" 0 0 -1", b"ms " + key + b" 2147483647", b"ms " + key + b" -1", b"cas " + key + b" 0 0 1",
+                b"set " + key + b" 0 0 x noreply", b"incr " + key + b" x noreply", b"touch " + key + b" x noreply", b"delete " + key + b" 7 noreply",
+                b"incr " + key + b" 1 2 noreply", b"touch " + key + b" 0 0 0", b"touch " + key + b" 0 another", b"delete " + key + b" another",
+                b"gat x " + key, b"verbosity noreply", b"verbosity x", b"verbosity 1 2 3",
+                b"flush_all -1 another", b"version 1", b"mn 1", b"delete " + b"k" * 251 + b" noreply", b"get " + key + b" " + b"k" * 251]
 
     def is_too_large(self):
         key = self.key()
         name, last = self.one_of(b"set", b"set", b"add", b"replace", b"append"), self.noreply()
         if self.random.random() < 0.3:
-            return [key], lambda peer: b"ms " + key + b" %d\r\n" % TOO_LARGE + b"v" * TOO_LARGE + b"\r\n"
+            mode = self.one_of(b"", *[b" ME", b" MA", b" MR"] * self.drop_in)
+            return [key], lambda peer: b"ms " + key + b" %d" % TOO_LARGE + mode + b"\r\n" + b"v" * TOO_LARGE + b"\r\n"
         return [key], lambda peer: name + b" " + key + b" 0 0 %d" % TOO_LARGE + last + b"\r\n" + b"v" * TOO_LARGE + b"\r\n"
 
 
@@ -208,16 +223,20 @@ LONG_EXPTIME = rb"(?<= )(4000000000|4294967295)(?= |$)"
 FAULT = rb"(CLIENT_ERROR [^\r]*|ERROR)\r\n"
 NAMED = [
     ("exptimes have 64 bits", rb"(set|add|replace|cas|touch|gats?) .*" + LONG_EXPTIME + b".*", None),
+    ("too large a value of `ms` in other modes", rb"ms .*\b%d\b.* M[AER].*" % TOO_LARGE, None),
     ("too large a value leaves the old one", rb"(set|add|replace|ms) .*\b%d\b.*" % TOO_LARGE, None),
     ("too large to append", rb"(append|prepend) .*\b%d\b.*" % TOO_LARGE, None),
     ("`T` beside `N`", rb"m[ga] .*( N.* T| T.* N).*", None),
     ("`T` of a number that gets longer", rb"ma .* T.*", None),
     ("a key that was stored in base64", rb"m[sga] .* b( .*)?", None),
     ("`version`", rb"version", (rb"VERSION .*", rb"VERSION .*")),
+    ("a bad data chunk is shown in spite of noreply", rb".* noreply", (rb"CLIENT_ERROR bad data chunk\r\n", rb"")),
     ("faults are shown in spite of noreply", rb".* noreply", (FAULT, rb"")),
     ("error texts", rb".*", (rb"CLIENT_ERROR [^\r]*\r\n", rb"CLIENT_ERROR [^\r]*\r\n")),
-    ("too few words", rb".*", (rb"CLIENT_ERROR bad command line format\r\n", rb"(ERROR|END)\r\n")),
+    ("`gat` without a key", rb"gats? \S+", (rb"(CLIENT_ERROR bad command line format|ERROR)\r\n", rb"END\r\n")),
+    ("too few words", rb".*", (rb"CLIENT_ERROR bad command line format\r\n", rb"ERROR\r\n")),
     ("`C` of `ms` in other modes", rb"ms .*M[APRE].* C.*", (rb"CLIENT_ERROR bad command line format\r\n", rb".*")),
+    ("`C` without an item", rb"ms .*M[AP].* C.*", (rb"NF.*", rb"NS.*")),
     ("`c` where `ms` stored nothing", rb"ms .* c.*", (rb"(EX|NF|NS)( [^\r]*)?\r\n", rb"(EX|NF|NS) [^\r]*c0.*\r\n")),
     ("quiet `md` and `ma`", rb"m[da] .* q.*", (rb"", rb"(NF|HD).*\r\n")),
     ("quiet `md` and `ma`", rb"ma .* q.*", (rb"VA .*", rb"")),
@@ -226,14 +245,22 @@ NAMED = [
 ]
 
 
+# Those that are gone where mcd follows memcached's rules.
+GONE = ["exptimes have 64 bits", "too large a value leaves the old one", "`version`", "faults are shown in spite of noreply", "too few words",
+        "`C` of `ms` in other modes"]
 # Those of which the replies tell beside the command.
 NAMES = [*dict.fromkeys(name for name, _, _ in NAMED), "the order of marks", "what counts as a use", "numbers aren't padded"]
 
 
-def difference(asked, ours, theirs):
+def named(drop_in):
+    """The differences that are named, and are there."""
+    return [it for it in NAMED if not (drop_in and it[0] in GONE)]
+
+
+def difference(drop_in, asked, ours, theirs):
     """The name of the first difference that this command and its replies show."""
     line = asked.partition(b"\r\n")[0]
-    for name, command, replies in NAMED:
+    for name, command, replies in named(drop_in):
         if re.fullmatch(command, line) and (replies is None or all(re.fullmatch(it, reply, re.DOTALL) for it, reply in zip(replies, (ours, theirs)))):
             return name
     if is_same(ours, in_our_order(theirs)):
@@ -258,14 +285,20 @@ def is_padded(theirs, keys):
     return any(re.fullmatch(rb"VALUE \S+ \d+ \d+\r\n\d+ +\r\nEND\r\n", theirs.ask(b"get " + key + b"\r\n")) for key in keys)
 
 
-def differs_later(asked):
+def differs_later(drop_in, asked):
     """The name of a difference that this command makes and that its own reply need not show."""
     line = asked.partition(b"\r\n")[0]
-    return next((name for name, command, replies in NAMED if replies is None and re.fullmatch(command, line)), None)
+    return next((name for name, command, replies in named(drop_in) if replies is None and re.fullmatch(command, line)), None)
+
+
+def told_as_gone(page):
+    """The names that the page says are gone with `--drop-in`."""
+    return sorted(name for name in NAMES if re.search(rf"^.*\*\*{re.escape(name)}\*\*.*Gone with `--drop-in`", page, re.M))
 
 
 def main():
     words = argparse.ArgumentParser(description=__doc__.splitlines()[0])
+    words.add_argument("--drop-in", action="store_true")
     words.add_argument("--seed", type=int, default=1)
     words.add_argument("--commands", type=int, default=20000)
     words.add_argument("--as-installed", action="store_true")
@@ -273,6 +306,7 @@ def main():
     needs_program()
     page = (TOP / "docs/PROTOCOL.md").read_text()
     say(all(f"**{name}**" in page for name in NAMES), "docs/PROTOCOL.md names each difference")
+    say(told_as_gone(page) == sorted(GONE), "docs/PROTOCOL.md tells which are gone with --drop-in")
     if not asked.as_installed and not shutil.which("memcached"):
         install(["memcached"])
     if not shutil.which("memcached"):
@@ -282,7 +316,7 @@ def main():
     port = free_port()
     theirs = started(["memcached", "-u", "nobody", "-l", "127.0.0.1", "-p", str(port), "-m", "64", "-t", "1"])
     try:
-        with Server() as ours:
+        with Server(*["--drop-in"] * asked.drop_in) as ours:
             if not is_up(port):
                 say(False, "memcached doesn't listen")
             else:
@@ -294,19 +328,19 @@ def main():
 
 
 def compare(ours, theirs, asked):
-    maker, met, unnamed = Maker(asked.seed), collections.Counter(), 0
+    maker, met, unnamed = Maker(asked.seed, asked.drop_in), collections.Counter(), 0
     for _ in range(asked.commands):
         keys, make = maker.command()
         mine, other = make(ours), make(theirs)
         my_reply, other_reply = ours.ask(mine), theirs.ask(other)
-        name = differs_later(mine)
+        name = differs_later(asked.drop_in, mine)
         if re.match(rb"(incr|decr|ma) ", mine):
             if is_padded(theirs, keys):
                 name = "numbers aren't padded"
             ours.ask(b"".join(b"get " + key + b"\r\n" for key in keys))
         if name is None and is_same(my_reply, other_reply):
             continue
-        name = name or difference(mine, my_reply, other_reply)
+        name = name or difference(asked.drop_in, mine, my_reply, other_reply)
         met[name] += 1
         if name is None:
             unnamed += 1

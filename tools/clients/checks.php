@@ -1,6 +1,7 @@
 <?php
 // Drives a server by PHP's memcached extension. Prints `ok NAME` or `FAILED NAME: WHY` for each check.
-//     php checks.php HOST PORT
+//     MCD_RULES=RULES php checks.php HOST PORT
+// RULES are those that the server follows, `own` or `drop-in`; where the two differ there is a check for each.
 $client = new Memcached();
 $client->setOption(Memcached::OPT_TCP_NODELAY, true);
 $client->addServer($argv[1], (int) $argv[2]);
@@ -46,3 +47,32 @@ tried('takes_a_flood', function () use ($argv) {
     }
     return $silent->get('phpflood99') === '19999';
 });
+
+$large = str_repeat('v', 2 << 20);
+/** What lies under a key behind a value that is too large for the server, which the client tells. */
+$refused = function () use ($client, $large) {
+    $client->setOption(Memcached::OPT_COMPRESSION, false);
+    return $client->set('phpreplaced', 'old') && !$client->set('phpreplaced', $large) ? $client->get('phpreplaced') : 'not refused';
+};
+/** Whether the next command gets its own reply behind a value that is too large, which was set without a reply. */
+$silent = function () use ($argv, $large) {
+    $silent = new Memcached();
+    $silent->addServer($argv[1], (int) $argv[2]);
+    $silent->setOption(Memcached::OPT_COMPRESSION, false);
+    $silent->setOption(Memcached::OPT_NOREPLY, true);
+    $silent->set('phpsilent', $large);
+    $silent->setOption(Memcached::OPT_NOREPLY, false);
+    return $silent->set('phpnext', 'x') && $silent->get('phpnext') === 'x';
+};
+tried('exptime_minus_1_is_gone_at_once', fn() => $client->set('phpdead', 'x', -1) && $client->get('phpdead') === false);
+$version = fn() => array_values($client->getVersion());
+if (getenv('MCD_RULES') === 'drop-in') {
+    tried('too_large_a_value_removes_the_old_one', fn() => $refused() === false);
+    tried('noreply_hides_that_a_value_is_too_large', $silent);
+    tried('exptime_4294967295_is_gone_at_once', fn() => $client->set('phpdead', 'x', 4294967295) && $client->get('phpdead') === false);
+    tried('version_is_that_of_memcached', fn() => $version() === ['1.6.18']);
+} else {
+    tried('too_large_a_value_leaves_the_old_one', fn() => $refused() === 'old');
+    tried('exptime_4294967295_is_the_year_2106', fn() => $client->set('phpdead', 'x', 4294967295) && $client->get('phpdead') === 'x');
+    tried('version_is_that_of_mcd', fn() => $version() === ['1.6.0']);
+}

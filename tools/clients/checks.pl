@@ -1,5 +1,6 @@
 # Drives a server by Perl's Cache::Memcached::Fast. Prints `ok NAME` or `FAILED NAME` for each check.
-#     perl checks.pl HOST PORT
+#     MCD_RULES=RULES perl checks.pl HOST PORT
+# RULES are those that the server follows, `own` or `drop-in`; where the two differ there is a check for each.
 use strict;
 use warnings;
 use Cache::Memcached::Fast;
@@ -43,3 +44,20 @@ tried('expires', sub {
     return $before && !defined $client->get('perlbrief') && $client->get('perltouched') eq 'y';
 });
 tried('adds_replaces_and_deletes', sub { $client->delete('perl') && $client->add('perl', 'a') && !$client->add('perl', 'b') && $client->replace('perl', 'c') && $client->get('perl') eq 'c' });
+
+# Sends also what is too large for the server, and waits for each reply.
+my $patient = Cache::Memcached::Fast->new({ servers => ["$host:$port"], max_size => 4_194_304 });
+# What lies under a key behind a value that is too large.
+sub refused {
+    return 'not refused' if !$patient->set('perlreplaced', 'old') || $patient->set('perlreplaced', 'v' x 2_097_152);
+    return $patient->get('perlreplaced') // 'nothing';
+}
+tried('exptime_minus_1_is_gone_at_once', sub { $patient->set('perldead', 'x', -1) && !defined $patient->get('perldead') });
+my $version = $patient->server_versions->{"$host:$port"};
+if (($ENV{MCD_RULES} // 'own') eq 'drop-in') {
+    tried('too_large_a_value_removes_the_old_one', sub { refused() eq 'nothing' });
+    tried('server_versions_is_that_of_memcached', sub { $version eq '1.6.18' });
+} else {
+    tried('too_large_a_value_leaves_the_old_one', sub { refused() eq 'old' });
+    tried('server_versions_is_that_of_mcd', sub { $version eq '1.6.0-sharded' });
+}

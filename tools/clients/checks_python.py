@@ -1,13 +1,19 @@
 """Drives a server by the Python clients pymemcache, pylibmc and python-memcache (Debian's packages), each through the
 same checks, and by a plain socket. Prints a line for each check: `ok NAME` or `FAILED NAME: WHY`.
 
-    /usr/bin/python3 checks_python.py CLIENT HOST PORT      CLIENT is pymemcache, pylibmc, memcache or socket
+    MCD_RULES=RULES /usr/bin/python3 checks_python.py CLIENT HOST PORT
+
+CLIENT is pymemcache, pylibmc, memcache or socket. RULES are those that the server follows, `own` or `drop-in`; where the two
+differ there is a check for each.
 """
 import base64
+import os
 import socket
 import sys
 import threading
 import time
+
+LARGE = 2 << 20  # bytes of a value that is too large
 
 
 class Client:
@@ -59,9 +65,21 @@ class Client:
     def flood(self, count):
         """Many sets, without replies where the client can."""
         for number in range(count):
-            self.client.set("flood%d" % (number % 100), b"%d" % number, **self.silently)
+            self.set_silently(b"flood%d" % (number % 100), b"%d" % number)
+
+    def set_silently(self, key, value):
+        """Sets without a reply where the client can."""
+        self.client.set(self.name(key), value, **self.silently)
 
     silently = {}
+    refusals = ()  # by what the client tells that the server refused a command
+
+    def is_refused(self, key, value):
+        """Whether the client tells that the value was not stored."""
+        try:
+            return not self.set(key, value)
+        except self.refusals:
+            return True
 
     def flush(self):
         self.client.flush_all()
@@ -73,8 +91,10 @@ class Pymemcache(Client):
 
     def __init__(self, host, port):
         from pymemcache.client.base import Client as Base
+        from pymemcache.exceptions import MemcacheServerError
 
         self.client = Base((host, port), default_noreply=False, timeout=30, connect_timeout=30)
+        self.refusals = MemcacheServerError
 
     def name(self, key):
         return key
@@ -82,12 +102,16 @@ class Pymemcache(Client):
     def get_many(self, keys):
         return self.client.get_many(keys)
 
+    def version(self):
+        return self.client.version()
+
 
 class Pylibmc(Client):
     def __init__(self, host, port):
         import pylibmc
 
         self.client = pylibmc.Client([f"{host}:{port}"], binary=False, behaviors={"cas": True, "tcp_nodelay": True})
+        self.refusals = pylibmc.Error
 
 
 class Memcache(Client):
@@ -96,7 +120,7 @@ class Memcache(Client):
     def __init__(self, host, port):
         import memcache
 
-        self.client = memcache.Client([f"{host}:{port}"], cache_cas=True, socket_timeout=30)
+        self.client = memcache.Client([f"{host}:{port}"], cache_cas=True, socket_timeout=30, server_max_value_length=2 * LARGE)
 
     def swap(self, key, value):
         # The client keeps the cas uniques itself, by the bytes of the key.
@@ -169,6 +193,12 @@ class Socket(Client):
 
     def delete(self, key):
         return self.told(b"delete %s\r\n" % key) == b"DELETED"
+
+    def set_silently(self, key, value):
+        self.line.sendall(b"set %s 0 0 %d noreply\r\n%s\r\n" % (key, len(value), value))
+
+    def version(self):
+        return self.told(b"version\r\n").removeprefix(b"VERSION ")
 
     def flood(self, count):
         self.line.sendall(b"".join(b"set flood%d 0 0 %d noreply\r\n%d\r\n" % (number % 100, len(str(number)), number) for number in range(count)))
@@ -246,10 +276,83 @@ def forgets_all(it):
     equal(it.get(b"a"), None)
 
 
+def too_large_a_value_leaves_the_old_one(it):
+    it.set(b"replaced", b"old")
+    equal(it.is_refused(b"replaced", b"v" * LARGE), True)
+    equal(it.get(b"replaced"), b"old")
+
+
+def too_large_a_value_removes_the_old_one(it):
+    it.set(b"replaced", b"old")
+    equal(it.is_refused(b"replaced", b"v" * LARGE), True)
+    equal(it.get(b"replaced"), None)
+
+
+def noreply_hides_that_a_value_is_too_large(it):
+    it.set_silently(b"silent", b"v" * LARGE)
+    equal(it.set(b"next", b"x"), True)
+    equal(it.get(b"next"), b"x")
+
+
+def noreply_shows_that_a_value_is_too_large(it):
+    """The next command gets the line as its reply, and the one after it the reply of that one."""
+    it.set_silently(b"silent", b"v" * LARGE)
+    equal(it.is_refused(b"next", b"x"), True)
+
+
+def exptime_minus_1_is_gone_at_once(it):
+    it.set(b"dead", b"x", -1)
+    equal(it.get(b"dead"), None)
+
+
+def exptime_minus_1_is_the_year_2106(it):
+    """For a client that sends 4294967295 in its place."""
+    it.set(b"dead", b"x", -1)
+    equal(it.get(b"dead"), b"x")
+
+
+def exptime_4294967295_is_gone_at_once(it):
+    it.set(b"dead", b"x", 4294967295)
+    equal(it.get(b"dead"), None)
+
+
+def exptime_4294967295_is_the_year_2106(it):
+    it.set(b"dead", b"x", 4294967295)
+    equal(it.get(b"dead"), b"x")
+
+
+def version_is_that_of_mcd(it):
+    equal(it.version(), b"1.6.0-sharded")
+
+
+def version_is_that_of_memcached(it):
+    equal(it.version(), b"1.6.18")
+
+
 CHECKS = [
     stores_and_fetches, fetches_2000_keys, compares_and_swaps, counts, expires, deletes_adds_and_replaces,
     keeps_large_values, takes_a_flood, forgets_all,
 ]
+# What the clients see by the one and by the other rules.
+DIFFERING = {
+    "own": [
+        too_large_a_value_leaves_the_old_one, noreply_shows_that_a_value_is_too_large, exptime_4294967295_is_the_year_2106,
+        version_is_that_of_mcd,
+    ],
+    "drop-in": [
+        too_large_a_value_removes_the_old_one, noreply_hides_that_a_value_is_too_large, exptime_4294967295_is_gone_at_once,
+        version_is_that_of_memcached,
+    ],
+}
+# Clients that can't ask for it, by the word that the names of such checks begin with.
+CANT = {"noreply": ["pylibmc"], "version": ["pylibmc", "memcache"], "exptime": ["pylibmc"]}
+
+
+def checks_by(rules, client):
+    """The checks that hold for this client where the server follows these rules."""
+    differing = [check for check in DIFFERING[rules] if client not in CANT.get(check.__name__.partition("_")[0], [])]
+    is_cut = client == "pylibmc" and rules == "own"
+    return [*CHECKS, exptime_minus_1_is_the_year_2106 if is_cut else exptime_minus_1_is_gone_at_once, *differing]
 
 
 class Plain:
@@ -337,7 +440,7 @@ def tried(name, check, *given):
 def main():
     client, host, port = sys.argv[1], sys.argv[2], int(sys.argv[3])
     kind = {"pymemcache": Pymemcache, "pylibmc": Pylibmc, "memcache": Memcache, "socket": Socket}[client]
-    for check in CHECKS:
+    for check in checks_by(os.environ.get("MCD_RULES", "own"), client):
         # Each check has a connection of its own, so that one that fails spoils no other.
         tried(check.__name__, lambda: check(kind(host, port)))
     if client == "socket":

@@ -1,14 +1,20 @@
 #!/usr/bin/env python3
-"""Drives a server by the clients that people use, and says which checks hold. A minute or two.
+"""Drives a server by the clients that people use, and says which checks hold. Two or three minutes.
 
-    tools/clients/run.py [--as-installed] [COMMAND ..]     the command that starts the server, with {port} for its port; mcd where none is given
+    tools/clients/run.py [--as-installed] [--rules own|drop-in] [COMMAND ..]
+
+mcd is driven twice, by its own rules and then with `--drop-in`, or by the rules that are named alone. COMMAND starts another
+server, with {port} for its port, of which what these rules ask is asked (`own` where none are named). Each name begins with
+the rules. The scripts that drive a client have them in MCD_RULES: where a client sees the two differ, each has a check of its
+own, whose name says what is seen.
 
 Debian's packages of the clients are installed where they are missing, if that can be done in two minutes, and not with
 `--as-installed`. A client that can't be had is named as not run; the checks over a plain socket always run. A check that
 can't hold here is named as left out, with its reason (LEFT_OUT). The last line is `clients: N passed, M failed, K not run`.
 
 What it looks for was put in once and seen to fail, by a small server of its own that did it wrong: it kept nothing, it tore
-values, it left out replies, it served a 65th connection beside 64, it never answered.
+values, it left out replies, it served a 65th connection beside 64, it never answered. The checks of what differs were seen to
+fail by a server that follows the other rules, and those of `--drop-in` to hold by memcached 1.6.18.
 """
 import os
 import pathlib
@@ -25,11 +31,12 @@ sys.path.insert(0, str(HERE.parent))
 from served import MCD, bounded, needs_program, started  # noqa: E402
 
 SERVER = [MCD, "--listen", "127.0.0.1:{port}", "--seats", "64"]
+RULES = {"own": SERVER, "drop-in": [*SERVER, "--drop-in"]}
 SYSTEM_PYTHON = "/usr/bin/python3"
 
 INSTALL_SECONDS = 120
 CLIENT_SECONDS = 100
-ALL_SECONDS = 290
+ALL_SECONDS = 580
 
 # Each client: its packages, a command that succeeds where it is there, and the command that drives the server by it.
 CLIENTS = {
@@ -65,9 +72,10 @@ TOOLS = {"memccapable": "libmemcached-tools", "nutcracker": "nutcracker", "memca
 
 # What clients check and mcd doesn't do, each with the reason; all else that they check must hold.
 LEFT_OUT = {
-    "memccapable: ascii stat": "mcd has no `stats`",
-    "memccapable: ascii verbosity": "memccapable wants no reply to the malformed `verbosity noreply`; here an error line is always shown",
-    "Django: pylibmc takes_a_timeout_of_0": "pylibmc sends -1 as 4294967295, which is the year 2106 here (docs/PROTOCOL.md)",
+    "own: memccapable: ascii stat": "mcd has no `stats`",
+    "drop-in: memccapable: ascii stat": "mcd has no `stats`",
+    "own: memccapable: ascii verbosity": "memccapable wants no reply to the malformed `verbosity noreply`; here an error line is always shown",
+    "own: Django: pylibmc takes_a_timeout_of_0": "pylibmc sends -1 as 4294967295, which is the year 2106 here (docs/PROTOCOL.md)",
 }
 
 passed, failed, not_run = 0, 0, 0
@@ -149,57 +157,74 @@ def is_up(port):
     return False
 
 
-def drive(name, port):
-    packages, probe, command = CLIENTS[name]
-    if not is_there(probe):
-        skip(f"{name}: it isn't installed ({' '.join(packages)})")
-        return
-    words = [word.format(port=port) for word in command]
+def drive(name, rules, port):
+    words = [word.format(port=port) for word in CLIENTS[name][2]]
     try:
-        ran = subprocess.run(words, cwd=HERE, stdin=subprocess.DEVNULL, capture_output=True, timeout=CLIENT_SECONDS)
+        ran = subprocess.run(words, cwd=HERE, env={**os.environ, "MCD_RULES": rules}, stdin=subprocess.DEVNULL, capture_output=True, timeout=CLIENT_SECONDS)
         out, fault = ran.stdout, f"ended with status {ran.returncode}: {ran.stderr.decode(errors='replace').strip()[-300:]}"
         ends_well = ran.returncode == 0
     except subprocess.TimeoutExpired as late:
         out, fault, ends_well = late.stdout or b"", f"hasn't ended after {CLIENT_SECONDS} seconds", False
     lines = [line for line in out.decode(errors="replace").splitlines() if line.startswith(("ok ", "FAILED "))]
     for line in lines:
-        judge(line.startswith("ok "), f"{name}: {line.partition(' ')[2]}")
+        judge(line.startswith("ok "), f"{rules}: {name}: {line.partition(' ')[2]}")
     if not ends_well or not lines:
-        say(False, f"{name}: {fault}")
+        say(False, f"{rules}: {name}: {fault}")
 
 
-def drive_memccapable(port):
-    if not shutil.which("memccapable"):
-        skip("memccapable: it isn't installed (libmemcached-tools)")
-        return
+def drive_memccapable(rules, port):
     words = ["memccapable", "-a", "-h", "127.0.0.1", "-p", str(port)]
     ran = subprocess.run(words, stdin=subprocess.DEVNULL, capture_output=True, text=True, timeout=CLIENT_SECONDS)
     # A test that fails says so on standard error, so nothing stands behind its name on standard output.
     tests = re.findall(r"(ascii(?: \w+)+) {2,}(\[pass\])?", ran.stdout)
     if len(tests) < 20:
-        say(False, f"memccapable: only {len(tests)} tests ran: {ran.stderr.strip()[-300:]}")
+        say(False, f"{rules}: memccapable: only {len(tests)} tests ran: {ran.stderr.strip()[-300:]}")
     for name, passes in tests:
-        judge(bool(passes), f"memccapable: {name}")
+        judge(bool(passes), f"{rules}: memccapable: {name}")
 
 
-def drive_memcslap(port):
-    if not shutil.which("memcslap"):
-        skip("memcslap: it isn't installed (libmemcached-tools)")
-        return
+def drive_memcslap(rules, port):
     for test in ("get", "set"):
         words = ["memcslap", f"--servers=127.0.0.1:{port}", "--concurrency=8", "--execute-number=1000", f"--test={test}"]
         ran = subprocess.run(words, stdin=subprocess.DEVNULL, capture_output=True, timeout=CLIENT_SECONDS)
-        say(ran.returncode == 0, f"memcslap: {test}")
+        say(ran.returncode == 0, f"{rules}: memcslap: {test}")
 
 
-def drive_all(port):
-    for name in CLIENTS:
-        drive(name, port)
-    for tool in (drive_memccapable, drive_memcslap):
+DRIVEN_BY = {"memccapable": drive_memccapable, "memcslap": drive_memcslap}
+
+
+def installed():
+    """The clients that are there, and the tools; the others are named as not run."""
+    missing = {name: packages for name, (packages, probe, _) in CLIENTS.items() if not is_there(probe)}
+    missing.update({tool: ["libmemcached-tools"] for tool in DRIVEN_BY if not shutil.which(tool)})
+    for name, packages in missing.items():
+        skip(f"{name}: it isn't installed ({' '.join(packages)})")
+    return [it for it in CLIENTS if it not in missing], [it for it in DRIVEN_BY if it not in missing]
+
+
+def drive_all(rules, port, clients, tools):
+    for name in clients:
+        drive(name, rules, port)
+    for tool in tools:
         try:
-            tool(port)
-        except subprocess.TimeoutExpired as why:
-            say(False, f"{why.cmd[0]}: hasn't ended after {CLIENT_SECONDS} seconds")
+            DRIVEN_BY[tool](rules, port)
+        except subprocess.TimeoutExpired:
+            say(False, f"{rules}: {tool}: hasn't ended after {CLIENT_SECONDS} seconds")
+
+
+def drive_server(rules, command, clients, tools):
+    """Starts a server that follows these rules, and drives it by all that is there."""
+    port = free_port()
+    server = started([word.format(port=port) for word in command])
+    try:
+        if is_up(port):
+            drive_all(rules, port, clients, tools)
+            say(server.poll() is None, f"{rules}: the server still runs")
+        else:
+            say(False, f"{rules}: the server doesn't listen")
+    finally:
+        server.kill()
+        server.wait()
 
 
 def asked_for(words):
@@ -211,23 +236,34 @@ def asked_for(words):
     return command or SERVER, installs
 
 
+def rules_of(words):
+    """The rules that the words name, if any, and the other words."""
+    if "--rules" not in words:
+        return None, words
+    at = words.index("--rules")
+    named = " ".join(words[at + 1:at + 2])
+    if named not in RULES:
+        sys.exit(f"--rules takes {' or '.join(RULES)}")
+    return named, words[:at] + words[at + 2:]
+
+
+def servers_of(named, command):
+    """The rules that are driven, with the command of the server for each."""
+    if command is not SERVER:
+        return {named or "own": command}
+    return {named: RULES[named]} if named else RULES
+
+
 def main():
-    command, installs = asked_for(sys.argv[1:])
+    named, words = rules_of(sys.argv[1:])
+    command, installs = asked_for(words)
     if installs:
         install([package for packages, probe, _ in CLIENTS.values() if not is_there(probe) for package in packages]
                 + [package for tool, package in TOOLS.items() if not shutil.which(tool)])
     bounded(ALL_SECONDS)
-    port = free_port()
-    server = started([word.format(port=port) for word in command])
-    try:
-        if is_up(port):
-            drive_all(port)
-            say(server.poll() is None, "the server still runs")
-        else:
-            say(False, "the server doesn't listen")
-    finally:
-        server.kill()
-        server.wait()
+    clients, tools = installed()
+    for rules, server in servers_of(named, command).items():
+        drive_server(rules, server, clients, tools)
     return told("clients")
 
 
