@@ -223,7 +223,6 @@ LONG_EXPTIME = rb"(?<= )(4000000000|4294967295)(?= |$)"
 FAULT = rb"(CLIENT_ERROR [^\r]*|ERROR)\r\n"
 NAMED = [
     ("exptimes have 64 bits", rb"(set|add|replace|cas|touch|gats?) .*" + LONG_EXPTIME + b".*", None),
-    ("too large a value of `ms` in other modes", rb"ms .*\b%d\b.* M[AER].*" % TOO_LARGE, None),
     ("too large a value leaves the old one", rb"(set|add|replace|ms) .*\b%d\b.*" % TOO_LARGE, None),
     ("too large to append", rb"(append|prepend) .*\b%d\b.*" % TOO_LARGE, None),
     ("`T` beside `N`", rb"m[ga] .*( N.* T| T.* N).*", None),
