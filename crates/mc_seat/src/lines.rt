@@ -7,9 +7,11 @@ ghost use Rattle.mc_seat.specs.Lines.{ReadsIfReady};
 
 use mc_wire::{OutFault, Outlet};
 use std::io::IoSlice;
+use thiserror::Error;
 
 /// A line gives no more bytes: it has failed.
-#[derive(Clone, Copy, Debug, PartialEq, Eq)]
+#[derive(Clone, Copy, Debug, Error, PartialEq, Eq)]
+#[error("the line has failed: it gives no more bytes")]
 pub struct LineFault;
 
 /// What came for a line that had nothing to give, or took nothing.

@@ -15,6 +15,7 @@ use std::hash::RandomState;
 use std::random::RandomSource;
 use std::sync::Wait;
 use std::thread;
+use thiserror::Error;
 
 /// So many pieces, or replies, a ring of the program holds.
 pub const DEFAULT_RING: usize = 20;
@@ -51,9 +52,10 @@ impl Sizes {
 }
 
 /// Why a line was not served. Nothing was read of it nor written to it.
-#[derive(Clone, Copy, Debug, PartialEq, Eq)]
+#[derive(Clone, Copy, Debug, Error, PartialEq, Eq)]
 pub enum ServeRefusal {
     /// There is no memory for the shards or the connection, or the system gives no random bytes for a hash.
+    #[error("out of memory for the shards or the connection, or no random bytes from the system")]
     Memory,
 }
 
