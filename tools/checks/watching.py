@@ -241,6 +241,27 @@ def each_counter_follows_a_conversation():
         equal(1 <= server.values()["memcached_uptime_seconds"] - before <= 10, True)
 
 
+def those_who_wait_are_counted():
+    """Connections beyond the seats wait in the system's queue, and leave it one by one; who waits at another port isn't counted."""
+    with Watched("--seats", 2) as server, socket.create_server(("127.0.0.1", 0)) as other, Line(other.getsockname()[1]):
+        def found():
+            values = server.values()
+            return [values["memcached_current_connections"], values["mcd_connections_waiting"]]
+        equal(found(), [0, 0])
+        lines = []
+        try:
+            for there in range(1, 6):
+                lines.append(Line(server.port))
+                eventually(found, [min(there, 2), max(there - 2, 0)])
+            for waiting in (2, 1, 0):
+                lines.pop(0).close()
+                eventually(found, [2, waiting])
+        finally:
+            for line in lines:
+                line.close()
+        eventually(found, [0, 0])
+
+
 # What is asked, what is answered, and which counts that moves: the kind of command and what came of it.
 ASKED = [
     (b"set a 0 0 1\r\n7\r\n", b"STORED\r\n", "set hit"),
@@ -386,7 +407,7 @@ CHECKS = [
     an_idle_client_is_closed, one_that_never_sent_is_closed, one_that_sends_stays, none_is_closed_unasked, one_amid_a_block_is_closed,
     one_that_takes_nothing_is_closed, dead_connections_free_their_seats, each_connection_is_told, one_that_breaks_is_told,
     one_that_is_idle_is_told, what_finds_no_room_is_counted, an_accept_that_fails_is_told, each_counter_follows_a_conversation,
-    each_command_is_counted_by_what_came_of_it, items_and_evictions_are_told,
+    those_who_wait_are_counted, each_command_is_counted_by_what_came_of_it, items_and_evictions_are_told,
     the_version_is_the_programs, promtool_reads_the_text, the_other_pages, it_is_told_to_this_machine_alone, a_taken_address_is_told,
     bad_http_harms_nobody,
 ]

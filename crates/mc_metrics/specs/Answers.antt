@@ -4,6 +4,7 @@ use Rattle.mc_watch.specs.declared.counts.Totals.{Totals}
 use Rattle.mc_metrics.specs.declared.pages.Target.{Target}
 use Rattle.mc_metrics.specs.declared.pages.Target.TheVariants.{Metrics, Health, Page, Nothing}
 use Rattle.mc_metrics.specs.declared.reading.Facts.{Facts}
+use Rattle.mc_metrics.specs.Backlog.{AreWaiting}
 use Rattle.mc_metrics.specs.Metrics.{metrics_text}
 use Rattle.http.specs.declared.request.Request.{Request}
 use Rattle.http.specs.Request.{head_of}
@@ -31,9 +32,10 @@ status_at Nothing = 404
 abbrev pub status_of : List ℕ → List ℕ → ℕ
 status_of method path = if is_read method then status_at (target_of path) else 405
 
--- the metrics of a server with these facts that has run for so many seconds, as they were at some moment
+-- the metrics of a server with these facts that has run for so many seconds, as they were at some moment; those who wait are counted by tables that were read
 abbrev pub AreMetrics : Facts → ℕ → List ℕ → Type 0
-AreMetrics facts uptime text = (totals : Totals) × (text ≡ metrics_text (record { facts = facts; totals = totals; uptime = uptime }))
+AreMetrics facts uptime text =
+    (totals : Totals) × (waiting : ℕ) × AreWaiting facts.port waiting × (text ≡ metrics_text (record { facts = facts; totals = totals; waiting = waiting; uptime = uptime }))
 
 -- the text at the target, of a server with these facts that has run for so many seconds: the metrics, and behind them those of each shard
 abbrev pub IsTextAt : Target → Facts → ℕ → List ℕ → Type 0

@@ -1,3 +1,4 @@
 pub mod Address
 pub mod Answers
+pub mod Backlog
 pub mod Metrics

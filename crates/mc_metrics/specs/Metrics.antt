@@ -1,7 +1,6 @@
 -- The text of the metrics, as Prometheus reads them.
 use Rattle.std.specs.Prelude.{ℕ, List, [], ◌∷◌, ◌++◌, ◌-◌, codes}
 use Rattle.std.specs.Fmt.{decimal}
-use Rattle.mc_watch.specs.declared.counts.Totals.{Totals}
 use Rattle.mc_watch.specs.declared.shard_counts.CommandTotals.{CommandTotals}
 use Rattle.mc_watch.specs.declared.shard_counts.ShardTotals.{ShardTotals}
 use Rattle.mc_metrics.specs.declared.reading.Reading.{Reading}
@@ -26,15 +25,16 @@ server_text reading =
     ++ gauge_text (codes "memcached_max_connections") (codes "How many connections are served at a time.") reading.facts.seats)))
 
 -- those that are open are those that were accepted and have not ended
-abbrev pub connections_text : Totals → List ℕ
-connections_text totals =
-    gauge_text (codes "memcached_current_connections") (codes "How many connections are open.") (totals.accepted - totals.ended)
-    ++ (counter_text (codes "memcached_connections_total") (codes "How many connections were accepted.") totals.accepted
-    ++ (counter_text (codes "mcd_connections_broken_total") (codes "How many connections failed, or were idle for too long.") totals.broken
-    ++ (counter_text (codes "mcd_accepts_failed_total") (codes "How many accepts failed.") totals.failed
-    ++ (counter_text (codes "mcd_commands_total") (codes "Commands of the connections that have ended.") totals.commands
-    ++ (counter_text (codes "memcached_read_bytes_total") (codes "Bytes read of all connections.") totals.read
-    ++ counter_text (codes "memcached_written_bytes_total") (codes "Bytes written to all connections.") totals.written)))))
+abbrev pub connections_text : Reading → List ℕ
+connections_text reading =
+    gauge_text (codes "memcached_current_connections") (codes "How many connections are open.") (reading.totals.accepted - reading.totals.ended)
+    ++ (gauge_text (codes "mcd_connections_waiting") (codes "How many connections wait to be accepted, in the system's queue.") reading.waiting
+    ++ (counter_text (codes "memcached_connections_total") (codes "How many connections were accepted.") reading.totals.accepted
+    ++ (counter_text (codes "mcd_connections_broken_total") (codes "How many connections failed, or were idle for too long.") reading.totals.broken
+    ++ (counter_text (codes "mcd_accepts_failed_total") (codes "How many accepts failed.") reading.totals.failed
+    ++ (counter_text (codes "mcd_commands_total") (codes "Commands of the connections that have ended.") reading.totals.commands
+    ++ (counter_text (codes "memcached_read_bytes_total") (codes "Bytes read of all connections.") reading.totals.read
+    ++ counter_text (codes "memcached_written_bytes_total") (codes "Bytes written to all connections.") reading.totals.written))))))
 
 -- how often a kind of command came to this: 34 is the quotation mark
 abbrev pub status_text : (name status : List ℕ) (count : ℕ) → List ℕ
@@ -78,4 +78,4 @@ abbrev pub behind_version : List ℕ
 behind_version = (34 ∷ codes "} 1") ++ (10 ∷ [])
 
 abbrev pub metrics_text : Reading → List ℕ
-metrics_text reading = before_version ++ (reading.facts.version.now ++ (behind_version ++ (server_text reading ++ (connections_text reading.totals ++ (items_text reading.totals.shards ++ commands_text reading.totals.shards)))))
+metrics_text reading = before_version ++ (reading.facts.version.now ++ (behind_version ++ (server_text reading ++ (connections_text reading ++ (items_text reading.totals.shards ++ commands_text reading.totals.shards)))))

@@ -3,6 +3,7 @@
 #![tactic(auto)]
 
 mod address;
+mod backlog;
 mod by_shard;
 mod history;
 mod page;

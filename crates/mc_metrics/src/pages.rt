@@ -1,7 +1,9 @@
 //! What is answered to a request.
 ghost use Rattle.std.specs.Prelude.{◌≡◌, IfOk, string_bytes};
 ghost use Rattle.mc_metrics.specs.Answers.{AreMetrics, IsAnswer, IsTextAt, status_at, target_of};
+ghost use Rattle.mc_metrics.specs.Backlog.{AreWaiting};
 
+use crate::backlog::Tables;
 use crate::by_shard::by_shard;
 use crate::history::History;
 use crate::page::write_page;
@@ -12,6 +14,8 @@ use http::{HeaderValue, Request, StatusCode, header};
 use http_server::{Response, Service};
 use mc_watch::Counts;
 use std::alloc::{AllocError, Global};
+use std::fs::File;
+use std::rt::Files;
 
 /// What a path leads to.
 #[derive(Clone, Copy, Debug, PartialEq, Eq)]
@@ -68,6 +72,8 @@ pub struct Pages {
     alloc: Global,
     facts: Facts,
     counts: Counts,
+    /// Where it is read how many connections wait.
+    tables: Tables,
     /// How long the server has run, in seconds.
     uptime: u64,
     history: History,
@@ -75,11 +81,17 @@ pub struct Pages {
 
 impl Pages {
     /// Of a server that has just begun.
-    pub fn new(alloc: Global, facts: Facts, counts: Counts) -> Result<Pages, AllocError> {
+    pub fn new<R: Files<File = File>>(
+        rt: &R,
+        alloc: Global,
+        facts: Facts,
+        counts: Counts,
+    ) -> Result<Pages, AllocError> {
         Ok(Pages {
             alloc,
             facts,
             counts,
+            tables: Tables::open(rt, alloc),
             uptime: 0,
             history: History::new(alloc)?,
         })
@@ -99,10 +111,12 @@ impl Pages {
     fn reading(&self) -> Reading
         ensures facts { result.facts ≡ self.now.facts }
         ensures uptime { result.uptime ≡ self.now.uptime }
+        ensures waiting { AreWaiting self.now.facts.port result.waiting }
     {
         Reading {
             facts: self.facts,
             totals: self.counts.totals(),
+            waiting: self.tables.waiting(self.facts.port),
             uptime: self.uptime,
         }
     }

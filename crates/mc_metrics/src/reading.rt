@@ -6,6 +6,8 @@ use mc_watch::Totals;
 pub struct Facts {
     /// The version of the program.
     pub version: &'static str,
+    /// The port at which it listens for clients.
+    pub port: u16,
     /// How many shards there are; each has a thread.
     pub shards: u64,
     /// How many connections are served at a time.
@@ -21,6 +23,8 @@ pub struct Reading {
     pub facts: Facts,
     /// What its threads have counted.
     pub totals: Totals,
+    /// How many connections wait to be accepted.
+    pub waiting: u64,
     /// How long it has run, in seconds.
     pub uptime: u64,
 }

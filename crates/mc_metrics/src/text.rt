@@ -3,7 +3,7 @@ ghost use Rattle.std.specs.Prelude.{◌≡◌, Some, IfOk, string_bytes};
 ghost use Rattle.mc_metrics.specs.Metrics.{command_text, commands_text, connections_text, counter_text, gauge_text, items_text, metrics_text, server_text, status_text};
 
 use crate::reading::Reading;
-use mc_watch::{CommandTotals, ShardTotals, Totals};
+use mc_watch::{CommandTotals, ShardTotals};
 use std::alloc::{AllocError, Global};
 use std::fmt;
 
@@ -21,7 +21,7 @@ struct OfServer<'a>(&'a Reading);
 
 /// What is told of its connections.
 #[derive(Drop)]
-struct OfConnections<'a>(&'a Totals);
+struct OfConnections<'a>(&'a Reading);
 
 /// How often a kind of command came to this: its name, what it came to, and the count.
 #[derive(Drop)]
@@ -103,9 +103,12 @@ impl fmt::Display for OfConnections<'_> {
     ghost output = { λ told. Some (connections_text told.0.now) };
 
     fn fmt<W: fmt::Write>(&self, f: &mut fmt::Formatter<W>) -> fmt::Result {
-        let OfConnections(totals) = self;
+        let OfConnections(reading) = self;
+        let totals = &reading.totals;
         let open = "How many connections are open.";
         let open = Gauge("memcached_current_connections", open, totals.open());
+        let waiting = "How many connections wait to be accepted, in the system's queue.";
+        let waiting = Gauge("mcd_connections_waiting", waiting, reading.waiting);
         let accepted = "How many connections were accepted.";
         let accepted = Counter("memcached_connections_total", accepted, totals.accepted);
         let broken = "How many connections failed, or were idle for too long.";
@@ -123,7 +126,7 @@ impl fmt::Display for OfConnections<'_> {
         let written = Counter("memcached_written_bytes_total", written, totals.written);
         write!(
             f,
-            "{open}{accepted}{broken}{failed}{commands}{read}{written}"
+            "{open}{waiting}{accepted}{broken}{failed}{commands}{read}{written}"
         )
     }
 }
@@ -196,7 +199,7 @@ impl fmt::Display for Metrics<'_> {
         let reading = self.reading;
         let version = reading.facts.version;
         let server = OfServer(reading);
-        let connections = OfConnections(&reading.totals);
+        let connections = OfConnections(reading);
         let items = OfItems(&reading.totals.shards);
         let commands = OfCommands(&reading.totals.shards);
         write!(

@@ -12,11 +12,13 @@ use mc_options::Limits;
 use mc_serve::{ServeRefusal, serve_tcp};
 use mc_server::MachineClock;
 use std::alloc::Global;
+use std::fs::File;
 use std::io::Eprint;
 use std::net::{Net, TcpListener, TcpStream};
 use std::os::fd::AsRawFd;
 use std::process::ExitCode;
 use std::random::RandomSource;
+use std::rt::Files;
 use std::sync::Wait;
 use std::thread::Threads;
 use std::{io, time};
@@ -31,6 +33,7 @@ pub fn listen<
         + Wait
         + RandomSource
         + time::Clock
+        + Files<File = File>
         + Net<Listener = TcpListener, Stream = TcpStream>
         + Eprint
         + Alloc<A = Global>
@@ -62,7 +65,7 @@ pub fn listen<
     let _ = listen_again(listener.as_raw_fd(), QUEUE);
     let _ = eprintln!(rt; "listening {local}");
     tell_files(rt, seats, limits.shards);
-    let (watch, watching) = match start_watching(rt, seats, limits, wishes) {
+    let (watch, watching) = match start_watching(rt, local.port(), seats, limits, wishes) {
         Ok(begun) => begun,
         Err(NotWatching::Memory) => return refuse(rt, "out of memory"),
         Err(NotWatching::Thread) => return refuse_threads(rt, limits.shards),

@@ -6,9 +6,11 @@ use mc_metrics::{Facts, MetricsServer, Pages, address_of};
 use mc_options::Limits;
 use mc_watch::{Counts, Dismissal, Patience, Reports, Seconds, Watch, reporters};
 use std::alloc::{AllocError, Global};
+use std::fs::File;
 use std::io::Eprint;
 use std::net::{Net, TcpListener, TcpStream};
 use std::random::RandomSource;
+use std::rt::Files;
 use std::sync::{Arc, Wait};
 use std::thread::{JoinHandle, Threads};
 use std::{io, thread, time};
@@ -58,13 +60,14 @@ pub struct Watching {
     tellers: Vec<Teller>,
 }
 
-/// Starts to watch what is wished of a server of so many seats and these limits: what the server has to tell, and the threads
-/// that tell it on.
+/// Starts to watch what is wished of a server at this port, of so many seats and these limits: what the server has to tell, and
+/// the threads that tell it on.
 pub fn start_watching<
     R: Threads
         + Wait
         + RandomSource
         + time::Clock
+        + Files<File = File>
         + Net<Listener = TcpListener, Stream = TcpStream>
         + Eprint
         + Alloc<A = Global>
@@ -74,6 +77,7 @@ pub fn start_watching<
         + 'static,
 >(
     rt: &R,
+    port: u16,
     seats: usize,
     limits: Limits,
     wishes: Wishes<'_>,
@@ -81,7 +85,7 @@ pub fn start_watching<
     let mut watching = Watching {
         tellers: Vec::new(rt.alloc()),
     };
-    match watching.begin(rt, seats, limits, wishes) {
+    match watching.begin(rt, port, seats, limits, wishes) {
         Ok(watch) => Ok((watch, watching)),
         Err(fault) => {
             watching.end(rt);
@@ -96,6 +100,7 @@ impl Watching {
             + Wait
             + RandomSource
             + time::Clock
+            + Files<File = File>
             + Net<Listener = TcpListener, Stream = TcpStream>
             + Eprint
             + Alloc<A = Global>
@@ -106,6 +111,7 @@ impl Watching {
     >(
         &mut self,
         rt: &R,
+        port: u16,
         seats: usize,
         limits: Limits,
         wishes: Wishes<'_>,
@@ -125,7 +131,7 @@ impl Watching {
         if let Some(word) = wishes.metrics {
             let counts = Counts::new(alloc, limits.shards)?;
             watch.counts = Some(counts.share(alloc)?);
-            let pages = Pages::new(alloc, facts_of(seats, limits), counts)?;
+            let pages = Pages::new(rt, alloc, facts_of(port, seats, limits), counts)?;
             self.tell_metrics(rt, word, pages)?;
         }
         Ok(watch)
@@ -199,7 +205,8 @@ impl Watching {
 }
 
 /// What is told of the server beside what it counts.
-fn facts_of(seats: usize, limits: Limits) -> Facts
+fn facts_of(port: u16, seats: usize, limits: Limits) -> Facts
+    ensures port { result.port ≡ port }
     ensures shards { result.shards ≡ limits.shards }
     ensures seats { result.seats ≡ seats }
     ensures limit { result.limit_bytes ≡ min (limits.shards * limits.bytes) (2 ^ 64 - 1) }
@@ -207,6 +214,7 @@ fn facts_of(seats: usize, limits: Limits) -> Facts
     let shards = limits.shards as u64;
     Facts {
         version: VERSION,
+        port,
         shards,
         seats: seats as u64,
         limit_bytes: shards.saturating_mul(limits.bytes as u64),
