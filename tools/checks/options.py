@@ -77,6 +77,54 @@ def memcacheds_rules():
         row("--drop-in", given, memcacheds)
 
 
+# How connections of other protocols begin: HTTP as curl and browsers send it, memcached's binary protocol, TLS; and what is answered by
+# the server's own rules, where no more is sent.
+FOREIGN = [
+    (b"GET / HTTP/1.1\r\nHost: a\r\nUser-Agent: curl/8.0\r\nAccept: */*\r\n\r\n", 5 * b"ERROR\r\n"),
+    (b"POST /a HTTP/1.1\r\nHost: a\r\n\r\nset a 0 0 1\r\nx\r\n", 3 * b"ERROR\r\n" + STORED),
+    *((b"%s /a HTTP/1.1\r\n" % method, b"ERROR\r\n") for method in (b"HEAD", b"PUT", b"DELETE", b"OPTIONS", b"PATCH", b"TRACE")),
+    (b"\x80\x0b" + bytes(22) + b"\r\n", b"ERROR\r\n"),
+    (b"\x16\x03\x01\x02\0\x01\0\x01\xfc\x03\x03\r\n", b"ERROR\r\n"),
+]
+
+# These begin much like them, and are lines by both rules.
+ALMOST_FOREIGN = [
+    (b"get /key\r\n", b"END\r\n"), (b"GET a\r\n", b"ERROR\r\n"), (b"\x16\x02\r\n", b"ERROR\r\n"),
+    (b"mn\r\nGET / HTTP/1.1\r\n", b"MN\r\nERROR\r\n"),
+]
+
+
+def all_of(line):
+    """What comes until the connection is closed, also where its peer had not read all that was sent."""
+    found = b""
+    try:
+        while got := line.socket.recv(1 << 18):
+            found += got
+    except ConnectionResetError:
+        pass
+    return found
+
+
+def another_protocol():
+    """By memcached's rules it is closed at once and without a byte, and while the client could send more."""
+    with Server() as own, Server("--drop-in") as memcacheds:
+        for given, wanted in FOREIGN:
+            with Line(own.port) as line:
+                line.send(given)
+                line.end()
+                equal(line.rest(), wanted)
+            with Line(memcacheds.port, timeout=10) as line:
+                line.send(given)
+                equal((given, all_of(line)), (given, b""))
+        for server in (own, memcacheds):
+            for given, wanted in ALMOST_FOREIGN:
+                with Line(server.port) as line:
+                    line.ask(given, wanted)
+        # Nothing of what they sent was run.
+        with Line(memcacheds.port) as line:
+            line.ask(b"get a\r\n", b"END\r\n")
+
+
 def the_worked_rows_by_memcacheds_rules():
     """Each row through the program; where one has a second output it is that of memcached's rules."""
     for name, options, given, wanted in rows(drop_in=True):
@@ -328,7 +376,7 @@ def what_the_system_refuses_is_told():
 
 
 CHECKS = [
-    memcacheds_rules, the_worked_rows_by_memcacheds_rules, a_value_limit_of_1024, values_of_2_mib, a_budget_of_1024, a_budget_of_1_mib, each_number_of_shards, two_seats,
+    memcacheds_rules, another_protocol, the_worked_rows_by_memcacheds_rules, a_value_limit_of_1024, values_of_2_mib, a_budget_of_1024, a_budget_of_1_mib, each_number_of_shards, two_seats,
     each_window, the_clock_goes_on, the_clock_tells_the_year, each_fault_of_the_command_line, each_fault_of_a_word,
     what_cannot_be_read_is_told, what_cannot_be_written_is_told, a_taken_address_is_told, few_open_files_are_told,
     what_the_system_refuses_is_told,

@@ -15,3 +15,4 @@ pub mod Sent
 pub mod TcpSent
 pub mod One
 pub mod Connections
+mod RowsForeign

@@ -6,4 +6,5 @@ pub mod Seats
 pub mod Served
 pub mod Over
 pub mod One
+pub mod Foreign
 pub mod Tcp

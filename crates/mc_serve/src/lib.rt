@@ -4,11 +4,13 @@
 
 mod door;
 mod entrance;
+mod foreign;
 mod free_seats;
 mod lingering;
 mod one_door;
 mod over;
 mod part;
+mod peek;
 mod refusal;
 mod seats;
 mod serving;
@@ -26,6 +28,7 @@ pub use door::{Arrival, Door};
 pub use mc_server::Sizes;
 pub use one_door::{OneDoor, Returned, ServedLine};
 pub use over::{Report, serve_over};
+pub use peek::Peek;
 pub use refusal::ServeRefusal;
 pub use serving::serve;
 pub use tcp::serve_tcp;

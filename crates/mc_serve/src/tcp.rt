@@ -1,7 +1,8 @@
 //! Serves connections over TCP.
 ghost use Rattle.std.specs.Prelude.{◌≡◌, ◌<◌, ◌^◌, ◌-◌, [], None, false, IfOk, length, map, min};
 ghost use Rattle.std.specs.List.{AllByRecursion};
-ghost use Rattle.mc_server.specs.Sizes.{sizes_of};
+ghost use Rattle.mc_command.specs.Rules.{is_drop_in};
+ghost use Rattle.mc_server.specs.Sizes.{rules_of, sizes_of};
 ghost use Rattle.mc_serve.specs.Sizes.{MayServe};
 ghost use Rattle.mc_serve.specs.Tcp.{ServesConnections, gone_count, told_tcp};
 ghost use Rattle.mc_serve.specs.Told.{Told};
@@ -56,7 +57,7 @@ pub fn serve_tcp<
     };
     let mut watch = watch;
     let mut entrance = Entrance::new(alloc, listener, connections, &sleepers, watch.entrance()?)?;
-    let doors = doors_to(rt, alloc, &mut entrance, seats, &mut watch)?;
+    let doors = doors_to(rt, alloc, &mut entrance, seats, sizes, &mut watch)?;
     let bell = entrance.bell()?;
     let gate = ShardWatch {
         shards: watch.shards(alloc)?,
@@ -93,20 +94,24 @@ fn polling_sleepers<R: Net>(
     Ok(sleepers)
 }
 
-/// A door for each seat, all to the same entrance.
+/// A door for each seat, all to the same entrance. By memcached's rules they are wary.
 fn doors_to<R: time::Clock + Copy + Drop>(
     rt: &R,
     alloc: Global,
     entrance: &mut Entrance,
     seats: usize,
+    sizes: Sizes,
     watch: &mut Watch,
 ) -> Result<Vec<TcpDoor<R>>, AllocError>
     ensures count { IfOk result (λ doors. length doors.items ≡ seats) }
     ensures new { IfOk result (λ doors. AllByRecursion (λ door. told_tcp door.is_out door.gone.items door.is_over ≡ Told None None [] false) doors.items) }
+    ensures wary { IfOk result (λ doors. AllByRecursion (λ door. door.is_wary ≡ is_drop_in (rules_of sizes)) doors.items) }
 {
+    let is_wary = sizes.rules().is_drop_in();
     let mut doors = Vec::with_capacity(alloc, seats)?;
     for _ in 0..seats {
-        doors.push(TcpDoor::new(*rt, entrance.next_way(alloc, watch)?))?;
+        let way = entrance.next_way(alloc, watch)?;
+        doors.push(TcpDoor::new(*rt, way, is_wary))?;
     }
     Ok(doors)
 }

@@ -26,6 +26,8 @@ pub struct Gone {
 pub struct TcpDoor<R> {
     rt: R,
     way: Way,
+    /// Connections that begin as another protocol's are closed: so it is by memcached's rules.
+    is_wary: bool,
     /// It has told the entrance that the seat is free.
     told_free: bool,
     /// The last connection, while it waits for the end of its peer's bytes.
@@ -44,12 +46,14 @@ pub struct TcpDoor<R> {
 
 impl<R: time::Clock> TcpDoor<R> {
     /// No connection came in yet. The runtime tells how long a connection lingers.
-    pub(crate) fn new(rt: R, way: Way) -> TcpDoor<R>
-        ensures { told_tcp result.is_out result.gone.items result.is_over ≡ Told None None [] false }
+    pub(crate) fn new(rt: R, way: Way, is_wary: bool) -> TcpDoor<R>
+        ensures wary { result.is_wary ≡ is_wary }
+        ensures told { told_tcp result.is_out result.gone.items result.is_over ≡ Told None None [] false }
     {
         TcpDoor {
             rt,
             way,
+            is_wary,
             told_free: false,
             lingering: None,
             is_out: false,
@@ -81,6 +85,7 @@ impl<R: time::Clock> TcpDoor<R> {
     /// The connection that was handed to the seat, if one was.
     fn next(&mut self) -> Option<TcpLine<TcpStream>>
         ensures new { IfSome result (λ line. sight_of line ≡ new_line) }
+        ensures wary { IfSome result (λ line. line.wary ≡ self.old.is_wary) }
         ensures told { told_tcp self.new.is_out self.new.gone.items self.new.is_over ≡ told_tcp self.old.is_out self.old.gone.items self.old.is_over }
     {
         let Caller { mut stream, peer } = self.way.come.pop().ok()?;
@@ -90,7 +95,8 @@ impl<R: time::Clock> TcpDoor<R> {
             self.way.watch.turn_away();
             return None;
         }
-        Some(TcpLine::polled(stream, self.way.watch.open(peer)))
+        let meter = self.way.watch.open(peer);
+        Some(TcpLine::polled(stream, meter, self.is_wary))
     }
 
     /// Tells the entrance that the seat is free, once.

@@ -1,12 +1,15 @@
 //! A TCP connection as a line.
-ghost use Rattle.std.specs.Prelude.{◌≡◌, ◌<◌, ◌≤◌, [], false, IfOk, IfSome, OnErr, length, take};
+ghost use Rattle.std.specs.Prelude.{◌≡◌, ◌<◌, ◌≤◌, [], false, true, IfNone, IfOk, IfSome, OnErr, length, take};
 ghost use Rattle.std.specs.Io.{ReadsAtMost, WritesAtMost};
 ghost use Rattle.std.specs.Io.KnownBytes.{Appends, Consumes, Keeps};
 ghost use Rattle.std.specs.Io.Slices.{io_slices_bytes};
 ghost use Rattle.mc_wire.specs.Outlet.{Reads, asked, broke, gave, took};
 ghost use Rattle.mc_seat.specs.Lines.{ReadsIfReady};
+ghost use Rattle.mc_serve.specs.Foreign.{EndsWhere, ShowsNext};
 ghost use Rattle.mc_serve.specs.Tcp.{ReadsStream, TellsWrite, WritesStream, new_line, sight_of};
 
+use crate::foreign::{FIRST_BYTES, is_foreign};
+use crate::peek::Peek;
 use crate::trail::Trail;
 use crate::vectored::VectoredWrite;
 use http_server::Log;
@@ -29,6 +32,8 @@ pub struct TcpLine<S> {
     may_write: bool,
     /// A read that doesn't fill its room doesn't tell that nothing is left.
     is_closing: bool,
+    /// Nothing was read yet, and first bytes that are another protocol's are its end.
+    wary: bool,
     failed: bool,
     /// The last read found the end of the input.
     ended: bool,
@@ -41,10 +46,11 @@ pub struct TcpLine<S> {
 }
 
 impl<S> TcpLine<S> {
-    /// The stream as a line that is asked anew at each call: nothing was read of it, nor written to it.
+    /// The stream as a line that is asked anew at each call: nothing was read of it, nor written to it. It serves whatever comes.
     pub fn new(stream: S) -> TcpLine<S>
         ensures stream { result.stream ≡ stream }
         ensures new { sight_of result ≡ new_line }
+        ensures serves { result.wary ≡ false }
     {
         TcpLine {
             stream,
@@ -52,6 +58,7 @@ impl<S> TcpLine<S> {
             may_read: true,
             may_write: true,
             is_closing: false,
+            wary: false,
             failed: false,
             ended: false,
             given: Trail::new(),
@@ -62,14 +69,16 @@ impl<S> TcpLine<S> {
     }
 
     /// The same of a stream that is registered with a poll, which tells at first what the stream is ready for. It fails once
-    /// the meter tells that it is idle.
-    pub fn polled(stream: S, meter: Meter) -> TcpLine<S>
+    /// the meter tells that it is idle. Where it is wary, first bytes that are another protocol's are its end, and are left unread.
+    pub fn polled(stream: S, meter: Meter, wary: bool) -> TcpLine<S>
         ensures stream { result.stream ≡ stream }
         ensures new { sight_of result ≡ new_line }
+        ensures wary { result.wary ≡ wary }
     {
         let mut line = TcpLine::new(stream);
         line.is_polled = true;
         line.may_read = false;
+        line.wary = wary;
         line.meter = meter;
         line
     }
@@ -83,6 +92,7 @@ impl<S> TcpLine<S> {
     fn ask(&mut self)
         ensures sight { sight_of self.new ≡ asked (sight_of self.old) }
         ensures stream { self.new.stream ≡ self.old.stream }
+        ensures same { self.new.wary ≡ self.old.wary }
     {
         self.reads = self.reads.and(&self.given, &self.taken);
     }
@@ -92,7 +102,9 @@ impl<S> TcpLine<S> {
         requires { count ≤ length room.now }
         ensures sight { sight_of self.new ≡ gave (take count room.now) (sight_of self.old) }
         ensures stream { self.new.stream ≡ self.old.stream }
+        ensures serves { self.new.wary ≡ false }
     {
+        self.wary = false;
         self.given.add(room.split_at(count).0);
         self.ended = count == 0;
         self.meter.note_read(count);
@@ -144,6 +156,7 @@ pub(crate) fn read_some<S: Read>(stream: &mut S, room: &mut [u8]) -> io::Result<
     ensures same { length room.new ≡ length room.old }
     ensures ok { IfOk result (λ count. Consumes (S.remaining stream.old) (S.remaining stream.new) (take count room.new)) }
     ensures err { OnErr result (Keeps (S.remaining stream.old) (S.remaining stream.new)) }
+    ensures end { 0 < length room.old → IfOk result (EndsWhere false (S.remaining stream.old)) }
 {
     for _ in 0..u64::MAX {
         match stream.read(room) {
@@ -152,6 +165,37 @@ pub(crate) fn read_some<S: Read>(stream: &mut S, room: &mut [u8]) -> io::Result<
         }
     }
     Err(io::Error::from(ErrorKind::Interrupted))
+}
+
+/// Looks at the bytes that come next, again where a signal interrupts it.
+fn peek_some<S: Peek>(stream: &S, room: &mut [u8]) -> io::Result<usize>
+    ensures bound { ReadsAtMost result room.new }
+    ensures same { length room.new ≡ length room.old }
+    ensures next { IfOk result (ShowsNext (S.remaining stream.now) room.new) }
+{
+    for _ in 0..u64::MAX {
+        match stream.peek(room) {
+            Err(fault) if fault.kind() == ErrorKind::Interrupted => {}
+            done => return done,
+        }
+    }
+    Err(io::Error::from(ErrorKind::Interrupted))
+}
+
+/// Reads what comes first: nothing, and all of it is left, where it is another protocol's.
+fn read_first<S: Peek>(stream: &mut S, room: &mut [u8]) -> io::Result<usize>
+    ensures bound { ReadsAtMost result room.new }
+    ensures same { length room.new ≡ length room.old }
+    ensures ok { IfOk result (λ count. Consumes (S.remaining stream.old) (S.remaining stream.new) (take count room.new)) }
+    ensures err { OnErr result (Keeps (S.remaining stream.old) (S.remaining stream.new)) }
+    ensures end { 0 < length room.old → IfOk result (EndsWhere true (S.remaining stream.old)) }
+{
+    let mut first = [0; FIRST_BYTES];
+    let count = peek_some(stream, &mut first)?;
+    if is_foreign(first.split_at(count).0) {
+        return Ok(0);
+    }
+    read_some(stream, room)
 }
 
 /// Writes, again where a signal interrupts it.
@@ -189,7 +233,7 @@ fn are_empty(bufs: &[IoSlice<'_>]) -> bool {
     bufs.iter().all(|buf| buf.as_slice().is_empty())
 }
 
-impl<S: Read + VectoredWrite> Outlet for TcpLine<S> {
+impl<S: Peek + VectoredWrite> Outlet for TcpLine<S> {
     ghost sight = { sight_of };
 
     fn write(&mut self, bytes: &[u8]) -> Result<usize, OutFault>
@@ -213,7 +257,7 @@ impl<S: Read + VectoredWrite> Outlet for TcpLine<S> {
     }
 }
 
-impl<S: Read + VectoredWrite> Line for TcpLine<S> {
+impl<S: Peek + VectoredWrite> Line for TcpLine<S> {
     fn read(&mut self, room: &mut [u8]) -> Result<usize, LineFault>
         ensures within { IfOk result (λ count. count ≤ length room.old) }
         ensures read { Reads room.new result (sight_of self.old) (sight_of self.new) }
@@ -238,6 +282,11 @@ impl<S: Read + VectoredWrite> Line for TcpLine<S> {
         ensures read { ReadsIfReady room.new result (sight_of self.old) (sight_of self.new) }
         // Just the bytes that it says came from the stream.
         ensures stream { ReadsStream room.new result (S.remaining self.old.stream) (S.remaining self.new.stream) }
+        // It reads as ended just where nothing is left, or it is wary and first bytes come that are another protocol's. After a read it
+        // is wary no more.
+        ensures end { 0 < length room.old → IfOk result (λ given. IfSome given (EndsWhere self.old.wary (S.remaining self.old.stream))) }
+        ensures serves { IfOk result (λ given. IfSome given (λ _. self.new.wary ≡ false)) }
+        ensures waits { IfOk result (λ given. IfNone given (self.new.wary ≡ self.old.wary)) }
     {
         if self.failed || (!self.may_read && self.meter.is_idle()) {
             self.ask();
@@ -247,7 +296,12 @@ impl<S: Read + VectoredWrite> Line for TcpLine<S> {
         if !self.may_read {
             return Ok(None);
         }
-        match read_some(&mut self.stream, room) {
+        let done = if self.wary {
+            read_first(&mut self.stream, room)
+        } else {
+            read_some(&mut self.stream, room)
+        };
+        match done {
             Ok(count) => {
                 self.ask();
                 self.give(room, count);

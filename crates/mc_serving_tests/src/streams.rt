@@ -1,9 +1,10 @@
 //! A connection over a stream that takes and gives little at a call, and whose calls a signal interrupts.
 use crate::asserting::{equal, holds};
 use mc_command::Profile;
-use mc_seat::Unwritten;
-use mc_serve::{TcpLine, VectoredWrite};
+use mc_seat::{Line, Ready, Unwritten};
+use mc_serve::{Peek, TcpLine, VectoredWrite};
 use mc_server::{Sizes, StillClock, serve_one};
+use mc_watch::Meter;
 use mc_wire::{Outlet, put_all};
 use std::alloc::Global;
 use std::io;
@@ -50,6 +51,16 @@ impl Read for Slow {
         let (place, _) = room.split_at_mut(count);
         place.copy_from_slice(front);
         self.input = rest;
+        Ok(count)
+    }
+}
+
+impl Peek for Slow {
+    fn peek(&self, room: &mut [u8]) -> io::Result<usize> {
+        let count = room.len().min(self.input.len());
+        let (front, _) = self.input.split_at(count);
+        let (place, _) = room.split_at_mut(count);
+        place.copy_from_slice(front);
         Ok(count)
     }
 }
@@ -119,5 +130,48 @@ fn a_line_is_served_over_it(rt: HostRuntime) -> Result<(), Fail> {
     drop(line);
     let wanted = b"STORED\r\nVALUE a 7 10\r\n0123456789\r\nEND\r\nMN\r\n";
     equal(&rt, stream.output.as_slice(), wanted.as_slice());
+    Ok(())
+}
+
+/// What other protocols send first.
+const FOREIGN: [&[u8]; 4] = [
+    b"GET / HTTP/1.1\r\n",
+    b"OPTIONS /a",
+    b"\x80\x0a\0\0",
+    b"\x16\x03\x01\x02\0\x01",
+];
+
+/// Lines that begin much like that.
+const LINES: [&[u8]; 3] = [b"get /key\r\n", b"GET a\r\n", b"\x16\x02\r\n"];
+
+/// How many bytes the first read of a line gives, wary or not, and how many are left.
+fn read_first(alloc: Global, input: &'static [u8], wary: bool) -> (Option<usize>, usize) {
+    let mut stream = Slow::new(alloc, input);
+    let mut line = TcpLine::polled(&mut stream, Meter::unwatched(), wary);
+    line.rouse(Ready::Open);
+    let mut room = [0; 16];
+    let given = line.read_if_ready(&mut room).unwrap_or(None);
+    drop(line);
+    (given, stream.input.len())
+}
+
+/// It reads as ended, and what came is left.
+#[test]
+fn another_protocol_ends_a_wary_line(rt: HostRuntime) -> Result<(), Fail> {
+    for input in FOREIGN {
+        let first = (Some(MOST), input.len().saturating_sub(MOST));
+        equal(
+            &rt,
+            read_first(rt.alloc(), input, true),
+            (Some(0), input.len()),
+        );
+        equal(&rt, read_first(rt.alloc(), input, false), first);
+    }
+    for input in LINES {
+        let first = (Some(MOST), input.len().saturating_sub(MOST));
+        equal(&rt, read_first(rt.alloc(), input, true), first);
+    }
+    equal(&rt, read_first(rt.alloc(), b"G", true), (Some(1), 0));
+    equal(&rt, read_first(rt.alloc(), b"", true), (Some(0), 0));
     Ok(())
 }

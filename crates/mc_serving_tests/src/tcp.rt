@@ -167,6 +167,7 @@ fn serve_idle<
         limit: 1,
     });
     let sizes = Sizes {
+        profile: Profile::Own,
         shards: 2,
         bytes: 65_536,
         ring: 64,

@@ -1,0 +1,37 @@
+-- How a connection begins that speaks another protocol than memcached's commands.
+use Rattle.std.specs.Prelude.{ℕ, ◌≡◌, ◌==◌, ◌&&◌, ◌||◌, ⊤, Bool, List, [], ◌∷◌, Option, Some, None, codes, length, nat_eq, take}
+use Rattle.std.specs.List.{list_any, starts_with}
+
+-- HTTP requests: a method, a blank and the begin of a path (RFC 9112, section 3)
+abbrev pub http_begins : List (List ℕ)
+http_begins = codes "GET /" ∷ codes "HEAD /" ∷ codes "POST /" ∷ codes "PUT /" ∷ codes "DELETE /" ∷ codes "OPTIONS /" ∷ codes "PATCH /" ∷ codes "TRACE /" ∷ []
+
+-- a request of memcached's binary protocol: its magic byte
+abbrev pub binary_begin : List ℕ
+binary_begin = 0x80 ∷ []
+
+-- TLS: a handshake, of whichever version (RFC 8446, section 5.1)
+abbrev pub tls_begin : List ℕ
+tls_begin = 0x16 ∷ 0x03 ∷ []
+
+-- whether these bytes, which come first, are those of an HTTP request
+unfoldable pub is_http : List ℕ → Bool
+is_http bytes = list_any (λ begin. starts_with nat_eq bytes begin) http_begins
+
+-- whether these bytes, which come first, are those of another protocol
+unfoldable pub is_foreign : List ℕ → Bool
+is_foreign bytes = starts_with nat_eq bytes binary_begin || starts_with nat_eq bytes tls_begin || is_http bytes
+
+-- so many bytes at most tell it
+abbrev pub first_bytes : ℕ
+first_bytes = 9
+
+-- Looking at the bytes that come next, where those are known, shows as many of them as there are and as there is room for.
+abbrev pub ShowsNext : Option (List ℕ) → List ℕ → ℕ → Type 0
+ShowsNext None room count = ⊤
+ShowsNext (Some bytes) room count = take count room ≡ take (length room) bytes
+
+-- A read of a line that is wary, or isn't, gives no byte just where what comes first is another protocol's, or nothing is left.
+abbrev pub EndsWhere : Bool → Option (List ℕ) → ℕ → Type 0
+EndsWhere wary None count = ⊤
+EndsWhere wary (Some bytes) count = (count == 0) ≡ ((wary && is_foreign (take first_bytes bytes)) || length bytes == 0)
