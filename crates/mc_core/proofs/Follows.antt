@@ -1,27 +1,26 @@
 -- The headline follows from the law.
-use Rattle.std.proofs.Common.{◌≡◌, ℕ, zero, suc, ◌+◌, ◌<◌, ◌≤◌, inl, inr, true, false, List, [], ◌∷◌, ◌++◌, length, map, drop, Some, refl, sym, ap, ◌∙◌, subst, arith}
+use Rattle.std.proofs.Common.{◌≡◌, ℕ, zero, suc, ◌+◌, ◌<◌, ◌≤◌, inl, inr, true, false, List, [], ◌∷◌, ◌++◌, length, map, take, drop, Some, sym, ap, ◌∙◌, subst, arith}
 use Rattle.std.specs.Prelude.{IsTrue, MatchBool}
-use Rattle.std.specs.List.{slice_get}
-use Rattle.std.proofs.lemmas.List.{length-map, take-append-drop, take_all}
+use Rattle.std.specs.List.{AllByRecursion, slice_get}
+use Rattle.std.proofs.lemmas.List.{length-map, take-append-drop}
 use Rattle.std.proofs.lemmas.Option.{same_Some, slice_get_within}
 use Rattle.mc_command.specs.declared.command.Command.{Command}
 use Rattle.mc_command.specs.declared.rules.Rules.{Rules}
 use Rattle.mc_ring.specs.Reply.{Shown}
 use Rattle.mc_split.specs.declared.plan.Piece.{Piece}
 use Rattle.mc_reader.specs.Spelling.{SpellsFront, is_last}
-use Rattle.mc_conn.specs.History.{Done, Taken, entries_of, taken_of}
+use Rattle.mc_conn.specs.History.{IsAnswered, Taken, taken_of, text_done, texts_of}
 use Rattle.mc_conn.specs.Due.{due, pieces}
 use Rattle.mc_conn.specs.Fits.{HasCome, Tells, counts}
 use Rattle.mc_conn.proofs.Gets.{all_at}
 use Rattle.mc_conn.proofs.Places.{piece_at}
 use Rattle.mc_conn.proofs.Counting.{count_from_come}
-use Rattle.mc_conn.proofs.Telling.{tells}
+use Rattle.mc_conn.proofs.Telling.{same_taken, tells, texts_first}
 use Rattle.mc_core.specs.Sizes.{Sizes, rules_of}
-use Rattle.mc_core.specs.Sized.{SpellAll}
 use Rattle.mc_core.specs.Log.{Entry, of_asker, on_shard, replies_in, reply_to}
 use Rattle.mc_core.specs.World.{Link, World, entries}
 use Rattle.mc_core.specs.Rest.{AtRest, IsAllReceived, IsAllSent, IsAllTaken}
-use Rattle.mc_core.specs.Headline.{AreAllReplies, AreReplies, Headline, IsLast, IsServed, history}
+use Rattle.mc_core.specs.Headline.{AreAllReplies, AreReplies, Headline, IsLast, IsServed, handed_bytes, history, replies_to}
 use Rattle.mc_core.specs.Law.{Law, LinkLaw}
 use Rattle.mc_core.proofs.Lists.{all_from, all_take, all_unmap}
 
@@ -47,27 +46,26 @@ are_replies sizes w k link l =
     record {
       begins = l.begins;
       whole = count_from_come sizes.shards link.handed link.taken (replies_in own) (answers own) l.handed l.fits (come_in_log sizes own link l);
-      commands = t.same;
       answered = t.answered;
-      texts = t.texts;
       bytes = t.bytes;
     }
 
-entries_taken : (history : List Done) → entries_of history ≡ map (λ (t : Taken). t.entry) (map taken_of history)
-entries_taken [] = refl
-entries_taken (done ∷ history) = ap (λ es. done.entry ∷ es) (entries_taken history)
+-- the history is of the commands taken
+pub replies_commands : (sizes : Sizes) (w : World) (k : ℕ) (link : Link) (count : ℕ) → map taken_of (history sizes w k link count) ≡ take count link.taken
+replies_commands sizes w k link count = same_taken sizes.shards (replies_in (of_asker k w.log)) 0 (take count link.taken)
+
+-- the replies handed out are its texts, one a command
+pub replies_texts : (sizes : Sizes) (w : World) (k : ℕ) (link : Link) → AreReplies sizes w k link → take link.handed (replies_to sizes w k link) ≡ map text_done (history sizes w k link link.handed)
+replies_texts sizes w k link replied = texts_first sizes.shards link.handed link.taken (replies_in (of_asker k w.log)) replied.whole
 
 -- where all is taken and handed out
 are_all_replies : (sizes : Sizes) (w : World) (k : ℕ) (link : Link) → LinkLaw sizes (of_asker k w.log) link → IsAllTaken sizes link → link.handed ≡ length link.taken → AreAllReplies sizes w k link
 are_all_replies sizes w k link l all handed =
     let t = told sizes (of_asker k w.log) link l in
-    let same : map taken_of (history sizes w k link link.handed) ≡ link.taken = t.same ∙ take_all link.handed link.taken (omega (arith, handed)) in
     record {
-      told = history sizes w k link link.handed;
-      commands = subst (λ es. SpellAll sizes link.fed es) (sym (entries_taken (history sizes w k link link.handed) ∙ ap (λ ts. map (λ (t : Taken). t.entry) ts) same)) all;
-      taken = same;
-      answered = t.answered;
-      bytes = t.bytes;
+      commands = all;
+      answered = subst (λ n. AllByRecursion (IsAnswered sizes.shards) (history sizes w k link n)) handed t.answered;
+      bytes = subst (λ n. handed_bytes sizes w k link ≡ texts_of (history sizes w k link n)) handed t.bytes;
     }
 
 at_rest : (sizes : Sizes) (w : World) (k : ℕ) (link : Link) → LinkLaw sizes (of_asker k w.log) link → link.broken ≡ false → AtRest sizes link → AreAllReplies sizes w k link

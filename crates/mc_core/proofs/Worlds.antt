@@ -11,7 +11,7 @@ use Rattle.mc_conn.proofs.Counting.{due_beyond}
 use Rattle.mc_core.specs.Sizes.{Sizes}
 use Rattle.mc_core.specs.Sized.{empty_shard}
 use Rattle.mc_core.specs.Log.{Entry, Leaves, of_asker, on_shard}
-use Rattle.mc_core.specs.World.{IsAt, IsLink, Link, World, empty_world, new_link, ran, sent_to, with_entry, with_link}
+use Rattle.mc_core.specs.World.{HoldsAnswerFor, IsAt, IsLink, Link, World, empty_world, new_link, ran, sent_to, with_entry, with_link}
 use Rattle.mc_core.specs.Rest.{AtRest}
 use Rattle.mc_core.specs.Events.{IsEmptyHand, IsFree, IsUnused, RunsNext}
 use Rattle.mc_core.specs.Law.{Law, LinkLaw}
@@ -90,7 +90,7 @@ pub at_unfollowed : (w : World) (seat k : ℕ) (link : Link) → IsAt w seat k l
 at_unfollowed w seat k link at j other after here same = at.last j other after here (same ∙ at.seat_is)
 
 -- nor is one whose answer is in a hand: one that was followed is at rest
-pub hand_unfollowed : (sizes : Sizes) (w : World) (shard k : ℕ) (link : Link) → Law sizes w → IsLink w k link → link.given shard < ran w k shard → IsUnfollowed w k link
+pub hand_unfollowed : (sizes : Sizes) (w : World) (shard k : ℕ) (link : Link) → Law sizes w → IsLink w k link → HoldsAnswerFor w shard k link → IsUnfollowed w k link
 hand_unfollowed sizes w shard k link l at ungiven j other after here same =
     let own = l.links k link at in
     let rest = l.rested k j link other after at here (sym same) in

@@ -1,10 +1,10 @@
 -- What holds of every world to which events lead.
-use Rattle.std.specs.Prelude.{ℕ, ◌≡◌, ◌+◌, ◌<◌, ◌≤◌, ◌⊎◌, false, List, ◌++◌, length, map, take, Some, IsTrue}
+use Rattle.std.specs.Prelude.{ℕ, ◌≡◌, ◌+◌, ◌<◌, ◌≤◌, ◌⊎◌, false, List, ◌++◌, length, take, Some, IsTrue}
 use Rattle.std.specs.List.{AllByRecursion, concat, slice_get}
 use Rattle.mc_split.specs.declared.plan.Piece.{Piece}
 use Rattle.mc_join.specs.Replies.{replies}
 use Rattle.mc_reader.specs.Spelling.{is_last}
-use Rattle.mc_conn.specs.History.{Done, IsAnswered, Taken, entries_of, taken_of, text_done, texts_of}
+use Rattle.mc_conn.specs.History.{Done, IsAnswered, Taken, texts_of}
 use Rattle.mc_conn.specs.Due.{due, forms_of, history_of, pieces}
 use Rattle.mc_core.specs.Sizes.{Sizes}
 use Rattle.mc_core.specs.Sized.{SpellAll, SpellFirst}
@@ -28,22 +28,20 @@ handed_bytes sizes w k link = concat (take link.handed (replies_to sizes w k lin
 abbrev pub history : Sizes → World → ℕ → Link → ℕ → List Done
 history sizes w k link count = history_of sizes.shards (replies_in (of_asker k w.log)) (take count link.taken)
 
--- The bytes handed are whole replies: one text a command, in the order of the commands that the bytes fed spell.
+-- The bytes handed are whole replies, one a command, in the order of the commands that the bytes fed spell: of each command
+-- handed out the answers of all its parts are in the log, and the bytes are the texts that these make.
 pub record AreReplies (sizes : Sizes) (w : World) (k : ℕ) (link : Link) : Type 0 where
   pub begins : SpellFirst sizes link.fed (entries link)
   pub whole : link.handed ≤ length (replies_to sizes w k link)
-  pub commands : map taken_of (history sizes w k link link.handed) ≡ take link.handed link.taken
   pub answered : AllByRecursion (IsAnswered sizes.shards) (history sizes w k link link.handed)
-  pub texts : take link.handed (replies_to sizes w k link) ≡ map text_done (history sizes w k link link.handed)
   pub bytes : handed_bytes sizes w k link ≡ texts_of (history sizes w k link link.handed)
 
--- The bytes handed are the replies to all commands that the bytes fed spell.
+-- The bytes handed are the replies to all commands that the bytes fed spell: all of these were taken, the answers of all parts
+-- of each are in the log, and the bytes are the texts that these make.
 pub record AreAllReplies (sizes : Sizes) (w : World) (k : ℕ) (link : Link) : Type 0 where
-  pub told : List Done
-  pub commands : SpellAll sizes link.fed (entries_of told)
-  pub taken : map taken_of told ≡ link.taken
-  pub answered : AllByRecursion (IsAnswered sizes.shards) told
-  pub bytes : handed_bytes sizes w k link ≡ texts_of told
+  pub commands : SpellAll sizes link.fed (entries link)
+  pub answered : AllByRecursion (IsAnswered sizes.shards) (history sizes w k link (length link.taken))
+  pub bytes : handed_bytes sizes w k link ≡ texts_of (history sizes w k link (length link.taken))
 
 -- A later connection has the seat.
 pub record IsFollowed (w : World) (k : ℕ) (link : Link) : Type 0 where

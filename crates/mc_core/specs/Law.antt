@@ -7,7 +7,7 @@ use Rattle.mc_conn.specs.Fits.{Fits, HasCome}
 use Rattle.mc_core.specs.Sizes.{Sizes}
 use Rattle.mc_core.specs.Sized.{SpellFirst}
 use Rattle.mc_core.specs.Log.{Entry, IsLawful, of_asker, on_shard, pieces_in, replies_in}
-use Rattle.mc_core.specs.World.{IsLink, Link, World, entries, ran, sent_to}
+use Rattle.mc_core.specs.World.{HoldsAnswerFor, IsLink, Link, World, entries, ran, sent_to}
 use Rattle.mc_core.specs.Rest.{AtRest}
 
 -- What holds of a connection and of the part of the log that is its own.
@@ -37,7 +37,7 @@ pub record Law (sizes : Sizes) (w : World) : Type 0 where
   pub links : (k : ℕ) (link : Link) → IsLink w k link → LinkLaw sizes (of_asker k w.log) link
   -- a worker's hand holds at most one answer
   pub one_ungiven : (s k : ℕ) (link : Link) → IsLink w k link → ran w k s ≤ link.given s + 1
-  pub one_asker : (s j k : ℕ) (one other : Link) → IsLink w j one → IsLink w k other → one.given s < ran w j s → other.given s < ran w k s → j ≡ k
+  pub one_asker : (s j k : ℕ) (one other : Link) → IsLink w j one → IsLink w k other → HoldsAnswerFor w s j one → HoldsAnswerFor w s k other → j ≡ k
   -- a connection that was followed is at rest
   pub rested : (j k : ℕ) (earlier later : Link) → j < k → IsLink w j earlier → IsLink w k later → earlier.seat ≡ later.seat → AtRest sizes earlier
   pub lawful : IsLawful sizes w.log

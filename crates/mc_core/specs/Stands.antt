@@ -16,7 +16,7 @@ use Rattle.mc_core.specs.declared.sim.Sim.{Sim}
 use Rattle.mc_core.specs.Asked.{reply_of}
 use Rattle.mc_core.specs.Sizes.{AreWithin, Sizes, rules_of}
 use Rattle.mc_core.specs.Log.{Entry, Leaves, of_asker, on_shard, replies_in}
-use Rattle.mc_core.specs.World.{IsAt, IsLink, Link, World, ran}
+use Rattle.mc_core.specs.World.{HoldsAnswerFor, IsAt, IsLink, Link, World, ran}
 use Rattle.mc_core.specs.Events.{Event, IsEmptyHand, IsUnused}
 use Rattle.mc_core.specs.Schedule.{Happens}
 use Rattle.mc_core.specs.Headline.{handed_bytes}
@@ -72,7 +72,7 @@ pub record IsHolding (w : World) (s seat : ℕ) (reply : Shown) : Type 0 where
   pub number : ℕ
   pub link : Link
   pub at : IsAt w seat number link
-  pub ungiven : link.given s < ran w number s
+  pub ungiven : HoldsAnswerFor w s number link
   pub reply_is : slice_get (replies_in (on_shard s (of_asker number w.log))) (link.given s) ≡ Some reply
 
 abbrev pub HandIs : World → ℕ → Option (ℕ × Shown) → Type 0
