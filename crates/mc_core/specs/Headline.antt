@@ -28,16 +28,16 @@ handed_bytes sizes w k link = concat (take link.handed (replies_to sizes w k lin
 abbrev pub history : Sizes → World → ℕ → Link → ℕ → List Done
 history sizes w k link count = history_of sizes.shards (replies_in (of_asker k w.log)) (take count link.taken)
 
--- The bytes handed are whole replies, one a command, in the order of the commands that the bytes fed spell: of each command
--- handed out the answers of all its parts are in the log, and the bytes are the texts that these make.
+-- The bytes handed are whole replies, one a command, in the order of the commands that the bytes fed spell: each command
+-- handed out was given up or has all its answers in the log, and the bytes are the texts that these answers make.
 pub record AreReplies (sizes : Sizes) (w : World) (k : ℕ) (link : Link) : Type 0 where
   pub begins : SpellFirst sizes link.fed (entries link)
   pub whole : link.handed ≤ length (replies_to sizes w k link)
   pub answered : AllByRecursion (IsAnswered sizes.shards) (history sizes w k link link.handed)
   pub bytes : handed_bytes sizes w k link ≡ texts_of (history sizes w k link link.handed)
 
--- The bytes handed are the replies to all commands that the bytes fed spell: all of these were taken, the answers of all parts
--- of each are in the log, and the bytes are the texts that these make.
+-- The bytes handed are the replies to all commands that the bytes fed spell: all of these were taken, each was given up or has
+-- all its answers in the log, and the bytes are the texts that these answers make.
 pub record AreAllReplies (sizes : Sizes) (w : World) (k : ℕ) (link : Link) : Type 0 where
   pub commands : SpellAll sizes link.fed (entries link)
   pub answered : AllByRecursion (IsAnswered sizes.shards) (history sizes w k link (length link.taken))
