@@ -10,7 +10,7 @@ use Rattle.base64.specs.Rfc4648.{encode_symbols}
 use Rattle.mc_command.specs.Name.{name_of}
 use Rattle.mc_command.specs.Meta.{decoded_key, meta_line_of}
 use Rattle.mc_command.specs.Table.{line_of}
-use Rattle.mc_command.specs.Field.{is_key}
+use Rattle.mc_command.specs.Field.{is_key, word_count_refusal}
 use Rattle.mc_command.specs.Classic.{keys_of}
 use Rattle.mc_item.specs.declared.item.Item.{Item}
 use Rattle.mc_item.specs.declared.item.Expiry.TheVariants.{Never, At}
@@ -64,7 +64,7 @@ there item = Some (record { item = item; number = 0 })
 
 -- what all rows compute with
 computing : Unit {0}
-unfolding decoded_of groups_error groups_bytes scan_steps encode_symbols line_of words_of name_of number_of is_key keys_of meta_line_of decoded_key base64_bytes pieces_of shape_of shape_text fnv_of base64_of key_of number_in expiry_of is_dead seconds_left digits
+unfolding decoded_of groups_error groups_bytes scan_steps encode_symbols line_of words_of name_of word_count_refusal number_of is_key keys_of meta_line_of decoded_key base64_bytes pieces_of shape_of shape_text fnv_of base64_of key_of number_in expiry_of is_dead seconds_left digits
 computing = tt
 
 -- Lines
