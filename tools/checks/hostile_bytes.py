@@ -49,7 +49,7 @@ def rows(drop_in=False):
             budget, _, limit = budget.partition("/")
             options = ["--stdio", "--at", moment, "--bytes", budget, *(["--value-limit", limit] if limit else [])]
             if drop_in:
-                options, wanted = [*options, "--drop-in"], memcacheds[0] if memcacheds else wanted
+                options, wanted = [*options, "--drop-in", "--line-limit", str(LINE_LIMIT)], memcacheds[0] if memcacheds else wanted
             yield name, options, unescaped(given), unescaped(wanted)
 
 

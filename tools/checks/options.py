@@ -60,6 +60,28 @@ def values_of_2_mib():
     row("--value-limit 4m", set_of(b"a", value) + b"mn\r\n", STORED + b"MN\r\n")
 
 
+LINE_TOO_LONG = b"CLIENT_ERROR line too long\r\n"
+
+
+def line_of(length):
+    """A command in a line of so many bytes, its line end among them."""
+    return b"mn" + b" " * (length - 3) + b"\n"
+
+
+def longest_line(options, limit):
+    """A line of so many bytes is read, and nothing is read behind one that is a byte longer."""
+    row(options, line_of(limit) + b"mn\n" + line_of(limit + 1) + b"mn\n", 2 * b"MN\r\n" + LINE_TOO_LONG)
+
+
+def the_longest_line():
+    for limit in ("2048", "2k"):
+        longest_line(f"--line-limit {limit}", 2048)
+        longest_line(f"--drop-in --line-limit {limit}", 2048)
+    longest_line("", 65536)
+    longest_line("--drop-in", MIB)
+    longest_line("--line-limit 8m", 8 * MIB)
+
+
 # Inputs that the two rules read otherwise: what is answered by the server's own, and by memcached's.
 BOTH = [
     (b"version\r\n", b"VERSION 1.6.0-sharded\r\n", b"VERSION 1.6.18\r\n"),
@@ -267,7 +289,7 @@ def ended(words, **streams):
     return ran.returncode, ran.stdout, ran.stderr.decode()
 
 
-WITH_STDIO = "--stdio, which takes --at, --shards, --bytes, --memory, --value-limit, --window and --drop-in"
+WITH_STDIO = "--stdio, which takes --at, --shards, --bytes, --memory, --value-limit, --line-limit, --window and --drop-in"
 NUMBER = "takes a number from {0} to {1}, not '{2}'"
 SIZE = "takes a number of bytes from {0} to {1}, or one of k, m and g (1024 each) behind a number, not '{2}'"
 ITEMS = "there is no option --items: --bytes says what the items of a shard may cost together"
@@ -276,7 +298,7 @@ ITEMS = "there is no option --items: --bytes says what the items of a shard may 
 FAULTS = [
     ("--items 5", ITEMS), ("--items 5 --replay x --shards 2", ITEMS),
     *((f"--replay x --{name} 2", f"--{name} doesn't go with --replay, which takes no other option")
-      for name in ("at", "listen", "shards", "seats", "bytes", "memory", "value-limit", "window", "connections", "idle-timeout", "metrics")),
+      for name in ("at", "listen", "shards", "seats", "bytes", "memory", "value-limit", "line-limit", "window", "connections", "idle-timeout", "metrics")),
     *((f"--replay x --{name}", f"--{name} doesn't go with --replay, which takes no other option") for name in ("stdio", "verbose", "drop-in")),
     *((f"--stdio --{name} 2", f"--{name} doesn't go with {WITH_STDIO}") for name in ("listen", "seats", "connections", "idle-timeout", "metrics")),
     ("--stdio --verbose", f"--verbose doesn't go with {WITH_STDIO}"),
@@ -295,6 +317,9 @@ FAULTS = [
     ("--memory 2047", "--memory " + SIZE.format(2048, 2147483648, "2047")),
     ("--memory 4g --shards 3", "--memory " + SIZE.format(3072, 3221225472, "4g")),
     ("--value-limit 9m", "--value-limit " + SIZE.format(1024, 8388608, "9m")),
+    ("--line-limit 2047", "--line-limit " + SIZE.format(2048, 8388608, "2047")),
+    ("--line-limit 8388609", "--line-limit " + SIZE.format(2048, 8388608, "8388609")),
+    ("--drop-in --line-limit 1k", "--line-limit " + SIZE.format(2048, 8388608, "1k")),
 ]
 
 
@@ -376,7 +401,7 @@ def what_the_system_refuses_is_told():
 
 
 CHECKS = [
-    memcacheds_rules, another_protocol, the_worked_rows_by_memcacheds_rules, a_value_limit_of_1024, values_of_2_mib, a_budget_of_1024, a_budget_of_1_mib, each_number_of_shards, two_seats,
+    memcacheds_rules, another_protocol, the_worked_rows_by_memcacheds_rules, a_value_limit_of_1024, values_of_2_mib, the_longest_line, a_budget_of_1024, a_budget_of_1_mib, each_number_of_shards, two_seats,
     each_window, the_clock_goes_on, the_clock_tells_the_year, each_fault_of_the_command_line, each_fault_of_a_word,
     what_cannot_be_read_is_told, what_cannot_be_written_is_told, a_taken_address_is_told, few_open_files_are_told,
     what_the_system_refuses_is_told,

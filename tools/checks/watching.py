@@ -276,6 +276,7 @@ ASKED = [
     (b"ms b 1 C999999\r\nx\r\n", b"EX\r\n", "cas badval"),
     (b"touch a 0\r\n", b"TOUCHED\r\n", "touch hit"),
     (b"gat 0 nothing\r\n", b"END\r\n", "touch miss"),
+    (b"mg b T0\r\n", b"HD\r\n", "touch hit"),
     (b"incr a 1\r\n", b"8\r\n", "incr hit"),
     (b"incr nothing 1\r\n", b"NOT_FOUND\r\n", "incr miss"),
     (b"ma a MD\r\n", b"HD\r\n", "decr hit"),

@@ -145,7 +145,7 @@ class Maker:
 
     def meta_gets(self):
         key, text, form = self.named()
-        flags = self.flags([b"v", b"c", b"f", b"s", b"h", b"l", b"t", b"k", b"q", b"O", b"N", b"R", b"T"], 6)
+        flags = self.flags([b"v", b"c", b"f", b"s", b"h", b"l", b"t", b"k", b"q", b"O", b"N", b"R", b"T", *[b"u"] * self.drop_in], 6)
         return [key], lambda peer: b"mg " + text + form + flags + b"\r\n"
 
     def meta_stores(self):
@@ -194,10 +194,19 @@ class Maker:
     def is_too_large(self):
         key = self.key()
         name, last = self.one_of(b"set", b"set", b"add", b"replace", b"append"), self.noreply()
+        if self.drop_in and self.random.random() < 0.3:
+            return [key], self.grows_too_large(key)
         if self.random.random() < 0.3:
             mode = self.one_of(b"", *[b" ME", b" MA", b" MR"] * self.drop_in)
             return [key], lambda peer: b"ms " + key + b" %d" % TOO_LARGE + mode + b"\r\n" + b"v" * TOO_LARGE + b"\r\n"
         return [key], lambda peer: name + b" " + key + b" 0 0 %d" % TOO_LARGE + last + b"\r\n" + b"v" * TOO_LARGE + b"\r\n"
+
+    def grows_too_large(self, key):
+        """A large value, and a command that would join more to it than there is room for."""
+        line = self.one_of(b"append %b 0 0 %d" + self.noreply(), b"prepend %b 0 0 %d" + self.noreply(), b"ms %b %d MA c q", b"ms %b %d k MP")
+        large, more = b"v" * (TOO_LARGE - 1000), b"x" * 2000
+        text = b"set %b 3 0 %d\r\n%b\r\n" % (key, len(large), large) + line % (key, len(more)) + b"\r\n" + more + b"\r\n" + b"mg %b s f\r\n" % key
+        return lambda peer: text
 
 
 def comparable(reply):
@@ -225,11 +234,11 @@ NAMED = [
     ("exptimes have 64 bits", rb"(set|add|replace|cas|touch|gats?) .*" + LONG_EXPTIME + b".*", None),
     ("too large a value leaves the old one", rb"(set|add|replace|ms) .*\b%d\b.*" % TOO_LARGE, None),
     ("too large to append", rb"(append|prepend) .*\b%d\b.*" % TOO_LARGE, None),
+    ("`t` of an item that is dead at once", rb"m[ga] .* t.*", (rb".* t0.*", rb".* t42949\d{5}.*")),
     ("`T` beside `N`", rb"m[ga] .*( N.* T| T.* N).*", None),
     ("`T` of a number that gets longer", rb"ma .* T.*", None),
     ("a key that was stored in base64", rb"m[sga] .* b( .*)?", None),
     ("`version`", rb"version", (rb"VERSION .*", rb"VERSION .*")),
-    ("a bad data chunk is shown in spite of noreply", rb".* noreply", (rb"CLIENT_ERROR bad data chunk\r\n", rb"")),
     ("faults are shown in spite of noreply", rb".* noreply", (FAULT, rb"")),
     ("error texts", rb".*", (rb"CLIENT_ERROR [^\r]*\r\n", rb"CLIENT_ERROR [^\r]*\r\n")),
     ("`gat` without a key", rb"gats? \S+", (rb"(CLIENT_ERROR bad command line format|ERROR)\r\n", rb"END\r\n")),
@@ -246,7 +255,7 @@ NAMED = [
 
 # Those that are gone where mcd follows memcached's rules.
 GONE = ["exptimes have 64 bits", "too large a value leaves the old one", "`version`", "faults are shown in spite of noreply", "too few words",
-        "`C` of `ms` in other modes"]
+        "`C` of `ms` in other modes", "too large to append", "`c` where `ms` stored nothing", "the order of marks"]
 # Those of which the replies tell beside the command.
 NAMES = [*dict.fromkeys(name for name, _, _ in NAMED), "the order of marks", "what counts as a use", "numbers aren't padded"]
 
@@ -262,9 +271,10 @@ def difference(drop_in, asked, ours, theirs):
     for name, command, replies in named(drop_in):
         if re.fullmatch(command, line) and (replies is None or all(re.fullmatch(it, reply, re.DOTALL) for it, reply in zip(replies, (ours, theirs)))):
             return name
-    if is_same(ours, in_our_order(theirs)):
+    ordered = theirs if drop_in else in_our_order(theirs)
+    if is_same(ours, ordered):
         return "the order of marks"
-    if is_same(without_use(ours), without_use(in_our_order(theirs))):
+    if is_same(without_use(ours), without_use(ordered)):
         return "what counts as a use"
     return None
 

@@ -71,6 +71,23 @@ if (getenv('MCD_RULES') === 'drop-in') {
     tried('noreply_hides_that_a_value_is_too_large', $silent);
     tried('exptime_4294967295_is_gone_at_once', fn() => $client->set('phpdead', 'x', 4294967295) && $client->get('phpdead') === false);
     tried('version_is_that_of_memcached', fn() => $version() === ['1.6.18']);
+    tried('fetches_20000_keys_at_once', function () use ($client) {
+        $all = [];
+        for ($i = 0; $i < 20000; $i++) {
+            $all[sprintf('phplots%023d', $i)] = "value $i";
+        }
+        return $client->setMulti($all) && $client->getMulti(array_keys($all)) == $all;
+    });
+    $stats = fn() => array_values($client->getStats())[0];
+    tried('stats_counts_commands', function () use ($client, $stats) {
+        $before = $stats();
+        $client->set('phpcounted', 'x');
+        $client->get('phpcounted');
+        $client->get('phpuncounted');
+        $after = $stats();
+        $grown = fn(string $name) => $after[$name] - $before[$name];
+        return [$grown('cmd_set'), $grown('cmd_get'), $grown('get_hits'), $grown('get_misses'), $after['version']] === [1, 2, 1, 1, '1.6.18'];
+    });
 } else {
     tried('too_large_a_value_leaves_the_old_one', fn() => $refused() === 'old');
     tried('exptime_4294967295_is_the_year_2106', fn() => $client->set('phpdead', 'x', 4294967295) && $client->get('phpdead') === 'x');

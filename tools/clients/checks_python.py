@@ -84,6 +84,10 @@ class Client:
     def flush(self):
         self.client.flush_all()
 
+    def stats(self):
+        """What the server counts, by the names that memcached gives it."""
+        return named(self.client.get_stats()[0][1])
+
 
 class Pymemcache(Client):
     expire = "expire"
@@ -104,6 +108,9 @@ class Pymemcache(Client):
 
     def version(self):
         return self.client.version()
+
+    def stats(self):
+        return named(self.client.stats())
 
 
 class Pylibmc(Client):
@@ -206,6 +213,24 @@ class Socket(Client):
     def flush(self):
         equal(self.told(b"flush_all\r\n"), b"OK")
 
+    def stats(self):
+        found, words = {}, self.told(b"stats\r\n").split()
+        while words[0] == b"STAT":
+            found[words[1]] = words[2]
+            words = self.replies.readline().split()
+        equal(words, [b"END"])
+        return named(found)
+
+
+def named(stats):
+    """Counts by name, where a client has them as text, bytes or numbers."""
+    text = {plain(name): plain(count) for name, count in stats.items()}
+    return {name: int(count) if count.isdigit() else count for name, count in text.items()}
+
+
+def plain(word):
+    return word.decode() if isinstance(word, bytes) else str(word)
+
 
 def equal(found, wanted):
     if found != wanted:
@@ -223,6 +248,14 @@ def fetches_2000_keys(it):
     for key in keys:
         it.set(key, b"value of " + key)
     equal(it.get_many(keys), {key: b"value of " + key for key in keys})
+
+
+def fetches_20000_keys_at_once(it):
+    """Keys of 30 bytes, which some clients put into one line."""
+    keys = [b"lots%026d" % number for number in range(20_000)]
+    for key in keys:
+        it.set(key, key[-5:])
+    equal(it.get_many(keys), {key: key[-5:] for key in keys})
 
 
 def compares_and_swaps(it):
@@ -321,6 +354,41 @@ def exptime_4294967295_is_the_year_2106(it):
     equal(it.get(b"dead"), b"x")
 
 
+def stats_counts_commands(it):
+    """One set, a hit, two misses, and what was taken away, beside what was counted before."""
+    before = it.stats()
+    it.set(b"counted", b"12")
+    it.incr(b"counted", 1)
+    for key in (b"counted", b"uncounted", b"uncounted"):
+        it.get(key)
+    it.delete(b"counted")
+    it.delete(b"counted")
+    grown = {name: count - before[name] for name, count in it.stats().items() if isinstance(count, int)}
+    wanted = {"cmd_set": 1, "cmd_get": 3, "get_hits": 1, "get_misses": 2, "incr_hits": 1, "delete_hits": 1, "delete_misses": 1}
+    equal({name: grown[name] for name in wanted if name in grown}, {name: count for name, count in wanted.items() if name in grown})
+    equal({"cmd_set", "cmd_get", "get_hits", "get_misses"} <= grown.keys(), True)
+
+
+def stats_has_the_version_of_memcached(it):
+    equal(it.stats()["version"], "1.6.18")
+
+
+def reset_begins_the_counts_anew(it):
+    it.set(b"kept", b"x")
+    equal(it.told(b"stats reset\r\n"), b"RESET")
+    counts = it.stats()
+    equal((counts["cmd_set"], counts["get_hits"], counts["total_items"], counts["curr_items"] > 0), (0, 0, 0, True))
+
+
+def stats_is_no_command(it):
+    """A client sees no counts, or an error."""
+    try:
+        counts = it.stats()
+    except Exception:
+        return
+    equal(counts, {})
+
+
 def version_is_that_of_mcd(it):
     equal(it.version(), b"1.6.0-sharded")
 
@@ -337,15 +405,16 @@ CHECKS = [
 DIFFERING = {
     "own": [
         too_large_a_value_leaves_the_old_one, noreply_shows_that_a_value_is_too_large, exptime_4294967295_is_the_year_2106,
-        version_is_that_of_mcd,
+        version_is_that_of_mcd, stats_is_no_command,
     ],
     "drop-in": [
         too_large_a_value_removes_the_old_one, noreply_hides_that_a_value_is_too_large, exptime_4294967295_is_gone_at_once,
-        version_is_that_of_memcached,
+        version_is_that_of_memcached, stats_counts_commands, stats_has_the_version_of_memcached,
+        reset_begins_the_counts_anew, fetches_20000_keys_at_once,
     ],
 }
 # Clients that can't ask for it, by the word that the names of such checks begin with.
-CANT = {"noreply": ["pylibmc"], "version": ["pylibmc", "memcache"], "exptime": ["pylibmc"]}
+CANT = {"noreply": ["pylibmc"], "version": ["pylibmc", "memcache"], "exptime": ["pylibmc"], "reset": ["pymemcache", "pylibmc", "memcache"]}
 
 
 def checks_by(rules, client):
@@ -428,6 +497,46 @@ PLAIN = [
     serves_64_at_once_and_then_the_65th,
 ]
 
+LARGE_PARTS = b"set joined 0 0 1000000\r\n%b\r\n" % (b"v" * 1_000_000), b" 100000\r\n%b\r\n" % (b"x" * 100_000)
+
+
+def a_joined_value_that_is_too_large_is_not_stored(host, port):
+    first, more = LARGE_PARTS
+    Plain(host, port).asked(first + b"append joined 0 0" + more + b"ms joined" + more.replace(b"\r", b" MA k\r", 1) + b"mg joined s\r\n",
+                            b"STORED\r\nNOT_STORED\r\nNS kjoined\r\nHD s1000000\r\n")
+
+
+def a_joined_value_that_is_too_large_is_an_error(host, port):
+    first, more = LARGE_PARTS
+    Plain(host, port).asked(first + b"append joined 0 0" + more + b"ms joined" + more.replace(b"\r", b" MA k\r", 1) + b"mg joined s\r\n",
+                            b"STORED\r\n" + b"SERVER_ERROR object too large for cache\r\n" * 2 + b"HD s1000000\r\n")
+
+
+META_LINES = b"set m 5 100 1\r\nx\r\nms m 1 ME c\r\ny\r\nmg m u h\r\nmg m h\r\nmd m I\r\nmg m\r\nmg m\r\n"
+
+
+def meta_replies_are_those_of_memcached(host, port):
+    Plain(host, port).asked(META_LINES, b"STORED\r\nNS c0\r\nHD h0\r\nHD h0\r\nHD\r\nHD X W\r\nHD Z X\r\n")
+
+
+def meta_replies_are_those_of_mcd(host, port):
+    Plain(host, port).asked(META_LINES, b"STORED\r\nNS\r\nCLIENT_ERROR invalid flag\r\nHD h0\r\nHD\r\nHD W X\r\nHD X Z\r\n")
+
+
+def noreply_hides_a_bad_data_chunk(host, port):
+    Plain(host, port).asked(b"set chunk 0 0 1 noreply\r\nxyzmn\r\n", b"MN\r\n")
+
+
+def noreply_shows_a_bad_data_chunk(host, port):
+    Plain(host, port).asked(b"set chunk 0 0 1 noreply\r\nxyzmn\r\n", b"CLIENT_ERROR bad data chunk\r\nMN\r\n")
+
+
+# What a plain socket sees by the one and by the other rules.
+PLAIN_DIFFERING = {
+    "own": [a_joined_value_that_is_too_large_is_an_error, meta_replies_are_those_of_mcd, noreply_shows_a_bad_data_chunk],
+    "drop-in": [a_joined_value_that_is_too_large_is_not_stored, meta_replies_are_those_of_memcached, noreply_hides_a_bad_data_chunk],
+}
+
 
 def tried(name, check, *given):
     try:
@@ -440,11 +549,12 @@ def tried(name, check, *given):
 def main():
     client, host, port = sys.argv[1], sys.argv[2], int(sys.argv[3])
     kind = {"pymemcache": Pymemcache, "pylibmc": Pylibmc, "memcache": Memcache, "socket": Socket}[client]
-    for check in checks_by(os.environ.get("MCD_RULES", "own"), client):
+    rules = os.environ.get("MCD_RULES", "own")
+    for check in checks_by(rules, client):
         # Each check has a connection of its own, so that one that fails spoils no other.
         tried(check.__name__, lambda: check(kind(host, port)))
     if client == "socket":
-        for check in PLAIN:
+        for check in [*PLAIN, *PLAIN_DIFFERING[rules]]:
             tried(check.__name__, check, host, port)
 
 

@@ -63,6 +63,9 @@ CLIENTS = {
     "PHP memcached": (
         ["php-cli", "php-memcached"], ["php", "-r", "new Memcached();"], ["php", "checks.php", "127.0.0.1", "{port}"],
     ),
+    "Perl Cache::Memcached": (
+        ["libcache-memcached-perl"], ["perl", "-MCache::Memcached", "-e", "1"], ["perl", "checks_stats.pl", "127.0.0.1", "{port}"],
+    ),
     "Perl Cache::Memcached::Fast": (
         ["libcache-memcached-fast-perl"], ["perl", "-MCache::Memcached::Fast", "-e", "1"], ["perl", "checks.pl", "127.0.0.1", "{port}"],
     ),
@@ -72,8 +75,7 @@ TOOLS = {"memccapable": "libmemcached-tools", "nutcracker": "nutcracker", "memca
 
 # What clients check and mcd doesn't do, each with the reason; all else that they check must hold.
 LEFT_OUT = {
-    "own: memccapable: ascii stat": "mcd has no `stats`",
-    "drop-in: memccapable: ascii stat": "mcd has no `stats`",
+    "own: memccapable: ascii stat": "by its own rules mcd has no `stats`",
     "own: memccapable: ascii verbosity": "memccapable wants no reply to the malformed `verbosity noreply`; here an error line is always shown",
     "own: Django: pylibmc takes_a_timeout_of_0": "pylibmc sends -1 as 4294967295, which is the year 2106 here (docs/PROTOCOL.md)",
 }
@@ -190,7 +192,14 @@ def drive_memcslap(rules, port):
         say(ran.returncode == 0, f"{rules}: memcslap: {test}")
 
 
-DRIVEN_BY = {"memccapable": drive_memccapable, "memcslap": drive_memcslap}
+def drive_memcstat(rules, port):
+    ran = subprocess.run(["memcstat", f"--servers=127.0.0.1:{port}"], stdin=subprocess.DEVNULL, capture_output=True, text=True, timeout=CLIENT_SECONDS)
+    shown = dict(re.findall(r"\t ?(\w+): (\S+)", ran.stdout))
+    if rules == "drop-in":
+        say({"version", "threads", "cmd_get", "limit_maxbytes"} <= shown.keys() and shown["version"] == "1.6.18", f"{rules}: memcstat: shows_the_counts")
+
+
+DRIVEN_BY = {"memccapable": drive_memccapable, "memcslap": drive_memcslap, "memcstat": drive_memcstat}
 
 
 def installed():

@@ -21,7 +21,7 @@ use Rattle.mc_command.specs.Name.{name_of}
 use Rattle.mc_command.specs.Table.{line_of, line_named, line_if_named, count_named}
 use Rattle.mc_command.proofs.Lines.{storage_may, cas_may, get_may, gat_may, delete_may, count_may, touch_may, flush_may}
 use Rattle.mc_command.proofs.MetaLaws.{meta_given_up}
-use Rattle.mc_command.proofs.Told.{Told, no_memory, no_memory_command, told_may, verbosity_told, words_told}
+use Rattle.mc_command.proofs.Told.{Told, no_memory, no_memory_command, stats_told, told_may, verbosity_told, words_told}
 use Rattle.mc_command.proofs.Hidings.{shown_told}
 use Rattle.mc_command.specs.declared.rules.Rules.{Rules}
 
@@ -67,6 +67,7 @@ lawful_named rules (name.Count direction) words = lawful_whole rules.value_limit
 lawful_named rules name.Touch words = lawful_whole rules.value_limit _ (told_may _ (touch_may rules words))
 lawful_named rules name.FlushAll words = lawful_whole rules.value_limit _ (told_may _ (flush_may rules words))
 lawful_named rules name.Verbosity words = lawful_whole rules.value_limit _ (verbosity_told rules words)
+lawful_named rules name.Stats words = lawful_whole rules.value_limit _ (stats_told rules words)
 lawful_named rules (name.Meta meta) words = lawful_meta rules meta words
 lawful_named rules other words = record { told = refl; block = tt; behind_is = refl }
 

@@ -1,6 +1,7 @@
 -- How many keys a line asks for at most: as many as it has words.
 use Rattle.std.proofs.Common.{ℕ, ◌+◌, ◌≤◌, Bool, true, false, List, [], ◌∷◌, length, Option, Some, None, Result, Ok, Err, arith, ℤ, pos, nat_lt, if◌then◌else◌}
 use Rattle.std.specs.List.{list_all}
+use Rattle.std.specs.Option.{ok_or}
 use Rattle.std.proofs.lemmas.Bool.{cond_both}
 use Rattle.mc_command.specs.declared.command.Command.{Command}
 use Rattle.mc_command.specs.declared.command.Command.TheVariants as command
@@ -12,16 +13,17 @@ use Rattle.mc_command.specs.declared.meta_flags.Asked.{Asked}
 use Rattle.mc_command.specs.declared.name.CommandName.{CommandName}
 use Rattle.mc_command.specs.declared.name.CommandName.TheVariants as name
 use Rattle.mc_command.specs.declared.refusal.Refusal.{Refusal}
-use Rattle.mc_command.specs.declared.refusal.Refusal.TheVariants.{BadKey, TooLarge}
+use Rattle.mc_command.specs.declared.refusal.Refusal.TheVariants.{BadKey, TooLarge, Unknown}
 use Rattle.mc_command.specs.declared.line.Line.{Line}
 use Rattle.mc_command.specs.declared.line.Line.TheVariants.{Whole, Data, Refused, Skip}
 use Rattle.mc_command.specs.Field.{exptime_of, is_key, is_noreply, then_of}
 use Rattle.mc_command.specs.Blocks.{discarded_by, block_count, block_line, whole_line}
 use Rattle.mc_command.specs.Hiding.{hides_faults, shown_line}
-use Rattle.mc_command.specs.Classic.{cas_count_in, cas_words, count_in, count_words, delete_words, flush_of, flush_words, gat_words, get_words, keys_of, retrieval_of, storage_words, touch_words, verbosity_words}
+use Rattle.mc_command.specs.Classic.{cas_count_in, cas_words, count_in, count_words, delete_words, flush_of, flush_words, gat_words, get_words, keys_of, request_of, retrieval_of, stats_words, storage_words, touch_words, verbosity_words}
 use Rattle.mc_command.specs.Meta.{asked_of, command_by, compare_refusal, flags_refusal, has_flag, meta_command_of, meta_key_of, meta_line_of, set_by, unless}
 use Rattle.mc_command.specs.Name.{name_of}
 use Rattle.mc_command.specs.Table.{line_if_named, line_named, line_of}
+use Rattle.mc_command.specs.Rules.{is_drop_in}
 use Rattle.mc_command.specs.declared.rules.Rules.{Rules}
 
 -- It gets at most so many keys.
@@ -112,6 +114,10 @@ few_verbosity most rules (level ∷ []) = search fews
 few_verbosity most rules (level ∷ noreply ∷ []) = search fews
 few_verbosity most rules words = tt
 
+few_stats : (most : ℕ) (rules : Rules) (words : List (List ℕ)) → FewAsked most (stats_words rules words)
+few_stats most rules words =
+    few_cond most (is_drop_in rules) (then_of (ok_or (request_of words) Unknown) (λ request. Ok (command.Stats request))) (Err Unknown) (few_then most (ok_or (request_of words) Unknown) (λ request. Ok (command.Stats request)) (λ asked. tt)) tt
+
 few_meta_by : (most : ℕ) (rules : Rules) (name : MetaKind) (key : List ℕ) (asked : Asked) → FewAsked most (command_by rules name key asked)
 few_meta_by most rules meta.Get key asked = tt
 few_meta_by most rules meta.Set key asked = few_unless most (compare_refusal rules (set_by rules key asked)) (Ok (command.MetaSet (set_by rules key asked))) tt
@@ -138,6 +144,7 @@ few_named most rules (name.Count direction) words few = few_whole most (count_wo
 few_named most rules name.Touch words few = few_whole most (touch_words rules words) (few_touch most rules words)
 few_named most rules name.FlushAll words few = few_whole most (flush_words rules words) (few_flush most rules words)
 few_named most rules name.Verbosity words few = few_whole most (verbosity_words rules words) (few_verbosity most rules words)
+few_named most rules name.Stats words few = few_whole most (stats_words rules words) (few_stats most rules words)
 few_named most rules (name.Meta kind) words few = few_meta_line most rules kind words
 few_named most rules other words few = tt
 

@@ -134,7 +134,7 @@ module _ (words others : List (List ℕ)) (moved : IsPermutation words others) (
   stands letter = list_any-IsPermutation (has_letter letter) words others moved
 
   asked_is : (name : MetaKind) → asked_of name others ≡ record (asked_of name words) { flags = with_flags (flags_of words) (filter_map shown_flag others) }
-  asked_is name = rw (stands 98, stands 113, found 79, stands 118, stands 73, found 84, found 78, found 82, found 67, found 69, found 68, found 74, found 70, found 77) refl
+  asked_is name = rw (stands 98, stands 113, found 79, stands 118, stands 73, stands 117, found 84, found 78, found 82, found 67, found 69, found 68, found 74, found 70, found 77) refl
 
   pub same_keyed : (rules : Rules) (name : MetaKind) (word : List ℕ) →
       SameAsked (then_of (meta_key_of (has_flag 98 words) word) (λ key. command_by rules name key (asked_of name words))) (then_of (meta_key_of (has_flag 98 others) word) (λ key. command_by rules name key (asked_of name others)))

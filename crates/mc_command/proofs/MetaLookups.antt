@@ -65,11 +65,13 @@ asked_next name asked first token shown = record {
   flags = record {
     base64 = (first == 98) || asked.flags.base64;
     quiet = (first == 113) || asked.flags.quiet;
+    profile = asked.flags.profile;
     returned = more_shown asked.flags.returned shown;
     opaque = cond (first == 79) token asked.flags.opaque;
   };
   value = (first == 118) || asked.value;
   invalidate = (first == 73) || asked.invalidate;
+  unnoted = (first == 117) || asked.unnoted;
   exptime = cond (first == 84) (integer_of token) asked.exptime;
   vivify = cond (first == 78) (integer_of token) asked.vivify;
   recache = cond (first == 82) (integer_of token) asked.recache;
@@ -92,7 +94,7 @@ asked_of-append name before first token fresh =
     let unsigned = λ (bound letter : ℕ). read-append (option_and_then (number_of bound)) letter before first token fresh in
     let mode = read-append (mode_in name) 77 before first token fresh in
     let direction = read-append (direction_in name) 77 before first token fresh in
-    rw (flag 98, flag 113, returned, opaque, flag 118, flag 73, signed 84, signed 78, signed 82)
+    rw (flag 98, flag 113, returned, opaque, flag 118, flag 73, flag 117, signed 84, signed 78, signed 82)
     (rw (unsigned (2 ^ 64) 67, unsigned (2 ^ 64) 69, unsigned (2 ^ 64) 68, unsigned (2 ^ 64) 74, unsigned (2 ^ 32) 70, mode, direction))
 
 pub with_shown_is : (asked : Asked) (shown : Option ReturnFlag) → with_shown asked shown ≡ record asked { flags = record asked.flags { returned = more_shown asked.flags.returned shown } }

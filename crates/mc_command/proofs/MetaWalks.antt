@@ -73,13 +73,13 @@ said_mode Delete token before fresh = refused BadFormat refl refl
 said_mode Set token before fresh = said_read Set 77 mode_of flag.Mode (λ _. refl) (λ _. refl) (λ _ _ _ is. rw is refl) token before fresh
 said_mode Arithmetic token before fresh = said_read Arithmetic 77 direction_of flag.Direction (λ _. refl) (λ _. refl) (λ _ _ _ is. rw is refl) token before fresh
 
-said_bare : (name : MetaKind) (letter : ℕ) → (letter == 98) ≡ false → (letter == 113) ≡ false → (letter == 118) ≡ false → (letter == 73) ≡ false → (letter == 79) ≡ false → (letter == 77) ≡ false → (letter == 84) ≡ false → (letter == 78) ≡ false → (letter == 82) ≡ false → (letter == 67) ≡ false → (letter == 69) ≡ false → (letter == 68) ≡ false → (letter == 74) ≡ false → (letter == 70) ≡ false → IsSaid name letter
+said_bare : (name : MetaKind) (letter : ℕ) → (letter == 98) ≡ false → (letter == 113) ≡ false → (letter == 118) ≡ false → (letter == 73) ≡ false → (letter == 117) ≡ false → (letter == 79) ≡ false → (letter == 77) ≡ false → (letter == 84) ≡ false → (letter == 78) ≡ false → (letter == 82) ≡ false → (letter == 67) ≡ false → (letter == 69) ≡ false → (letter == 68) ≡ false → (letter == 74) ≡ false → (letter == 70) ≡ false → IsSaid name letter
 unfolding token_refusal
-said_bare name letter t98 t113 t118 t73 t79 t77 t84 t78 t82 t67 t69 t68 t74 t70 token before fresh =
+said_bare name letter t98 t113 t118 t73 t117 t79 t77 t84 t78 t82 t67 t69 t68 t74 t70 token before fresh =
     said flag.Bare
     (rw (eq_comm 84 letter, eq_comm 78 letter, eq_comm 82 letter, eq_comm 67 letter, eq_comm 69 letter, eq_comm 68 letter, eq_comm 74 letter, t79, t84, t78, t82, t67, t69, t68, t74, t70, t77) refl)
-    (rw (t98, t113, t118, t73, t79, t77, t84, t78, t82, t67, t69, t68, t74, t70) refl)
-    (with_shown_is (asked_of name before) (return_flag letter) ∙ sym (asked_of-append name before letter token fresh ∙ rw (t98, t113, t118, t73, t79, t77, t84, t78, t82, t67, t69, t68, t74, t70) refl))
+    (rw (t98, t113, t118, t73, t117, t79, t77, t84, t78, t82, t67, t69, t68, t74, t70) refl)
+    (with_shown_is (asked_of name before) (return_flag letter) ∙ sym (asked_of-append name before letter token fresh ∙ rw (t98, t113, t118, t73, t117, t79, t77, t84, t78, t82, t67, t69, t68, t74, t70) refl))
 
 -- what holds of one letter, and of all others, holds of every letter
 by_letter : (name : MetaKind) (one letter : ℕ) → IsSaid name one → ((letter == one) ≡ false → IsSaid name letter) → IsSaid name letter
@@ -92,6 +92,7 @@ every_letter name letter =
     by_letter name 113 letter (said_plain name 113 flag.Quiet (λ _. refl) (λ _. refl) (λ _ _. refl)) (λ t113.
     by_letter name 118 letter (said_plain name 118 flag.Value (λ _. refl) (λ _. refl) (λ _ _. refl)) (λ t118.
     by_letter name 73 letter (said_plain name 73 flag.Invalidate (λ _. refl) (λ _. refl) (λ _ _. refl)) (λ t73.
+    by_letter name 117 letter (said_plain name 117 flag.Unnoted (λ _. refl) (λ _. refl) (λ _ _. refl)) (λ t117.
     by_letter name 79 letter (said_opaque name) (λ t79.
     by_letter name 77 letter (said_mode name) (λ t77.
     by_letter name 84 letter (said_read name 84 integer_of flag.Exptime (λ _. refl) (λ _. refl) (λ _ _ _ is. rw is refl)) (λ t84.
@@ -102,7 +103,7 @@ every_letter name letter =
     by_letter name 68 letter (said_read name 68 (number_of (2 ^ 64)) flag.Amount (λ _. refl) (λ _. refl) (λ _ _ _ is. rw is refl)) (λ t68.
     by_letter name 74 letter (said_read name 74 (number_of (2 ^ 64)) flag.Initial (λ _. refl) (λ _. refl) (λ _ _ _ is. rw is refl)) (λ t74.
     by_letter name 70 letter (said_read name 70 (number_of (2 ^ 32)) flag.ClientFlags (λ _. refl) (λ _. refl) (λ _ _ _ is. rw is refl)) (λ t70.
-    said_bare name letter t98 t113 t118 t73 t79 t77 t84 t78 t82 t67 t69 t68 t74 t70))))))))))))))
+    said_bare name letter t98 t113 t118 t73 t117 t79 t77 t84 t78 t82 t67 t69 t68 t74 t70)))))))))))))))
 
 small_by : (profile : Profile) (name : MetaKind) (letter : ℕ) → is_among (letters_by profile name) letter ≡ true → letter < 256
 small_by Own Get letter among = small_among letter (letters_by Own Get) refl among

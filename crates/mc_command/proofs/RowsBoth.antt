@@ -8,11 +8,14 @@ use Rattle.mc_wire.specs.Number.{number_of}
 use Rattle.mc_wire.specs.declared.TheConstants.{DEFAULT_VALUE_LIMIT}
 use Rattle.mc_command.specs.declared.command.Command.{Command}
 use Rattle.mc_command.specs.declared.command.Command.TheVariants as command
+use Rattle.mc_command.specs.declared.command.StatsRequest.TheVariants as request
+use Rattle.mc_command.specs.declared.command.StoreMode.{StoreMode}
 use Rattle.mc_command.specs.declared.command.StoreMode.TheVariants as store
 use Rattle.mc_command.specs.declared.command.Direction.TheVariants.{Increment}
 use Rattle.mc_command.specs.declared.meta.MetaMode.{MetaMode}
 use Rattle.mc_command.specs.declared.meta.MetaMode.TheVariants as mode
 use Rattle.mc_command.specs.declared.refusal.Refusal.TheVariants.{Unknown, BadFormat, BadKey, DuplicateFlag, Hidden, InvalidFlag, TooLarge, WordCount}
+use Rattle.mc_command.specs.declared.rules.Profile.{Profile}
 use Rattle.mc_command.specs.declared.rules.Profile.TheVariants.{Own, DropIn}
 use Rattle.mc_command.specs.declared.line.Line.{Line}
 use Rattle.mc_command.specs.declared.line.Line.TheVariants.{Whole, Data, Refused, Skip}
@@ -36,7 +39,7 @@ abbrev a : List ℕ
 a = codes "a"
 
 abbrev set : ℤ → Bool → Command
-set exptime noreply = command.Store (record { key = a; mode = store.Set; flags = 0; exptime = exptime; noreply = noreply; block = [] })
+set exptime noreply = command.Store (record { key = a; mode = store.Set; flags = 0; exptime = exptime; noreply = noreply; lenient = false; block = [] })
 
 -- `set` with this exptime and a block of one byte
 abbrev until : ℤ → Line
@@ -58,6 +61,24 @@ exptimes : AreSo (
     )
 unfolding line_of words_of name_of is_key number_of int_wrap
 exptimes = (refl, refl)
+
+-- The server has no `stats` by its own rules. By memcached's it has those of three kinds, and what stands behind the second
+-- word is not read.
+statistics : AreSo (
+    (codes "stats", Refused Unknown, Whole (command.Stats request.General))
+    ∷ (codes "stats reset", Refused Unknown, Whole (command.Stats request.Reset))
+    ∷ (codes "stats reset x", Refused Unknown, Whole (command.Stats request.Reset))
+    ∷ (codes "stats settings", Refused Unknown, Whole (command.Stats request.Empty))
+    ∷ (codes "stats items", Refused Unknown, Whole (command.Stats request.Empty))
+    ∷ (codes "stats slabs", Refused Unknown, Whole (command.Stats request.Empty))
+    ∷ (codes "stats sizes", Refused Unknown, Whole (command.Stats request.Empty))
+    ∷ (codes "stats conns", Refused Unknown, Whole (command.Stats request.Empty))
+    ∷ (codes "stats nothing", Refused Unknown, Refused Unknown)
+    ∷ (codes "stat", Refused Unknown, Refused Unknown)
+    ∷ []
+    )
+unfolding line_of words_of name_of
+statistics = (refl, refl)
 
 -- Too few words or too many are no command, and a block is skipped where a count stands; but `cas` without its unique has none.
 word_counts : AreSo (
@@ -148,42 +169,87 @@ versions : AreSo ((codes "version", Whole (command.Version Own), Whole (command.
 unfolding line_of words_of name_of
 versions = (refl, refl)
 
--- `ms` in this mode that compares with this unique, with this exptime and a block of one byte
-abbrev ms_until : ℤ → MetaMode → Option ℕ → Line
-ms_until exptime mode compare =
+-- A joined value that is too large counts as not stored, or it is an error.
+abbrev joining : StoreMode → Bool → Line
+joining mode lenient = Data (command.Store (record { key = a; mode = mode; flags = 0; exptime = pos 0; noreply = false; lenient = lenient; block = [] })) 1
+
+joins : AreSo (
+    (codes "append a 0 0 1", joining store.Append false, joining store.Append true)
+    ∷ (codes "prepend a 0 0 1", joining store.Prepend false, joining store.Prepend true)
+    ∷ (codes "add a 0 0 1", joining store.Add false, joining store.Add false)
+    ∷ (codes "replace a 0 0 1", joining store.Replace false, joining store.Replace false)
+    ∷ (codes "cas a 0 0 1 5", joining (store.Cas 5) false, joining (store.Cas 5) false)
+    ∷ []
+    )
+unfolding line_of words_of name_of is_key number_of int_wrap
+joins = (refl, refl)
+
+-- `ms` in this mode that compares with this unique, with this exptime and a block of one byte, lenient or not
+abbrev ms_until : Profile → ℤ → MetaMode → Option ℕ → Bool → Line
+ms_until profile exptime mode compare lenient =
     Data (command.MetaSet (record {
       key = a;
-      flags = record { base64 = false; quiet = false; returned = []; opaque = [] };
+      flags = record { base64 = false; quiet = false; profile = profile; returned = []; opaque = [] };
       mode = mode;
       compare = compare;
       unique = None;
       client_flags = 0;
       exptime = exptime;
+      lenient = lenient;
       block = [];
     })) 1
 
-abbrev ms : MetaMode → Option ℕ → Line
-ms mode compare = ms_until (pos 0) mode compare
+abbrev own_ms : MetaMode → Option ℕ → Line
+own_ms mode compare = ms_until Own (pos 0) mode compare false
 
--- `C` with a mode other than S
+abbrev ms : MetaMode → Option ℕ → Line
+ms mode compare = ms_until DropIn (pos 0) mode compare false
+
+abbrev lenient_ms : MetaMode → Option ℕ → Line
+lenient_ms mode compare = ms_until DropIn (pos 0) mode compare true
+
+-- `C` with a mode other than S, and modes that join
 compares : AreSo (
-    (codes "ms a 1 C1", ms mode.Set (Some 1), ms mode.Set (Some 1))
-    ∷ (codes "ms a 1 C0", ms mode.Set (Some 0), ms mode.Set (Some 0))
+    (codes "ms a 1 C1", own_ms mode.Set (Some 1), ms mode.Set (Some 1))
+    ∷ (codes "ms a 1 MA", own_ms mode.Append None, lenient_ms mode.Append None)
+    ∷ (codes "ms a 1 MP", own_ms mode.Prepend None, lenient_ms mode.Prepend None)
+    ∷ (codes "ms a 1 ME", own_ms mode.Add None, ms mode.Add None)
+    ∷ (codes "ms a 1 C0", own_ms mode.Set (Some 0), ms mode.Set (Some 0))
     ∷ (codes "ms a 1 C1 MR", Skip None BadFormat 3, ms mode.Replace (Some 1))
-    ∷ (codes "ms a 1 C1 MA", Skip None BadFormat 3, ms mode.Append (Some 1))
-    ∷ (codes "ms a 1 C0 MA", Skip None BadFormat 3, ms mode.Append None)
-    ∷ (codes "ms a 1 C0 MP", Skip None BadFormat 3, ms mode.Prepend None)
+    ∷ (codes "ms a 1 C1 MA", Skip None BadFormat 3, lenient_ms mode.Append (Some 1))
+    ∷ (codes "ms a 1 C0 MA", Skip None BadFormat 3, lenient_ms mode.Append None)
+    ∷ (codes "ms a 1 C0 MP", Skip None BadFormat 3, lenient_ms mode.Prepend None)
     ∷ (codes "ms a 1 C1 ME", Skip None BadFormat 3, ms mode.Add None)
     ∷ []
     )
 unfolding line_of words_of name_of is_key number_of meta_line_of
 compares = (refl, refl)
 
+-- The reply to a meta command follows the rules by which its line is read.
+abbrev mg_by : Profile → Bool → Line
+mg_by profile unnoted = Whole (command.MetaGet (record { key = a; flags = record { base64 = false; quiet = false; profile = profile; returned = []; opaque = [] }; value = true; touch = None; vivify = None; recache = None; unnoted = unnoted }))
+
+replies : AreSo ((codes "mg a v", mg_by Own false, mg_by DropIn false) ∷ [])
+unfolding line_of words_of name_of is_key meta_line_of
+replies = (refl, refl)
+
+-- Only `mg` has a flag `u`, and by memcached's rules alone.
+unnoted : AreSo (
+    (codes "mg a v u", Refused InvalidFlag, mg_by DropIn true)
+    ∷ (codes "mg a u v", Refused InvalidFlag, mg_by DropIn true)
+    ∷ (codes "mg a u u v", Refused InvalidFlag, Refused DuplicateFlag)
+    ∷ (codes "md a u", Refused InvalidFlag, Refused InvalidFlag)
+    ∷ (codes "ms a 1 u", Skip None InvalidFlag 3, Skip None InvalidFlag 3)
+    ∷ []
+    )
+unfolding line_of words_of name_of is_key number_of meta_line_of
+unnoted = (refl, refl)
+
 -- Hints for proxies, and flags of `ms` that do nothing; a ttl of 4294967295 is -1.
 flags : AreSo (
     (codes "ms a 1 I N30 Pto Lb", Skip None InvalidFlag 3, ms mode.Set None)
     ∷ (codes "ms a 1 N", Skip None InvalidFlag 3, Skip None BadFormat 3)
-    ∷ (codes "ms a 1 T4294967295", ms_until (pos 4294967295) mode.Set None, ms_until (negsuc 0) mode.Set None)
+    ∷ (codes "ms a 1 T4294967295", ms_until Own (pos 4294967295) mode.Set None false, ms_until DropIn (negsuc 0) mode.Set None false)
     ∷ (codes "md a P P", Refused InvalidFlag, Refused DuplicateFlag)
     ∷ (codes "mg a P Q", Refused InvalidFlag, Refused InvalidFlag)
     ∷ (codes "ma a L D", Refused InvalidFlag, Refused BadFormat)

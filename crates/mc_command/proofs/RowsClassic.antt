@@ -34,7 +34,7 @@ abbrev each_is : Line → List (List ℕ) → Rows
 each_is line texts = map (λ text. (text, line)) texts
 
 abbrev stored : List ℕ → StoreMode → ℕ → ℤ → Bool → Command
-stored key mode flags exptime noreply = command.Store (record { key = key; mode = mode; flags = flags; exptime = exptime; noreply = noreply; block = [] })
+stored key mode flags exptime noreply = command.Store (record { key = key; mode = mode; flags = flags; exptime = exptime; noreply = noreply; lenient = false; block = [] })
 
 abbrev got : List (List ℕ) → Option ℤ → Bool → Line
 got keys touch with_unique = Whole (command.Get (record { keys = keys; touch = touch; with_unique = with_unique }))

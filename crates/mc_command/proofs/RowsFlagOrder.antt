@@ -16,6 +16,7 @@ use Rattle.mc_command.specs.Meta.{meta_line_of}
 use Rattle.mc_command.specs.Name.{name_of}
 use Rattle.mc_command.specs.Table.{line_of}
 use Rattle.mc_command.specs.Rules.{own}
+use Rattle.mc_command.specs.declared.rules.Profile.TheVariants.{Own}
 use Rattle.mc_command.specs.Field.{word_count_refusal}
 
 abbrev line : List ℕ → Line
@@ -29,7 +30,7 @@ heads = refl
 
 -- a get that gives these flags back
 abbrev got : List ReturnFlag → Line
-got returned = Whole (MetaGet (record { key = codes "a"; flags = record { base64 = false; quiet = true; returned = returned; opaque = codes "1" }; value = true; touch = None; vivify = None; recache = None }))
+got returned = Whole (MetaGet (record { key = codes "a"; flags = record { base64 = false; quiet = true; profile = Own; returned = returned; opaque = codes "1" }; value = true; touch = None; vivify = None; recache = None; unnoted = false }))
 
 gets : map line (codes "mg a k v O1 q t" ∷ codes "mg a t q O1 v k" ∷ []) ≡ got (Key ∷ Opaque ∷ TimeLeft ∷ []) ∷ got (TimeLeft ∷ Opaque ∷ Key ∷ []) ∷ []
 unfolding line_of name_of meta_line_of words_of number_of is_key word_count_refusal

@@ -20,6 +20,7 @@ use Rattle.mc_command.specs.Meta.{decoded_key, mode_of, direction_of, meta_line_
 use Rattle.mc_command.specs.Name.{name_of}
 use Rattle.mc_command.specs.Table.{line_of}
 use Rattle.mc_command.specs.Rules.{own}
+use Rattle.mc_command.specs.declared.rules.Profile.TheVariants.{Own}
 use Rattle.mc_command.specs.Field.{word_count_refusal}
 
 -- lines of the four commands, by the text behind the name
@@ -37,7 +38,7 @@ abbrev ma : List ℕ → Line
 ma text = meta_line_of (own DEFAULT_VALUE_LIMIT) Arithmetic (words_of text)
 
 abbrev no_flags : MetaFlags
-no_flags = record { base64 = false; quiet = false; returned = []; opaque = [] }
+no_flags = record { base64 = false; quiet = false; profile = Own; returned = []; opaque = [] }
 
 -- no key, or no count: nothing is skipped
 few_words : map mg ([] ∷ codes "  " ∷ []) ++ map ms ([] ∷ codes "a" ∷ []) ++ map md ([] ∷ []) ++ map ma ([] ∷ [])
@@ -104,7 +105,7 @@ line_limits : map (λ text. line_of (own LEAST_VALUE_LIMIT) (words_of text)) (ma
 unfolding line_of name_of meta_line_of words_of number_of is_key word_count_refusal
 line_limits = refl
 
-largest_value : ms (codes "a 1048576") ≡ Data (MetaSet (record { key = codes "a"; flags = no_flags; mode = mode.Set; compare = None; unique = None; client_flags = 0; exptime = pos 0; block = [] })) 1048576
+largest_value : ms (codes "a 1048576") ≡ Data (MetaSet (record { key = codes "a"; flags = no_flags; mode = mode.Set; compare = None; unique = None; client_flags = 0; exptime = pos 0; lenient = false; block = [] })) 1048576
 unfolding meta_line_of words_of number_of is_key word_count_refusal
 largest_value = refl
 
@@ -121,11 +122,12 @@ directions = refl
 whole_get : mg (codes "key s c O123 t k f h l q v T30 N-1 R60")
     ≡ Whole (MetaGet (record {
       key = codes "key";
-      flags = record { base64 = false; quiet = true; returned = Size ∷ Unique ∷ Opaque ∷ TimeLeft ∷ Key ∷ ClientFlags ∷ Fetched ∷ LastAccess ∷ []; opaque = codes "123" };
+      flags = record { base64 = false; quiet = true; profile = Own; returned = Size ∷ Unique ∷ Opaque ∷ TimeLeft ∷ Key ∷ ClientFlags ∷ Fetched ∷ LastAccess ∷ []; opaque = codes "123" };
       value = true;
       touch = Some (pos 30);
       vivify = Some (negsuc 0);
       recache = Some (pos 60);
+      unnoted = false;
     }))
 unfolding meta_line_of words_of number_of is_key word_count_refusal
 whole_get = refl
@@ -134,26 +136,27 @@ whole_get = refl
 other_order : map mg (codes "a v T1 k N2 t q" ∷ codes "a q N2 k T1 v t" ∷ codes "a k t q v T1 N2" ∷ [])
     ≡ replicate 3 (Whole (MetaGet (record {
       key = codes "a";
-      flags = record { base64 = false; quiet = true; returned = Key ∷ TimeLeft ∷ []; opaque = [] };
+      flags = record { base64 = false; quiet = true; profile = Own; returned = Key ∷ TimeLeft ∷ []; opaque = [] };
       value = true;
       touch = Some (pos 1);
       vivify = Some (pos 2);
       recache = None;
+      unnoted = false;
     })))
 unfolding meta_line_of words_of number_of is_key word_count_refusal
 other_order = refl
 
 -- a token on a flag that takes none is ignored, `O` alone has the empty token, and 32 bytes are the most
 tokens_ignored : map mg (codes "a vxyz kq O" ∷ (codes "a O" ++ replicate 32 120) ∷ [])
-    ≡ Whole (MetaGet (record { key = codes "a"; flags = record no_flags { returned = Key ∷ Opaque ∷ [] }; value = true; touch = None; vivify = None; recache = None }))
-    ∷ Whole (MetaGet (record { key = codes "a"; flags = record no_flags { returned = Opaque ∷ []; opaque = replicate 32 120 }; value = false; touch = None; vivify = None; recache = None }))
+    ≡ Whole (MetaGet (record { key = codes "a"; flags = record no_flags { returned = Key ∷ Opaque ∷ [] }; value = true; touch = None; vivify = None; recache = None; unnoted = false }))
+    ∷ Whole (MetaGet (record { key = codes "a"; flags = record no_flags { returned = Opaque ∷ []; opaque = replicate 32 120 }; value = false; touch = None; vivify = None; recache = None; unnoted = false }))
     ∷ []
 unfolding meta_line_of words_of is_key word_count_refusal
 tokens_ignored = refl
 
 -- a key in base64, wherever `b` stands; canonical only, and of 1 to 186 bytes
 base64_keys : map mg (codes "YQ== k b" ∷ codes "YQ== b k" ∷ [])
-    ≡ replicate 2 (Whole (MetaGet (record { key = codes "a"; flags = record { base64 = true; quiet = false; returned = Key ∷ []; opaque = [] }; value = false; touch = None; vivify = None; recache = None })))
+    ≡ replicate 2 (Whole (MetaGet (record { key = codes "a"; flags = record { base64 = true; quiet = false; profile = Own; returned = Key ∷ []; opaque = [] }; value = false; touch = None; vivify = None; recache = None; unnoted = false })))
 unfolding meta_line_of words_of decoded_key base64_bytes base64_on_literals word_count_refusal
 base64_keys = refl
 
@@ -170,26 +173,27 @@ plain_key = refl
 whole_set : ms (codes "a 5 T30 s F7 C9 E77 c q Oxy MS")
     ≡ Data (MetaSet (record {
       key = codes "a";
-      flags = record { base64 = false; quiet = true; returned = Size ∷ Unique ∷ Opaque ∷ []; opaque = codes "xy" };
+      flags = record { base64 = false; quiet = true; profile = Own; returned = Size ∷ Unique ∷ Opaque ∷ []; opaque = codes "xy" };
       mode = mode.Set;
       compare = Some 9;
       unique = Some 77;
       client_flags = 7;
       exptime = pos 30;
+      lenient = false;
       block = [];
     })) 5
 unfolding meta_line_of words_of number_of is_key word_count_refusal
 whole_set = refl
 
 whole_delete : md (codes "a T30 E0 I C5 q k")
-    ≡ Whole (MetaDelete (record { key = codes "a"; flags = record { base64 = false; quiet = true; returned = Key ∷ []; opaque = [] }; compare = Some 5; unique = Some 0; invalidate = true; exptime = Some (pos 30) }))
+    ≡ Whole (MetaDelete (record { key = codes "a"; flags = record { base64 = false; quiet = true; profile = Own; returned = Key ∷ []; opaque = [] }; compare = Some 5; unique = Some 0; invalidate = true; exptime = Some (pos 30) }))
 unfolding meta_line_of words_of number_of is_key word_count_refusal
 whole_delete = refl
 
 whole_arithmetic : map ma (codes "a N60 J007 D3 Md T-1 v t c C18446744073709551615 E18446744073709551615" ∷ codes "a" ∷ [])
     ≡ Whole (MetaArithmetic (record {
       key = codes "a";
-      flags = record { base64 = false; quiet = false; returned = TimeLeft ∷ Unique ∷ []; opaque = [] };
+      flags = record { base64 = false; quiet = false; profile = Own; returned = TimeLeft ∷ Unique ∷ []; opaque = [] };
       value = true;
       compare = Some 18446744073709551615;
       unique = Some 18446744073709551615;
@@ -221,6 +225,6 @@ widest_tokens = refl
 
 -- 186 bytes are the most that a word of base64 gives
 longest_base64 : md (replicate 248 65 ++ codes " b")
-    ≡ Whole (MetaDelete (record { key = replicate 186 0; flags = record { base64 = true; quiet = false; returned = []; opaque = [] }; compare = None; unique = None; invalidate = false; exptime = None }))
+    ≡ Whole (MetaDelete (record { key = replicate 186 0; flags = record { base64 = true; quiet = false; profile = Own; returned = []; opaque = [] }; compare = None; unique = None; invalidate = false; exptime = None }))
 unfolding meta_line_of words_of decoded_key base64_bytes base64_on_literals word_count_refusal
 longest_base64 = refl

@@ -1,15 +1,19 @@
 -- What the command table reads is never the refusal that memory ran out.
-use Rattle.std.proofs.Common.{◌≡◌, ℕ, false, List, [], ◌∷◌, refl, Result, Ok, Err, IsTrue}
+use Rattle.std.proofs.Common.{◌≡◌, ℕ, false, List, [], ◌∷◌, refl, Option, Some, None, Result, Ok, Err, IsTrue}
+use Rattle.std.specs.Option.{ok_or}
+use Rattle.std.proofs.lemmas.Bool.{cond_both}
 use Rattle.mc_command.specs.declared.command.Command.{Command}
 use Rattle.mc_command.specs.declared.command.Command.TheVariants as command
 use Rattle.mc_command.specs.declared.refusal.Refusal.{Refusal}
-use Rattle.mc_command.specs.declared.refusal.Refusal.TheVariants.{Memory}
+use Rattle.mc_command.specs.declared.command.StatsRequest.{StatsRequest}
+use Rattle.mc_command.specs.declared.refusal.Refusal.TheVariants.{Memory, Unknown}
 use Rattle.mc_command.specs.Command.{can_give_up, is_memory, is_memory_refusal, refusal_takes_memory}
 use Rattle.mc_command.specs.Line.{Says}
 use Rattle.mc_command.specs.Blocks.{whole_line, MayBeGivenUp}
-use Rattle.mc_command.specs.Classic.{verbosity_words}
+use Rattle.mc_command.specs.Classic.{request_of, stats_words, verbosity_words}
 use Rattle.mc_command.specs.Field.{then_of, word_count_refusal}
 use Rattle.mc_command.specs.declared.rules.Rules.{Rules}
+use Rattle.mc_command.specs.Rules.{is_drop_in}
 use Rattle.mc_command.proofs.Lines.{Yields, readings, takes_words}
 
 -- no refusal for memory that ran out
@@ -41,6 +45,13 @@ pub verbosity_told : (rules : Rules) (words : List (List ℕ)) → Told (verbosi
 verbosity_told rules (level ∷ []) = search (told_then, readings)
 verbosity_told rules (level ∷ noreply ∷ []) = search (told_then, readings)
 verbosity_told rules words = words_told rules
+
+stats_read_told : (request : Option StatsRequest) → Told (then_of (ok_or request Unknown) (λ request. Ok (command.Stats request)))
+stats_read_told (Some request) = refl
+stats_read_told None = refl
+
+pub stats_told : (rules : Rules) (words : List (List ℕ)) → Told (stats_words rules words)
+stats_told rules words = cond_both (is_drop_in rules) (then_of (ok_or (request_of words) Unknown) (λ request. Ok (command.Stats request))) (Err Unknown) Told (λ drops. stats_read_told (request_of words)) (λ own. refl)
 
 -- a line without a block that is read as it stands
 pub says_told : (asked read : Result Command Refusal) → read ≡ asked → Told asked → Says (whole_line asked) (whole_line read)

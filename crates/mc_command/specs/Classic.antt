@@ -1,17 +1,19 @@
 -- The classic commands: what the words behind each name are (protocol.txt, "Storage commands",
 -- "Retrieval command", "Deletion", "Increment/Decrement", "Touch", "Get And Touch", "Other commands").
 -- The number of words is judged first, then the words from left to right, the first fault deciding.
-use Rattle.std.specs.Prelude.{ℕ, ◌^◌, Bool, true, false, List, [], ◌∷◌, Option, Some, None, codes, ℤ, pos, if◌then◌else◌, Result, Ok, Err}
-use Rattle.std.specs.Option.{option_and_then}
+use Rattle.std.specs.Prelude.{ℕ, ◌^◌, Bool, true, false, List, [], ◌∷◌, Option, Some, None, ◌||◌, codes, ℤ, pos, if◌then◌else◌, Result, Ok, Err}
+use Rattle.std.specs.Option.{ok_or, option_and_then}
 use Rattle.std.specs.List.{list_all, slice_get}
 use Rattle.std.specs.Str.{bytes_eq}
 use Rattle.mc_command.specs.declared.command.Command.{Command}
-use Rattle.mc_command.specs.declared.command.Command.TheVariants.{Store, Get, Delete, Count, Touch, FlushAll, Verbosity}
+use Rattle.mc_command.specs.declared.command.Command.TheVariants.{Store, Get, Delete, Count, Touch, FlushAll, Stats, Verbosity}
 use Rattle.mc_command.specs.declared.command.StoreMode.{StoreMode}
-use Rattle.mc_command.specs.declared.command.StoreMode.TheVariants.{Cas}
+use Rattle.mc_command.specs.declared.command.StoreMode.TheVariants.{Append, Prepend, Cas}
 use Rattle.mc_command.specs.declared.command.Direction.{Direction}
+use Rattle.mc_command.specs.declared.command.StatsRequest.{StatsRequest}
+use Rattle.mc_command.specs.declared.command.StatsRequest.TheVariants.{General, Reset, Empty}
 use Rattle.mc_command.specs.declared.refusal.Refusal.{Refusal}
-use Rattle.mc_command.specs.declared.refusal.Refusal.TheVariants.{BadFormat, BadKey}
+use Rattle.mc_command.specs.declared.refusal.Refusal.TheVariants.{BadFormat, BadKey, Unknown}
 use Rattle.mc_command.specs.declared.line.Line.{Line}
 use Rattle.mc_command.specs.declared.rules.Rules.{Rules}
 use Rattle.mc_command.specs.Field.{exptime_of, is_key, is_noreply, key_of, last_word_of, noreply_of, then_of, unsigned_of, word_count_refusal}
@@ -22,6 +24,12 @@ use Rattle.mc_command.specs.Blocks.{block_count, block_line}
 abbrev pub count_in : Rules → List (List ℕ) → Option ℕ
 count_in rules words = option_and_then (block_count rules) (slice_get words 3)
 
+-- By memcached's rules a joined value that is too large counts as not stored, and that is no error.
+abbrev pub is_lenient : Rules → StoreMode → Bool
+is_lenient rules Append = is_drop_in rules
+is_lenient rules Prepend = is_drop_in rules
+is_lenient rules other = false
+
 -- a storage command, its block still empty
 abbrev pub storage_of : Rules → StoreMode → List ℕ → List ℕ → List ℕ → Option (List ℕ) → Result Command Refusal
 storage_of rules mode key flags exptime noreply =
@@ -29,7 +37,7 @@ storage_of rules mode key flags exptime noreply =
     then_of (unsigned_of (2 ^ 32) flags) (λ flags.
     then_of (exptime_of rules exptime) (λ exptime.
     then_of (last_word_of rules noreply) (λ noreply.
-    Ok (Store (record { key = key; mode = mode; flags = flags; exptime = exptime; noreply = noreply; block = [] }))))))
+    Ok (Store (record { key = key; mode = mode; flags = flags; exptime = exptime; noreply = noreply; lenient = is_lenient rules mode; block = [] }))))))
 
 -- set, add, replace, append and prepend: KEY flags E N [noreply]
 abbrev pub storage_words : Rules → StoreMode → List (List ℕ) → Result Command Refusal
@@ -48,7 +56,7 @@ cas_of rules key flags exptime unique noreply =
     then_of (exptime_of rules exptime) (λ exptime.
     then_of (unsigned_of (2 ^ 64) unique) (λ unique.
     then_of (last_word_of rules noreply) (λ noreply.
-    Ok (Store (record { key = key; mode = Cas unique; flags = flags; exptime = exptime; noreply = noreply; block = [] })))))))
+    Ok (Store (record { key = key; mode = Cas unique; flags = flags; exptime = exptime; noreply = noreply; lenient = false; block = [] })))))))
 
 -- cas: KEY flags E N U [noreply]
 abbrev pub cas_words : Rules → List (List ℕ) → Result Command Refusal
@@ -143,3 +151,19 @@ abbrev pub verbosity_words : Rules → List (List ℕ) → Result Command Refusa
 verbosity_words rules (level ∷ []) = verbosity_of rules level None
 verbosity_words rules (level ∷ noreply ∷ []) = verbosity_of rules level (Some noreply)
 verbosity_words rules words = Err (word_count_refusal rules)
+
+-- what `stats` asks for by the word behind it: this server has counts of no other kind
+abbrev pub request_named : List ℕ → Option StatsRequest
+request_named word =
+    if bytes_eq word (codes "reset") then Some Reset
+    else (if bytes_eq word (codes "settings") || (bytes_eq word (codes "items") || (bytes_eq word (codes "slabs") || (bytes_eq word (codes "sizes") || bytes_eq word (codes "conns")))) then Some Empty
+    else None)
+
+-- what the words behind `stats` ask for (protocol.txt, "Statistics"); those behind the first change nothing
+abbrev pub request_of : List (List ℕ) → Option StatsRequest
+request_of [] = Some General
+request_of (word ∷ words) = request_named word
+
+-- stats: [WHAT ..], by memcached's rules; by its own the server has no such command
+abbrev pub stats_words : Rules → List (List ℕ) → Result Command Refusal
+stats_words rules words = if is_drop_in rules then then_of (ok_or (request_of words) Unknown) (λ request. Ok (Stats request)) else Err Unknown

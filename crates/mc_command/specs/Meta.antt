@@ -36,13 +36,13 @@ use Rattle.mc_command.specs.Field.{exptime_by, key_of, then_of, word_count_refus
 use Rattle.mc_command.specs.Rules.{is_drop_in}
 
 -- The letters of the flags that each command has. By memcached's rules there are P and L too, hints for proxies which mean
--- nothing here, and I and N of `ms`, which do nothing.
+-- nothing here, I and N of `ms`, which do nothing, and u of `mg`.
 abbrev pub letters_by : Profile → MetaKind → List ℕ
 letters_by Own Get = codes "bcfhklOqstvNRT"
 letters_by Own Set = codes "bkOqcsCEFTM"
 letters_by Own Delete = codes "bkOqCEIT"
 letters_by Own Arithmetic = codes "bkOqctvCDEJMNT"
-letters_by DropIn Get = codes "bcfhklOqstvNRTPL"
+letters_by DropIn Get = codes "bcfhklOqstvNRTPLu"
 letters_by DropIn Set = codes "bkOqcsCEFTMINPL"
 letters_by DropIn Delete = codes "bkOqCEITPL"
 letters_by DropIn Arithmetic = codes "bkOqctvCDEJMNTPL"
@@ -156,6 +156,12 @@ compared_in mode compare = compare
 abbrev pub compare_by : Rules → MetaMode → Option ℕ → Option ℕ
 compare_by rules mode compare = if is_drop_in rules then compared_in mode compare else compare
 
+-- the same of `ms` as of append and prepend (`is_lenient`)
+abbrev pub is_lenient_in : Rules → MetaMode → Bool
+is_lenient_in rules mode.Append = is_drop_in rules
+is_lenient_in rules mode.Prepend = is_drop_in rules
+is_lenient_in rules other = false
+
 -- the exptime, or the seconds, that a token gives
 abbrev pub exptime_in : Rules → Option ℤ → Option ℤ
 exptime_in rules token = option_map (exptime_by rules) token
@@ -178,11 +184,12 @@ abbrev pub shown_flag : List ℕ → Option ReturnFlag
 shown_flag [] = None
 shown_flag (letter ∷ token) = return_flag letter
 
--- what the flags of every command ask
+-- what the flags of every command ask; whose rules their reply follows comes with the command (`flags_by`)
 abbrev pub flags_of : List (List ℕ) → MetaFlags
 flags_of words = record {
   base64 = has_flag (byte "b") words;
   quiet = has_flag (byte "q") words;
+  profile = Own;
   returned = filter_map shown_flag words;
   opaque = unwrap_or (token_of (byte "O") words) [];
 }
@@ -203,6 +210,7 @@ asked_of name words = record {
   flags = flags_of words;
   value = has_flag (byte "v") words;
   invalidate = has_flag (byte "I") words;
+  unnoted = has_flag (byte "u") words;
   exptime = signed_token (byte "T") words;
   vivify = signed_token (byte "N") words;
   recache = signed_token (byte "R") words;
@@ -217,32 +225,37 @@ asked_of name words = record {
 
 -- what each command makes of them, with the defaults of flags that do not stand there
 
+abbrev pub flags_by : Rules → Asked → MetaFlags
+flags_by rules asked = record asked.flags { profile = rules.profile }
+
 abbrev pub get_by : Rules → List ℕ → Asked → MetaGet
 get_by rules key asked = record {
   key = key;
-  flags = asked.flags;
+  flags = flags_by rules asked;
   value = asked.value;
   touch = exptime_in rules asked.exptime;
   vivify = exptime_in rules asked.vivify;
   recache = exptime_in rules asked.recache;
+  unnoted = asked.unnoted;
 }
 
 abbrev pub set_by : Rules → List ℕ → Asked → MetaSet
 set_by rules key asked = record {
   key = key;
-  flags = asked.flags;
+  flags = flags_by rules asked;
   mode = unwrap_or asked.mode mode.Set;
   compare = compare_by rules (unwrap_or asked.mode mode.Set) asked.compare;
   unique = asked.unique;
   client_flags = unwrap_or asked.client_flags 0;
   exptime = unwrap_or (exptime_in rules asked.exptime) (pos 0);
+  lenient = is_lenient_in rules (unwrap_or asked.mode mode.Set);
   block = [];
 }
 
 abbrev pub delete_by : Rules → List ℕ → Asked → MetaDelete
 delete_by rules key asked = record {
   key = key;
-  flags = asked.flags;
+  flags = flags_by rules asked;
   compare = asked.compare;
   unique = asked.unique;
   invalidate = asked.invalidate;
@@ -252,7 +265,7 @@ delete_by rules key asked = record {
 abbrev pub arithmetic_by : Rules → List ℕ → Asked → MetaArithmetic
 arithmetic_by rules key asked = record {
   key = key;
-  flags = asked.flags;
+  flags = flags_by rules asked;
   value = asked.value;
   compare = asked.compare;
   unique = asked.unique;

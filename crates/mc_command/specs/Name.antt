@@ -45,13 +45,14 @@ change_name word =
     else (if bytes_eq word (codes "flush_all") then Some name.FlushAll
     else None))))
 
--- what asks no shard
+-- what asks no item of a shard
 abbrev pub other_name : List ℕ → Option CommandName
 other_name word =
     if bytes_eq word (codes "version") then Some name.Version
     else (if bytes_eq word (codes "verbosity") then Some name.Verbosity
     else (if bytes_eq word (codes "quit") then Some name.Quit
-    else None))
+    else (if bytes_eq word (codes "stats") then Some name.Stats
+    else None)))
 
 -- the command of that name
 unfoldable pub name_of : List ℕ → Option CommandName

@@ -8,7 +8,7 @@ use Rattle.mc_command.specs.declared.line.Line.{Line}
 use Rattle.mc_command.specs.declared.line.Line.TheVariants.{Whole, Refused}
 use Rattle.mc_command.specs.declared.rules.Rules.{Rules}
 use Rattle.mc_command.specs.Blocks.{whole_line}
-use Rattle.mc_command.specs.Classic.{cas_count_in, count_in, storage_line, cas_line, get_words, gat_words, delete_words, count_words, touch_words, flush_words, verbosity_words}
+use Rattle.mc_command.specs.Classic.{cas_count_in, count_in, storage_line, cas_line, get_words, gat_words, delete_words, count_words, touch_words, flush_words, stats_words, verbosity_words}
 use Rattle.mc_command.specs.Meta.{meta_line_of, meta_count_in}
 use Rattle.mc_command.specs.Name.{name_of}
 use Rattle.mc_command.specs.Hiding.{hides_faults, shown_line}
@@ -25,6 +25,7 @@ line_named rules name.Touch words = whole_line (touch_words rules words)
 line_named rules name.FlushAll words = whole_line (flush_words rules words)
 line_named rules name.Version words = Whole (command.Version rules.profile)
 line_named rules name.Verbosity words = whole_line (verbosity_words rules words)
+line_named rules name.Stats words = whole_line (stats_words rules words)
 line_named rules name.Quit words = Whole command.Quit
 line_named rules name.MetaNoop words = Whole command.MetaNoop
 line_named rules (name.Meta name) words = meta_line_of rules name words
@@ -50,6 +51,7 @@ abbrev pub takes_memory : CommandName → Bool
 takes_memory name.FlushAll = false
 takes_memory name.Version = false
 takes_memory name.Verbosity = false
+takes_memory name.Stats = false
 takes_memory name.Quit = false
 takes_memory name.MetaNoop = false
 takes_memory other = true

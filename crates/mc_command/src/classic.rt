@@ -5,7 +5,7 @@ ghost use Rattle.mc_wire.specs.Words.{words_left};
 ghost use Rattle.mc_command.specs.Field.{Reads};
 ghost use Rattle.mc_command.specs.Classic as spec;
 
-use crate::command::{Command, Direction, Retrieval};
+use crate::command::{Command, Direction, Retrieval, StatsRequest};
 use crate::field::{read_exptime, read_key, read_last_word, read_noreply, read_u64};
 use crate::keys::Keys;
 use crate::refusal::Refusal;
@@ -161,4 +161,31 @@ pub(crate) fn read_verbosity(rules: Rules, mut walk: WordWalk<'_>) -> Result<Com
     read_u64(level)?;
     let noreply = read_last_word(rules, noreply)?;
     Ok(Command::Verbosity { noreply })
+}
+
+/// `stats`: [WHAT ..], by memcached's rules. By its own the server has no such command.
+pub(crate) fn read_stats(rules: Rules, mut walk: WordWalk<'_>) -> Result<Command, Refusal>
+    ensures { result ≡ spec.stats_words rules (words_left walk.entry) }
+{
+    if !rules.is_drop_in() {
+        return Err(Refusal::Unknown);
+    }
+    let Some(word) = walk.next() else {
+        return Ok(Command::Stats(StatsRequest::General));
+    };
+    match request_named(word) {
+        Some(request) => Ok(Command::Stats(request)),
+        None => Err(Refusal::Unknown),
+    }
+}
+
+/// What `stats` asks for by the word behind it.
+fn request_named(word: &[u8]) -> Option<StatsRequest>
+    ensures { result ≡ spec.request_named word.now }
+{
+    match word {
+        b"reset" => Some(StatsRequest::Reset),
+        b"settings" | b"items" | b"slabs" | b"sizes" | b"conns" => Some(StatsRequest::Empty),
+        _ => None,
+    }
 }

@@ -44,6 +44,8 @@ pub enum Command {
     Verbosity {
         noreply: bool,
     },
+    /// `stats [WHAT]`, by memcached's rules.
+    Stats(StatsRequest),
     /// `quit`: nothing is read after it.
     Quit,
     /// `mn`.
@@ -89,6 +91,9 @@ pub struct Storage {
     pub flags: u32,
     pub exptime: i64,
     pub noreply: bool,
+    /// A joined value that is too large counts as not stored, and that is no error: `append` and `prepend` by memcached's
+    /// rules.
+    pub lenient: bool,
     pub block: Block,
 }
 
@@ -112,6 +117,17 @@ pub struct Retrieval {
     pub touch: Option<i64>,
     /// Whether uniques are shown, as by `gets` and `gats`.
     pub with_unique: bool,
+}
+
+/// What `stats` asks for (protocol.txt, "Statistics").
+#[derive(Clone, Copy, Debug, PartialEq, Eq)]
+pub enum StatsRequest {
+    /// `stats`: the counts of all shards together.
+    General,
+    /// `stats reset`: what was counted is counted from 0 again.
+    Reset,
+    /// `stats settings`, `items`, `slabs`, `sizes` and `conns`, of which this server has none to show.
+    Empty,
 }
 
 /// Whether a number grows or falls.

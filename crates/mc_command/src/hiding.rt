@@ -61,6 +61,7 @@ fn takes_noreply(name: CommandName) -> bool
         CommandName::Get { .. }
         | CommandName::GetAndTouch { .. }
         | CommandName::Version
+        | CommandName::Stats
         | CommandName::Quit
         | CommandName::MetaNoop
         | CommandName::Meta(_) => false,

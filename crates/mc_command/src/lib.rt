@@ -20,7 +20,7 @@ mod storage;
 
 pub use announced::{announced_bytes, announced_bytes_under, read_block_count};
 pub use block::Block;
-pub use command::{Command, Direction, Retrieval, Storage, StoreMode};
+pub use command::{Command, Direction, Retrieval, StatsRequest, Storage, StoreMode};
 pub use field::{read_exptime, read_last_word, read_u32};
 pub use keys::{Keys, are_keys};
 pub use laws::{data_can_be_given_up, flags_in_any_order, table_is_never_out_of_memory};

@@ -10,7 +10,8 @@ ghost use Rattle.mc_command.specs.Blocks.{discarded_by};
 ghost use Rattle.mc_command.specs.Blocks as spec;
 
 use crate::classic::{
-    read_count, read_delete, read_flush_all, read_gat, read_get, read_touch, read_verbosity,
+    read_count, read_delete, read_flush_all, read_gat, read_get, read_stats, read_touch,
+    read_verbosity,
 };
 use crate::command::{Command, Storage, StoreMode};
 use crate::hiding::hide_fault;
@@ -66,7 +67,7 @@ pub fn read_line_under(alloc: Global, line: &[u8], rules: Rules) -> Line
 }
 
 /// Reads the words behind a name.
-#[tactic(auto, using(crate::proofs::GivingUp::says_whole, crate::proofs::Lines::get_may, crate::proofs::Lines::gat_may, crate::proofs::Lines::delete_may, crate::proofs::Lines::count_may, crate::proofs::Lines::touch_may, crate::proofs::Lines::flush_may, crate::proofs::Told::verbosity_told, crate::proofs::Told::says_told))]
+#[tactic(auto, using(crate::proofs::GivingUp::says_whole, crate::proofs::Lines::get_may, crate::proofs::Lines::gat_may, crate::proofs::Lines::delete_may, crate::proofs::Lines::count_may, crate::proofs::Lines::touch_may, crate::proofs::Lines::flush_may, crate::proofs::Told::verbosity_told, crate::proofs::Told::stats_told, crate::proofs::Told::says_told))]
 fn read_named(alloc: Global, name: CommandName, walk: WordWalk<'_>, rules: Rules) -> Line
     ensures says { Says (line_named rules name (words_left walk.entry)) result }
     ensures told { takes_memory name ≡ false → result ≡ line_named rules name (words_left walk.entry) }
@@ -87,6 +88,7 @@ fn read_named(alloc: Global, name: CommandName, walk: WordWalk<'_>, rules: Rules
         CommandName::FlushAll => whole_line(read_flush_all(rules, walk)),
         CommandName::Version => Line::Whole(Command::Version(rules.profile)),
         CommandName::Verbosity => whole_line(read_verbosity(rules, walk)),
+        CommandName::Stats => whole_line(read_stats(rules, walk)),
         CommandName::Quit => Line::Whole(Command::Quit),
         CommandName::MetaNoop => Line::Whole(Command::MetaNoop),
         CommandName::Meta(name) => read_meta(alloc, name, walk, rules),

@@ -162,7 +162,7 @@ impl MetaKind {
             (Profile::Own, MetaKind::Set) => b"bkOqcsCEFTM",
             (Profile::Own, MetaKind::Delete) => b"bkOqCEIT",
             (Profile::Own, MetaKind::Arithmetic) => b"bkOqctvCDEJMNT",
-            (Profile::DropIn, MetaKind::Get) => b"bcfhklOqstvNRTPL",
+            (Profile::DropIn, MetaKind::Get) => b"bcfhklOqstvNRTPLu",
             (Profile::DropIn, MetaKind::Set) => b"bkOqcsCEFTMINPL",
             (Profile::DropIn, MetaKind::Delete) => b"bkOqCEITPL",
             (Profile::DropIn, MetaKind::Arithmetic) => b"bkOqctvCDEJMNTPL",
@@ -177,6 +177,8 @@ pub struct MetaFlags {
     pub base64: bool,
     /// `q`: replies that say nothing new are hidden.
     pub quiet: bool,
+    /// Whose rules the reply follows.
+    pub profile: Profile,
     /// The flags to be given back, in the order of the request.
     pub returned: Returned,
     /// The token of `O`; empty where there is none.
@@ -196,6 +198,8 @@ pub struct MetaGet {
     pub vivify: Option<i64>,
     /// `R`: who finds fewer seconds left than these is told to recompute.
     pub recache: Option<i64>,
+    /// `u`, by memcached's rules: that a hit was read isn't noted.
+    pub unnoted: bool,
 }
 
 /// `ms`, with its data block.
@@ -212,6 +216,9 @@ pub struct MetaSet {
     pub client_flags: u32,
     /// `T`: the exptime, 0 where none is given.
     pub exptime: i64,
+    /// A joined value that is too large counts as not stored, and that is no error: the modes `A` and `P` by memcached's
+    /// rules.
+    pub lenient: bool,
     pub block: Block,
 }
 

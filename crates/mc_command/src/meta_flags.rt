@@ -11,7 +11,7 @@ use crate::command::Direction;
 use crate::field::{read_i64, read_u32, read_u64};
 use crate::meta::{MetaFlags, MetaKind, MetaMode, Opaque, ReturnFlag, Returned};
 use crate::refusal::Refusal;
-use crate::rules::Rules;
+use crate::rules::{Profile, Rules};
 use mc_wire::WordWalk;
 
 /// What the flags of a line ask; nothing where a flag is not there.
@@ -22,6 +22,8 @@ pub(crate) struct Asked {
     pub(crate) value: bool,
     /// `I`.
     pub(crate) invalidate: bool,
+    /// `u`.
+    pub(crate) unnoted: bool,
     /// `T`.
     pub(crate) exptime: Option<i64>,
     /// `N`.
@@ -55,6 +57,8 @@ enum Flag {
     Value,
     /// `I`.
     Invalidate,
+    /// `u`.
+    Unnoted,
     /// `O`.
     Opaque(Opaque),
     /// `M` of `ms`.
@@ -148,11 +152,13 @@ impl Asked {
             flags: MetaFlags {
                 base64: false,
                 quiet: false,
+                profile: Profile::Own,
                 returned: Returned::new(),
                 opaque: Opaque::empty(),
             },
             value: false,
             invalidate: false,
+            unnoted: false,
             exptime: None,
             vivify: None,
             recache: None,
@@ -175,6 +181,7 @@ impl Asked {
             Flag::Quiet => self.flags.quiet = true,
             Flag::Value => self.value = true,
             Flag::Invalidate => self.invalidate = true,
+            Flag::Unnoted => self.unnoted = true,
             Flag::Opaque(token) => self.flags.opaque = token,
             Flag::Mode(mode) => self.mode = Some(mode),
             Flag::Direction(direction) => self.direction = Some(direction),
@@ -200,6 +207,7 @@ fn flag_of(name: MetaKind, letter: u8, token: &[u8]) -> Result<Flag, Refusal>
         b'q' => Ok(Flag::Quiet),
         b'v' => Ok(Flag::Value),
         b'I' => Ok(Flag::Invalidate),
+        b'u' => Ok(Flag::Unnoted),
         b'O' => opaque_flag(token),
         b'M' => mode_flag(name, token),
         b'T' => Ok(Flag::Exptime(read_i64(token)?)),

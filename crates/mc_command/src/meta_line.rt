@@ -158,11 +158,12 @@ impl Asked {
     {
         MetaGet {
             key,
-            flags: self.flags,
+            flags: rules.reply_flags(self.flags),
             value: self.value,
             touch: rules.exptime_in(self.exptime),
             vivify: rules.exptime_in(self.vivify),
             recache: rules.exptime_in(self.recache),
+            unnoted: self.unnoted,
         }
     }
 
@@ -172,12 +173,13 @@ impl Asked {
         let mode = self.mode.unwrap_or(MetaMode::Set);
         MetaSet {
             key,
-            flags: self.flags,
+            flags: rules.reply_flags(self.flags),
             mode,
             compare: rules.compared(mode, self.compare),
             unique: self.unique,
             client_flags: self.client_flags.unwrap_or(0),
             exptime: rules.exptime_in(self.exptime).unwrap_or(0),
+            lenient: rules.is_lenient_in(mode),
             block: Block::empty(alloc),
         }
     }
@@ -187,7 +189,7 @@ impl Asked {
     {
         MetaDelete {
             key,
-            flags: self.flags,
+            flags: rules.reply_flags(self.flags),
             compare: self.compare,
             unique: self.unique,
             invalidate: self.invalidate,
@@ -200,7 +202,7 @@ impl Asked {
     {
         MetaArithmetic {
             key,
-            flags: self.flags,
+            flags: rules.reply_flags(self.flags),
             value: self.value,
             compare: self.compare,
             unique: self.unique,

@@ -29,6 +29,8 @@ pub(crate) enum CommandName {
     Version,
     /// `verbosity`.
     Verbosity,
+    /// `stats`.
+    Stats,
     /// `quit`.
     Quit,
     /// `mn`.
@@ -108,6 +110,7 @@ fn other_name(word: &[u8]) -> Option<CommandName>
         b"version" => Some(CommandName::Version),
         b"verbosity" => Some(CommandName::Verbosity),
         b"quit" => Some(CommandName::Quit),
+        b"stats" => Some(CommandName::Stats),
         _ => None,
     }
 }

@@ -24,7 +24,7 @@ pub enum Refusal {
     TooLarge,
     /// The data block isn't followed by its line end.
     BadChunk,
-    /// A line has no end within 65,536 bytes. Nothing is read after it.
+    /// A line has no end within as many bytes as one may have. Nothing is read after it.
     LineTooLong,
     /// A command was given up because memory ran out.
     Memory,

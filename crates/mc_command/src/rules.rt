@@ -1,9 +1,11 @@
-//! Whose rules hold where this server and memcached 1.6 differ, and how large values may be.
+//! Whose rules hold where this server and memcached 1.6 differ, and how large values and lines may be.
 ghost use Rattle.std.specs.Prelude.{◌≡◌, ◌≤◌, ◌^◌};
 ghost use Rattle.std.specs.Int.{int_wrap, w32};
 
-use crate::meta::MetaMode;
+use crate::command::StoreMode;
+use crate::meta::{MetaFlags, MetaMode};
 use crate::refusal::Refusal;
+use mc_wire::DEFAULT_LINE_LIMIT;
 
 /// Whose rules a server follows where the two differ (docs/PROTOCOL.md).
 #[derive(Clone, Copy, Debug, PartialEq, Eq)]
@@ -21,21 +23,25 @@ pub struct Rules {
     pub profile: Profile,
     /// A value has at most so many bytes.
     pub value_limit: usize,
+    /// A line has at most so many bytes, its line feed among them.
+    pub line_limit: usize,
 }
 
 impl Rules {
     ghost use Rattle.mc_command.specs.Blocks.{count_bound};
+    ghost use Rattle.mc_command.specs.Classic.{is_lenient};
     ghost use Rattle.mc_command.specs.Field.{exptime_by, word_count_refusal};
-    ghost use Rattle.mc_command.specs.Meta.{compare_by, exptime_in};
+    ghost use Rattle.mc_command.specs.Meta.{compare_by, exptime_in, is_lenient_in};
     ghost use Rattle.mc_command.specs.Rules.{is_drop_in, own};
 
-    /// This server's own rules, for values of at most so many bytes.
+    /// This server's own rules, for values of at most so many bytes and lines of the default limit.
     pub fn own(value_limit: usize) -> Rules
         ensures { result ≡ own value_limit }
     {
         Rules {
             profile: Profile::Own,
             value_limit,
+            line_limit: DEFAULT_LINE_LIMIT,
         }
     }
 
@@ -53,6 +59,17 @@ impl Rules {
         match self.profile {
             Profile::Own => number,
             Profile::DropIn => low_half(number),
+        }
+    }
+
+    /// The flags of a command whose reply follows these rules.
+    #[inline(always)]
+    pub(crate) fn reply_flags(self, flags: MetaFlags) -> MetaFlags
+        ensures { result ≡ record flags { profile = self.profile } }
+    {
+        MetaFlags {
+            profile: self.profile,
+            ..flags
         }
     }
 
@@ -100,6 +117,20 @@ impl Rules {
             (MetaMode::Add, _) | (MetaMode::Append | MetaMode::Prepend, Some(0)) => None,
             _ => unique,
         }
+    }
+
+    /// Whether a value that `append` or `prepend` joins counts as not stored where it is too large.
+    pub(crate) fn is_lenient(self, mode: StoreMode) -> bool
+        ensures { result ≡ is_lenient self mode }
+    {
+        matches!(mode, StoreMode::Append | StoreMode::Prepend) && self.is_drop_in()
+    }
+
+    /// Whether a value that `ms` joins counts as not stored where it is too large.
+    pub(crate) fn is_lenient_in(self, mode: MetaMode) -> bool
+        ensures { result ≡ is_lenient_in self mode }
+    {
+        matches!(mode, MetaMode::Append | MetaMode::Prepend) && self.is_drop_in()
     }
 }
 

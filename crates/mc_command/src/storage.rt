@@ -91,6 +91,7 @@ fn storage(
         flags,
         exptime,
         noreply,
+        lenient: rules.is_lenient(mode),
         block: Block::empty(alloc),
     }))
 }
@@ -118,6 +119,7 @@ fn guarded(
         flags,
         exptime,
         noreply,
+        lenient: false,
         block: Block::empty(alloc),
     }))
 }

@@ -15,7 +15,7 @@ use mc_join::{Gone, Joiner, Stranger};
 use mc_reader::{Memory, Reader, Step};
 use mc_ring::Reply;
 use mc_split::{Piece, Ticket};
-use mc_wire::{GREATEST_VALUE_LIMIT, LINE_LIMIT, Outlet};
+use mc_wire::{GREATEST_LINE_LIMIT, GREATEST_VALUE_LIMIT, Outlet};
 use std::alloc::Global;
 use std::collections::VecDeque;
 
@@ -66,6 +66,7 @@ impl Conn {
     pub fn under(alloc: Global, shards: usize, rules: Rules, window: usize) -> Result<Conn, Memory>
         requires shards { 0 < shards }
         requires limit { rules.value_limit ≤ GREATEST_VALUE_LIMIT }
+        requires line { rules.line_limit ≤ GREATEST_LINE_LIMIT }
         requires window { 0 < window }
         ensures { IfOk result (λ conn. IsConn conn (told_nothing shards rules window)) }
     {
@@ -96,7 +97,7 @@ impl Conn {
             0 < length piece.now → 0 < result }
         // The whole of a piece that isn't too long is taken where every byte before it is part of a command taken.
         ensures whole { (told : Told) → IsConn self.old told → IsOpen told → IsUsedUp told →
-            length piece.now ≤ LINE_LIMIT → result ≡ length piece.now }
+            length piece.now ≤ told.rules.line_limit → result ≡ length piece.now }
         // After the last command everything is taken, and dropped.
         ensures shut { (told : Told) → IsConn self.old told → IsOpen told → IsShut told → result ≡ length piece.now }
         ensures ended { (told : Told) → IsConn self.old told → IsTrue told.ended → result ≡ 0 }
@@ -260,16 +261,16 @@ impl Conn {
     #[tactic(auto, unfolding(crate::specs::Conn::IsConn, crate::specs::Conn::held_bytes, crate::specs::Conn::SkipsBytes))]
     pub fn held(&self) -> usize
         ensures value { result ≡ held_bytes self.now }
-        ensures most { (told : Told) → IsConn self.now told → result ≤ LINE_LIMIT + told.rules.value_limit + 2 }
+        ensures most { (told : Told) → IsConn self.now told → result ≤ told.rules.line_limit + told.rules.value_limit + 2 }
         // No more than the bytes fed that are not part of a command taken, until the last command is taken.
         ensures unread { (told : Told) (unread : List ℕ) → IsConn self.now told → LeavesUnread told unread → result ≤ length unread }
         // A line whose end has not come is held whole.
         ensures line { (told : Told) (unread : List ℕ) → IsConn self.now told → LeavesUnread told unread → HasNoEnd unread →
             result ≡ length unread }
         // A block that is skipped is not held.
-        ensures skipping { (told : Told) → IsConn self.now told → IsSkipping told → result ≤ LINE_LIMIT }
+        ensures skipping { (told : Told) → IsConn self.now told → IsSkipping told → result ≤ told.rules.line_limit }
         // Nor is one that memory ran out for.
-        ensures skipped { SkipsBytes self.now → result ≤ LINE_LIMIT }
+        ensures skipped { SkipsBytes self.now → result ≤ self.now.reader.rules.line_limit }
     {
         self.reader.held()
     }

@@ -7,7 +7,7 @@ ghost use Rattle.mc_join.specs.Held.{opened_count};
 ghost use Rattle.mc_join.specs.Joined.{IsJoiner};
 
 use crate::planning::{form_of_refusal, plan};
-use mc_command::{Command, MetaGet, MetaSet};
+use mc_command::{Command, MetaGet, MetaSet, Profile};
 use mc_item::NoMemory;
 use mc_join::Joiner;
 use mc_plain::Commands;
@@ -121,7 +121,7 @@ impl Commands for Dispatcher {
         self.open_split(split);
     }
 
-    fn meta_get_value(&mut self, key: &[u8]) {
+    fn meta_get_value(&mut self, profile: Profile, key: &[u8]) {
         match queue_meta_get_value(
             self.alloc,
             key,
@@ -130,7 +130,7 @@ impl Commands for Dispatcher {
             self.shards,
             &mut self.unsent,
         ) {
-            Ok(()) => self.open(form_of_meta_get_value(self.ticket)),
+            Ok(()) => self.open(form_of_meta_get_value(self.ticket, profile)),
             Err(_) => self.open_refusal(),
         }
     }

@@ -4,6 +4,7 @@ ghost use Rattle.std.specs.Prelude.{◌<◌};
 
 use crate::asserting::{equal, holds};
 use crate::outlet::{Memory, outlet, outlet_over};
+use mc_command::Rules;
 use mc_conn::{Conn, Taken};
 use mc_item::{Answer, Kind};
 use mc_join::Stranger;
@@ -218,6 +219,30 @@ fn the_last_command_closes_a_full_window(rt: HostRuntime) -> Result<(), Fail> {
         &rt,
         out.taken.as_slice(),
         b"MN\r\nMN\r\nCLIENT_ERROR line too long\r\n".as_slice(),
+    );
+    Ok(())
+}
+
+/// No more of a line is taken than the rules allow, until it was refused.
+#[test]
+fn a_line_limit_of_2048(rt: HostRuntime) -> Result<(), Fail> {
+    let alloc = rt.alloc();
+    let mut out = outlet(alloc, usize::MAX);
+    let rules = Rules {
+        line_limit: 2_048,
+        ..Rules::own(DEFAULT_VALUE_LIMIT)
+    };
+    let mut conn = Conn::under(alloc, 2, rules, 4)?;
+    feeds(&rt, &mut conn, &LONG, 2_048);
+    equal(&rt, conn.held(), 2_048);
+    takes(&rt, alloc, &mut conn, Taken::Opened(Ticket(0)));
+    takes(&rt, alloc, &mut conn, Taken::Closed);
+    feeds(&rt, &mut conn, &LONG, 65_536);
+    hands(&rt, &mut conn, &mut out, 1);
+    equal(
+        &rt,
+        out.taken.as_slice(),
+        b"CLIENT_ERROR line too long\r\n".as_slice(),
     );
     Ok(())
 }

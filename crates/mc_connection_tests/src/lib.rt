@@ -14,3 +14,5 @@ mod outlet;
 mod ring;
 #[cfg(test)]
 mod split;
+#[cfg(test)]
+mod stats;

@@ -3,8 +3,8 @@ ghost use Rattle.std.specs.Prelude.{◌<◌};
 
 use crate::asserting::{equal, holds};
 use mc_command::{
-    Block, Command, Keys, MetaFlags, MetaGet, Opaque, Refusal, Retrieval, ReturnFlag, Returned,
-    Storage, StoreMode,
+    Block, Command, Keys, MetaFlags, MetaGet, Opaque, Profile, Refusal, Retrieval, ReturnFlag,
+    Returned, Storage, StoreMode,
 };
 use mc_item::{Answer, Kind, Op};
 use mc_split::{Form, Plan, Shape, Ticket, split};
@@ -32,6 +32,7 @@ fn set(alloc: Global) -> Result<Command, Refusal> {
         flags: 5,
         exptime: 0,
         noreply: true,
+        lenient: false,
         block: Block::new(Vec::from_slice(alloc, b"xyz")?),
     }))
 }
@@ -46,6 +47,7 @@ fn meta_get(alloc: Global, shows_key: bool) -> Result<Command, Refusal> {
         flags: MetaFlags {
             base64: false,
             quiet: false,
+            profile: Profile::Own,
             returned,
             opaque: Opaque::empty(),
         },
@@ -53,6 +55,7 @@ fn meta_get(alloc: Global, shows_key: bool) -> Result<Command, Refusal> {
         touch: None,
         vivify: None,
         recache: Some(30),
+        unnoted: false,
     }))
 }
 
@@ -97,7 +100,7 @@ fn one_key_is_one_piece(rt: HostRuntime) -> Result<(), Fail> {
     has_shards(&rt, &plan, &[1]);
     holds(
         &rt,
-        matches!(&plan.form.shape, Shape::Line { noreply: true }),
+        matches!(&plan.form.shape, Shape::Line { noreply: true, .. }),
     );
     let Plan {
         mut form,

@@ -14,7 +14,7 @@ use Rattle.mc_split.specs.Plan.{no_answers, parts_from}
 use Rattle.mc_split.specs.Text.{text_of}
 use Rattle.mc_split.proofs.Shards.{pieces_within}
 use Rattle.mc_store.specs.State.{State}
-use Rattle.mc_store.specs.Step.{Answers, IsStep, Outcome}
+use Rattle.mc_store.specs.Step.{Answers, IsStep, Outcome, noted_in}
 use Rattle.mc_join.specs.Replies.{answer_to, answers_of, is_to, slots_after}
 use Rattle.mc_conn.specs.History.{Done, IsAnswered, Taken, planned, taken_of, texts_of}
 use Rattle.mc_conn.specs.Due.{Ran, due, history_from, history_of, log_from, log_of, ran_by, ran_on}
@@ -40,7 +40,10 @@ RunOf old (entry ∷ log) new = (mid : State) × IsStep old entry.piece.op entry
 -- a step that didn't want memory is determined
 determined : (old : State) (op : Op) (moment : ℕ) (answer : Answer) (new : State) → answer ≢ NoMemory → IsStep old op moment answer new → ◌≡◌ {A = Outcome} (answer, new) (outcome_at old op moment)
 unfolding IsStep Answers
-determined old op moment answer new some step = elim step [ inl none ↦ absurd (some none.0) | inr same ↦ same ]
+determined old op moment answer new some step = elim step.1 [
+  | inl none ↦ absurd (some none.0)
+  | inr same ↦ ap (λ (s : State). (answer, s)) step.2 ∙ ap (λ (o : Outcome). (o.0, noted_in o.1 op o.0)) same
+]
 
 -- from these states on, what is logged of each shard is a run
 abbrev pub Continues : ℕ → States → List Ran → Type 0

@@ -12,7 +12,7 @@ use Rattle.mc_split.specs.Pieces.{pieces_of}
 use Rattle.mc_split.specs.Shape.{shape_of}
 use Rattle.mc_split.specs.Text.{shape_text}
 use Rattle.mc_store.specs.State.{State, empty_state}
-use Rattle.mc_store.specs.Step.{Answers, IsStep, step_of}
+use Rattle.mc_store.specs.Step.{Answers, IsStep, noted_in, step_of}
 use Rattle.mc_conn.specs.History.{Taken}
 use Rattle.mc_conn.specs.Due.{due, ticket_at}
 use Rattle.mc_conn.specs.Fits.{HasCome}
@@ -28,7 +28,7 @@ use Rattle.mc_core.specs.Headline.{handed_bytes}
 use Rattle.mc_core.proofs.Rows.{alone, begins, flush, line, one}
 
 abbrev two_each : Sizes
-two_each = record { profile = Own; seats = 2; shards = 2; bytes = 1024; ring = 1; value = 1024; window = 1 }
+two_each = record { profile = Own; seats = 2; shards = 2; bytes = 1024; ring = 1; value = 1024; line = 65536; window = 1 }
 
 -- what the second connection takes, a second later
 abbrev later : Taken
@@ -178,26 +178,34 @@ empty_hand log a b shard first second zero link here = let same : a ≡ link = c
 empty_hand log a b shard first second (suc zero) link here = let same : b ≡ link = cc in subst (λ (l : Link). ran (world log a b) 1 shard ≤ l.given shard) same second
 empty_hand log a b shard first second (suc (suc k)) link here = absurd cc
 
--- the shard of that number at the moment
+-- the shard of that number at the moment, which has run nothing
 abbrev shard_at : ℕ → ℕ → State
 shard_at index moment = record (empty_state index 2 1024 0 1024) { time = moment }
+
+-- and once it has flushed, which is counted
+abbrev once : State → State
+once state = noted_in state (op.Flush (pos 0)) answer.Done
+
+-- the shard of that number, which flushed at the moment
+abbrev flushed_at : ℕ → ℕ → State
+flushed_at index moment = once (shard_at index moment)
 
 -- Each piece is run as the next that is due; a moment before the shard's time does not turn it back.
 runs_1 : RunsNext two_each (world [] (a_sent 2) b_broken) 1 0 (a_sent 2) (entry 1 0 1000)
 unfolding IsStep Answers step_of pieces_of expiry_of kind_of key_of
-runs_1 = record { shard_is = refl; asker_is = refl; next = refl; before = empty_state 1 2 1024 0 1024; after = shard_at 1 1000; left = refl; step = inr refl }
+runs_1 = record { shard_is = refl; asker_is = refl; next = refl; before = empty_state 1 2 1024 0 1024; after = flushed_at 1 1000; left = refl; step = (shard_at 1 1000, inr refl, refl) }
 
 runs_2 : RunsNext two_each (world log_1 a_received b_broken) 0 1 b_broken (entry 0 1 1001)
 unfolding IsStep Answers step_of pieces_of expiry_of kind_of key_of
-runs_2 = record { shard_is = refl; asker_is = refl; next = refl; before = empty_state 0 2 1024 0 1024; after = shard_at 0 1001; left = refl; step = inr refl }
+runs_2 = record { shard_is = refl; asker_is = refl; next = refl; before = empty_state 0 2 1024 0 1024; after = flushed_at 0 1001; left = refl; step = (shard_at 0 1001, inr refl, refl) }
 
 runs_3 : RunsNext two_each (world log_2 a_received b_received) 0 0 a_received (entry 0 0 1000)
 unfolding IsStep Answers step_of pieces_of expiry_of kind_of key_of
-runs_3 = record { shard_is = refl; asker_is = refl; next = refl; before = shard_at 0 1001; after = shard_at 0 1001; left = (shard_at 0 1001, inr refl, refl); step = inr refl }
+runs_3 = record { shard_is = refl; asker_is = refl; next = refl; before = flushed_at 0 1001; after = once (flushed_at 0 1001); left = (flushed_at 0 1001, (shard_at 0 1001, inr refl, refl), refl); step = (flushed_at 0 1001, inr refl, refl) }
 
 runs_4 : RunsNext two_each (world log_3 a_handed b_received) 1 1 b_received (entry 1 1 1001)
 unfolding IsStep Answers step_of pieces_of expiry_of kind_of key_of
-runs_4 = record { shard_is = refl; asker_is = refl; next = refl; before = shard_at 1 1000; after = shard_at 1 1001; left = (shard_at 1 1000, inr refl, refl); step = inr refl }
+runs_4 = record { shard_is = refl; asker_is = refl; next = refl; before = flushed_at 1 1000; after = once (record (flushed_at 1 1000) { time = 1001 }); left = (flushed_at 1 1000, (shard_at 1 1000, inr refl, refl), refl); step = (record (flushed_at 1 1000) { time = 1001 }, inr refl, refl) }
 
 -- The reply waits for the answer of shard 0.
 waits : Happens two_each (world log_1 a_received b_broken) (Hand 0) Idle (world log_1 a_received b_broken)

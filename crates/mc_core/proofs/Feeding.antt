@@ -3,7 +3,6 @@ use Rattle.std.proofs.Common.{◌≡◌, ℕ, ◌+◌, ◌<◌, ◌≤◌, inl, 
 use Rattle.std.specs.List.{slice_get}
 use Rattle.std.proofs.lemmas.List.{length-map}
 use Rattle.std.proofs.Math.Seq.{take-append-add}
-use Rattle.mc_wire.specs.declared.TheConstants.{LINE_LIMIT}
 use Rattle.mc_reader.specs.Spelling.{is_closed}
 use Rattle.mc_reader.proofs.Fronts.{commands_begin}
 use Rattle.mc_reader.specs.Spelling.{AreCommands, BeginCommands}
@@ -61,7 +60,7 @@ unasked conn told whole is all now = record { now = now; waits = λ unset every 
 
 -- all of a piece is taken where all before it is used up, whether or not more commands come
 pub takes_bytes : (old new : Conn) (told : Told) (bytes : List ℕ) (count : ℕ) → IsOpen told → Refreshed told old → count ≤ length bytes → IsConn new (record told { fed = told.fed ++ take count bytes }) →
-    (IsAllTaken told → IsAwaiting old → 0 < length bytes → 0 < count) → (IsUsedUp told → length bytes ≤ LINE_LIMIT → count ≡ length bytes) → (IsShut told → count ≡ length bytes) → TakesBytes told bytes count new
+    (IsAllTaken told → IsAwaiting old → 0 < length bytes → 0 < count) → (IsUsedUp told → length bytes ≤ told.rules.line_limit → count ≡ length bytes) → (IsShut told → count ≡ length bytes) → TakesBytes told bytes count new
 takes_bytes old new told bytes count unset ready within now progress whole shut = record {
   within = within;
   now = now;

@@ -21,8 +21,8 @@ use Rattle.mc_split.specs.Text.{shape_text}
 use Rattle.mc_reader.specs.Spelling.{AreCommands, BeginCommands, HasNoEnd, Spells}
 use Rattle.mc_reader.proofs.Machine.{lined}
 use Rattle.mc_reader.proofs.Texts.{nothing_without_end}
-use Rattle.mc_store.specs.State.{empty_state}
-use Rattle.mc_store.specs.Step.{Answers, IsStep, step_of}
+use Rattle.mc_store.specs.State.{State, empty_state}
+use Rattle.mc_store.specs.Step.{Answers, IsStep, noted_in, step_of}
 use Rattle.mc_conn.specs.History.{Taken}
 use Rattle.mc_conn.specs.Due.{due, ticket_at}
 use Rattle.mc_conn.specs.Fits.{HasCome}
@@ -37,7 +37,7 @@ use Rattle.mc_core.specs.Schedule.StepReply.{Done}
 use Rattle.mc_core.specs.Headline.{handed_bytes}
 
 abbrev pub one_each : Sizes
-one_each = record { profile = Own; seats = 1; shards = 1; bytes = 1024; ring = 1; value = 1024; window = 1 }
+one_each = record { profile = Own; seats = 1; shards = 1; bytes = 1024; ring = 1; value = 1024; line = 65536; window = 1 }
 
 abbrev pub line : List ℕ
 line = codes "flush_all\r\n"
@@ -126,6 +126,10 @@ come s = elim (eqb_tells 0 s) [
   | inr other ↦ rw other.0 (omega arith)
 ]
 
+-- the shard at the moment of the flush
+abbrev at_flush : State
+at_flush = record (empty_state 0 1 1024 0 1024) { time = 1000 }
+
 runs : RunsNext one_each (alone [] sent) 0 0 sent entry
 unfolding IsStep Answers step_of pieces_of expiry_of kind_of key_of
 runs = record {
@@ -133,9 +137,9 @@ runs = record {
   asker_is = refl;
   next = refl;
   before = empty_state 0 1 1024 0 1024;
-  after = record (empty_state 0 1 1024 0 1024) { time = 1000 };
+  after = noted_in at_flush piece.op entry.answer;
   left = refl;
-  step = inr refl;
+  step = (at_flush, inr refl, refl);
 }
 
 pub at_rest : AtRest one_each ended

@@ -9,7 +9,7 @@ use Rattle.mc_item.specs.Kind.{key_of}
 use Rattle.mc_split.specs.Pieces.{Asked, pieces_of}
 use Rattle.mc_split.specs.Text.{text_of}
 use Rattle.mc_store.specs.State.{State, settle}
-use Rattle.mc_store.specs.Step.{Outcome, step_of}
+use Rattle.mc_store.specs.Step.{Outcome, noted_in, step_of}
 use Rattle.mc_conn.specs.History.{Done, Taken}
 use Rattle.mc_core.specs.Sizes.{Sizes}
 use Rattle.mc_core.specs.Sized.{empty_shard}
@@ -25,9 +25,11 @@ empty_shards sizes = λ index. empty_shard sizes index
 abbrev pub with_state : States → ℕ → State → States
 with_state states shard state = λ index. if shard == index then state else states index
 
--- what a shard answers at the moment where no memory is refused, and its state then
+-- what a shard answers at the moment where no memory is refused, and its state then, in which it is counted
 abbrev pub outcome_at : State → Op → ℕ → Outcome
-outcome_at state op moment = step_of (settle state (key_of op) moment) op
+outcome_at state op moment =
+    let outcome = step_of (settle state (key_of op) moment) op in
+    (outcome.0, noted_in outcome.1 op outcome.0)
 
 -- answers, and the states after them
 pub record Ended : Type 0 where

@@ -1,6 +1,5 @@
 -- How a connection is fed: some byte is taken wherever one has to be.
 use Rattle.std.specs.Prelude.{ℕ, ◌≡◌, ◌+◌, ◌<◌, ◌≤◌, ◌⊎◌, false, Option, None, List, [], ◌++◌, length, take}
-use Rattle.mc_wire.specs.declared.TheConstants.{LINE_LIMIT}
 use Rattle.mc_reader.specs.Spelling.{SpellsFront}
 use Rattle.mc_conn.specs.declared.conn.Conn.{Conn}
 use Rattle.mc_core.specs.declared.event.StepReply.{StepReply as Replied}
@@ -22,7 +21,7 @@ pub record Refreshed (told : Told) (new : Conn) : Type 0 where
 pub record TakesBytes (told : Told) (bytes : List ℕ) (count : ℕ) (new : Conn) : Type 0 where
   pub within : count ≤ length bytes
   pub now : IsConn new (record told { fed = told.fed ++ take count bytes })
-  pub whole : SpellsFront told.rules 0 told.fed (commands_of told.taken) [] → length bytes ≤ LINE_LIMIT → count ≡ length bytes
+  pub whole : SpellsFront told.rules 0 told.fed (commands_of told.taken) [] → length bytes ≤ told.rules.line_limit → count ≡ length bytes
   pub some : IsAllTaken told → HasPlace told → 0 < length bytes → 0 < count
 
 -- The connection is neither ended nor broken, and there are bytes.

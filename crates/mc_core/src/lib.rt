@@ -19,7 +19,7 @@ pub use laws::{
 };
 pub use sim::{Connection, LogEntry, Sim, SimRefusal};
 pub use sizes::{
-    DEFAULT_WINDOW, LEAST, LEAST_BYTES, LEAST_VALUE, MOST_BYTES, MOST_RING, MOST_SEATS,
-    MOST_SHARDS, MOST_VALUE, MOST_WINDOW,
+    DEFAULT_WINDOW, LEAST, LEAST_BYTES, LEAST_LINE, LEAST_VALUE, MOST_BYTES, MOST_LINE, MOST_RING,
+    MOST_SEATS, MOST_SHARDS, MOST_VALUE, MOST_WINDOW,
 };
 pub use worker::{Turn, Worker};

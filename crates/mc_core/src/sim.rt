@@ -2,6 +2,7 @@
 ghost use Rattle.std.specs.Prelude.{◌≡◌, ◌<◌, ℕ, length, map, IfOk, IfSome, IfNone, IsErrOf, OnErr, OnOk, Some};
 ghost use Rattle.std.specs.List.{AllByRecursion, slice_get};
 ghost use Rattle.std.specs.Option.{option_map};
+ghost use Rattle.mc_wire.specs.declared.TheConstants.{DEFAULT_LINE_LIMIT};
 ghost use Rattle.mc_core.specs.World.{IsAt, IsLink, Link, World, empty_world};
 ghost use Rattle.mc_command.specs.declared.rules.Profile.TheVariants.{Own};
 ghost use Rattle.mc_core.specs.Sizes.{AreWithin, Sizes, sized};
@@ -22,6 +23,7 @@ use mc_command::Profile;
 use mc_conn::Conn;
 use mc_item::NoMemory;
 use mc_split::Ticket;
+use mc_wire::DEFAULT_LINE_LIMIT;
 use numbers::Numbers;
 use rings::Rings;
 use std::alloc::{AllocError, Global};
@@ -82,8 +84,8 @@ pub struct Sim {
 }
 
 impl Sim {
-    /// A core of these sizes that follows the server's own rules, in which nothing has happened. `Size`: one of the sizes is out
-    /// of its limits.
+    /// A core of these sizes that follows the server's own rules with the default line limit, in which nothing has happened.
+    /// `Size`: one of the sizes is out of its limits.
     pub fn new<R: RandomSource>(
         rt: &R,
         alloc: Global,
@@ -94,13 +96,16 @@ impl Sim {
         value: usize,
         window: usize,
     ) -> Result<Sim, SimRefusal>
-        ensures ok { IfOk result (λ sim. Stands (sized Own seats shards bytes ring value window) sim empty_world) }
-        ensures within { OnOk result (AreWithin (sized Own seats shards bytes ring value window)) }
-        ensures size { IsErrOf result SimRefusal.Size → ¬ AreWithin (sized Own seats shards bytes ring value window) }
-        ensures memory { IsErrOf result SimRefusal.Memory → AreWithin (sized Own seats shards bytes ring value window) }
+        ensures ok { IfOk result (λ sim. Stands (sized Own seats shards bytes ring value DEFAULT_LINE_LIMIT window) sim empty_world) }
+        ensures within { OnOk result (AreWithin (sized Own seats shards bytes ring value DEFAULT_LINE_LIMIT window)) }
+        ensures size { IsErrOf result SimRefusal.Size → ¬ AreWithin (sized Own seats shards bytes ring value DEFAULT_LINE_LIMIT window) }
+        ensures memory { IsErrOf result SimRefusal.Memory → AreWithin (sized Own seats shards bytes ring value DEFAULT_LINE_LIMIT window) }
     {
         let own = Profile::Own;
-        Sim::under(rt, alloc, own, seats, shards, bytes, ring, value, window)
+        let line = DEFAULT_LINE_LIMIT;
+        Sim::under(
+            rt, alloc, own, seats, shards, bytes, ring, value, line, window,
+        )
     }
 
     /// A core of these sizes that follows this profile, in which nothing has happened. `Size`: one of the sizes is out of its
@@ -114,12 +119,13 @@ impl Sim {
         bytes: usize,
         ring: usize,
         value: usize,
+        line: usize,
         window: usize,
     ) -> Result<Sim, SimRefusal>
-        ensures ok { IfOk result (λ sim. Stands (sized profile seats shards bytes ring value window) sim empty_world) }
-        ensures within { OnOk result (AreWithin (sized profile seats shards bytes ring value window)) }
-        ensures size { IsErrOf result SimRefusal.Size → ¬ AreWithin (sized profile seats shards bytes ring value window) }
-        ensures memory { IsErrOf result SimRefusal.Memory → AreWithin (sized profile seats shards bytes ring value window) }
+        ensures ok { IfOk result (λ sim. Stands (sized profile seats shards bytes ring value line window) sim empty_world) }
+        ensures within { OnOk result (AreWithin (sized profile seats shards bytes ring value line window)) }
+        ensures size { IsErrOf result SimRefusal.Size → ¬ AreWithin (sized profile seats shards bytes ring value line window) }
+        ensures memory { IsErrOf result SimRefusal.Memory → AreWithin (sized profile seats shards bytes ring value line window) }
     {
         let numbers = Numbers {
             profile,
@@ -128,6 +134,7 @@ impl Sim {
             bytes,
             ring,
             value,
+            line,
             window,
         };
         if !numbers.are_within() {

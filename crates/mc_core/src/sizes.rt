@@ -1,7 +1,7 @@
 //! Between which limits the sizes of a server lie: those of its parts.
 use mc_ring::{RING_LIMIT, SEAT_LIMIT, SHARD_LIMIT};
 use mc_store::{GREATEST_BUDGET, LEAST_BUDGET};
-use mc_wire::{GREATEST_VALUE_LIMIT, LEAST_VALUE_LIMIT};
+use mc_wire::{GREATEST_LINE_LIMIT, GREATEST_VALUE_LIMIT, LEAST_LINE_LIMIT, LEAST_VALUE_LIMIT};
 
 /// The least number of connections, of shards, of places on a ring and of open commands.
 pub const LEAST: usize = 1;
@@ -26,6 +26,12 @@ pub const LEAST_VALUE: usize = LEAST_VALUE_LIMIT;
 
 /// The greatest value limit, in bytes.
 pub const MOST_VALUE: usize = GREATEST_VALUE_LIMIT;
+
+/// The least line limit, in bytes.
+pub const LEAST_LINE: usize = LEAST_LINE_LIMIT;
+
+/// The greatest line limit, in bytes.
+pub const MOST_LINE: usize = GREATEST_LINE_LIMIT;
 
 /// The most open commands of a connection: taken, and their replies not handed out.
 pub const MOST_WINDOW: usize = 4_096;

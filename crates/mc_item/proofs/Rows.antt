@@ -6,11 +6,13 @@ use Rattle.mc_wire.specs.Number.{number_of}
 use Rattle.mc_item.specs.Expiry.{expiry_of, is_dead, seconds_left}
 use Rattle.mc_item.specs.Value.{number_in, number_text, joined}
 use Rattle.mc_item.specs.Kind.{is_lawful}
+use Rattle.mc_item.specs.Tally.{no_counts}
 use Rattle.mc_item.specs.declared.item.Expiry.TheVariants.{Never, At}
 use Rattle.mc_item.specs.declared.answer.Kind.{Kind}
 use Rattle.mc_item.specs.declared.answer.Kind.TheVariants as kind
 use Rattle.mc_item.specs.declared.answer.Answer.{Answer}
-use Rattle.mc_item.specs.declared.answer.Answer.TheVariants.{Stored, NotStored, Exists, NotFound, TooLarge, NoCas, NoMemory, Hit, Miss, Number, NonNumeric, Deleted, Touched, Done, MetaHit, MetaDone}
+use Rattle.mc_item.specs.declared.answer.Answer.TheVariants.{Stored, NotStored, Exists, NotFound, TooLarge, NoCas, NoMemory, Hit, Miss, Number, NonNumeric, Deleted, Touched, Done, MetaHit, MetaDone, Reset}
+use Rattle.mc_item.specs.declared.answer.Answer.TheVariants as answer
 
 -- 0 is never, up to 30 days count from now, and a longer one is a second since 1970
 expiries : map (λ exptime. expiry_of exptime 1000) (pos 0 ∷ pos 2592000 ∷ pos 2592001 ∷ []) ≡ Never ∷ At 2593000 ∷ At 2592001 ∷ []
@@ -62,10 +64,13 @@ meta_hit = MetaHit (record { value = []; flags = 0; unique = 0; fetched = false;
 abbrev meta_done : Answer
 meta_done = MetaDone (record { unique = 0; size = 0; left = None; number = 0 })
 
+abbrev stats : Answer
+stats = answer.Stats (record { tally = no_counts; evicted = 0; items = 0; bytes = 0; budget = 0 })
+
 -- one answer of each name
 all_answers : List Answer
 all_answers =
-    Stored ∷ NotStored ∷ Exists ∷ NotFound ∷ TooLarge ∷ NoCas ∷ NoMemory ∷ Hit 0 0 [] ∷ Miss ∷ Number 0 ∷ NonNumeric ∷ Deleted ∷ Touched ∷ Done ∷ meta_hit ∷ meta_done ∷ []
+    Stored ∷ NotStored ∷ Exists ∷ NotFound ∷ TooLarge ∷ NoCas ∷ NoMemory ∷ Hit 0 0 [] ∷ Miss ∷ Number 0 ∷ NonNumeric ∷ Deleted ∷ Touched ∷ Done ∷ meta_hit ∷ meta_done ∷ stats ∷ Reset ∷ []
 
 lawful_answers : Kind → List Answer
 lawful_answers asked = filter (is_lawful asked) all_answers
@@ -76,9 +81,11 @@ lawful : (lawful_answers kind.Store ≡ Stored ∷ NotStored ∷ Exists ∷ NotF
     × (lawful_answers kind.Delete ≡ NotFound ∷ Deleted ∷ [])
     × (lawful_answers kind.Touch ≡ NotFound ∷ Touched ∷ [])
     × (lawful_answers kind.Flush ≡ Done ∷ [])
+    × (lawful_answers kind.Stats ≡ NoMemory ∷ stats ∷ [])
+    × (lawful_answers kind.ResetStats ≡ Reset ∷ [])
     × (lawful_answers kind.MetaGet ≡ NoCas ∷ NoMemory ∷ Miss ∷ meta_hit ∷ [])
     × (lawful_answers kind.MetaStore ≡ NotStored ∷ Exists ∷ NotFound ∷ TooLarge ∷ NoCas ∷ NoMemory ∷ meta_done ∷ [])
     × (lawful_answers kind.MetaDelete ≡ Exists ∷ NotFound ∷ NoCas ∷ Deleted ∷ Done ∷ [])
     × (lawful_answers kind.MetaCount ≡ Exists ∷ NotFound ∷ NoCas ∷ NoMemory ∷ NonNumeric ∷ meta_done ∷ [])
 unfolding all_answers lawful_answers is_lawful
-lawful = (refl, refl, refl, refl, refl, refl, refl, refl, refl, refl)
+lawful = (refl, refl, refl, refl, refl, refl, refl, refl, refl, refl, refl, refl)

@@ -3,9 +3,10 @@ use Rattle.std.specs.Prelude.{ℕ, Bool, true, false, List, Option, Some, None}
 use Rattle.mc_item.specs.declared.op.Op.{Op}
 use Rattle.mc_item.specs.declared.op.Op.TheVariants as op
 use Rattle.mc_item.specs.declared.answer.Kind.{Kind}
-use Rattle.mc_item.specs.declared.answer.Kind.TheVariants.{Store, Fetch, Count, Delete, Touch, Flush, MetaGet, MetaStore, MetaDelete, MetaCount}
+use Rattle.mc_item.specs.declared.answer.Kind.TheVariants.{Store, Fetch, Count, Delete, Touch, Flush, Stats, ResetStats, MetaGet, MetaStore, MetaDelete, MetaCount}
 use Rattle.mc_item.specs.declared.answer.Answer.{Answer}
-use Rattle.mc_item.specs.declared.answer.Answer.TheVariants.{Stored, NotStored, Exists, NotFound, TooLarge, NoCas, NoMemory, Hit, Miss, Number, NonNumeric, Deleted, Touched, Done, MetaHit, MetaDone}
+use Rattle.mc_item.specs.declared.answer.Answer.TheVariants.{Stored, NotStored, Exists, NotFound, TooLarge, NoCas, NoMemory, Hit, Miss, Number, NonNumeric, Deleted, Touched, Done, MetaHit, MetaDone, Reset}
+use Rattle.mc_item.specs.declared.answer.Answer.TheVariants as answer
 
 unfoldable pub kind_of : Op → Kind
 kind_of (op.Store key mode flags exptime value) = Store
@@ -14,12 +15,14 @@ kind_of (op.Count key direction amount) = Count
 kind_of (op.Delete key) = Delete
 kind_of (op.Touch key exptime) = Touch
 kind_of (op.Flush delay) = Flush
+kind_of op.Stats = Stats
+kind_of op.ResetStats = ResetStats
 kind_of (op.MetaGet get) = MetaGet
 kind_of (op.MetaStore store) = MetaStore
 kind_of (op.MetaDelete delete) = MetaDelete
 kind_of (op.MetaCount count) = MetaCount
 
--- the key whose item is asked for; flush_all has none
+-- the key whose item is asked for; flush_all and stats have none
 unfoldable pub key_of : Op → Option (List ℕ)
 key_of (op.Store key mode flags exptime value) = Some key
 key_of (op.Fetch key touch) = Some key
@@ -27,6 +30,8 @@ key_of (op.Count key direction amount) = Some key
 key_of (op.Delete key) = Some key
 key_of (op.Touch key exptime) = Some key
 key_of (op.Flush delay) = None
+key_of op.Stats = None
+key_of op.ResetStats = None
 key_of (op.MetaGet get) = Some get.key
 key_of (op.MetaStore store) = Some store.key
 key_of (op.MetaDelete delete) = Some delete.key
@@ -60,6 +65,11 @@ is_lawful Touch NotFound = true
 is_lawful Touch _ = false
 is_lawful Flush Done = true
 is_lawful Flush _ = false
+is_lawful Stats (answer.Stats stats) = true
+is_lawful Stats NoMemory = true
+is_lawful Stats _ = false
+is_lawful ResetStats Reset = true
+is_lawful ResetStats _ = false
 is_lawful MetaGet (MetaHit hit) = true
 is_lawful MetaGet Miss = true
 is_lawful MetaGet NoCas = true

@@ -2,6 +2,7 @@
 ghost use Rattle.std.specs.Prelude.{◌≡◌};
 ghost use Rattle.mc_item.specs.Kind.{is_lawful};
 
+use crate::stats::BoxedStats;
 use crate::value::Value;
 
 /// The kind of a piece.
@@ -13,6 +14,8 @@ pub enum Kind {
     Delete,
     Touch,
     Flush,
+    Stats,
+    ResetStats,
     MetaGet,
     MetaStore,
     MetaDelete,
@@ -44,6 +47,10 @@ pub enum Answer {
     Done,
     MetaHit(MetaHit),
     MetaDone(MetaDone),
+    /// What the shard counted, and what it holds.
+    Stats(BoxedStats),
+    /// The counts begin at 0 again.
+    Reset,
 }
 
 /// All that the flags of `mg` may show of a hit.
@@ -61,7 +68,7 @@ pub struct MetaHit {
     pub left: Option<u64>,
 }
 
-/// The marks of a hit, shown in this order as `W`, `X`, `Z`.
+/// The marks of a hit, shown as `W`, `X`, `Z`.
 #[derive(Clone, Copy, Debug, PartialEq, Eq)]
 pub struct Marks {
     /// `W`: this client is told to recompute the item.
@@ -98,14 +105,22 @@ impl Answer {
                 kind,
                 Kind::Store | Kind::MetaStore | Kind::MetaDelete | Kind::MetaCount
             ),
-            Answer::NotFound => !matches!(kind, Kind::Fetch | Kind::Flush | Kind::MetaGet),
+            Answer::NotFound => !matches!(
+                kind,
+                Kind::Fetch | Kind::Flush | Kind::MetaGet | Kind::Stats | Kind::ResetStats
+            ),
             Answer::NoCas => !matches!(
                 kind,
-                Kind::Fetch | Kind::Delete | Kind::Touch | Kind::Flush
+                Kind::Fetch
+                    | Kind::Delete
+                    | Kind::Touch
+                    | Kind::Flush
+                    | Kind::Stats
+                    | Kind::ResetStats
             ),
             Answer::NoMemory => !matches!(
                 kind,
-                Kind::Delete | Kind::Touch | Kind::Flush | Kind::MetaDelete
+                Kind::Delete | Kind::Touch | Kind::Flush | Kind::ResetStats | Kind::MetaDelete
             ),
             Answer::Hit { .. } => matches!(kind, Kind::Fetch),
             Answer::Miss => matches!(kind, Kind::Fetch | Kind::MetaGet),
@@ -116,6 +131,8 @@ impl Answer {
             Answer::Done => matches!(kind, Kind::Flush | Kind::MetaDelete),
             Answer::MetaHit(_) => matches!(kind, Kind::MetaGet),
             Answer::MetaDone(_) => matches!(kind, Kind::MetaStore | Kind::MetaCount),
+            Answer::Stats(_) => matches!(kind, Kind::Stats),
+            Answer::Reset => matches!(kind, Kind::ResetStats),
         }
     }
 }

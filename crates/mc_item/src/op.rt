@@ -1,4 +1,4 @@
-//! What a shard is asked: the ten kinds of piece.
+//! What a shard is asked: the twelve kinds of piece.
 ghost use Rattle.std.specs.Prelude.{◌≡◌};
 ghost use Rattle.std.specs.Option.{option_copied};
 ghost use Rattle.mc_item.specs.Kind.{kind_of, key_of};
@@ -43,6 +43,10 @@ pub enum Op {
     Flush {
         delay: i64,
     },
+    /// `stats`: of one shard.
+    Stats,
+    /// `stats reset`: of one shard.
+    ResetStats,
     MetaGet(MetaGet),
     MetaStore(MetaStore),
     MetaDelete(MetaDelete),
@@ -59,6 +63,8 @@ pub struct MetaGet {
     pub vivify: Option<i64>,
     /// `R`: with fewer seconds left, this client is told to recompute the item.
     pub recache: Option<i64>,
+    /// `u`: that the item was read isn't noted.
+    pub unnoted: bool,
 }
 
 /// `ms`: what is stored, and what its flags ask.
@@ -126,6 +132,8 @@ impl Op {
             Op::Delete { .. } => Kind::Delete,
             Op::Touch { .. } => Kind::Touch,
             Op::Flush { .. } => Kind::Flush,
+            Op::Stats => Kind::Stats,
+            Op::ResetStats => Kind::ResetStats,
             Op::MetaGet(_) => Kind::MetaGet,
             Op::MetaStore(_) => Kind::MetaStore,
             Op::MetaDelete(_) => Kind::MetaDelete,
@@ -133,7 +141,7 @@ impl Op {
         }
     }
 
-    /// The key whose item is asked for; `flush_all` has none.
+    /// The key whose item is asked for; `flush_all` and `stats` have none.
     #[tactic(auto, unfolding(crate::specs::Kind::key_of))]
     pub fn key(&self) -> Option<&Key>
         ensures { option_copied result ≡ key_of self.now }
@@ -148,7 +156,7 @@ impl Op {
             Op::MetaStore(store) => Some(&store.key),
             Op::MetaDelete(delete) => Some(&delete.key),
             Op::MetaCount(count) => Some(&count.key),
-            Op::Flush { .. } => None,
+            Op::Flush { .. } | Op::Stats | Op::ResetStats => None,
         }
     }
 }

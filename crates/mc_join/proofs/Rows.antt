@@ -1,8 +1,10 @@
 -- Worked rows, computed: a get of two keys whose second answer comes first.
-use Rattle.std.proofs.Common.{◌≡◌, false, [], ◌∷◌, None, length, refl}
+use Rattle.std.proofs.Common.{◌≡◌, ℕ, false, [], ◌∷◌, None, length, refl}
 use Rattle.std.specs.Prelude.{codes}
 use Rattle.std.specs.Fmt.{digits}
+use Rattle.mc_item.specs.declared.answer.Answer.{Answer}
 use Rattle.mc_item.specs.declared.answer.Answer.TheVariants as answer
+use Rattle.mc_item.specs.Tally.{no_counts}
 use Rattle.mc_item.specs.declared.answer.Kind.TheVariants as kind
 use Rattle.mc_ring.specs.Reply.{Shown}
 use Rattle.mc_split.specs.declared.form.Form.{Form}
@@ -29,3 +31,21 @@ two_replies : (replies (two_keys ∷ []) (second ∷ []) ≡ [])
     × (length (codes "VALUE a 0 1\r\nx\r\nEND\r\n") ≡ 21)
 unfolding shape_text digits
 two_replies = (refl, refl, refl, refl, refl)
+
+-- the form of `stats` over two shards
+abbrev counts_form : Form
+counts_form = record { ticket = record { 0 = 0 }; kind = kind.Stats; shape = shape.Stats; slots = None ∷ None ∷ [] }
+
+-- a shard that holds so many items
+abbrev counts : ℕ → Answer
+counts items = answer.Stats (record { tally = no_counts; evicted = 0; items = items; bytes = 0; budget = 0 })
+
+abbrev told : ℕ → ℕ → Shown
+told part items = record { ticket = record { 0 = 0 }; part = part; kind = kind.Stats; answer = counts items }
+
+-- while a shard has not told its counts there is no reply; then it is one, in whichever order they came
+two_shards : (replies (counts_form ∷ []) (told 1 3 ∷ []) ≡ [])
+    × (replies (counts_form ∷ []) (told 1 3 ∷ told 0 4 ∷ []) ≡ shape_text shape.Stats (counts 4 ∷ counts 3 ∷ []) ∷ [])
+    × (replies (counts_form ∷ []) (told 0 4 ∷ told 1 3 ∷ []) ≡ replies (counts_form ∷ []) (told 1 3 ∷ told 0 4 ∷ []))
+unfolding shape_text digits
+two_shards = (refl, refl, refl)

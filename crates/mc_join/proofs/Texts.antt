@@ -1,15 +1,19 @@
 -- Texts written one part after another, and texts over slots that are all filled.
-use Rattle.std.proofs.Common.{◌≡◌, ℕ, Bool, true, false, List, [], ◌∷◌, ◌++◌, length, map, Option, Some, refl, sym, ap, ◌∙◌, append_assoc, append-nil, arith, ◌<◌, ◌+◌, take, drop, get_or, IsTrue, ◌-◌, ◌^◌}
-use Rattle.std.specs.Prelude.{codes, decimal, ◌||◌, Result, Ok, Err}
-use Rattle.std.specs.List.{concat, list_any, zip, flat_map}
-use Rattle.std.proofs.lemmas.List.{at_drop_more, length-take}
+use Rattle.std.proofs.Common.{◌≡◌, ℕ, Bool, true, false, List, [], ◌∷◌, ◌++◌, length, map, Option, Some, refl, sym, ap, ◌∙◌, append_assoc, append-nil, arith, ◌<◌, ◌≤◌, ◌+◌, take, drop, get_or, IsTrue, ◌-◌, ◌^◌}
+use Rattle.std.specs.Prelude.{◌%◌, codes, decimal, ◌||◌, Result, Ok, Err}
+use Rattle.std.specs.List.{concat, list_any, sum_by, zip, flat_map}
+use Rattle.std.proofs.lemmas.List.Folds.{fold-map}
+use Rattle.std.proofs.lemmas.List.{at_drop_all, at_drop_more, length-map, length-take}
 use Rattle.mc_wire.specs.Outlet.{BreaksOff, Counted, Sight, Writes, sight_out, took}
 use Rattle.mc_wire.proofs.Outlets.{breaks_first, breaks_later, writes_on}
 use Rattle.mc_item.specs.declared.answer.Answer.{Answer}
+use Rattle.mc_item.specs.declared.stat.Stat.{Stat}
+use Rattle.mc_item.specs.Stat.{all_stats, row_of}
 use Rattle.mc_split.specs.declared.form.Shape.{Shape}
 use Rattle.mc_split.specs.declared.form.Shape.TheVariants as shape
-use Rattle.mc_split.specs.Text.{coded_text, flags_text, marks_text, shape_text, item_text, is_no_memory, of_first, unless_no_memory}
+use Rattle.mc_split.specs.Text.{coded_text, flags_text, marks_text, release, shape_text, stat_in, stat_text, stats_text, together, item_text, is_no_memory, of_first, unless_no_memory}
 use Rattle.mc_command.specs.declared.meta.MetaFlags.{MetaFlags}
+use Rattle.mc_command.specs.declared.meta.MetaKind.{MetaKind}
 use Rattle.mc_item.specs.declared.answer.Answer.TheVariants as answers
 use Rattle.mc_item.specs.declared.answer.MetaDone.{MetaDone}
 use Rattle.mc_item.specs.declared.answer.MetaHit.{MetaHit}
@@ -17,8 +21,8 @@ use Rattle.mc_join.specs.Held.{IsDue}
 use Rattle.mc_join.specs.Length.{capped}
 use Rattle.mc_join.specs.Replies.{complete, form_text, is_answered}
 use Rattle.mc_split.specs.declared.form.Form.{Form}
-use Rattle.std.proofs.lemmas.List.Sums.{take_while-cons}
-use Rattle.mc_join.specs.internal.Slots.{slots_text, items_text, lacks_memory, first_text, slot_text, unless_lacking}
+use Rattle.std.proofs.lemmas.List.Sums.{sum_by_more, take_while-cons}
+use Rattle.mc_join.specs.internal.Slots.{slots_text, items_text, lacks_memory, first_text, slot_stat, slot_text, stats_over, sum_line, sums_text, unless_lacking}
 
 -- of a whole text all was taken but this rest
 pub record WroteBut (whole rest : List ℕ) (old new : Sight) : Type 0 where
@@ -60,13 +64,30 @@ first-filled text (answer ∷ answers) = refl
 pub unless-filled : (answers : List Answer) (over text : List ℕ) → over ≡ text → unless_lacking (filled answers) over ≡ unless_no_memory answers text
 unless-filled answers over text e = rw (lacks-filled answers, e)
 
+sum-filled : (stat : Stat) (answers : List Answer) → sum_by (slot_stat stat) (filled answers) ≡ sum_by (stat_in stat) answers
+sum-filled stat answers = fold-map (λ a slot. a + slot_stat stat slot) (λ answer. Some answer) 0 answers
+
+lines-filled : (answers : List Answer) (stats : List Stat) → flat_map (sum_line (filled answers)) stats ≡ flat_map (λ stat. stat_text (row_of stat).0 (decimal (together stat answers))) stats
+lines-filled answers [] = refl
+lines-filled answers (stat ∷ stats) = rw (sum-filled stat answers, lines-filled answers stats) refl
+
+-- the reply to stats, whose parts are the same
+told : List ℕ → ℕ → List ℕ
+told sums threads = concat (stat_text (codes "version") release ∷ sums ∷ stat_text (codes "threads") (decimal threads) ∷ codes "END\r\n" ∷ [])
+
+stats-filled : (answers : List Answer) → stats_over (filled answers) ≡ stats_text answers
+unfolding sums_text told
+stats-filled answers = ap (λ sums. told sums (length (filled answers))) (lines-filled answers all_stats)
+    ∙ ap (told (flat_map (λ stat. stat_text (row_of stat).0 (decimal (together stat answers))) all_stats)) (length-map answers (λ answer. Some answer))
+
 pub slots_text-filled : (shape : Shape) (answers : List Answer) → slots_text shape (filled answers) ≡ shape_text shape answers
 unfolding slots_text shape_text
 slots_text-filled (shape.Fixed fixed) answers = refl
-slots_text-filled (shape.Line false) answers = unless-filled answers _ _ (first-filled _ answers)
-slots_text-filled (shape.Line true) answers = refl
+slots_text-filled (shape.Line false lenient) answers = unless-filled answers _ _ (first-filled _ answers)
+slots_text-filled (shape.Line true lenient) answers = refl
 slots_text-filled (shape.Values keys with_unique) answers = unless-filled answers _ _ (ap (λ xs. xs ++ codes "END\r\n") (items-filled with_unique keys answers))
-slots_text-filled (shape.Meta kind flags value key) answers = unless-filled answers _ _ (first-filled _ answers)
+slots_text-filled shape.Stats answers = unless-filled answers _ _ (stats-filled answers)
+slots_text-filled (shape.Meta kind flags value key lenient) answers = unless-filled answers _ _ (first-filled _ answers)
 
 pub items-no_slots : (with_unique : Bool) (keys : List (List ℕ)) → items_text with_unique keys [] ≡ []
 items-no_slots with_unique [] = refl
@@ -105,6 +126,19 @@ text_next f xs ys i d same below so_far =
     let next : flat_map f (drop i ys) ≡ f (get_or ys i d) ++ flat_map f (drop (i + 1) ys) = at_drop_more (λ zs. flat_map f zs) ys i d below in
     rw (ap (λ zs. flat_map f (drop i zs)) (sym same) ∙ (next ∙ ap (λ zs. f (get_or ys i d) ++ flat_map f (drop (i + 1) zs)) same)) at so_far
 
+-- one slot's number more
+pub sum_next : (f : Option Answer → ℕ) (slots : List (Option Answer)) (i : ℕ) (slot : Option Answer) (sum number next : ℕ) → i < length slots → slot ≡ get_or slots i slot →
+    sum ≡ sum_by f (take i slots) % 2 ^ 64 → number ≡ f slot % 2 ^ 64 → next ≡ (sum + number) % 2 ^ 64 → next ≡ sum_by f (take (i + 1) slots) % 2 ^ 64
+sum_next f slots i slot sum number next below here sum_is number_is next_is =
+    let more : sum_by f (take (i + 1) slots) ≡ sum_by f (take i slots) + f slot = sum_by_more f slots i slot below ∙ ap (λ s. sum_by f (take i slots) + f s) (sym here) in
+    next_is ∙ (joined (sum_by f (take i slots)) (f slot) sum number sum_is number_is ∙ ap (λ n. n % 2 ^ 64) (sym more)) where
+      joined : (a b x y : ℕ) → x ≡ a % 2 ^ 64 → y ≡ b % 2 ^ 64 → (x + y) % 2 ^ 64 ≡ (a + b) % 2 ^ 64
+      joined a b x y p q = omega arith
+
+-- all texts were written
+pub text_last : {X : Type 0} {whole : List ℕ} {old now : Sight} (f : X → List ℕ) (xs ys : List X) (i : ℕ) → ys ≡ xs → length ys ≤ i → WroteBut whole (flat_map f (drop i xs)) old now → WroteBut whole [] old now
+text_last f xs ys i same past so_far = rw (ap (λ zs. flat_map f (drop i zs)) (sym same) ∙ at_drop_all (λ zs. flat_map f zs) ys i past) at so_far
+
 -- the line before a value is the first part of what stands before it
 pub size-parts : (size : ℕ) (digits line flags : List ℕ) → digits ≡ decimal size → line ≡ codes "VA " ++ (digits ++ []) →
     codes "VA " ++ (decimal size ++ flags) ≡ line ++ flags
@@ -115,18 +149,18 @@ front_text : (size flags rest : List ℕ) → codes "VA " ++ (size ++ (flags ++ 
 front_text size flags rest = ap (λ xs. codes "VA " ++ xs) (sym (append_assoc size flags rest))
 
 -- a hit of `mg` with its value, whose line the marks end
-pub found_text : (flags : MetaFlags) (key : Option (List ℕ)) (answer : Answer) (hit : MetaHit) (shown : Bool) (size : ℕ) (end : List ℕ) → answer ≡ answers.MetaHit hit → shown ≡ true → size ≡ length hit.value → end ≡ marks_text hit.marks ++ codes "\r\n" →
-    coded_text flags key answer shown ≡ (codes "VA " ++ (decimal size ++ flags_text flags key answer)) ++ (end ++ (hit.value ++ codes "\r\n"))
-found_text flags key answer hit shown size end is on same ends =
+pub found_text : (kind : MetaKind) (flags : MetaFlags) (key : Option (List ℕ)) (answer : Answer) (hit : MetaHit) (shown : Bool) (size : ℕ) (end : List ℕ) → answer ≡ answers.MetaHit hit → shown ≡ true → size ≡ length hit.value → end ≡ marks_text flags.profile hit.marks ++ codes "\r\n" →
+    coded_text kind flags key answer shown ≡ (codes "VA " ++ (decimal size ++ flags_text flags key answer)) ++ (end ++ (hit.value ++ codes "\r\n"))
+found_text kind flags key answer hit shown size end is on same ends =
     let told = flags_text flags key (answers.MetaHit hit) in
-    let marked = sym (append_assoc (marks_text hit.marks) (codes "\r\n") (hit.value ++ codes "\r\n")) in
+    let marked = sym (append_assoc (marks_text flags.profile hit.marks) (codes "\r\n") (hit.value ++ codes "\r\n")) in
     rw (is, on, same, ends) (ap (λ xs. codes "VA " ++ (decimal (length hit.value) ++ (told ++ xs))) marked
     ∙ front_text (decimal (length hit.value)) told _)
 
 -- what `ma` did, with its number
-pub done_text : (flags : MetaFlags) (key : Option (List ℕ)) (answer : Answer) (done : MetaDone) (shown : Bool) (number : List ℕ) → answer ≡ answers.MetaDone done → shown ≡ true → number ≡ decimal done.number →
-    coded_text flags key answer shown ≡ (codes "VA " ++ (decimal (length number) ++ flags_text flags key answer)) ++ (codes "\r\n" ++ (number ++ codes "\r\n"))
-done_text flags key answer done shown number is on same =
+pub done_text : (kind : MetaKind) (flags : MetaFlags) (key : Option (List ℕ)) (answer : Answer) (done : MetaDone) (shown : Bool) (number : List ℕ) → answer ≡ answers.MetaDone done → shown ≡ true → number ≡ decimal done.number →
+    coded_text kind flags key answer shown ≡ (codes "VA " ++ (decimal (length number) ++ flags_text flags key answer)) ++ (codes "\r\n" ++ (number ++ codes "\r\n"))
+done_text kind flags key answer done shown number is on same =
     rw (is, on, same) (front_text (decimal (length (decimal done.number))) (flags_text flags key (answers.MetaDone done)) _)
 
 abbrev pub texts : List Form → List ℕ

@@ -4,12 +4,14 @@ ghost use Rattle.std.specs.List.{concat, list_any};
 ghost use Rattle.mc_wire.specs.Outlet.{Writes};
 ghost use Rattle.mc_wire.specs.Words.{words_left};
 ghost use Rattle.mc_command.specs.Field.{AreKeys};
-ghost use Rattle.mc_split.specs.Text.{answer_line, item_text, plain_item, unique_item};
+ghost use Rattle.mc_split.specs.Text.{answer_line, told, item_text, plain_item, unique_item};
 ghost use Rattle.mc_join.specs.internal.Slots.{fixed_line, slot_text, first_text, items_text, lacks_memory};
 
 use crate::block::put_block;
 use crate::fixed::MEMORY_LINE;
-use crate::header::{BESIDE_KEY, HEADER_LIMIT, SHORT_HEADER, SHORT_VALUE, gathered};
+use crate::header::{
+    BESIDE_KEY, HEADER_LIMIT, SHORT_HEADER, SHORT_VALUE, place, place_line, place_unique,
+};
 use itoa::Buffer;
 use mc_command::Keys;
 use mc_item::{Answer, Value};
@@ -28,11 +30,16 @@ fn slot_lacks_memory(slot: &Option<Answer>) -> bool
     matches!(slot, Some(Answer::NoMemory))
 }
 
-/// Writes the line of the first answer.
-pub fn put_first_line<O: Outlet>(out: &mut O, slots: &[Option<Answer>]) -> Result<(), OutFault>
-    ensures { Writes (first_text answer_line slots.now) result (O.sight out.old) (O.sight out.new) }
+/// Writes the line of the first answer, in which too large may count as not stored.
+pub fn put_first_line<O: Outlet>(
+    out: &mut O,
+    lenient: bool,
+    slots: &[Option<Answer>],
+) -> Result<(), OutFault>
+    ensures { Writes (first_text (λ answer. answer_line (told answer lenient)) slots.now) result (O.sight out.old) (O.sight out.new) }
 {
     match slots {
+        [Some(Answer::TooLarge), ..] if lenient => put_all(out, b"NOT_STORED\r\n"),
         [Some(answer), ..] => put_line(out, answer),
         [None, ..] | [] => put_all(out, b""),
     }
@@ -64,11 +71,13 @@ pub fn line_of(answer: &Answer) -> &'static [u8]
         Answer::Deleted => b"DELETED\r\n",
         Answer::Touched => b"TOUCHED\r\n",
         Answer::Done => b"OK\r\n",
+        Answer::Reset => b"RESET\r\n",
         Answer::Hit { .. }
         | Answer::Miss
         | Answer::Number(_)
         | Answer::MetaHit(_)
-        | Answer::MetaDone(_) => b"",
+        | Answer::MetaDone(_)
+        | Answer::Stats(_) => b"",
     }
 }
 
@@ -169,7 +178,9 @@ fn put_item<O: Outlet>(
         | Answer::Touched
         | Answer::Done
         | Answer::MetaHit(_)
-        | Answer::MetaDone(_) => put_all(out, b""),
+        | Answer::MetaDone(_)
+        | Answer::Stats(_)
+        | Answer::Reset => put_all(out, b""),
     }
 }
 
@@ -189,28 +200,14 @@ fn put_plain_item<O: Outlet, const ROOM: usize>(
     let flags = flag_digits.format(flags).as_bytes();
     let size = size_digits.format(value.len()).as_bytes();
     let mut room = [0; ROOM];
+    let end = place_line(&mut room, key, flags, size);
+    let end = place(&mut room, end, b"\r\n");
     if value.len() <= SHORT_VALUE {
-        let item = gathered(
-            &mut room,
-            &[
-                b"VALUE ",
-                key,
-                b" ",
-                flags,
-                b" ",
-                size,
-                b"\r\n",
-                value.bytes(),
-                b"\r\n",
-            ],
-        );
-        return put_all(out, item);
+        let end = place(&mut room, end, value.bytes());
+        let end = place(&mut room, end, b"\r\n");
+        return put_all(out, room.split_at(end).0);
     }
-    let line = gathered(
-        &mut room,
-        &[b"VALUE ", key, b" ", flags, b" ", size, b"\r\n"],
-    );
-    put_block(out, line, value)
+    put_block(out, room.split_at(end).0, value)
 }
 
 fn put_unique_item<O: Outlet>(
@@ -230,11 +227,7 @@ fn put_unique_item<O: Outlet>(
     let size = size_digits.format(value.len()).as_bytes();
     let unique = unique_digits.format(unique).as_bytes();
     let mut room = [0; HEADER_LIMIT];
-    let line = gathered(
-        &mut room,
-        &[
-            b"VALUE ", key, b" ", flags, b" ", size, b" ", unique, b"\r\n",
-        ],
-    );
-    put_block(out, line, value)
+    let end = place_line(&mut room, key, flags, size);
+    let end = place_unique(&mut room, end, unique);
+    put_block(out, room.split_at(end).0, value)
 }

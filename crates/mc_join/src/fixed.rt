@@ -26,6 +26,7 @@ pub fn fixed_line(fixed: Fixed) -> &'static [u8]
         Fixed::Ok => b"OK\r\n",
         Fixed::Version(Profile::Own) => b"VERSION 1.6.0-sharded\r\n",
         Fixed::Version(Profile::DropIn) => b"VERSION 1.6.18\r\n",
+        Fixed::End => b"END\r\n",
         Fixed::MetaNoop => b"MN\r\n",
         Fixed::Refused(refusal) => refused_line(refusal),
     }

@@ -1,6 +1,6 @@
 //! The line before a value, and a short value with it, put together in a room of its own so that it goes out in one write.
-ghost use Rattle.std.specs.Prelude.{◌≡◌, ◌+◌, ◌++◌, ◌≤◌, length, take};
-ghost use Rattle.std.specs.List.{flat_map};
+ghost use Rattle.std.specs.Prelude.{◌≡◌, ◌+◌, ◌++◌, ◌≤◌, ◌∷◌, [], codes, length, take};
+ghost use Rattle.std.specs.List.{concat};
 
 /// Room for the longest line before a value: `VALUE`, a key, the client flags, the size and the cas unique; and for a short
 /// value behind it.
@@ -17,7 +17,7 @@ pub const SHORT_VALUE: usize = 120;
 
 /// Puts a part into the room behind the first `at` bytes, and tells where it ends.
 #[inline(always)]
-fn place(room: &mut [u8], at: usize, part: &[u8]) -> usize
+pub fn place(room: &mut [u8], at: usize, part: &[u8]) -> usize
     requires { at + length part.now ≤ length room.old }
     ensures text { take result room.new ≡ take at room.old ++ part.now }
     ensures end { result ≡ at + length part.now }
@@ -27,15 +27,41 @@ fn place(room: &mut [u8], at: usize, part: &[u8]) -> usize
     end
 }
 
-/// Puts these parts into the front of the room, one after another, and gives their text.
+/// Puts the front of the line before a value into the front of the room, up to the size, and tells where it ends. Each part is
+/// placed by a call of its own, so that the compiler knows how long the constant ones are.
 #[inline(always)]
-pub fn gathered<'a>(room: &'a mut [u8], parts: &[&[u8]]) -> &'a [u8]
-    requires { length (flat_map (λ part. part.now) parts.now) ≤ length room.old }
-    ensures { result.now ≡ flat_map (λ part. part.now) parts.now }
+pub fn place_line(room: &mut [u8], key: &[u8], flags: &[u8], size: &[u8]) -> usize
+    requires { length key.now + length flags.now + length size.now + 8 ≤ length room.old }
+    ensures end { result ≡ length key.now + length flags.now + length size.now + 8 }
+    ensures text { take result room.new ≡ concat (codes "VALUE " ∷ key.now ∷ codes " " ∷ flags.now ∷ codes " " ∷ size.now ∷ []) }
 {
-    let mut len = 0;
-    for part in parts {
-        len = place(room, len, part);
-    }
-    room.split_at(len).0
+    let end = place(room, 0, b"VALUE ");
+    let end = place(room, end, key);
+    let end = place(room, end, b" ");
+    let end = place(room, end, flags);
+    let end = place(room, end, b" ");
+    place(room, end, size)
+}
+
+/// Puts a unique and the end of the line behind the first `at` bytes, and tells where it ends.
+#[inline(always)]
+pub fn place_unique(room: &mut [u8], at: usize, unique: &[u8]) -> usize
+    requires { at + length unique.now + 3 ≤ length room.old }
+    ensures end { result ≡ at + length unique.now + 3 }
+    ensures text { take result room.new ≡ take at room.old ++ concat (codes " " ∷ unique.now ∷ codes "\r\n" ∷ []) }
+{
+    let end = place(room, at, b" ");
+    let end = place(room, end, unique);
+    place(room, end, b"\r\n")
+}
+
+/// Puts the front of a meta reply with a value into the front of the room, and gives its text: `VA` and the size.
+#[inline(always)]
+pub fn sized<'a>(room: &'a mut [u8], size: &[u8]) -> &'a [u8]
+    requires { length size.now + 3 ≤ length room.old }
+    ensures { result.now ≡ concat (codes "VA " ∷ size.now ∷ []) }
+{
+    let end = place(room, 0, b"VA ");
+    let end = place(room, end, size);
+    room.split_at(end).0
 }

@@ -11,6 +11,7 @@ mod length;
 mod meta;
 mod queue;
 mod room;
+mod stats;
 mod text;
 
 pub use joiner::{Full, Gone, Joiner, Stranger};

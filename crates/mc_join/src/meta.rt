@@ -2,37 +2,39 @@
 ghost use Rattle.std.specs.Prelude.{◌≡◌, ◌∷◌, ◌++◌, [], codes, decimal};
 ghost use Rattle.std.specs.List.{concat};
 ghost use Rattle.mc_item.specs.declared.answer.Answer.TheVariants as answers;
+ghost use Rattle.mc_command.specs.declared.meta.MetaKind.{MetaKind};
 ghost use Rattle.mc_wire.specs.Base64Key.{base64_of};
 ghost use Rattle.mc_wire.specs.Outlet.{Writes};
-ghost use Rattle.mc_split.specs.Text.{meta_text, coded_text, flags_text, flag_text, item_flag, key_flag, left_flag};
+ghost use Rattle.mc_split.specs.Text.{meta_text, coded_text, failed_flag, failed_text, head_text, told, flags_text, flag_text, item_flag, key_flag, left_flag};
 ghost use Rattle.mc_split.specs.Text as spec;
 
 use crate::block::put_block;
 use crate::classic::put_line;
-use crate::header::gathered;
+use crate::header::sized;
 use itoa::Buffer;
-use mc_command::{MetaFlags, MetaKind, ReturnFlag};
+use mc_command::{MetaFlags, MetaKind, Profile, ReturnFlag};
 use mc_item::{Answer, Marks, MetaDone, MetaHit};
 use mc_wire::{BASE64_LIMIT, Key, OutFault, Outlet, put_all, put_parts};
 
 /// Room for `VA` and the size of a value.
 const SIZE_LIMIT: usize = 48;
 
-/// Writes the reply of a meta command, or nothing where `q` hides it.
+/// Writes the reply of a meta command, in which too large may count as not stored, or nothing where `q` hides it.
 pub fn put_meta<O: Outlet>(
     out: &mut O,
     kind: MetaKind,
     flags: &MetaFlags,
     value: bool,
     key: &Option<Key>,
+    lenient: bool,
     answer: &Answer,
 ) -> Result<(), OutFault>
-    ensures { Writes (meta_text kind flags.now value key.now answer.now) result (O.sight out.old) (O.sight out.new) }
+    ensures { Writes (meta_text kind flags.now value key.now lenient answer.now) result (O.sight out.old) (O.sight out.new) }
 {
     if flags.quiet && is_hidden(kind, value, answer) {
         return put_all(out, b"");
     }
-    put_coded(out, flags, value, key, answer)
+    put_coded(out, kind, flags, value, key, lenient, answer)
 }
 
 /// Whether `q` hides the reply (protocol.txt, "noreply semantics for return codes").
@@ -52,12 +54,14 @@ pub fn is_hidden(kind: MetaKind, value: bool, answer: &Answer) -> bool
 
 fn put_coded<O: Outlet>(
     out: &mut O,
+    kind: MetaKind,
     flags: &MetaFlags,
     value: bool,
     key: &Option<Key>,
+    lenient: bool,
     answer: &Answer,
 ) -> Result<(), OutFault>
-    ensures { Writes (coded_text flags.now key.now answer.now value) result (O.sight out.old) (O.sight out.new) }
+    ensures { Writes (coded_text kind flags.now key.now (told answer.now lenient) value) result (O.sight out.old) (O.sight out.new) }
 {
     match answer {
         Answer::MetaHit(hit) => put_found(out, flags, value, key, answer, hit),
@@ -65,9 +69,10 @@ fn put_coded<O: Outlet>(
         Answer::Deleted => put_head(out, b"HD", flags, key, answer, b"\r\n"),
         Answer::Done => put_head(out, b"HD", flags, key, answer, b"\r\n"),
         Answer::Miss => put_head(out, b"EN", flags, key, answer, b"\r\n"),
-        Answer::NotStored => put_head(out, b"NS", flags, key, answer, b"\r\n"),
-        Answer::Exists => put_head(out, b"EX", flags, key, answer, b"\r\n"),
-        Answer::NotFound => put_head(out, b"NF", flags, key, answer, b"\r\n"),
+        Answer::TooLarge if lenient => put_failed(out, b"NS", kind, flags, key, &Answer::NotStored),
+        Answer::NotStored => put_failed(out, b"NS", kind, flags, key, answer),
+        Answer::Exists => put_failed(out, b"EX", kind, flags, key, answer),
+        Answer::NotFound => put_failed(out, b"NF", kind, flags, key, answer),
         Answer::Stored
         | Answer::TooLarge
         | Answer::NoCas
@@ -75,7 +80,9 @@ fn put_coded<O: Outlet>(
         | Answer::Hit { .. }
         | Answer::Number(_)
         | Answer::NonNumeric
-        | Answer::Touched => put_line(out, answer),
+        | Answer::Touched
+        | Answer::Stats(_)
+        | Answer::Reset => put_line(out, answer),
     }
 }
 
@@ -89,9 +96,9 @@ fn put_found<O: Outlet>(
     hit: &MetaHit,
 ) -> Result<(), OutFault>
     requires { answer.now ≡ answers.MetaHit hit.now }
-    ensures { Writes (coded_text flags.now key.now answer.now value) result (O.sight out.old) (O.sight out.new) }
+    ensures { (kind : MetaKind) → Writes (coded_text kind flags.now key.now answer.now value) result (O.sight out.old) (O.sight out.new) }
 {
-    let end = marks_line(hit.marks);
+    let end = marks_line(flags.profile, hit.marks);
     if !value {
         return put_head(out, b"HD", flags, key, answer, end);
     }
@@ -109,7 +116,7 @@ fn put_done<O: Outlet>(
     done: &MetaDone,
 ) -> Result<(), OutFault>
     requires { answer.now ≡ answers.MetaDone done.now }
-    ensures { Writes (coded_text flags.now key.now answer.now value) result (O.sight out.old) (O.sight out.new) }
+    ensures { (kind : MetaKind) → Writes (coded_text kind flags.now key.now answer.now value) result (O.sight out.old) (O.sight out.new) }
 {
     if !value {
         return put_head(out, b"HD", flags, key, answer, b"\r\n");
@@ -136,6 +143,55 @@ fn put_head<O: Outlet>(
     put_all(out, end)
 }
 
+/// Writes the reply to what stored or changed nothing.
+fn put_failed<O: Outlet>(
+    out: &mut O,
+    code: &[u8],
+    kind: MetaKind,
+    flags: &MetaFlags,
+    key: &Option<Key>,
+    answer: &Answer,
+) -> Result<(), OutFault>
+    ensures { Writes (head_text code.now (failed_text kind flags.now key.now answer.now) []) result (O.sight out.old) (O.sight out.new) }
+{
+    put_all(out, code)?;
+    put_failed_flags(out, kind, flags, key, answer)?;
+    put_all(out, b"\r\n")
+}
+
+/// Writes the returned flags where nothing was stored or changed, in the order of the request.
+fn put_failed_flags<O: Outlet>(
+    out: &mut O,
+    kind: MetaKind,
+    flags: &MetaFlags,
+    key: &Option<Key>,
+    answer: &Answer,
+) -> Result<(), OutFault>
+    ensures { Writes (failed_text kind flags.now key.now answer.now) result (O.sight out.old) (O.sight out.new) }
+{
+    for flag in flags.returned.flags() {
+        put_failed_flag(out, kind, flags, key, answer, *flag)?;
+    }
+    Ok(())
+}
+
+/// Writes such a flag: by memcached's rules `ms` shows the unique 0 of what it did not store.
+fn put_failed_flag<O: Outlet>(
+    out: &mut O,
+    kind: MetaKind,
+    flags: &MetaFlags,
+    key: &Option<Key>,
+    answer: &Answer,
+    flag: ReturnFlag,
+) -> Result<(), OutFault>
+    ensures { Writes (failed_flag kind flags.now.profile (flag_text flags.now key.now answer.now) flag) result (O.sight out.old) (O.sight out.new) }
+{
+    match (kind, flags.profile, flag) {
+        (MetaKind::Set, Profile::DropIn, ReturnFlag::Unique) => put_all(out, b" c0"),
+        _ => put_flag(out, flags, key, answer, flag),
+    }
+}
+
 /// Writes the front of a reply with a value: its size, and the flags.
 fn put_size<O: Outlet>(
     out: &mut O,
@@ -149,13 +205,39 @@ fn put_size<O: Outlet>(
     let mut digits = Buffer::new();
     let mut room = [0; SIZE_LIMIT];
     let size = digits.format(size).as_bytes();
-    put_all(out, gathered(&mut room, &[b"VA ", size]))?;
+    put_all(out, sized(&mut room, size))?;
     put_flags(out, flags, key, answer)
 }
 
 /// The marks of a hit, in their order, and the end of the line.
-pub fn marks_line(marks: Marks) -> &'static [u8]
-    ensures { result.now ≡ spec.marks_text marks ++ codes "\r\n" }
+pub fn marks_line(profile: Profile, marks: Marks) -> &'static [u8]
+    ensures { result.now ≡ spec.marks_text profile marks ++ codes "\r\n" }
+{
+    match profile {
+        Profile::Own => own_marks(marks),
+        Profile::DropIn => memcached_marks(marks),
+    }
+}
+
+/// The marks of a hit in memcached's order, and the end of the line.
+fn memcached_marks(marks: Marks) -> &'static [u8]
+    ensures { result.now ≡ spec.marks_text Profile.DropIn marks ++ codes "\r\n" }
+{
+    match (marks.sent, marks.stale, marks.won) {
+        (false, false, false) => b"\r\n",
+        (false, false, true) => b" W\r\n",
+        (false, true, false) => b" X\r\n",
+        (false, true, true) => b" X W\r\n",
+        (true, false, false) => b" Z\r\n",
+        (true, false, true) => b" Z W\r\n",
+        (true, true, false) => b" Z X\r\n",
+        (true, true, true) => b" Z X W\r\n",
+    }
+}
+
+/// The marks of a hit in this server's own order, and the end of the line.
+fn own_marks(marks: Marks) -> &'static [u8]
+    ensures { result.now ≡ spec.marks_text Profile.Own marks ++ codes "\r\n" }
 {
     match (marks.won, marks.stale, marks.sent) {
         (false, false, false) => b"\r\n",
@@ -239,7 +321,9 @@ fn put_item_flag<O: Outlet>(out: &mut O, answer: &Answer, flag: ReturnFlag) -> R
         | Answer::NonNumeric
         | Answer::Deleted
         | Answer::Touched
-        | Answer::Done => put_all(out, b""),
+        | Answer::Done
+        | Answer::Stats(_)
+        | Answer::Reset => put_all(out, b""),
     }
 }
 

@@ -10,6 +10,7 @@ ghost use Rattle.mc_join.specs.internal.Slots.{slots_text};
 use crate::classic::{any_lacks_memory, put_first_line, put_values};
 use crate::fixed::{put_fixed, put_memory_line};
 use crate::meta::put_meta;
+use crate::stats::put_stats;
 use mc_item::Answer;
 use mc_split::{Form, Shape};
 use mc_wire::{OutFault, Outlet, put_all};
@@ -41,17 +42,22 @@ fn put_slots<O: Outlet>(
 {
     match shape {
         Shape::Fixed(fixed) => put_fixed(out, *fixed),
-        Shape::Line { noreply: true } => put_all(out, b""),
+        Shape::Line { noreply: true, .. } => put_all(out, b""),
         _ if any_lacks_memory(slots) => put_memory_line(out),
-        Shape::Line { noreply: false } => put_first_line(out, slots),
+        Shape::Line {
+            noreply: false,
+            lenient,
+        } => put_first_line(out, *lenient, slots),
         Shape::Values { keys, with_unique } => put_values(out, keys, *with_unique, slots),
+        Shape::Stats => put_stats(out, slots),
         Shape::Meta {
             kind,
             flags,
             value,
             key,
+            lenient,
         } => match slots {
-            [Some(answer), ..] => put_meta(out, *kind, flags, *value, key, answer),
+            [Some(answer), ..] => put_meta(out, *kind, flags, *value, key, *lenient, answer),
             [None, ..] | [] => put_all(out, b""),
         },
     }

@@ -10,13 +10,16 @@ use Rattle.std.proofs.lemmas.List.Sums.{count_by-le-length, length-filter}
 use Rattle.mc_wire.specs.Words.{is_filled, is_space, words_of}
 use Rattle.mc_command.specs.declared.command.Command.{Command}
 use Rattle.mc_command.specs.declared.command.Command.TheVariants as command
+use Rattle.mc_command.specs.declared.command.StatsRequest.TheVariants as request
 use Rattle.mc_command.specs.Command.{with_block}
 use Rattle.mc_command.specs.declared.refusal.Refusal.{Refusal}
 use Rattle.mc_command.proofs.Few.{AsksFew, FewLine, few_line}
 use Rattle.mc_reader.specs.Spelling.{IsLine, Spells, SpellsFront, closes, is_last, line_says, most_commands, skip_entry, without_return}
 use Rattle.mc_reader.specs.Spelling.Spells.{line as of_line, refused as of_refused, block as of_block, bad_block as of_bad_block, skipped as of_skipped, long as of_long}
 use Rattle.mc_reader.proofs.Fronts.{every_input}
-use Rattle.mc_split.specs.Pieces.{pieces_of}
+use Rattle.mc_item.specs.declared.op.Op.{Op}
+use Rattle.mc_item.specs.declared.op.Op.TheVariants as op
+use Rattle.mc_split.specs.Pieces.{asked_of_all, pieces_of}
 use Rattle.mc_core.specs.Sizes.{Sizes, rules_of}
 use Rattle.mc_core.specs.World.{Link}
 use Rattle.mc_laws.specs.Progress.{steps_of, steps_of_all}
@@ -45,42 +48,47 @@ shorter line = elim (cases_Bool (slice_index line (length line - 1) == 13)) [
 ]
 
 -- what a line says asks for few keys
-says_few : (rules : Rules) (text line : List ℕ) → IsLine text line → FewLine 65536 (line_says rules line)
+says_few : (rules : Rules) (text line : List ℕ) → IsLine rules text line → FewLine rules.line_limit (line_says rules line)
 says_few rules text line is =
     let words = words_few (without_return line) in
     let cut = shorter line in
     let long = ap length is.text_is ∙ length-append line (10 ∷ []) in
-    let short : length text ≤ 65536 = is.short in
-    few_line 65536 rules (words_of (without_return line)) (omega (arith, words, cut, long, short))
+    let short : length text ≤ rules.line_limit = is.short in
+    few_line rules.line_limit rules (words_of (without_return line)) (omega (arith, words, cut, long, short))
 
-with_few : (asked : Command) (data_block : List ℕ) → AsksFew 65536 asked → AsksFew 65536 (with_block asked data_block)
-with_few (command.Store storage) data_block few = tt
-with_few (command.MetaSet set) data_block few = tt
-with_few (command.Get retrieval) data_block few = few
-with_few other data_block few = tt
+with_few : (most : ℕ) (asked : Command) (data_block : List ℕ) → AsksFew most asked → AsksFew most (with_block asked data_block)
+with_few most (command.Store storage) data_block few = tt
+with_few most (command.MetaSet set) data_block few = tt
+with_few most (command.Get retrieval) data_block few = few
+with_few most other data_block few = tt
 
-skip_few : (discarded : Option (List ℕ)) (refusal : Refusal) → AsksFew 65536 (skip_entry discarded refusal)
-skip_few None refusal = tt
-skip_few (Some key) refusal = tt
+skip_few : (most : ℕ) (discarded : Option (List ℕ)) (refusal : Refusal) → AsksFew most (skip_entry discarded refusal)
+skip_few most None refusal = tt
+skip_few most (Some key) refusal = tt
 
 -- What is spelled asks for few keys.
-spells_few : (rules : Rules) (text : List ℕ) (entry : Command) → Spells rules text entry → AsksFew 65536 entry
-spells_few rules text entry (of_line line is said) = subst (FewLine 65536) said (says_few rules text line is)
-spells_few rules text entry (of_refused line refusal is said entry_is) = subst (AsksFew 65536) (sym entry_is) tt
+spells_few : (rules : Rules) (text : List ℕ) (entry : Command) → Spells rules text entry → AsksFew rules.line_limit entry
+spells_few rules text entry (of_line line is said) = subst (FewLine rules.line_limit) said (says_few rules text line is)
+spells_few rules text entry (of_refused line refusal is said entry_is) = subst (AsksFew rules.line_limit) (sym entry_is) tt
 spells_few rules text entry (of_block head line data_block asked is text_is said entry_is) =
-    subst (AsksFew 65536) (sym entry_is) (with_few asked data_block (subst (FewLine 65536) said (says_few rules head line is)))
-spells_few rules text entry (of_bad_block head line chunk ends asked is text_is two bad said entry_is) = subst (AsksFew 65536) (sym entry_is) tt
-spells_few rules text entry (of_skipped head line skipped discarded refusal is text_is said entry_is) = subst (AsksFew 65536) (sym entry_is) (skip_few discarded refusal)
-spells_few rules text entry (of_long is no_end entry_is) = subst (AsksFew 65536) (sym entry_is) tt
+    subst (AsksFew rules.line_limit) (sym entry_is) (with_few rules.line_limit asked data_block (subst (FewLine rules.line_limit) said (says_few rules head line is)))
+spells_few rules text entry (of_bad_block head line chunk ends asked is text_is two bad said entry_is) = subst (AsksFew rules.line_limit) (sym entry_is) tt
+spells_few rules text entry (of_skipped head line skipped discarded refusal is text_is said entry_is) = subst (AsksFew rules.line_limit) (sym entry_is) (skip_few rules.line_limit discarded refusal)
+spells_few rules text entry (of_long is no_end entry_is) = subst (AsksFew rules.line_limit) (sym entry_is) tt
+
+shards_few : (shards : ℕ) (op : Op) → shards ≤ 16 → length (asked_of_all shards op) ≤ 8388608
+shards_few shards op small =
+    let long : length (asked_of_all shards op) ≡ shards = length-map-range_with_len _ 0 shards in
+    omega (arith, long, small)
 
 -- So it has few pieces: one a key, or one a shard.
-pieces_few : (shards : ℕ) (asked : Command) → shards ≤ 16 → AsksFew 65536 asked → length (pieces_of shards asked) ≤ 65536
+pieces_few : (most shards : ℕ) (asked : Command) → shards ≤ 16 → most ≤ 8388608 → AsksFew most asked → length (pieces_of shards asked) ≤ 8388608
 unfolding pieces_of
-pieces_few shards (command.Get retrieval) small few = let long : length (pieces_of shards (command.Get retrieval)) ≡ length retrieval.keys = length-map retrieval.keys _ in omega (arith, long, few)
-pieces_few shards (command.FlushAll delay noreply) small few =
-    let long : length (pieces_of shards (command.FlushAll delay noreply)) ≡ shards = length-map-range_with_len _ 0 shards in
-    omega (arith, long, small)
-pieces_few shards other small few = omega arith
+pieces_few most shards (command.Get retrieval) small room few = let long : length (pieces_of shards (command.Get retrieval)) ≡ length retrieval.keys = length-map retrieval.keys _ in omega (arith, long, few, room)
+pieces_few most shards (command.FlushAll delay noreply) small room few = shards_few shards (op.Flush delay) small
+pieces_few most shards (command.Stats request.General) small room few = shards_few shards op.Stats small
+pieces_few most shards (command.Stats request.Reset) small room few = shards_few shards op.ResetStats small
+pieces_few most shards other small room few = omega arith
 
 or_second : (a b : Bool) → (a || b) ≡ false → b ≡ false
 or_second true b h = absurd cc
@@ -97,11 +105,11 @@ not_yet before entry room goes = elim (eqb_tells (before + 1) most_commands) [
 ]
 
 -- The commands of a stream have few steps, and they are not more than a connection takes.
-pub front_few : (rules : Rules) (shards before : ℕ) (input : List ℕ) (commands : List Command) (rest : List ℕ) → shards ≤ 16 → before < most_commands → SpellsFront rules before input commands rest →
-    (steps_of shards commands ≤ length commands * 262146) × (before + length commands ≤ most_commands)
-front_few rules shards before input [] rest small room front = (omega arith, omega (arith, room))
-front_few rules shards before input (entry ∷ commands) rest small room front =
-    let pieces = pieces_few shards entry small (spells_few rules front.0 entry front.3) in
+pub front_few : (rules : Rules) (shards before : ℕ) (input : List ℕ) (commands : List Command) (rest : List ℕ) → shards ≤ 16 → rules.line_limit ≤ 8388608 → before < most_commands → SpellsFront rules before input commands rest →
+    (steps_of shards commands ≤ length commands * 33554434) × (before + length commands ≤ most_commands)
+front_few rules shards before input [] rest small short room front = (omega arith, omega (arith, room))
+front_few rules shards before input (entry ∷ commands) rest small short room front =
+    let pieces = pieces_few rules.line_limit shards entry small short (spells_few rules front.0 entry front.3) in
     elim (cases_Bool (is_last before entry)) [
       | inl last ↦
           let none = (rw last at front.4).0 in
@@ -109,19 +117,19 @@ front_few rules shards before input (entry ∷ commands) rest small room front =
       | inr goes ↦
           let more = rw goes at front.4 in
           let next : before + 1 < most_commands = not_yet before entry room goes in
-          let later = front_few rules shards (before + 1) front.1 commands rest small next more in
+          let later = front_few rules shards (before + 1) front.1 commands rest small short next more in
           let steps = later.0 in
           let count = later.1 in
           (omega (arith, pieces, steps), omega (arith, count))
     ]
 
--- The connections have so many steps at most: each has no more than 2 ^ 63 commands, of no more than 65,536 pieces.
-pub all_few : (sizes : Sizes) (links : List Link) → sizes.shards ≤ 16 → steps_of_all sizes.shards (map (spelled_by sizes) links) ≤ length links * 2417870085973332058963970
-all_few sizes [] small = omega arith
-all_few sizes (link ∷ links) small =
+-- The connections have so many steps at most: each has no more than 2 ^ 63 commands, of no more than 8,388,608 pieces.
+pub all_few : (sizes : Sizes) (links : List Link) → sizes.shards ≤ 16 → sizes.line ≤ 8388608 → steps_of_all sizes.shards (map (spelled_by sizes) links) ≤ length links * 309485028268089142434332674
+all_few sizes [] small short = omega arith
+all_few sizes (link ∷ links) small short =
     let all = every_input (rules_of sizes) link.fed in
-    let own = front_few (rules_of sizes) sizes.shards 0 link.fed all.0 all.1.0 small (omega arith) all.1.1 in
+    let own = front_few (rules_of sizes) sizes.shards 0 link.fed all.0 all.1.0 small short (omega arith) all.1.1 in
     let steps = own.0 in
     let count = own.1 in
-    let rest = all_few sizes links small in
+    let rest = all_few sizes links small short in
     omega (arith, steps, count, rest)

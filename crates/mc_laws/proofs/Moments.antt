@@ -17,7 +17,7 @@ use Rattle.mc_item.specs.Expiry.{expiry_of, is_dead}
 use Rattle.mc_item.specs.Kind.{key_of}
 use Rattle.mc_split.specs.Pieces.{pieces_of}
 use Rattle.mc_store.specs.State.{State, Used, entered, first}
-use Rattle.mc_store.specs.Step.{Answers, IsStep, step_of}
+use Rattle.mc_store.specs.Step.{Answers, IsStep, noted_in, step_of}
 use Rattle.mc_store.specs.Rows.{fetched_item}
 use Rattle.mc_store.proofs.Costs.{fitting_key}
 use Rattle.mc_store.proofs.Lists.{get_here}
@@ -27,7 +27,7 @@ use Rattle.mc_core.specs.Sized.{empty_shard}
 use Rattle.mc_core.specs.Log.{Entry, IsLawful}
 
 abbrev two : Sizes
-two = record { profile = Own; seats = 2; shards = 2; bytes = 1024; ring = 1; value = 1024; window = 1 }
+two = record { profile = Own; seats = 2; shards = 2; bytes = 1024; ring = 1; value = 1024; line = 65536; window = 1 }
 
 -- keys of the first and of the second shard
 abbrev a : List ℕ
@@ -48,34 +48,53 @@ store key = op.Store key mode.Set 0 (pos 0) (codes "2")
 abbrev old : ℕ → State
 old s = record (empty_shard two s) { time = 1000 }
 
+-- the second shard once b was asked for, which it doesn't hold
+abbrev missed : State
+missed = noted_in (old 1) (op.Fetch b None) Miss
+
 abbrev item : ℕ → Item
 item unique = record { value = codes "2"; flags = 0; expiry = Never; unique = unique; last_access = 1000; fetched = false; stale = false; sent = false }
 
--- and when the key was stored there
-abbrev new : ℕ → List ℕ → ℕ → State
-new s key unique = entered (record (old s) { given = 1 }) key (item unique)
+-- a shard in which the key was stored
+abbrev holding : State → List ℕ → ℕ → State
+holding state key unique = entered (record state { given = 1 }) key (item unique)
+
+-- and in which that is counted
+abbrev new : State → List ℕ → ℕ → State
+new state key unique = noted_in (holding state key unique) (store key) Stored
 
 nothing : (key : List ℕ) → get {X = Used} {R = slice_cmp nat_cmp} empty key ≡ None
 nothing key = get-empty (slice_cmp nat_cmp) key
 
-misses : IsStep (empty_shard two 1) (op.Fetch b None) 1000 Miss (old 1)
+misses : IsStep (empty_shard two 1) (op.Fetch b None) 1000 Miss missed
 unfolding IsStep Answers step_of key_of
-misses = inr (rw (nothing b, nothing b))
+misses = (old 1, inr (rw (nothing b, nothing b)), refl)
 
-stores_b : IsStep (old 1) (store b) 1000 Stored (new 1 b 2)
+stores_b : IsStep missed (store b) 1000 Stored (new missed b 2)
 unfolding IsStep Answers step_of key_of expiry_of
-stores_b = inr (rw (nothing b, nothing b))
+stores_b = (holding missed b 2, inr (rw (nothing b, nothing b)), refl)
 
-stores_a : IsStep (empty_shard two 0) (store a) 1000 Stored (new 0 a 1)
+stores_a : IsStep (empty_shard two 0) (store a) 1000 Stored (new (old 0) a 1)
 unfolding IsStep Answers step_of key_of expiry_of
-stores_a = inr (rw (nothing a, nothing a))
+stores_a = (holding (old 0) a 1, inr (rw (nothing a, nothing a)), refl)
 
-found : get (new 0 a 1).items a ≡ Some (record { item = item 1; number = 1 })
+-- the first shard, in which a was stored
+abbrev stored : State
+stored = new (old 0) a 1
+
+found : get stored.items a ≡ Some (record { item = item 1; number = 1 })
 found = fitting_key (insert empty a (record { item = item 1; number = 1 })) 1024 a ∙ get_here empty a (record { item = item 1; number = 1 })
 
-hits : IsStep (new 0 a 1) (op.Fetch a None) 1000 (Hit 0 1 (codes "2")) (first (new 0 a 1) a (fetched_item (item 1) None 1000))
+-- and was got
+abbrev got : State
+got = first stored a (fetched_item (item 1) None 1000)
+
+abbrev last : State
+last = noted_in got (op.Fetch a None) (Hit 0 1 (codes "2"))
+
+hits : IsStep stored (op.Fetch a None) 1000 (Hit 0 1 (codes "2")) last
 unfolding IsStep Answers step_of key_of is_dead
-hits = inr (rw (found, found))
+hits = (got, inr (rw (found, found)), refl)
 
 -- what a connection asks of a shard for its command of that number
 abbrev entry : ℕ → ℕ → ℕ → ℕ → Op → Answer → Entry
@@ -86,6 +105,6 @@ abbrev log : List Entry
 log = entry 1 0 0 1 (op.Fetch b None) Miss ∷ entry 1 1 0 0 (store b) Stored ∷ entry 0 1 1 0 (store a) Stored ∷ entry 0 0 0 0 (op.Fetch a None) (Hit 0 1 (codes "2")) ∷ []
 
 pub lawful : IsLawful two log
-lawful zero below = (first (new 0 a 1) a (fetched_item (item 1) None 1000), (new 0 a 1, stores_a, (first (new 0 a 1) a (fetched_item (item 1) None 1000), hits, refl)))
-lawful (suc zero) below = (new 1 b 2, (old 1, misses, (new 1 b 2, stores_b, refl)))
+lawful zero below = (last, (stored, stores_a, (last, hits, refl)))
+lawful (suc zero) below = (new missed b 2, (missed, misses, (new missed b 2, stores_b, refl)))
 lawful (suc (suc s)) below = absurd (omega (arith, below))

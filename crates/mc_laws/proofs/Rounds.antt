@@ -262,7 +262,7 @@ none_settles old new events count seats shards moment are as_seats as_shards cou
     let inside = all_inside (repeated was.times events) (all_repeated IsWork was.times events work) in
     let most = at_most sizes w (repeated was.times events) was.later there.within.shards.0 there.law was.led inside in
     let few = left_within sizes w there.law in
-    let steps = all_few sizes w.links there.within.shards.1 in
+    let steps = all_few sizes w.links there.within.shards.1 there.within.line.1 in
     let number = counted sizes w stands in
     let least = was.enough in
     let no_link : length w.links ≡ 0 = omega (arith, most, few, steps, number, least) in

@@ -20,7 +20,7 @@ use Rattle.mc_reader.specs.Spelling.{AreCommands, BeginCommands, HasNoEnd, Spell
 use Rattle.mc_reader.proofs.Machine.{lined}
 use Rattle.mc_reader.proofs.Texts.{nothing_without_end}
 use Rattle.mc_store.specs.State.{State, empty_state}
-use Rattle.mc_store.specs.Step.{Answers, IsStep, step_of}
+use Rattle.mc_store.specs.Step.{Answers, IsStep, noted_in, step_of}
 use Rattle.mc_conn.specs.History.{Taken}
 use Rattle.mc_conn.specs.Due.{due, pieces, ticket_at}
 use Rattle.mc_conn.specs.Fits.{HasCome}
@@ -39,10 +39,10 @@ use Rattle.mc_laws.proofs.Measure.{work_inside}
 use Rattle.mc_laws.proofs.Working.{none_next}
 
 abbrev one_each : Sizes
-one_each = record { profile = Own; seats = 1; shards = 1; bytes = 1024; ring = 1; value = 1024; window = 1 }
+one_each = record { profile = Own; seats = 1; shards = 1; bytes = 1024; ring = 1; value = 1024; line = 65536; window = 1 }
 
 within : AreWithin one_each
-within = record { seats = (lit< tt, lit< tt); shards = (lit< tt, lit< tt); bytes = (lit< tt, lit< tt); ring = (lit< tt, lit< tt); value = (lit< tt, lit< tt); window = (lit< tt, lit< tt) }
+within = record { seats = (lit< tt, lit< tt); shards = (lit< tt, lit< tt); bytes = (lit< tt, lit< tt); ring = (lit< tt, lit< tt); value = (lit< tt, lit< tt); line = (lit< tt, lit< tt); window = (lit< tt, lit< tt) }
 
 abbrev line : List ℕ
 line = codes "flush_all\r\n"
@@ -138,16 +138,24 @@ come s = elim (eqb_tells 0 s) [
 abbrev before : State
 before = empty_state 0 1 1024 0 1024
 
+-- the shard at the moment of the flush
+abbrev at_flush : State
+at_flush = record before { time = 1000 }
+
+-- and once it has flushed, which is counted
+abbrev once : State → State
+once state = noted_in state piece.op answer.Done
+
 abbrev after : State
-after = record before { time = 1000 }
+after = once at_flush
 
 runs : RunsNext one_each (alone [] sent) 0 0 sent (ran_for 0)
 unfolding IsStep Answers step_of pieces_of expiry_of kind_of key_of
-runs = record { shard_is = refl; asker_is = refl; next = refl; before = before; after = after; left = refl; step = inr refl }
+runs = record { shard_is = refl; asker_is = refl; next = refl; before = before; after = after; left = refl; step = (at_flush, inr refl, refl) }
 
 runs_again : RunsNext one_each (both (ran_for 0 ∷ []) sent) 0 1 sent (ran_for 1)
 unfolding IsStep Answers step_of pieces_of expiry_of kind_of key_of
-runs_again = record { shard_is = refl; asker_is = refl; next = refl; before = after; after = after; left = (after, inr refl, refl); step = inr refl }
+runs_again = record { shard_is = refl; asker_is = refl; next = refl; before = after; after = once after; left = (after, (at_flush, inr refl, refl), refl); step = (after, inr refl, refl) }
 
 at_rest : AtRest one_each ended
 unfolding pieces_of

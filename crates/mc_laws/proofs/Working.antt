@@ -6,8 +6,9 @@ use Rattle.std.proofs.lemmas.List.{take-append-drop, take_all}
 use Rattle.mc_command.specs.declared.command.Command.{Command}
 use Rattle.mc_reader.specs.Spelling.{SpellsFront, is_last}
 use Rattle.mc_reader.proofs.Fronts.{commands_begin, every_input}
-use Rattle.mc_store.specs.State.{State}
-use Rattle.mc_store.specs.Step.{Answers, IsStep}
+use Rattle.mc_item.specs.Kind.{key_of}
+use Rattle.mc_store.specs.State.{State, settle}
+use Rattle.mc_store.specs.Step.{Answers, IsStep, step_of}
 use Rattle.mc_split.specs.declared.plan.Piece.{Piece}
 use Rattle.mc_conn.specs.History.{Taken}
 use Rattle.mc_conn.specs.Due.{due, lane, pieces, pieces_from}
@@ -33,7 +34,7 @@ use Rattle.mc_command.specs.declared.rules.Rules.{Rules}
 -- what a shard answers where no memory is refused is a step
 step_there : (state : State) (piece : Piece) → IsStep state piece.op piece.moment (outcome_at state piece.op piece.moment).0 (outcome_at state piece.op piece.moment).1
 unfolding IsStep Answers
-step_there state piece = inr refl
+step_there state piece = ((step_of (settle state (key_of piece.op) piece.moment) piece.op).1, inr refl, refl)
 
 -- no more was sent to a shard than is due there
 pub sent_within : (sizes : Sizes) (link : Link) (s : ℕ) → sent_to sizes s link ≤ length (due sizes.shards s link.taken)

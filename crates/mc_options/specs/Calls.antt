@@ -34,7 +34,7 @@ first_given given names = find (is_given given) names
 -- the options that `--replay` doesn't have, those that `--stdio` doesn't have, and those that serving TCP doesn't have
 abbrev pub other_than_replay : List (List ℕ)
 other_than_replay =
-    codes "at" ∷ codes "listen" ∷ codes "shards" ∷ codes "seats" ∷ codes "bytes" ∷ codes "memory" ∷ codes "value-limit" ∷ codes "window" ∷ codes "connections"
+    codes "at" ∷ codes "listen" ∷ codes "shards" ∷ codes "seats" ∷ codes "bytes" ∷ codes "memory" ∷ codes "value-limit" ∷ codes "line-limit" ∷ codes "window" ∷ codes "connections"
     ∷ codes "idle-timeout" ∷ codes "metrics" ∷ []
 
 abbrev pub other_than_stdio : List (List ℕ)

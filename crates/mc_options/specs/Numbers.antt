@@ -1,6 +1,8 @@
 -- The numbers that the options give. What is given is a function from the name of an option to its text.
 use Rattle.std.specs.Prelude.{ℕ, ◌-◌, ◌*◌, ◌/◌, ◌<◌, ◌≤◌, ◌^◌, ◌&&◌, List, take, drop, length, Option, Some, None, Ok, Err, Result, codes, nat_eq, nat_le, nat_lt, ok_or, option_and_then, option_map, if◌then◌else◌}
 use Rattle.std.specs.List.{ends_with}
+use Rattle.mc_command.specs.declared.rules.Profile.{Profile}
+use Rattle.mc_command.specs.declared.rules.Profile.TheVariants.{Own, DropIn}
 use Rattle.mc_wire.specs.Number.{number_of}
 use Rattle.mc_options.specs.Wrong.{Wrong, BytesAndMemory, NoNumber, NoSize}
 use Rattle.mc_options.specs.Flags.{profile_by}
@@ -61,14 +63,21 @@ budget_of shards bytes None = size_given (codes "bytes") 1024 16777216 107374182
 budget_of shards None (Some total) = and_then (λ number. Ok (number / shards)) (size_in (codes "memory") (1024 * shards) (1073741824 * shards) total)
 budget_of shards (Some bytes) (Some total) = Err BytesAndMemory
 
+-- how many bytes a line has at most where nothing else is said
+abbrev pub default_line : Profile → ℕ
+default_line Own = 65536
+default_line DropIn = 1048576
+
 -- the limits, or the first of them that is wrong
 abbrev pub limits_by : (List ℕ → Option (List ℕ)) → Result Limits Wrong
 limits_by given =
     and_then
     (λ shards. and_then
     (λ bytes. and_then
-    (λ value. and_then (λ window. Ok (record { profile = profile_by given; shards = shards; bytes = bytes; value = value; window = window }))
+    (λ value. and_then
+    (λ line. and_then (λ window. Ok (record { profile = profile_by given; shards = shards; bytes = bytes; value = value; line = line; window = window }))
     (number_given (codes "window") 1 256 4096 (given (codes "window"))))
+    (size_given (codes "line-limit") 2048 (default_line (profile_by given)) 8388608 (given (codes "line-limit"))))
     (size_given (codes "value-limit") 1024 1048576 8388608 (given (codes "value-limit"))))
     (budget_of shards (given (codes "bytes")) (given (codes "memory"))))
     (number_given (codes "shards") 1 2 16 (given (codes "shards")))
@@ -97,5 +106,7 @@ pub record AreWithin (limits : Limits) : Type 0 where
   pub most_bytes : limits.bytes ≤ 1073741824
   pub least_value : 1024 ≤ limits.value
   pub most_value : limits.value ≤ 8388608
+  pub least_line : 2048 ≤ limits.line
+  pub most_line : limits.line ≤ 8388608
   pub least_window : 1 ≤ limits.window
   pub most_window : limits.window ≤ 4096

@@ -22,7 +22,7 @@ call_rules = option_rule (codes "listen") ∷ flag_rule (codes "stdio") ∷ opti
 abbrev pub limit_rules : List Rule
 limit_rules =
     option_rule (codes "shards") ∷ option_rule (codes "seats") ∷ option_rule (codes "bytes") ∷ option_rule (codes "memory")
-    ∷ option_rule (codes "value-limit") ∷ option_rule (codes "window") ∷ option_rule (codes "connections") ∷ flag_rule (codes "drop-in")
+    ∷ option_rule (codes "value-limit") ∷ option_rule (codes "line-limit") ∷ option_rule (codes "window") ∷ option_rule (codes "connections") ∷ flag_rule (codes "drop-in")
     ∷ option_rule (codes "items") ∷ []
 
 abbrev pub watch_rules : List Rule

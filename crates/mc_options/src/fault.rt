@@ -22,7 +22,7 @@ pub enum OptionFault<'a> {
         option: &'static str,
     },
     /// An option is given beside `--stdio` that serves TCP alone.
-    #[error("--{option} doesn't go with --stdio, which takes --at, --shards, --bytes, --memory, --value-limit, --window and --drop-in")]
+    #[error("--{option} doesn't go with --stdio, which takes --at, --shards, --bytes, --memory, --value-limit, --line-limit, --window and --drop-in")]
     NotOfStdio {
         option: &'static str,
     },

@@ -3,7 +3,7 @@ ghost use Rattle.std.specs.Prelude.{◌≡◌, ◌≤◌, ◌^◌, [], ok_or, co
 ghost use Rattle.clap.specs.Words.{FailsBy, first_value, found_of, rows_of};
 ghost use Rattle.mc_options.specs.Program.{rows_in, word_faults};
 ghost use Rattle.mc_options.specs.Wrong.{wrong_of};
-ghost use Rattle.mc_options.specs.Numbers.{AreWithin, budget_of, bytes_of, digits_of, limits_by, number_given, number_if_given, size_given, size_in, unit_of};
+ghost use Rattle.mc_options.specs.Numbers.{AreWithin, budget_of, bytes_of, default_line, digits_of, limits_by, number_given, number_if_given, size_given, size_in, unit_of};
 ghost use Rattle.mc_options.specs.Flags.{is_flag, profile_by};
 ghost use Rattle.mc_options.specs.Calls.{MayServe, Spells, call_by, call_of, first_given, given_in, is_given, line_by, replay_by, stdio_by, tcp_by};
 ghost use Rattle.mc_options.specs.Faults.{IsFaultOf, IsOfOptions};
@@ -13,10 +13,10 @@ use crate::program::program_options;
 use clap::ArgMatches;
 use mc_command::Profile;
 use mc_core::{
-    DEFAULT_WINDOW, LEAST, LEAST_BYTES, LEAST_VALUE, MOST_BYTES, MOST_SEATS, MOST_SHARDS,
-    MOST_VALUE, MOST_WINDOW,
+    DEFAULT_WINDOW, LEAST, LEAST_BYTES, LEAST_LINE, LEAST_VALUE, MOST_BYTES, MOST_LINE, MOST_SEATS,
+    MOST_SHARDS, MOST_VALUE, MOST_WINDOW,
 };
-use mc_wire::{DEFAULT_VALUE_LIMIT, number_u64};
+use mc_wire::{DEFAULT_LINE_LIMIT, DEFAULT_VALUE_LIMIT, DROP_IN_LINE_LIMIT, number_u64};
 use std::alloc::Global;
 
 /// How many shards there are where nothing else is said.
@@ -48,6 +48,8 @@ pub struct Limits {
     pub bytes: usize,
     /// How many bytes a value has at most.
     pub value: usize,
+    /// How many bytes a line has at most.
+    pub line: usize,
     /// How many commands of a connection may be open.
     pub window: usize,
 }
@@ -141,6 +143,7 @@ fn replay_in<'a>(matches: &ArgMatches<'a>, file: &'a str) -> Result<Options<'a>,
         "bytes",
         "memory",
         "value-limit",
+        "line-limit",
         "window",
         "connections",
         "idle-timeout",
@@ -234,13 +237,18 @@ fn limits_in<'a>(matches: &ArgMatches<'a>) -> Result<Limits, OptionFault<'a>>
         DEFAULT_VALUE_LIMIT,
         MOST_VALUE,
     )?;
+    let line = matches.get_str("line-limit");
+    let profile = profile_in(matches);
+    let longest = default_line(profile);
+    let line = size_given("line-limit", line, LEAST_LINE, longest, MOST_LINE)?;
     let window = matches.get_str("window");
     let window = number_given("window", window, LEAST, DEFAULT_WINDOW, MOST_WINDOW)?;
     Ok(Limits {
-        profile: profile_in(matches),
+        profile,
         shards,
         bytes,
         value,
+        line,
         window,
     })
 }
@@ -253,6 +261,18 @@ fn profile_in(matches: &ArgMatches<'_>) -> Profile
         Profile::DropIn
     } else {
         Profile::Own
+    }
+}
+
+/// How many bytes a line has at most where nothing else is said.
+fn default_line(profile: Profile) -> usize
+    ensures value { result ≡ default_line profile }
+    ensures within { (2048 ≤ result) × (result ≤ 8388608) }
+{
+    if matches!(profile, Profile::DropIn) {
+        DROP_IN_LINE_LIMIT
+    } else {
+        DEFAULT_LINE_LIMIT
     }
 }
 

@@ -11,9 +11,9 @@ const CALLS: &str = "\
 mcd [--listen ADDRESS] [--seats N] [--connections N] [limits]   TCP
 mcd --stdio [--at SECONDS] [limits]                             one connection
 mcd --replay FILE                                               a schedule
-Limits are --shards, --bytes or --memory, --value-limit, --window and --drop-in.
-With TCP go --idle-timeout, --verbose and --metrics too. Defaults stand in [].
-Behind a number of bytes k, m and g stand for 1024 each.";
+Limits are --shards, --bytes or --memory, --value-limit, --line-limit, --window
+and --drop-in. With TCP go --idle-timeout, --verbose and --metrics too.
+Defaults stand in []. Behind a number of bytes k, m and g stand for 1024 each.";
 
 /// The program with its options.
 #[tactic(auto, unfolding(crate::specs::Program::program))]
@@ -56,6 +56,8 @@ fn with_limits<'a>(alloc: Global, command: Command<'a>) -> Result<Command<'a>, A
     let command = with_value(alloc, command, "memory", "N", memory)?;
     let value = "Bytes of a value at most, 1k to 8m [1m]";
     let command = with_value(alloc, command, "value-limit", "N", value)?;
+    let line = "Bytes of a line at most, 2k to 8m [64k; --drop-in 1m]";
+    let command = with_value(alloc, command, "line-limit", "N", line)?;
     let window = "Open commands a connection, 1 to 4096 [256]";
     let command = with_value(alloc, command, "window", "N", window)?;
     let connections = "Ends after so many connections, 1 to 4294967295";

@@ -3,9 +3,12 @@
 ghost use Rattle.std.specs.Prelude.{◌<◌};
 
 use crate::asserting::{equal, holds};
-use mc_command::{Command, Refusal};
+use mc_command::{Command, Refusal, Rules};
 use mc_reader::{Next, Reader, readers_give_commands};
-use mc_wire::{DEFAULT_VALUE_LIMIT, GREATEST_VALUE_LIMIT, LEAST_VALUE_LIMIT};
+use mc_wire::{
+    DEFAULT_LINE_LIMIT, DEFAULT_VALUE_LIMIT, DROP_IN_LINE_LIMIT, GREATEST_VALUE_LIMIT,
+    LEAST_LINE_LIMIT, LEAST_VALUE_LIMIT,
+};
 use std::alloc::Global;
 use std::process::Abort;
 use std::test::Fail;
@@ -209,6 +212,44 @@ fn a_refused_allocation_gives_up_one_command(rt: HostRuntime) {
     }
     holds(&rt, refused <= 1);
     gives(&rt, alloc, &mut reader, &[Came::NeedMore]);
+}
+
+/// Feeds so many bytes of a word, at most so many at a time.
+fn feed_word(rt: &impl Abort, reader: &mut Reader, count: usize, size: usize) {
+    let mut left = count;
+    for _ in 0..count {
+        let (piece, _) = PIECE.split_at(left.min(size).min(PIECE.len()));
+        feed_all(rt, reader, piece);
+        left -= piece.len();
+        if left == 0 {
+            break;
+        }
+    }
+}
+
+/// A line has at most as many bytes as the rules say, whatever limit is chosen and however it is cut.
+#[test]
+fn lines_at_the_limit(rt: HostRuntime) -> Result<(), Fail> {
+    let alloc = rt.alloc();
+    for limit in [LEAST_LINE_LIMIT, DEFAULT_LINE_LIMIT, DROP_IN_LINE_LIMIT] {
+        let rules = Rules {
+            line_limit: limit,
+            ..Rules::own(DEFAULT_VALUE_LIMIT)
+        };
+        let mut reader = Reader::under(alloc, rules)?;
+        feed_all(&rt, &mut reader, b"mn ");
+        feed_word(&rt, &mut reader, limit - 4, 1_000);
+        gives(&rt, alloc, &mut reader, &[Came::NeedMore]);
+        equal(&rt, reader.held(), limit - 1);
+        feed_all(&rt, &mut reader, b"\n");
+        gives(&rt, alloc, &mut reader, &[Came::MetaNoop, Came::NeedMore]);
+        equal(&rt, reader.held(), 0);
+        feed_all(&rt, &mut reader, b"mn ");
+        feed_word(&rt, &mut reader, limit - 3, 60_000);
+        let too_long = Came::Refused(Refusal::LineTooLong);
+        gives(&rt, alloc, &mut reader, &[too_long, Came::Closed]);
+    }
+    Ok(())
 }
 
 /// A value has at most as many bytes as the limit says, whatever limit is chosen.

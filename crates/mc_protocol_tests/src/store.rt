@@ -209,6 +209,46 @@ fn the_least_recently_used_item_goes(rt: HostRuntime) -> Result<(), Fail> {
     Ok(())
 }
 
+static COUNTED: [Row; 10] = [
+    (1000, "a", Ask::Long(300), "stored"),
+    (1000, "a", Ask::Get, "0 1 300 bytes"),
+    (1000, "b", Ask::Get, "miss"),
+    (
+        1000,
+        "a",
+        Ask::Mg(Some(60), None, None),
+        "f0 c1 h1 l0 t60 300 bytes",
+    ),
+    (
+        1000,
+        "a",
+        Ask::Stats,
+        "get 1/1 set 1/0 touch 1/0 stats 0/0 n1 b365 of 1024 e0",
+    ),
+    (1000, "c", Ask::Long(400), "stored"),
+    (1000, "d", Ask::Long(400), "stored"),
+    // The item under a went, and stats itself was asked once.
+    (
+        1000,
+        "a",
+        Ask::Stats,
+        "get 1/1 set 3/0 touch 1/0 stats 1/0 n2 b930 of 1024 e1",
+    ),
+    (1000, "a", Ask::ResetStats, "reset"),
+    // The reset is counted, in the counts that it begins.
+    (
+        1000,
+        "a",
+        Ask::Stats,
+        "get 0/0 set 0/0 touch 0/0 stats 1/0 n2 b930 of 1024 e0",
+    ),
+];
+
+#[test]
+fn a_shard_counts(rt: HostRuntime) -> Result<(), Fail> {
+    ask_new(&rt, rt.alloc(), 1_024, &COUNTED)
+}
+
 static DEAD_ITEM: [Row; 2] = [
     (1000, "a", Ask::Long(400), "stored"),
     (1000, "c", Ask::LongFor(-1, 400), "stored"),
@@ -685,7 +725,7 @@ fn meta_arithmetic(rt: HostRuntime) -> Result<(), Fail> {
 
 // Rows for refused allocations, and whether the operation takes no memory once it was made: it deletes, touches,
 // marks stale, flushes, or stores under a key that is there.
-static SHORT: [(Row, bool); 16] = [
+static SHORT: [(Row, bool); 18] = [
     ((1000, "a", Ask::Set("x"), "stored"), false),
     ((1000, "a", Ask::Get, "0 1 x"), false),
     ((1000, "a", Ask::Set("7"), "stored"), true),
@@ -733,6 +773,16 @@ static SHORT: [(Row, bool); 16] = [
         false,
     ),
     ((1000, "e", Ask::Flush(0), "done"), true),
+    (
+        (
+            1000,
+            "e",
+            Ask::Stats,
+            "get 4/1 set 4/0 touch 1/0 stats 0/0 n0 b0 of 1024 e0",
+        ),
+        false,
+    ),
+    ((1000, "e", Ask::ResetStats, "reset"), true),
 ];
 
 /// Makes the operation, in a second try where no memory was left for the first.

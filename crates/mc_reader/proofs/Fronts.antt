@@ -1,14 +1,13 @@
 -- The commands of a stream: what follows from the commands of its front.
 use Rattle.std.proofs.Common.{◌≡◌, ℕ, zero, suc, ◌+◌, ◌<◌, ◌≤◌, Bool, true, false, List, [], ◌∷◌, ◌++◌, length, refl, sym, ap, ◌∙◌, arith, append_assoc, append-nil, length-append, length-take, MatchBool, ◌⊎◌, inl, inr, ◌==◌, take, drop}
 use Rattle.std.proofs.lemmas.List.{take-append-drop}
-use Rattle.std.proofs.lemmas.Bool.{cases_Bool, cases_lt, or_parts}
+use Rattle.std.proofs.lemmas.Bool.{cases_Bool, cases_lt, false≢true, or_parts}
 use Rattle.std.proofs.lemmas.Bool.Decides.{nat_tests}
-use Rattle.mc_wire.specs.declared.TheConstants.{LINE_LIMIT}
 use Rattle.mc_command.specs.declared.command.Command.{Command}
 use Rattle.mc_command.specs.declared.command.Command.TheVariants as command
 use Rattle.mc_command.specs.declared.refusal.Refusal.TheVariants.{LineTooLong}
 use Rattle.mc_command.specs.Line.{bytes_behind}
-use Rattle.mc_reader.specs.Spelling.{HasNoEnd, line_says, Spells, SpellsNothing, SpellsFront, BeginCommands, AreCommands, Begins, is_last, is_closed_after, is_closed}
+use Rattle.mc_reader.specs.Spelling.{HasNoEnd, line_says, Spells, SpellsNothing, SpellsFront, BeginCommands, AreCommands, Begins, closes, is_last, is_closed_after, is_closed, most_commands}
 use Rattle.mc_reader.specs.internal.State.{SpellsSomething}
 use Rattle.mc_reader.proofs.Texts.{Reads, nothing_without_end, nothing_yet, reads, same_spelled, something, spelled_behind}
 use Rattle.mc_command.specs.declared.rules.Rules.{Rules}
@@ -136,50 +135,56 @@ no_end_take zero bytes none = tt
 no_end_take (suc n) [] none = tt
 no_end_take (suc n) (byte ∷ bytes) none = (none.0, no_end_take n bytes none.1)
 
-too_long : (rules : Rules) (bytes line rest : List ℕ) → bytes ≡ line ++ rest → HasNoEnd line → LINE_LIMIT ≤ length line → SpellsSomething rules bytes
+too_long : (rules : Rules) (bytes line rest : List ℕ) → bytes ≡ line ++ rest → HasNoEnd line → rules.line_limit ≤ length line → SpellsSomething rules bytes
 too_long rules bytes line rest is none full = (
-  take LINE_LIMIT line,
-  drop LINE_LIMIT line ++ rest,
+  take rules.line_limit line,
+  drop rules.line_limit line ++ rest,
   command.Refused LineTooLong,
-  is ∙ (ap (λ xs. xs ++ rest) (sym (take-append-drop LINE_LIMIT line)) ∙ append_assoc (take LINE_LIMIT line) (drop LINE_LIMIT line) rest),
-  Spells.long (omega (arith, length-take LINE_LIMIT line)) (no_end_take LINE_LIMIT line none) refl,
+  is ∙ (ap (λ xs. xs ++ rest) (sym (take-append-drop rules.line_limit line)) ∙ append_assoc (take rules.line_limit line) (drop rules.line_limit line) rest),
+  Spells.long (omega (arith, length-take rules.line_limit line)) (no_end_take rules.line_limit line none) refl,
 )
 
 -- Some beginning of an input spells something, or none does.
 first_spelled : (rules : Rules) (input : List ℕ) → SpellsSomething rules input ⊎ SpellsNothing rules input
 first_spelled rules input = elim (first_end input) [
-  | ended line tail is none ↦ elim (cases_lt (length line) LINE_LIMIT) [
+  | ended line tail is none ↦ elim (cases_lt (length line) rules.line_limit) [
     | inl short ↦ elim (cases_lt (length tail) (bytes_behind (line_says rules line))) [
       | inl few ↦ inr (rw is (nothing_yet rules line tail none short few))
       | inr enough ↦ inl (spelled_behind rules line tail input is none short enough)
     ]
     | inr full ↦ inl (too_long rules input line (10 ∷ tail) is none full)
   ]
-  | endless none ↦ elim (cases_lt (length input) LINE_LIMIT) [
+  | endless none ↦ elim (cases_lt (length input) rules.line_limit) [
     | inl short ↦ inr (nothing_without_end rules input none short)
     | inr full ↦ inl (too_long rules input input [] (sym (append-nil input)) none full)
   ]
 ]
 
--- a text that spells has a byte at least
-some_byte : (rules : Rules) (text : List ℕ) (entry : Command) → Reads rules text entry → 0 < length text
-some_byte rules text entry (Reads.lined line tail is) = omega (arith, ap length is.text_is, length-append line (10 ∷ tail))
-some_byte rules text entry (Reads.endless full none e) = omega arith
+-- a text that spells and closes nothing has a byte at least
+some_byte : (rules : Rules) (text : List ℕ) (entry : Command) → Reads rules text entry → closes entry ≡ false → 0 < length text
+some_byte rules text entry (Reads.lined line tail is) goes = omega (arith, ap length is.text_is, length-append line (10 ∷ tail))
+some_byte rules text entry (Reads.endless full none e) goes = absurd (false≢true (sym goes ∙ ap closes e))
 
 -- Every input has its commands.
 pub some_commands : (rules : Rules) (fuel before : ℕ) (input : List ℕ) → length input ≤ fuel → (entries : List Command) × (rest : List ℕ) × SpellsFront rules before input entries rest × IsAll rules before entries rest
-some_commands rules zero before [] few = ([], [], refl, nothing_without_end rules [] tt (omega arith))
-some_commands rules zero before (byte ∷ bytes) few = absurd (omega arith)
+some_commands rules zero before input few = elim (first_spelled rules input) [
+  | inr nothing ↦ ([], input, refl, nothing)
+  | inl one ↦ elim (cases_Bool (is_last before one.2)) [
+    | inl last ↦ (one.2 ∷ [], one.1, (one.0, one.1, one.3, one.4, rw last (refl, refl)), rw last tt)
+    | inr goes ↦
+        let some = some_byte rules one.0 one.2 (reads rules one.0 one.2 one.4) (or_parts (closes one.2) (before + 1 == most_commands) goes).0 in
+        absurd (omega (arith, ap length one.3, length-append one.0 one.1))
+  ]
+]
 some_commands rules (suc fuel) before input few = elim (first_spelled rules input) [
   | inr nothing ↦ ([], input, refl, nothing)
-  | inl one ↦
-      let some = some_byte rules one.0 one.2 (reads rules one.0 one.2 one.4) in
-      elim (cases_Bool (is_last before one.2)) [
-        | inl last ↦ (one.2 ∷ [], one.1, (one.0, one.1, one.3, one.4, rw last (refl, refl)), rw last tt)
-        | inr goes ↦
-            let next = some_commands rules fuel (before + 1) one.1 (omega (arith, ap length one.3, length-append one.0 one.1)) in
-            (one.2 ∷ next.0, next.1, (one.0, one.1, one.3, one.4, rw goes next.2), rw goes next.3)
-      ]
+  | inl one ↦ elim (cases_Bool (is_last before one.2)) [
+    | inl last ↦ (one.2 ∷ [], one.1, (one.0, one.1, one.3, one.4, rw last (refl, refl)), rw last tt)
+    | inr goes ↦
+        let some = some_byte rules one.0 one.2 (reads rules one.0 one.2 one.4) (or_parts (closes one.2) (before + 1 == most_commands) goes).0 in
+        let next = some_commands rules fuel (before + 1) one.1 (omega (arith, ap length one.3, length-append one.0 one.1)) in
+        (one.2 ∷ next.0, next.1, (one.0, one.1, one.3, one.4, rw goes next.2), rw goes next.3)
+  ]
 ]
 
 pub every_input : (rules : Rules) (input : List ℕ) → (entries : List Command) × AreCommands rules input entries

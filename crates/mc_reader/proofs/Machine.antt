@@ -1,20 +1,20 @@
 -- What the unread bytes are after each step of the reader's machine.
-use Rattle.std.proofs.Common.{inl, inr, ◌≡◌, ℕ, zero, suc, ◌+◌, ◌-◌, ◌<◌, ◌≤◌, true, false, List, [], ◌∷◌, ◌++◌, length, take, drop, min, refl, sym, ap, ◌∙◌, arith, append_assoc, append-nil, length-append, length-take, zero-add, add-zero, IsTrue, Option, Some, None}
+use Rattle.std.proofs.Common.{inl, inr, ◌≡◌, ◌&&◌, Bool, cond, ℕ, zero, suc, ◌+◌, ◌-◌, ◌<◌, ◌≤◌, true, false, List, [], ◌∷◌, ◌++◌, length, take, drop, min, refl, sym, ap, ◌∙◌, arith, append_assoc, append-nil, length-append, length-take, zero-add, add-zero, IsTrue, Option, Some, None}
 use Rattle.std.proofs.lemmas.Bool.{cases_Bool, cond_both}
 use Rattle.std.proofs.lemmas.List.{take-append-drop, drop_all}
 use Rattle.std.proofs.Math.Seq.{take-add}
-use Rattle.mc_wire.specs.declared.TheConstants.{LINE_LIMIT}
 use Rattle.mc_command.specs.declared.command.Command.{Command}
 use Rattle.mc_command.specs.declared.command.Command.TheVariants as command
 use Rattle.mc_command.specs.declared.refusal.Refusal.{Refusal}
-use Rattle.mc_command.specs.declared.refusal.Refusal.TheVariants.{BadChunk, LineTooLong, Memory}
+use Rattle.mc_command.specs.declared.refusal.Refusal.TheVariants.{BadChunk, Hidden, LineTooLong, Memory}
 use Rattle.mc_command.specs.declared.line.Line.{Line}
 use Rattle.mc_command.specs.declared.line.Line.TheVariants.{Whole, Data, Refused, Skip}
 use Rattle.mc_command.specs.Command.{can_give_up, is_memory, with_block}
+use Rattle.mc_command.specs.Rules.{is_drop_in}
 use Rattle.mc_command.specs.Line.{Says, CanGiveUpBlock, CanGiveUpLine, bytes_behind}
 use Rattle.mc_command.proofs.Blocks.{data_stores}
 use Rattle.mc_wire.specs.Words.{words_of}
-use Rattle.mc_reader.specs.Spelling.{HasNoEnd, Spells, SpellsNothing, block_entry, is_block_end, line_says, skip_entry, without_return}
+use Rattle.mc_reader.specs.Spelling.{HasNoEnd, Spells, SpellsNothing, block_entry, chunk_refusal, is_block_end, line_says, skip_entry, without_return}
 use Rattle.mc_reader.specs.internal.State.{IsWhole, IsInBlock, IsInSkip}
 use Rattle.mc_reader.proofs.Texts.{Reads, entry_after, spells, nothing_yet}
 use Rattle.mc_command.specs.declared.rules.Rules.{Rules}
@@ -63,7 +63,7 @@ skip_fed rules discarded refusal left after others unread piece n m part n_is af
     }
 
 -- A block begins with what the buffer has of it.
-pub block_begun : (rules : Rules) (line : List ℕ) (asked : Command) (count : ℕ) (others : List ℕ) (n : ℕ) → HasNoEnd line → length line < LINE_LIMIT → line_says rules line ≡ Data asked count → n ≡ min (count + 2 - 0) (length others) → IsInBlock rules asked count (take n others) (drop n others) (line ++ 10 ∷ others)
+pub block_begun : (rules : Rules) (line : List ℕ) (asked : Command) (count : ℕ) (others : List ℕ) (n : ℕ) → HasNoEnd line → length line < rules.line_limit → line_says rules line ≡ Data asked count → n ≡ min (count + 2 - 0) (length others) → IsInBlock rules asked count (take n others) (drop n others) (line ++ 10 ∷ others)
 block_begun rules line asked count others n none short says n_is = record {
   line = line;
   no_end = none;
@@ -74,7 +74,7 @@ block_begun rules line asked count others n none short says n_is = record {
 }
 
 -- Skipping begins with what the buffer has of it.
-pub skip_begun : (rules : Rules) (line : List ℕ) (discarded : Option (List ℕ)) (refusal : Refusal) (left after : ℕ) (others : List ℕ) (n : ℕ) → HasNoEnd line → length line < LINE_LIMIT → Says (line_says rules line) (Skip discarded refusal left) → n ≡ min left (length others) → after + n ≡ left → IsInSkip rules discarded refusal after (drop n others) (line ++ 10 ∷ others)
+pub skip_begun : (rules : Rules) (line : List ℕ) (discarded : Option (List ℕ)) (refusal : Refusal) (left after : ℕ) (others : List ℕ) (n : ℕ) → HasNoEnd line → length line < rules.line_limit → Says (line_says rules line) (Skip discarded refusal left) → n ≡ min left (length others) → after + n ≡ left → IsInSkip rules discarded refusal after (drop n others) (line ++ 10 ∷ others)
 skip_begun rules line discarded refusal left after others n none short says n_is after_is =
     let long : length (take n others) + after ≡ left = omega (arith, length-take n others) in
     record {
@@ -88,12 +88,12 @@ skip_begun rules line discarded refusal left after others n none short says n_is
     }
 
 -- a text that begins with a line spells what the line says
-pub lined : (rules : Rules) (line tail : List ℕ) (entry : Command) → HasNoEnd line → length line < LINE_LIMIT → length tail ≡ bytes_behind (line_says rules line) → entry ≡ entry_after (line_says rules line) tail → Spells rules (line ++ 10 ∷ tail) entry
+pub lined : (rules : Rules) (line tail : List ℕ) (entry : Command) → HasNoEnd line → length line < rules.line_limit → length tail ≡ bytes_behind (line_says rules line) → entry ≡ entry_after rules (line_says rules line) tail → Spells rules (line ++ 10 ∷ tail) entry
 lined rules line tail entry none short long is = spells rules (line ++ 10 ∷ tail) entry (Reads.lined line tail (record { text_is = refl; no_end = none; short = short; tail_long = long; entry_is = is }))
 
 -- what is spelled by a line and the bytes behind it, and shown as it is
-itself : (rules : Rules) (line tail others unread : List ℕ) (entry : Command) → unread ≡ line ++ 10 ∷ (tail ++ others) → HasNoEnd line → length line < LINE_LIMIT →
-    length tail ≡ bytes_behind (line_says rules line) → entry ≡ entry_after (line_says rules line) tail → IsWhole rules entry others unread
+itself : (rules : Rules) (line tail others unread : List ℕ) (entry : Command) → unread ≡ line ++ 10 ∷ (tail ++ others) → HasNoEnd line → length line < rules.line_limit →
+    length tail ≡ bytes_behind (line_says rules line) → entry ≡ entry_after rules (line_says rules line) tail → IsWhole rules entry others unread
 itself rules line tail others unread entry unread_are none short long is = record {
   text = line ++ 10 ∷ tail;
   one = record { entry = entry; given_up = false };
@@ -107,30 +107,30 @@ the_memory Memory e = refl
 the_memory other e = cc
 
 -- what is given up because memory ran out
-given_up : (rules : Rules) (line tail others unread : List ℕ) (refusal : Refusal) → unread ≡ line ++ 10 ∷ (tail ++ others) → HasNoEnd line → length line < LINE_LIMIT →
-    length tail ≡ bytes_behind (line_says rules line) → IsTrue (can_give_up (entry_after (line_says rules line) tail)) → is_memory refusal ≡ true → IsWhole rules (command.Refused refusal) others unread
+given_up : (rules : Rules) (line tail others unread : List ℕ) (refusal : Refusal) → unread ≡ line ++ 10 ∷ (tail ++ others) → HasNoEnd line → length line < rules.line_limit →
+    length tail ≡ bytes_behind (line_says rules line) → IsTrue (can_give_up (entry_after rules (line_says rules line) tail)) → is_memory refusal ≡ true → IsWhole rules (command.Refused refusal) others unread
 given_up rules line tail others unread refusal unread_are none short long may memory = record {
   text = line ++ 10 ∷ tail;
-  one = record { entry = entry_after (line_says rules line) tail; given_up = true };
+  one = record { entry = entry_after rules (line_says rules line) tail; given_up = true };
   unread_are = unread_are ∙ sym (append_assoc line (10 ∷ tail) others);
-  spelled = lined rules line tail (entry_after (line_says rules line) tail) none short long refl;
+  spelled = lined rules line tail (entry_after rules (line_says rules line) tail) none short long refl;
   given = record { shown_is = ap (λ r. command.Refused r) (the_memory refusal memory); may = may };
 }
 
 -- A line without a block is a command.
-pub whole_line : (rules : Rules) (line others : List ℕ) (entry : Command) → HasNoEnd line → length line < LINE_LIMIT → line_says rules line ≡ Whole entry → IsWhole rules entry others (line ++ 10 ∷ others)
+pub whole_line : (rules : Rules) (line others : List ℕ) (entry : Command) → HasNoEnd line → length line < rules.line_limit → line_says rules line ≡ Whole entry → IsWhole rules entry others (line ++ 10 ∷ others)
 whole_line rules line others entry none short says = itself rules line [] others (line ++ 10 ∷ others) entry refl none short (rw says refl) (rw says refl)
 
-may_line : (said : Line) → CanGiveUpLine said → (0 ≡ bytes_behind said) × IsTrue (can_give_up (entry_after said []))
-may_line (Whole entry) may = (refl, may)
-may_line (Refused refusal) may = (refl, may)
-may_line said may = absurd may
+may_line : (rules : Rules) (said : Line) → CanGiveUpLine said → (0 ≡ bytes_behind said) × IsTrue (can_give_up (entry_after rules said []))
+may_line rules (Whole entry) may = (refl, may)
+may_line rules (Refused refusal) may = (refl, may)
+may_line rules said may = absurd may
 
 -- A line without a block is refused, or given up.
-pub whole_refused : (rules : Rules) (line others : List ℕ) (refusal : Refusal) → HasNoEnd line → length line < LINE_LIMIT → Says (line_says rules line) (Refused refusal) → IsWhole rules (command.Refused refusal) others (line ++ 10 ∷ others)
+pub whole_refused : (rules : Rules) (line others : List ℕ) (refusal : Refusal) → HasNoEnd line → length line < rules.line_limit → Says (line_says rules line) (Refused refusal) → IsWhole rules (command.Refused refusal) others (line ++ 10 ∷ others)
 whole_refused rules line others refusal none short says = elim (cases_Bool (is_memory refusal)) [
   | inl memory ↦
-      let may = may_line (line_says rules line) (rw memory at says) in
+      let may = may_line rules (line_says rules line) (rw memory at says) in
       given_up rules line [] others (line ++ 10 ∷ others) refusal refl none short may.0 may.1 memory
   | inr told ↦
       let e : line_says rules line ≡ Refused refusal = rw told at says in
@@ -138,45 +138,52 @@ whole_refused rules line others refusal none short says = elim (cases_Bool (is_m
 ]
 
 -- All of a block has come.
-pub whole_block : (rules : Rules) (asked : Command) (count : ℕ) (bytes others unread : List ℕ) → IsInBlock rules asked count bytes others unread → length bytes ≡ count + 2 → IsWhole rules (block_entry asked count bytes) others unread
+pub whole_block : (rules : Rules) (asked : Command) (count : ℕ) (bytes others unread : List ℕ) → IsInBlock rules asked count bytes others unread → length bytes ≡ count + 2 → IsWhole rules (block_entry rules asked count bytes) others unread
 whole_block rules asked count bytes others unread part long =
     let says = part.says in
-    itself rules part.line bytes others unread (block_entry asked count bytes) part.unread_are part.no_end part.short (rw says long) (rw says refl)
+    itself rules part.line bytes others unread (block_entry rules asked count bytes) part.unread_are part.no_end part.short (rw says long) (rw says refl)
 
 still_given_up : (asked : Command) (block : List ℕ) → IsTrue (can_give_up asked) → IsTrue (can_give_up (with_block asked block))
 still_given_up (command.Store storage) block h = refl
 still_given_up (command.MetaSet set) block h = refl
 still_given_up other block h = h
 
-block_given_up : (asked : Command) (count : ℕ) (bytes : List ℕ) → IsTrue (can_give_up asked) → IsTrue (can_give_up (block_entry asked count bytes))
-block_given_up asked count bytes h =
-    cond_both (is_block_end (drop count bytes)) (with_block asked (take count bytes)) (command.Refused BadChunk) (λ entry. IsTrue (can_give_up entry)) (λ _. still_given_up asked (take count bytes) h) (λ _. refl)
+chunk_given_up : (rules : Rules) (asked : Command) → IsTrue (can_give_up (command.Refused (chunk_refusal rules asked)))
+chunk_given_up rules (command.Store storage) = by_test (is_drop_in rules && storage.noreply) where
+  by_test : (test : Bool) → IsTrue (can_give_up (command.Refused (cond test Hidden BadChunk)))
+  by_test true = refl
+  by_test false = refl
+chunk_given_up rules other = refl
+
+block_given_up : (rules : Rules) (asked : Command) (count : ℕ) (bytes : List ℕ) → IsTrue (can_give_up asked) → IsTrue (can_give_up (block_entry rules asked count bytes))
+block_given_up rules asked count bytes h =
+    cond_both (is_block_end (drop count bytes)) (with_block asked (take count bytes)) (command.Refused (chunk_refusal rules asked)) (λ entry. IsTrue (can_give_up entry)) (λ _. still_given_up asked (take count bytes) h) (λ _. chunk_given_up rules asked)
 
 -- A line whose block lies behind it is a command, or given up.
-pub whole_at_once : (rules : Rules) (line : List ℕ) (asked : Command) (count : ℕ) (behind : List ℕ) → HasNoEnd line → length line < LINE_LIMIT → line_says rules line ≡ Data asked count → count + 2 ≤ length behind →
-    IsWhole rules (block_entry asked count (take (count + 2) behind)) (drop (count + 2) behind) (line ++ 10 ∷ behind)
+pub whole_at_once : (rules : Rules) (line : List ℕ) (asked : Command) (count : ℕ) (behind : List ℕ) → HasNoEnd line → length line < rules.line_limit → line_says rules line ≡ Data asked count → count + 2 ≤ length behind →
+    IsWhole rules (block_entry rules asked count (take (count + 2) behind)) (drop (count + 2) behind) (line ++ 10 ∷ behind)
 whole_at_once rules line asked count behind none short says enough =
     whole_block rules asked count _ _ _ (block_begun rules line asked count behind (count + 2) none short says (omega arith)) (omega (arith, length-take (count + 2) behind))
 
-pub given_up_at_once : (rules : Rules) (line : List ℕ) (asked : Command) (count : ℕ) (behind : List ℕ) → HasNoEnd line → length line < LINE_LIMIT → line_says rules line ≡ Data asked count → count + 2 ≤ length behind →
+pub given_up_at_once : (rules : Rules) (line : List ℕ) (asked : Command) (count : ℕ) (behind : List ℕ) → HasNoEnd line → length line < rules.line_limit → line_says rules line ≡ Data asked count → count + 2 ≤ length behind →
     IsWhole rules (command.Refused Memory) (drop (count + 2) behind) (line ++ 10 ∷ behind)
 given_up_at_once rules line asked count behind none short says enough =
     let tail = take (count + 2) behind in
     let long : length tail ≡ count + 2 = omega (arith, length-take (count + 2) behind) in
-    let may = block_given_up asked count tail (data_stores rules (words_of (without_return line)) asked count says) in
+    let may = block_given_up rules asked count tail (data_stores rules (words_of (without_return line)) asked count says) in
     given_up rules line tail (drop (count + 2) behind) (line ++ 10 ∷ behind) Memory (ap (λ xs. line ++ 10 ∷ xs) (sym (take-append-drop (count + 2) behind))) none short (rw says long) (rw says may) refl
 
-may_block : (said : Line) (n : ℕ) (tail : List ℕ) → ((asked : Command) (count : ℕ) → said ≡ Data asked count → IsTrue (can_give_up asked)) → CanGiveUpBlock said n → (n ≡ bytes_behind said) × IsTrue (can_give_up (entry_after said tail))
-may_block (Data asked count) n tail stores may = (may, block_given_up asked count tail (stores asked count refl))
-may_block (Skip None refusal count) n tail stores may = may
-may_block (Skip (Some key) refusal count) n tail stores may = (may.0, refl)
-may_block said n tail stores may = absurd may
+may_block : (rules : Rules) (said : Line) (n : ℕ) (tail : List ℕ) → ((asked : Command) (count : ℕ) → said ≡ Data asked count → IsTrue (can_give_up asked)) → CanGiveUpBlock said n → (n ≡ bytes_behind said) × IsTrue (can_give_up (entry_after rules said tail))
+may_block rules (Data asked count) n tail stores may = (may, block_given_up rules asked count tail (stores asked count refl))
+may_block rules (Skip None refusal count) n tail stores may = may
+may_block rules (Skip (Some key) refusal count) n tail stores may = (may.0, refl)
+may_block rules said n tail stores may = absurd may
 
 -- a line that is given up with bytes behind it
 may_skip : (rules : Rules) (discarded : Option (List ℕ)) (refusal : Refusal) (left : ℕ) (others unread : List ℕ) (part : IsInSkip rules discarded refusal left others unread) → is_memory refusal ≡ true →
-    (length part.skipped + left ≡ bytes_behind (line_says rules part.line)) × IsTrue (can_give_up (entry_after (line_says rules part.line) part.skipped))
+    (length part.skipped + left ≡ bytes_behind (line_says rules part.line)) × IsTrue (can_give_up (entry_after rules (line_says rules part.line) part.skipped))
 may_skip rules discarded refusal left others unread part memory =
-    may_block (line_says rules part.line) (length part.skipped + left) part.skipped (data_stores rules (words_of (without_return part.line))) (rw memory at part.says).1
+    may_block rules (line_says rules part.line) (length part.skipped + left) part.skipped (data_stores rules (words_of (without_return part.line))) (rw memory at part.says).1
 
 -- All bytes that are skipped have come.
 pub whole_skip : (rules : Rules) (discarded : Option (List ℕ)) (refusal : Refusal) (others unread : List ℕ) → IsInSkip rules discarded refusal 0 others unread → IsWhole rules (skip_entry discarded refusal) others unread
@@ -191,7 +198,7 @@ whole_skip rules discarded refusal others unread part = elim (cases_Bool (is_mem
 ]
 
 -- A line that is too long.
-pub whole_long : (rules : Rules) (bytes : List ℕ) → HasNoEnd bytes → length bytes ≡ LINE_LIMIT → IsWhole rules (command.Refused LineTooLong) [] bytes
+pub whole_long : (rules : Rules) (bytes : List ℕ) → HasNoEnd bytes → length bytes ≡ rules.line_limit → IsWhole rules (command.Refused LineTooLong) [] bytes
 whole_long rules bytes none full = record {
   text = bytes;
   one = record { entry = command.Refused LineTooLong; given_up = false };

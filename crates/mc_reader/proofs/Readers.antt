@@ -25,12 +25,16 @@ use Rattle.mc_reader.proofs.Fronts.{front_last, front_more, last_of, same_rest}
 use Rattle.mc_reader.proofs.Texts.{end_inside, one_line, something}
 use Rattle.mc_command.specs.declared.rules.Rules.{Rules}
 
+-- The buffer of a reader has the line limit of its rules.
+pub limit_is : (reader : Reader) (rules : Rules) → reader.rules ≡ rules → reader.buffer.limit ≡ rules.line_limit
+limit_is reader rules same = reader.limited ∙ ap (λ (r : Rules). r.line_limit) same
+
 -- More bytes come.
 pub fed_more : (rules : Rules) (old new : Reader) (fed more : List ℕ) (ended : Bool) (given : List Given) → new.rules ≡ old.rules → new.ended ≡ old.ended → new.commands_left ≡ old.commands_left →
-    (old.state ≡ state.Closed → new.state ≡ state.Closed) → ((unread : List ℕ) → Holds rules old.state old.buffer unread → Holds rules new.state new.buffer (unread ++ more)) →
+    (old.state ≡ state.Closed → new.state ≡ state.Closed) → ((unread : List ℕ) → Holds rules old.state old.buffer.bytes unread → Holds rules new.state new.buffer.bytes (unread ++ more)) →
     HasGiven old rules fed ended given → HasGiven new rules (fed ++ more) ended given
 fed_more rules old new fed more ended given limited same same_left closed holds h =
-    let now : MatchBool (is_closed (entries_of given)) (new.state ≡ state.Closed) ((0 < new.commands_left) × Holds rules new.state new.buffer (h.unread ++ more)) =
+    let now : MatchBool (is_closed (entries_of given)) (new.state ≡ state.Closed) ((0 < new.commands_left) × Holds rules new.state new.buffer.bytes (h.unread ++ more)) =
     elim (cases_Bool (is_closed (entries_of given))) [
       | inl over ↦ rw over (closed (rw over at h.now))
       | inr goes ↦ let was = rw goes at h.now in rw goes (rw same_left was.0, holds h.unread was.1)
@@ -39,13 +43,13 @@ fed_more rules old new fed more ended given limited same same_left closed holds 
     record { unread = h.unread ++ more; rules_are = limited ∙ h.rules_are; ended_is = same ∙ h.ended_is; left = rw same_left h.left; may = h.may; front = front; now = now }
 
 -- Where more may come, the state is what the unread bytes are.
-pub still_open : (rules : Rules) (reader : Reader) (fed : List ℕ) (ended : Bool) (given : List Given) → HasGiven reader rules fed ended given → is_closed (entries_of given) ≡ false → (unread : List ℕ) × SpellsFront rules 0 fed (entries_of given) unread × Holds rules reader.state reader.buffer unread × (0 < reader.commands_left)
+pub still_open : (rules : Rules) (reader : Reader) (fed : List ℕ) (ended : Bool) (given : List Given) → HasGiven reader rules fed ended given → is_closed (entries_of given) ≡ false → (unread : List ℕ) × SpellsFront rules 0 fed (entries_of given) unread × Holds rules reader.state reader.buffer.bytes unread × (0 < reader.commands_left)
 still_open rules reader fed ended given h goes_on =
-    let now : (0 < reader.commands_left) × Holds rules reader.state reader.buffer h.unread = rw goes_on at h.now in
+    let now : (0 < reader.commands_left) × Holds rules reader.state reader.buffer.bytes h.unread = rw goes_on at h.now in
     (h.unread, h.front, now.1, now.0)
 
 -- Where the commands given take up all, nothing is unread.
-pub nothing_unread : (rules : Rules) (reader : Reader) (fed : List ℕ) (ended : Bool) (given : List Given) → HasGiven reader rules fed ended given → IsUsedUp rules fed given → Holds rules reader.state reader.buffer []
+pub nothing_unread : (rules : Rules) (reader : Reader) (fed : List ℕ) (ended : Bool) (given : List Given) → HasGiven reader rules fed ended given → IsUsedUp rules fed given → Holds rules reader.state reader.buffer.bytes []
 nothing_unread rules reader fed ended given h used =
     let at = still_open rules reader fed ended given h used.1 in
     rw (same_rest rules (entries_of given) 0 fed at.0 [] at.1 used.0) at at.2
@@ -61,7 +65,7 @@ held_in_within rules at buffer unread h = omega arith
 pub held_within : (rules : Rules) (reader : Reader) (fed : List ℕ) (ended : Bool) (given : List Given) → HasGiven reader rules fed ended given → held_in reader.state ≤ rules.value_limit + 2
 held_within rules reader fed ended given h = elim (cases_Bool (is_closed (entries_of given))) [
   | inl over ↦ let now : reader.state ≡ state.Closed = rw over at h.now in rw now (omega arith)
-  | inr goes ↦ let now = rw goes at h.now in held_in_within rules reader.state reader.buffer h.unread now.1
+  | inr goes ↦ let now = rw goes at h.now in held_in_within rules reader.state reader.buffer.bytes h.unread now.1
 ]
 
 -- What is held is part of what is unread.
@@ -72,10 +76,10 @@ held_in_unread rules (state.Skip skipped) buffer unread h = omega (arith, ap len
 held_in_unread rules state.Closed buffer unread h = absurd h
 
 pub held_unread : (rules : Rules) (reader : Reader) (fed : List ℕ) (ended : Bool) (given : List Given) (rest : List ℕ) → HasGiven reader rules fed ended given → is_closed (entries_of given) ≡ false → SpellsFront rules 0 fed (entries_of given) rest →
-    length reader.buffer + held_in reader.state ≤ length rest
+    length reader.buffer.bytes + held_in reader.state ≤ length rest
 held_unread rules reader fed ended given rest h goes_on front =
     let at = still_open rules reader fed ended given h goes_on in
-    rw (same_rest rules (entries_of given) 0 fed rest at.0 front at.1) (held_in_unread rules reader.state reader.buffer at.0 at.2)
+    rw (same_rest rules (entries_of given) 0 fed rest at.0 front at.1) (held_in_unread rules reader.state reader.buffer.bytes at.0 at.2)
 
 has_no_end : (bytes line rest : List ℕ) → HasNoEnd bytes → bytes ≡ line ++ 10 ∷ rest → ⊥
 has_no_end bytes line rest none is = end_inside bytes [] line rest none (append-nil bytes ∙ is) (omega (arith, ap length is, length-append line (10 ∷ rest)))
@@ -88,12 +92,12 @@ line_held rules (state.Skip skipped) buffer unread h none = absurd (has_no_end u
 line_held rules state.Closed buffer unread h none = absurd h
 
 pub held_line : (rules : Rules) (reader : Reader) (fed : List ℕ) (ended : Bool) (given : List Given) (rest : List ℕ) → HasGiven reader rules fed ended given → is_closed (entries_of given) ≡ false → SpellsFront rules 0 fed (entries_of given) rest →
-    HasNoEnd rest → length reader.buffer + held_in reader.state ≡ length rest
+    HasNoEnd rest → length reader.buffer.bytes + held_in reader.state ≡ length rest
 held_line rules reader fed ended given rest h goes_on front none =
     let at = still_open rules reader fed ended given h goes_on in
     let same = same_rest rules (entries_of given) 0 fed rest at.0 front at.1 in
     let unended : HasNoEnd at.0 = subst (λ bytes. HasNoEnd bytes) same none in
-    rw same (line_held rules reader.state reader.buffer at.0 at.2 unended)
+    rw same (line_held rules reader.state reader.buffer.bytes at.0 at.2 unended)
 
 -- The commands that a reader gave begin those of the bytes fed, each given up only where it may be.
 pub reader_begins : (reader : Reader) (rules : Rules) (fed : List ℕ) (ended : Bool) (given : List Given) → IsReader reader rules fed ended given → BeginCommands rules fed (entries_of given) × AllByRecursion MayBeGiven given
@@ -139,8 +143,8 @@ still_some P Q false shuts left e h = let parts = or_parts shuts (left == 0) (sy
 
 -- A command is given.
 pub gave : (rules : Rules) (old new : Reader) (fed : List ℕ) (ended : Bool) (given : List Given) (shown : Command) → new.rules ≡ old.rules → new.ended ≡ old.ended → (old.state ≡ state.Closed → ⊥) →
-    ((unread : List ℕ) → Holds rules old.state old.buffer unread → IsWhole rules shown new.buffer unread) → new.commands_left ≡ old.commands_left - 1 →
-    (last : Bool) → last ≡ closes shown || (new.commands_left == 0) → MatchBool last (new.state ≡ state.Closed) (Holds rules new.state new.buffer new.buffer) →
+    ((unread : List ℕ) → Holds rules old.state old.buffer.bytes unread → IsWhole rules shown new.buffer.bytes unread) → new.commands_left ≡ old.commands_left - 1 →
+    (last : Bool) → last ≡ closes shown || (new.commands_left == 0) → MatchBool last (new.state ≡ state.Closed) (Holds rules new.state new.buffer.bytes new.buffer.bytes) →
     HasGiven old rules fed ended given → (one : Given) × IsGiven shown one × BeginCommands rules fed (entries_of (given ++ one ∷ [])) × HasGiven new rules fed ended (given ++ one ∷ [])
 gave rules old new fed ended given shown limited same not_closed whole left_is is_over over_is after h = elim (cases_Bool (is_closed (entries_of given))) [
   | inl over ↦ absurd (not_closed (rw over at h.now))
@@ -149,21 +153,21 @@ gave rules old new fed ended given shown limited same not_closed whole left_is i
       let some = now.0 in
       let w = whole h.unread now.1 in
       let entry = w.one.entry in
-      let front = front_last rules (entries_of given) 0 fed w.text new.buffer entry (rw w.unread_are at h.front) goes_on w.spelled in
-      let all : SpellsFront rules 0 fed (entries_of (given ++ w.one ∷ [])) new.buffer = rw (entries_last given w.one) front in
+      let front = front_last rules (entries_of given) 0 fed w.text new.buffer.bytes entry (rw w.unread_are at h.front) goes_on w.spelled in
+      let all : SpellsFront rules 0 fed (entries_of (given ++ w.one ∷ [])) new.buffer.bytes = rw (entries_last given w.one) front in
       let left : new.commands_left + length (given ++ w.one ∷ []) ≡ most_commands = (let l = h.left in omega (arith, length-append given (w.one ∷ []))) in
       let last : is_closed (entries_of (given ++ w.one ∷ [])) ≡ closes shown || (new.commands_left == 0) = ap is_closed (entries_last given w.one) ∙ (closed_last (entries_of given) 0 entry goes_on ∙ same_last (entries_of given) new.commands_left shown w.one w.given (omega (arith, length-map given (λ (g : Given). g.entry), length-append given (w.one ∷ [])))) in (
         w.one,
         w.given,
-        (new.buffer, all),
+        (new.buffer.bytes, all),
         record {
-          unread = new.buffer;
+          unread = new.buffer.bytes;
           rules_are = limited ∙ h.rules_are;
           ended_is = same ∙ h.ended_is;
           left = left;
           may = may_push given w.one h.may w.given.may;
           front = all;
-          now = rw (last, ← over_is) (still_some (new.state ≡ state.Closed) (Holds rules new.state new.buffer new.buffer) is_over (closes shown) new.commands_left over_is after);
+          now = rw (last, ← over_is) (still_some (new.state ≡ state.Closed) (Holds rules new.state new.buffer.bytes new.buffer.bytes) is_over (closes shown) new.commands_left over_is after);
         },
       )
 ]
@@ -171,8 +175,8 @@ gave rules old new fed ended given shown limited same not_closed whole left_is i
 -- No command is given: all were, and the reader is closed or waits.
 none_given : (rules : Rules) (old new : Reader) (fed : List ℕ) (ended : Bool) (given : List Given) → new.rules ≡ old.rules → new.ended ≡ old.ended → new.commands_left ≡ old.commands_left →
     (old.state ≡ state.Closed → new.state ≡ state.Closed) →
-    ((unread : List ℕ) → Holds rules old.state old.buffer unread → Holds rules new.state new.buffer unread × SpellsNothing rules unread × Waits new.state new.buffer) →
-    HasGiven old rules fed ended given → AreCommands rules fed (entries_of given) × HasGiven new rules fed ended given × MatchBool (is_closed (entries_of given)) (new.state ≡ state.Closed) (Waits new.state new.buffer)
+    ((unread : List ℕ) → Holds rules old.state old.buffer.bytes unread → Holds rules new.state new.buffer.bytes unread × SpellsNothing rules unread × Waits rules.line_limit new.state new.buffer.bytes) →
+    HasGiven old rules fed ended given → AreCommands rules fed (entries_of given) × HasGiven new rules fed ended given × MatchBool (is_closed (entries_of given)) (new.state ≡ state.Closed) (Waits rules.line_limit new.state new.buffer.bytes)
 none_given rules old new fed ended given limited same same_left closed nothing h =
     elim (cases_Bool (is_closed (entries_of given))) [
       | inl over ↦
@@ -183,25 +187,25 @@ none_given rules old new fed ended given limited same same_left closed nothing h
           let next = nothing h.unread now.1 in
           ((h.unread, h.front, rw goes next.1), kept (rw goes (rw same_left now.0, next.0)), rw goes next.2)
     ] where
-      kept : MatchBool (is_closed (entries_of given)) (new.state ≡ state.Closed) ((0 < new.commands_left) × Holds rules new.state new.buffer h.unread) → HasGiven new rules fed ended given
+      kept : MatchBool (is_closed (entries_of given)) (new.state ≡ state.Closed) ((0 < new.commands_left) × Holds rules new.state new.buffer.bytes h.unread) → HasGiven new rules fed ended given
       kept now = record { unread = h.unread; rules_are = limited ∙ h.rules_are; ended_is = same ∙ h.ended_is; left = rw same_left h.left; may = h.may; front = h.front; now = now }
 
 -- More bytes are needed.
 pub waited : (rules : Rules) (old new : Reader) (fed : List ℕ) (ended : Bool) (given : List Given) → new.rules ≡ old.rules → new.ended ≡ old.ended → new.commands_left ≡ old.commands_left → new.ended ≡ false →
     (old.state ≡ state.Closed → new.state ≡ state.Closed) → (new.state ≡ state.Closed → ⊥) →
-    ((unread : List ℕ) → Holds rules old.state old.buffer unread → Holds rules new.state new.buffer unread × SpellsNothing rules unread × Waits new.state new.buffer) →
-    HasGiven old rules fed ended given → (ended ≡ false) × IsGivenWhole rules fed given × HasGiven new rules fed ended given × Waits new.state new.buffer
+    ((unread : List ℕ) → Holds rules old.state old.buffer.bytes unread → Holds rules new.state new.buffer.bytes unread × SpellsNothing rules unread × Waits rules.line_limit new.state new.buffer.bytes) →
+    HasGiven old rules fed ended given → (ended ≡ false) × IsGivenWhole rules fed given × HasGiven new rules fed ended given × Waits new.rules.line_limit new.state new.buffer.bytes
 waited rules old new fed ended given limited same same_left more closed not_closed nothing h =
     let none = none_given rules old new fed ended given limited same same_left closed nothing h in
     elim (cases_Bool (is_closed (entries_of given))) [
       | inl over ↦ absurd (not_closed (rw over at none.2))
-      | inr goes ↦ (sym h.ended_is ∙ (sym same ∙ more), (none.0, goes), none.1, rw goes at none.2)
+      | inr goes ↦ (sym h.ended_is ∙ (sym same ∙ more), (none.0, goes), none.1, rw (limited ∙ h.rules_are) (rw goes at none.2))
     ]
 
 -- Nothing comes any more.
 pub came_to_end : (rules : Rules) (old new : Reader) (fed : List ℕ) (ended : Bool) (given : List Given) → new.rules ≡ old.rules → new.ended ≡ old.ended → new.commands_left ≡ old.commands_left →
     (new.ended ≡ true) ⊎ (new.state ≡ state.Closed) → (old.state ≡ state.Closed → new.state ≡ state.Closed) →
-    ((unread : List ℕ) → Holds rules old.state old.buffer unread → Holds rules new.state new.buffer unread × SpellsNothing rules unread × Waits new.state new.buffer) →
+    ((unread : List ℕ) → Holds rules old.state old.buffer.bytes unread → Holds rules new.state new.buffer.bytes unread × SpellsNothing rules unread × Waits rules.line_limit new.state new.buffer.bytes) →
     HasGiven old rules fed ended given → AreCommands rules fed (entries_of given) × (IsTrue ended ⊎ IsClosedLine given) × HasGiven new rules fed ended given
 came_to_end rules old new fed ended given limited same same_left stopped closed nothing h =
     let none = none_given rules old new fed ended given limited same same_left closed nothing h in
@@ -213,7 +217,7 @@ came_to_end rules old new fed ended given limited same same_left stopped closed 
     ]
 
 -- A command is whole exactly where one is not given yet.
-pub whole_is : (rules : Rules) (reader : Reader) (fed : List ℕ) (ended : Bool) (given : List Given) (test : Bool) → ((unread : List ℕ) → Holds rules reader.state reader.buffer unread → IsTrue test ↔ SpellsSomething rules unread) → (reader.state ≡ state.Closed → test ≡ false) →
+pub whole_is : (rules : Rules) (reader : Reader) (fed : List ℕ) (ended : Bool) (given : List Given) (test : Bool) → ((unread : List ℕ) → Holds rules reader.state reader.buffer.bytes unread → IsTrue test ↔ SpellsSomething rules unread) → (reader.state ≡ state.Closed → test ≡ false) →
     HasGiven reader rules fed ended given → IsTrue test ↔ IsNotAllGiven rules fed given
 whole_is rules reader fed ended given test says shut h = (forth, back) where
   forth : IsTrue test → IsNotAllGiven rules fed given
@@ -232,7 +236,7 @@ whole_is rules reader fed ended given test says shut h = (forth, back) where
       (says at.0 at.2).1 (last.text, more.1.0, more.0, same_rest rules (entries_of given) 0 fed at.0 (last.text ++ more.1.0) at.1 last.front, last.spelled)
 
 -- No command is whole exactly where all were given.
-pub all_given_is : (rules : Rules) (reader : Reader) (fed : List ℕ) (ended : Bool) (given : List Given) (test : Bool) → ((unread : List ℕ) → Holds rules reader.state reader.buffer unread → IsTrue test ↔ SpellsSomething rules unread) → (reader.state ≡ state.Closed → test ≡ false) →
+pub all_given_is : (rules : Rules) (reader : Reader) (fed : List ℕ) (ended : Bool) (given : List Given) (test : Bool) → ((unread : List ℕ) → Holds rules reader.state reader.buffer.bytes unread → IsTrue test ↔ SpellsSomething rules unread) → (reader.state ≡ state.Closed → test ≡ false) →
     HasGiven reader rules fed ended given → (test ≡ false) ↔ AreCommands rules fed (entries_of given)
 all_given_is rules reader fed ended given test says shut h = (forth, back) where
   forth : test ≡ false → AreCommands rules fed (entries_of given)
@@ -277,5 +281,5 @@ no_block rules at buffer unread line skipped discarded refusal count h is none s
 pub nothing_in_blocks : (rules : Rules) (reader : Reader) (fed : List ℕ) (ended : Bool) (given : List Given) → HasGiven reader rules fed ended given → IsAmidSkipped rules fed given → held_in reader.state ≡ 0
 nothing_in_blocks rules reader fed ended given h amid =
     let at = still_open rules reader fed ended given h amid.goes_on in
-    no_block rules reader.state reader.buffer at.0 amid.line amid.skipped amid.discarded amid.refusal amid.count at.2
+    no_block rules reader.state reader.buffer.bytes at.0 amid.line amid.skipped amid.discarded amid.refusal amid.count at.2
     (same_rest rules (entries_of given) 0 fed at.0 (amid.line ++ 10 ∷ amid.skipped) at.1 amid.front) amid.no_end amid.says

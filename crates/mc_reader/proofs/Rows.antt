@@ -1,16 +1,18 @@
 -- Worked texts with what they spell, and worked streams with their commands.
 use Rattle.std.proofs.Common.{◌≡◌, ℕ, ◌<◌, Bool, false, ◌||◌, List, [], ◌∷◌, ◌++◌, length, ◌==◌, refl, codes, pos, lit<}
 use Rattle.std.proofs.lemmas.Bool.{or_parts}
-use Rattle.mc_wire.specs.declared.TheConstants.{DEFAULT_VALUE_LIMIT, LINE_LIMIT}
+use Rattle.std.specs.Int.{int_wrap}
+use Rattle.mc_wire.specs.declared.TheConstants.{DEFAULT_LINE_LIMIT, DEFAULT_VALUE_LIMIT}
 use Rattle.mc_wire.specs.Number.{number_of}
 use Rattle.mc_wire.specs.Words.{words_of}
-use Rattle.mc_command.specs.Rules.{own}
+use Rattle.mc_command.specs.Rules.{drop_in, own}
 use Rattle.mc_command.specs.declared.command.Command.{Command}
 use Rattle.mc_command.specs.declared.command.Command.TheVariants as command
 use Rattle.mc_command.specs.declared.command.StoreMode.TheVariants.{Set}
-use Rattle.mc_command.specs.declared.refusal.Refusal.TheVariants.{Unknown, BadFormat, TooLarge, BadChunk}
+use Rattle.mc_command.specs.declared.refusal.Refusal.TheVariants.{Unknown, BadFormat, TooLarge, BadChunk, Hidden}
 use Rattle.mc_command.specs.Field.{is_key}
 use Rattle.mc_command.specs.Line.{bytes_behind}
+use Rattle.mc_command.specs.Meta.{meta_line_of}
 use Rattle.mc_command.specs.Name.{name_of}
 use Rattle.mc_command.specs.Table.{line_of}
 use Rattle.mc_reader.specs.Spelling.{AreCommands, HasNoEnd, Spells, line_says}
@@ -26,11 +28,11 @@ no_end [] e = tt
 no_end (x ∷ xs) e = let parts = or_parts (x == 10) (has_end xs) e in (parts.0, no_end xs parts.1)
 
 -- a line with the bytes behind it
-spelled : (line tail : List ℕ) (entry : Command) → has_end line ≡ false → length line < LINE_LIMIT → length tail ≡ bytes_behind (line_says (own DEFAULT_VALUE_LIMIT) line) → entry ≡ entry_after (line_says (own DEFAULT_VALUE_LIMIT) line) tail → Spells (own DEFAULT_VALUE_LIMIT) (line ++ 10 ∷ tail) entry
+spelled : (line tail : List ℕ) (entry : Command) → has_end line ≡ false → length line < DEFAULT_LINE_LIMIT → length tail ≡ bytes_behind (line_says (own DEFAULT_VALUE_LIMIT) line) → entry ≡ entry_after (own DEFAULT_VALUE_LIMIT) (line_says (own DEFAULT_VALUE_LIMIT) line) tail → Spells (own DEFAULT_VALUE_LIMIT) (line ++ 10 ∷ tail) entry
 spelled line tail entry none short long is = lined (own DEFAULT_VALUE_LIMIT) line tail entry (no_end line none) short long is
 
 abbrev stored : List ℕ → ℕ → List ℕ → Command
-stored key flags bytes = command.Store (record { key = key; mode = Set; flags = flags; exptime = pos 0; noreply = false; block = bytes })
+stored key flags bytes = command.Store (record { key = key; mode = Set; flags = flags; exptime = pos 0; noreply = false; lenient = false; block = bytes })
 
 -- a line, ended by CR LF or by LF alone
 noop : Spells (own DEFAULT_VALUE_LIMIT) (codes "mn\r\n") command.MetaNoop
@@ -65,6 +67,20 @@ blocks = (
   spelled (codes "set a 0 0 1\r") (codes "x\nm") (command.Refused BadChunk) refl (lit< tt) refl refl,
   spelled (codes "set a x 0 3\r") (codes "abcde") (command.Refused BadFormat) refl (lit< tt) refl refl,
   spelled (codes "set a 0 0 y\r") [] (command.Refused BadFormat) refl (lit< tt) refl refl,
+)
+
+-- A block with another end: by memcached's rules its refusal is hidden behind `noreply`, and not behind `q`.
+other_ends :
+    Spells (own DEFAULT_VALUE_LIMIT) (codes "set a 0 0 3 noreply\r\nabcde") (command.Refused BadChunk)
+    × Spells (drop_in DEFAULT_VALUE_LIMIT) (codes "set a 0 0 3 noreply\r\nabcde") (command.Refused Hidden)
+    × Spells (drop_in DEFAULT_VALUE_LIMIT) (codes "set a 0 0 3\r\nabcde") (command.Refused BadChunk)
+    × Spells (drop_in DEFAULT_VALUE_LIMIT) (codes "ms a 3 q\r\nabcde") (command.Refused BadChunk)
+unfolding line_of words_of name_of number_of is_key meta_line_of int_wrap
+other_ends = (
+  spelled (codes "set a 0 0 3 noreply\r") (codes "abcde") (command.Refused BadChunk) refl (lit< tt) refl refl,
+  lined (drop_in DEFAULT_VALUE_LIMIT) (codes "set a 0 0 3 noreply\r") (codes "abcde") (command.Refused Hidden) (no_end (codes "set a 0 0 3 noreply\r") refl) (lit< tt) refl refl,
+  lined (drop_in DEFAULT_VALUE_LIMIT) (codes "set a 0 0 3\r") (codes "abcde") (command.Refused BadChunk) (no_end (codes "set a 0 0 3\r") refl) (lit< tt) refl refl,
+  lined (drop_in DEFAULT_VALUE_LIMIT) (codes "ms a 3 q\r") (codes "abcde") (command.Refused BadChunk) (no_end (codes "ms a 3 q\r") refl) (lit< tt) refl refl,
 )
 
 too_large : (bytes : List ℕ) → length bytes ≡ 1048579 → Spells (own DEFAULT_VALUE_LIMIT) (codes "set a 0 0 1048577\r\n" ++ bytes) (command.Refused TooLarge)

@@ -5,7 +5,6 @@ use Rattle.std.proofs.lemmas.Bool.Decides.{nat_tests}
 use Rattle.std.specs.Option.{IfNone, is_some}
 use Rattle.std.specs.Vec.{vec_len}
 use Rattle.memchr.specs.Find.{IsFirstByte, is_byte}
-use Rattle.mc_wire.specs.declared.TheConstants.{LINE_LIMIT}
 use Rattle.mc_command.specs.declared.command.Command.{Command}
 use Rattle.mc_command.specs.declared.command.Command.TheVariants as command
 use Rattle.mc_command.specs.declared.refusal.Refusal.{Refusal}
@@ -24,9 +23,9 @@ use Rattle.mc_reader.proofs.Texts.{nothing_without_end, nothing_yet, something, 
 use Rattle.mc_command.specs.declared.rules.Rules.{Rules}
 
 -- Where not all has come, nothing is spelled.
-pub nothing_awaited : (rules : Rules) (s : State) (buffer unread : List ℕ) → (Completes s buffer → ⊥) → IsTrue (is_opened s) → Holds rules s buffer unread → SpellsNothing rules unread × Waits s buffer
+pub nothing_awaited : (rules : Rules) (s : State) (buffer unread : List ℕ) → (Completes rules.line_limit s buffer → ⊥) → IsTrue (is_opened s) → Holds rules s buffer unread → SpellsNothing rules unread × Waits rules.line_limit s buffer
 nothing_awaited rules (state.Line None) buffer unread more opened h =
-    let short : length buffer < LINE_LIMIT = omega (arith, h.1, more) in
+    let short : length buffer < rules.line_limit = omega (arith, h.1, more) in
     (rw h.0 (nothing_without_end rules buffer h.2 short), short)
 nothing_awaited rules (state.Line (Some long)) buffer unread more opened h = absurd cc
 nothing_awaited rules (state.Block block) buffer unread more opened h =
@@ -37,11 +36,11 @@ nothing_awaited rules (state.Skip skipped) buffer unread more opened h =
     (nothing_in_skip rules skipped.discarded skipped.refusal skipped.left buffer unread h few, few)
 nothing_awaited rules state.Closed buffer unread more opened h = absurd h
 
-pub finished_line : (rules : Rules) (s : State) (buffer after unread : List ℕ) (long : Option ℕ) → s ≡ state.Line long → Completes s buffer → IsTrue (is_opened s) → Holds rules s buffer unread → after ≡ [] → IsWhole rules (command.Refused LineTooLong) after unread
+pub finished_line : (rules : Rules) (s : State) (buffer after unread : List ℕ) (long : Option ℕ) → s ≡ state.Line long → Completes rules.line_limit s buffer → IsTrue (is_opened s) → Holds rules s buffer unread → after ≡ [] → IsWhole rules (command.Refused LineTooLong) after unread
 finished_line rules (state.Line None) buffer after unread long e full opened h none = rw (none, h.0) (whole_long rules buffer h.2 full)
 finished_line rules s buffer after unread long e full opened h none = absurd cc
 
-pub finished_block : (rules : Rules) (s : State) (buffer unread : List ℕ) (block : OpenBlock) (entry : Command) → s ≡ state.Block block → Completes s buffer → vec_len block.bytes ≤ block.count + 2 → entry ≡ block_entry block.command block.count block.bytes.items → Holds rules s buffer unread → IsWhole rules entry buffer unread
+pub finished_block : (rules : Rules) (s : State) (buffer unread : List ℕ) (block : OpenBlock) (entry : Command) → s ≡ state.Block block → Completes rules.line_limit s buffer → vec_len block.bytes ≤ block.count + 2 → entry ≡ block_entry rules block.command block.count block.bytes.items → Holds rules s buffer unread → IsWhole rules entry buffer unread
 finished_block rules s buffer unread block entry e full within entry_is h =
     let come : block.count + 2 ≤ length block.bytes.items = rw e at full in
     rw entry_is (whole_block rules block.command block.count block.bytes.items buffer unread (rw e at h) (omega arith))
@@ -50,7 +49,7 @@ finished_block rules s buffer unread block entry e full within entry_is h =
 pub not_complete : {P : Type 0} (test : Bool) → test ≡ false → (P → IsTrue test) → P → ⊥
 not_complete test e f p = let yes = f p in absurd cc
 
-pub finished_skip : (rules : Rules) (s : State) (buffer unread : List ℕ) (skipped : Skipped) (entry : Command) → s ≡ state.Skip skipped → Completes s buffer → Holds rules s buffer unread → entry ≡ skip_entry skipped.discarded skipped.refusal → IsWhole rules entry buffer unread
+pub finished_skip : (rules : Rules) (s : State) (buffer unread : List ℕ) (skipped : Skipped) (entry : Command) → s ≡ state.Skip skipped → Completes rules.line_limit s buffer → Holds rules s buffer unread → entry ≡ skip_entry skipped.discarded skipped.refusal → IsWhole rules entry buffer unread
 finished_skip rules s buffer unread skipped entry e full h entry_is =
     let none : skipped.left ≡ 0 = rw e at full in
     let part : IsInSkip rules skipped.discarded skipped.refusal skipped.left buffer unread = rw e at h in
@@ -82,15 +81,15 @@ fed_skip rules s old new buffer after unread piece behind n m e same gone left n
     rw (same, gone, after_is, behind_is) (skip_fed rules old.discarded old.refusal old.left new.left buffer unread piece n m (rw e at h) n_is left)
 
 -- the unread bytes by the first line of the buffer
-record FirstLine (buffer after unread : List ℕ) (long : ℕ) : Type 0 where
+record FirstLine (rules : Rules) (buffer after unread : List ℕ) (long : ℕ) : Type 0 where
   pub unread_are : unread ≡ take long buffer ++ 10 ∷ after
   pub no_end : HasNoEnd (take long buffer)
-  pub short : length (take long buffer) < LINE_LIMIT
+  pub short : length (take long buffer) < rules.line_limit
   pub within : long < length buffer
 
-first_line : (rules : Rules) (s : State) (buffer after unread : List ℕ) (long : ℕ) → s ≡ state.Line (Some long) → after ≡ drop (long + 1) buffer → Holds rules s buffer unread → FirstLine buffer after unread long
+first_line : (rules : Rules) (s : State) (buffer after unread : List ℕ) (long : ℕ) → s ≡ state.Line (Some long) → after ≡ drop (long + 1) buffer → Holds rules s buffer unread → FirstLine rules buffer after unread long
 first_line rules s buffer after unread long e after_is h =
-    let part : (unread ≡ buffer) × (length buffer ≤ LINE_LIMIT) × EndsAt buffer (Some long) = rw e at h in
+    let part : (unread ≡ buffer) × (length buffer ≤ rules.line_limit) × EndsAt buffer (Some long) = rw e at h in
     let cut = at_line buffer long part.2 in
     let below = line_in buffer long part.2 in
     record {
@@ -102,18 +101,18 @@ first_line rules s buffer after unread long e after_is h =
 
 -- what holds of the first line and the bytes behind it holds of the unread bytes
 pub read_head : (rules : Rules) (P : List ℕ → Type 0) (s : State) (buffer after unread : List ℕ) (long : ℕ) → s ≡ state.Line (Some long) → after ≡ drop (long + 1) buffer →
-    (HasNoEnd (take long buffer) → length (take long buffer) < LINE_LIMIT → P (take long buffer ++ 10 ∷ after)) → Holds rules s buffer unread → P unread
+    (HasNoEnd (take long buffer) → length (take long buffer) < rules.line_limit → P (take long buffer ++ 10 ∷ after)) → Holds rules s buffer unread → P unread
 read_head rules P s buffer after unread long e after_is holds h =
     let first = first_line rules s buffer after unread long e after_is h in
     subst P (sym first.unread_are) (holds first.no_end first.short)
 
 pub begun_skip : (rules : Rules) (new : Skipped) (discarded : Option (List ℕ)) (refusal : Refusal) (left : ℕ) (buffer after bytes line : List ℕ) (n : ℕ) → new.refusal ≡ refusal → new.discarded ≡ discarded → new.left + n ≡ left → n ≡ min left (length bytes) → bytes ≡ buffer → after ≡ drop n buffer →
-    HasNoEnd line → length line < LINE_LIMIT → Says (line_says rules line) (Skip discarded refusal left) → IsInSkip rules new.discarded new.refusal new.left after (line ++ 10 ∷ buffer)
+    HasNoEnd line → length line < rules.line_limit → Says (line_says rules line) (Skip discarded refusal left) → IsInSkip rules new.discarded new.refusal new.left after (line ++ 10 ∷ buffer)
 begun_skip rules new discarded refusal left buffer after bytes line n same gone left_is n_is bytes_are after_is none short says =
     rw (same, gone, after_is) (skip_begun rules line discarded refusal left new.left buffer n none short says (rw bytes_are at n_is) left_is)
 
 pub begun_block : (rules : Rules) (new : OpenBlock) (asked : Command) (count : ℕ) (buffer after bytes line : List ℕ) (n : ℕ) → new.command ≡ asked → new.count ≡ count → new.bytes.items ≡ take n bytes → n ≡ min (count + 2 - 0) (length bytes) → bytes ≡ buffer → after ≡ drop n buffer →
-    HasNoEnd line → length line < LINE_LIMIT → line_says rules line ≡ Data asked count → IsInBlock rules new.command new.count new.bytes.items after (line ++ 10 ∷ buffer)
+    HasNoEnd line → length line < rules.line_limit → line_says rules line ≡ Data asked count → IsInBlock rules new.command new.count new.bytes.items after (line ++ 10 ∷ buffer)
 begun_block rules new asked count buffer after bytes line n same same_count items_are n_is bytes_are after_is none short says =
     rw (same, same_count, items_are, bytes_are, after_is) (block_begun rules line asked count buffer n none short says (rw bytes_are at n_is))
 
@@ -121,7 +120,7 @@ shows : (rules : Rules) {shown : Command} {others unread bytes : List ℕ} → I
 shows rules {shown} {others} {unread} {bytes} w is = (w.text, others, w.one.entry, is ∙ w.unread_are, w.spelled)
 
 -- Where all that is awaited has come, something is spelled.
-something_awaited : (rules : Rules) (s : State) (buffer unread : List ℕ) → Completes s buffer → IsTrue (is_opened s) → Holds rules s buffer unread → SpellsSomething rules unread
+something_awaited : (rules : Rules) (s : State) (buffer unread : List ℕ) → Completes rules.line_limit s buffer → IsTrue (is_opened s) → Holds rules s buffer unread → SpellsSomething rules unread
 something_awaited rules (state.Line None) buffer unread full opened h = shows rules (whole_long rules buffer h.2 full) h.0
 something_awaited rules (state.Line (Some long)) buffer unread full opened h = absurd cc
 something_awaited rules (state.Block block) buffer unread full opened h =
@@ -133,7 +132,7 @@ something_awaited rules (state.Skip skipped) buffer unread full opened h =
 something_awaited rules state.Closed buffer unread full opened h = absurd h
 
 -- A test whether all has come tells whether something is spelled.
-pub whole_awaited : (rules : Rules) (s : State) (buffer unread : List ℕ) (test : Bool) → (IsTrue test ↔ Completes s buffer) → IsTrue (is_opened s) → Holds rules s buffer unread → IsTrue test ↔ SpellsSomething rules unread
+pub whole_awaited : (rules : Rules) (s : State) (buffer unread : List ℕ) (test : Bool) → (IsTrue test ↔ Completes rules.line_limit s buffer) → IsTrue (is_opened s) → Holds rules s buffer unread → IsTrue test ↔ SpellsSomething rules unread
 whole_awaited rules s buffer unread test is opened h = (
   λ come. something_awaited rules s buffer unread (is.0 come) opened h,
   λ some. true_from_ne_false test (λ none.
@@ -146,7 +145,7 @@ whole_found rules s buffer unread behind long n e behind_is n_is h = (forth, bac
   tail : List ℕ
   tail = drop (long + 1) buffer
 
-  first : FirstLine buffer tail unread long
+  first : FirstLine rules buffer tail unread long
   first = first_line rules s buffer tail unread long e refl h
 
   one_more : length behind ≡ suc (length tail)

@@ -3,7 +3,6 @@ use Rattle.std.proofs.Common.{◌≡◌, ℕ, ◌<◌, ◌≤◌, Bool, true, fa
 use Rattle.std.proofs.lemmas.List.{nil_from_length, take-append-drop}
 use Rattle.std.proofs.Math.Seq.{drop-append_seam, take-append_seam}
 use Rattle.std.specs.Cmp.Lexicographic.{same_text}
-use Rattle.mc_wire.specs.declared.TheConstants.{LINE_LIMIT}
 use Rattle.mc_command.specs.declared.command.Command.{Command}
 use Rattle.mc_command.specs.declared.command.Command.TheVariants as command
 use Rattle.mc_command.specs.declared.refusal.Refusal.TheVariants.{BadChunk, LineTooLong}
@@ -11,7 +10,7 @@ use Rattle.mc_command.specs.declared.line.Line.{Line}
 use Rattle.mc_command.specs.declared.line.Line.TheVariants.{Whole, Data, Refused, Skip}
 use Rattle.mc_command.specs.Command.{with_block}
 use Rattle.mc_command.specs.Line.{bytes_behind}
-use Rattle.mc_reader.specs.Spelling.{HasNoEnd, IsLine, Spells, SpellsNothing, block_entry, is_block_end, line_says, skip_entry}
+use Rattle.mc_reader.specs.Spelling.{HasNoEnd, IsLine, Spells, SpellsNothing, block_entry, chunk_refusal, is_block_end, line_says, skip_entry}
 use Rattle.mc_reader.specs.internal.State.{SpellsSomething}
 use Rattle.mc_command.specs.declared.rules.Rules.{Rules}
 
@@ -40,75 +39,75 @@ same_front a b x y long e = (
 )
 
 -- what a line spells with the bytes that belong to it
-abbrev pub entry_after : Line → List ℕ → Command
-entry_after (Whole entry) tail = entry
-entry_after (Refused refusal) tail = command.Refused refusal
-entry_after (Data asked count) tail = block_entry asked count tail
-entry_after (Skip discarded refusal count) tail = skip_entry discarded refusal
+abbrev pub entry_after : Rules → Line → List ℕ → Command
+entry_after rules (Whole entry) tail = entry
+entry_after rules (Refused refusal) tail = command.Refused refusal
+entry_after rules (Data asked count) tail = block_entry rules asked count tail
+entry_after rules (Skip discarded refusal count) tail = skip_entry discarded refusal
 
 -- the text is a line, its end, and the bytes that belong to it
 pub record IsLined (rules : Rules) (text : List ℕ) (entry : Command) (line tail : List ℕ) : Type 0 where
   pub text_is : text ≡ line ++ 10 ∷ tail
   pub no_end : HasNoEnd line
-  pub short : length line < LINE_LIMIT
+  pub short : length line < rules.line_limit
   pub tail_long : length tail ≡ bytes_behind (line_says rules line)
-  pub entry_is : entry ≡ entry_after (line_says rules line) tail
+  pub entry_is : entry ≡ entry_after rules (line_says rules line) tail
 
 -- a text that spells, by its first line
 pub data Reads (rules : Rules) (text : List ℕ) (entry : Command) : Type 0 where
   lined : (line tail : List ℕ) → IsLined rules text entry line tail → Reads rules text entry
-  endless : length text ≡ LINE_LIMIT → HasNoEnd text → entry ≡ command.Refused LineTooLong → Reads rules text entry
+  endless : length text ≡ rules.line_limit → HasNoEnd text → entry ≡ command.Refused LineTooLong → Reads rules text entry
 
-line_short : (text line : List ℕ) → IsLine text line → length line < LINE_LIMIT
-line_short text line is = let s = is.short in omega (arith, ap length is.text_is, length-append line (10 ∷ []))
+line_short : (rules : Rules) (text line : List ℕ) → IsLine rules text line → length line < rules.line_limit
+line_short rules text line is = let s = is.short in omega (arith, ap length is.text_is, length-append line (10 ∷ []))
 
-with_tail : (head line tail text : List ℕ) → IsLine head line → text ≡ head ++ tail → text ≡ line ++ 10 ∷ tail
-with_tail head line tail text is e = e ∙ (ap (λ xs. xs ++ tail) is.text_is ∙ append_assoc line (10 ∷ []) tail)
+with_tail : (rules : Rules) (head line tail text : List ℕ) → IsLine rules head line → text ≡ head ++ tail → text ≡ line ++ 10 ∷ tail
+with_tail rules head line tail text is e = e ∙ (ap (λ xs. xs ++ tail) is.text_is ∙ append_assoc line (10 ∷ []) tail)
 
 pub reads : (rules : Rules) (text : List ℕ) (entry : Command) → Spells rules text entry → Reads rules text entry
 reads rules text entry (Spells.line line is says) =
-    lined line [] (record { text_is = is.text_is; no_end = is.no_end; short = line_short text line is; tail_long = rw says refl; entry_is = rw says refl })
+    lined line [] (record { text_is = is.text_is; no_end = is.no_end; short = line_short rules text line is; tail_long = rw says refl; entry_is = rw says refl })
 reads rules text entry (Spells.refused line refusal is says e) =
-    lined line [] (record { text_is = is.text_is; no_end = is.no_end; short = line_short text line is; tail_long = rw says refl; entry_is = rw says e })
+    lined line [] (record { text_is = is.text_is; no_end = is.no_end; short = line_short rules text line is; tail_long = rw says refl; entry_is = rw says e })
 reads rules text entry (Spells.block head line block asked is text_is says e) =
     lined line (block ++ 13 ∷ 10 ∷ []) (record {
-      text_is = with_tail head line (block ++ 13 ∷ 10 ∷ []) text is text_is;
+      text_is = with_tail rules head line (block ++ 13 ∷ 10 ∷ []) text is text_is;
       no_end = is.no_end;
-      short = line_short head line is;
+      short = line_short rules head line is;
       tail_long = rw says (length-append block (13 ∷ 10 ∷ []));
       entry_is = rw (says, drop-append_seam block (13 ∷ 10 ∷ []), take-append_seam block (13 ∷ 10 ∷ [])) e;
     })
 reads rules text entry (Spells.bad_block head line chunk ends asked is text_is two not_end says e) =
     lined line (chunk ++ ends) (record {
-      text_is = with_tail head line (chunk ++ ends) text is text_is;
+      text_is = with_tail rules head line (chunk ++ ends) text is text_is;
       no_end = is.no_end;
-      short = line_short head line is;
+      short = line_short rules head line is;
       tail_long = rw says (omega (arith, two, length-append chunk ends));
       entry_is = rw (says, drop-append_seam chunk ends, not_end) e;
     })
 reads rules text entry (Spells.skipped head line skipped discarded refusal is text_is says e) =
     lined line skipped (record {
-      text_is = with_tail head line skipped text is text_is;
+      text_is = with_tail rules head line skipped text is text_is;
       no_end = is.no_end;
-      short = line_short head line is;
+      short = line_short rules head line is;
       tail_long = rw says refl;
       entry_is = rw says e;
     })
 reads rules text entry (Spells.long full none e) = endless full none e
 
-is_line : (line : List ℕ) → HasNoEnd line → length line < LINE_LIMIT → IsLine (line ++ 10 ∷ []) line
-is_line line none short = record { text_is = refl; no_end = none; short = omega (arith, length-append line (10 ∷ [])) }
+is_line : (rules : Rules) (line : List ℕ) → HasNoEnd line → length line < rules.line_limit → IsLine rules (line ++ 10 ∷ []) line
+is_line rules line none short = record { text_is = refl; no_end = none; short = omega (arith, length-append line (10 ∷ [])) }
 
 -- a line with its bytes spells what it says
-spells_lined : (rules : Rules) (said : Line) (text line tail : List ℕ) (entry : Command) → line_says rules line ≡ said → text ≡ line ++ 10 ∷ tail → HasNoEnd line → length line < LINE_LIMIT → length tail ≡ bytes_behind said → entry ≡ entry_after said tail → Spells rules text entry
+spells_lined : (rules : Rules) (said : Line) (text line tail : List ℕ) (entry : Command) → line_says rules line ≡ said → text ≡ line ++ 10 ∷ tail → HasNoEnd line → length line < rules.line_limit → length tail ≡ bytes_behind said → entry ≡ entry_after rules said tail → Spells rules text entry
 spells_lined rules (Whole given) text line tail entry says text_is none short long e =
     let bare : text ≡ line ++ 10 ∷ [] = rw (nil_from_length tail long) at text_is in
-    Spells.line line (rw bare (is_line line none short)) (rw e says)
+    Spells.line line (rw bare (is_line rules line none short)) (rw e says)
 spells_lined rules (Refused refusal) text line tail entry says text_is none short long e =
     let bare : text ≡ line ++ 10 ∷ [] = rw (nil_from_length tail long) at text_is in
-    Spells.refused line refusal (rw bare (is_line line none short)) says e
+    Spells.refused line refusal (rw bare (is_line rules line none short)) says e
 spells_lined rules (Skip discarded refusal count) text line tail entry says text_is none short long e =
-    Spells.skipped (line ++ 10 ∷ []) line tail discarded refusal (is_line line none short) (text_is ∙ sym (append_assoc line (10 ∷ []) tail)) (rw long says) e
+    Spells.skipped (line ++ 10 ∷ []) line tail discarded refusal (is_line rules line none short) (text_is ∙ sym (append_assoc line (10 ∷ []) tail)) (rw long says) e
 spells_lined rules (Data asked count) text line tail entry says text_is none short long e = by_end (is_block_end (drop count tail)) refl e where
   parted : tail ≡ take count tail ++ drop count tail
   parted = sym (take-append-drop count tail)
@@ -122,24 +121,24 @@ spells_lined rules (Data asked count) text line tail entry says text_is none sho
   whole : (ends : List ℕ) → drop count tail ≡ ends → text ≡ (line ++ 10 ∷ []) ++ (take count tail ++ ends)
   whole ends is = text_is ∙ (sym (append_assoc line (10 ∷ []) tail) ∙ ap (λ xs. (line ++ 10 ∷ []) ++ xs) (parted ∙ ap (λ xs. take count tail ++ xs) is))
 
-  by_end : (test : Bool) → is_block_end (drop count tail) ≡ test → entry ≡ cond test (with_block asked (take count tail)) (command.Refused BadChunk) → Spells rules text entry
-  by_end true t given = Spells.block (line ++ 10 ∷ []) line (take count tail) asked (is_line line none short) (whole (13 ∷ 10 ∷ []) (same_text (drop count tail) (13 ∷ 10 ∷ []) (sym t))) (rw counted says) given
-  by_end false t given = Spells.bad_block (line ++ 10 ∷ []) line (take count tail) (drop count tail) asked (is_line line none short) (whole (drop count tail) refl) two t (rw counted says) given
+  by_end : (test : Bool) → is_block_end (drop count tail) ≡ test → entry ≡ cond test (with_block asked (take count tail)) (command.Refused (chunk_refusal rules asked)) → Spells rules text entry
+  by_end true t given = Spells.block (line ++ 10 ∷ []) line (take count tail) asked (is_line rules line none short) (whole (13 ∷ 10 ∷ []) (same_text (drop count tail) (13 ∷ 10 ∷ []) (sym t))) (rw counted says) given
+  by_end false t given = Spells.bad_block (line ++ 10 ∷ []) line (take count tail) (drop count tail) asked (is_line rules line none short) (whole (drop count tail) refl) two t (rw counted says) given
 
 pub spells : (rules : Rules) (text : List ℕ) (entry : Command) → Reads rules text entry → Spells rules text entry
 spells rules text entry (lined line tail is) = spells_lined rules (line_says rules line) text line tail entry refl is.text_is is.no_end is.short is.tail_long is.entry_is
 spells rules text entry (endless full none e) = Spells.long full none e
 
 -- where a line's bytes have all come, it spells with them
-pub spelled_behind : (rules : Rules) (line tail input : List ℕ) → input ≡ line ++ 10 ∷ tail → HasNoEnd line → length line < LINE_LIMIT → bytes_behind (line_says rules line) ≤ length tail → SpellsSomething rules input
+pub spelled_behind : (rules : Rules) (line tail input : List ℕ) → input ≡ line ++ 10 ∷ tail → HasNoEnd line → length line < rules.line_limit → bytes_behind (line_says rules line) ≤ length tail → SpellsSomething rules input
 spelled_behind rules line tail input is none short enough =
     let n = bytes_behind (line_says rules line) in
     let long : length (take n tail) ≡ n = omega (arith, length-take n tail) in (
       line ++ 10 ∷ take n tail,
       drop n tail,
-      entry_after (line_says rules line) (take n tail),
+      entry_after rules (line_says rules line) (take n tail),
       is ∙ (ap (λ xs. line ++ 10 ∷ xs) (sym (take-append-drop n tail)) ∙ sym (append_assoc line (10 ∷ take n tail) (drop n tail))),
-      spells_lined rules (line_says rules line) (line ++ 10 ∷ take n tail) line (take n tail) (entry_after (line_says rules line) (take n tail)) refl refl none short long refl,
+      spells_lined rules (line_says rules line) (line ++ 10 ∷ take n tail) line (take n tail) (entry_after rules (line_says rules line) (take n tail)) refl refl none short long refl,
     )
 
 -- two texts that spell at the front of one input
@@ -158,7 +157,7 @@ same_reads rules a b x y e f (lined line tail is) (lined line' tail' is') same =
     let tails = same_front tail tail' x y long lines.1 in
     record {
       text = is.text_is ∙ ((λ i. lines.0 i ++ 10 ∷ tails.0 i) ∙ sym is'.text_is);
-      entry = is.entry_is ∙ ((λ i. entry_after (line_says rules (lines.0 i)) (tails.0 i)) ∙ sym is'.entry_is);
+      entry = is.entry_is ∙ ((λ i. entry_after rules (line_says rules (lines.0 i)) (tails.0 i)) ∙ sym is'.entry_is);
       rest = tails.1;
     }
 same_reads rules a b x y e f (lined line tail is) (endless full none given) same =
@@ -174,7 +173,7 @@ pub same_spelled : (rules : Rules) (a b x y : List ℕ) (e f : Command) → Spel
 same_spelled rules a b x y e f s t same = same_reads rules a b x y e f (reads rules a e s) (reads rules b f t) same
 
 -- where a line's bytes haven't all come, nothing is spelled
-pub nothing_yet : (rules : Rules) (line tail : List ℕ) → HasNoEnd line → length line < LINE_LIMIT → length tail < bytes_behind (line_says rules line) → SpellsNothing rules (line ++ 10 ∷ tail)
+pub nothing_yet : (rules : Rules) (line tail : List ℕ) → HasNoEnd line → length line < rules.line_limit → length tail < bytes_behind (line_says rules line) → SpellsNothing rules (line ++ 10 ∷ tail)
 nothing_yet rules line tail none short few count entry below spelled = go (reads rules text entry spelled) where
   text : List ℕ
   text = take count (line ++ 10 ∷ tail)
@@ -194,7 +193,7 @@ nothing_yet rules line tail none short few count entry below spelled = go (reads
   go (endless full none' e) = end_inside text rest line tail none' whole (omega arith)
 
 -- where no line has ended and none is too long, nothing is spelled
-pub nothing_without_end : (rules : Rules) (input : List ℕ) → HasNoEnd input → length input < LINE_LIMIT → SpellsNothing rules input
+pub nothing_without_end : (rules : Rules) (input : List ℕ) → HasNoEnd input → length input < rules.line_limit → SpellsNothing rules input
 nothing_without_end rules input none short count entry below spelled = go (reads rules text entry spelled) where
   text : List ℕ
   text = take count input

@@ -1,20 +1,20 @@
 -- What texts spell, and the commands of a whole stream (protocol.txt, "Protocol": a line ends with a line
 -- feed, and a storage line is followed by its data block).
-use Rattle.std.specs.Prelude.{ℕ, ◌≡◌, ◌+◌, ◌-◌, ◌≤◌, ◌^◌, Bool, true, false, ◌||◌, Option, Some, None, List, [], ◌∷◌, ◌++◌, length, map, take, drop, MatchBool, IsTrue, slice_index, ◌==◌, nat_eq, if◌then◌else◌}
+use Rattle.std.specs.Prelude.{ℕ, ◌≡◌, ◌+◌, ◌-◌, ◌≤◌, ◌^◌, Bool, true, false, ◌&&◌, ◌||◌, Option, Some, None, List, [], ◌∷◌, ◌++◌, length, map, take, drop, MatchBool, IsTrue, slice_index, ◌==◌, nat_eq, if◌then◌else◌}
 use Rattle.std.specs.Bool.{OnTrue}
 use Rattle.std.specs.List.{AllByRecursion}
 use Rattle.std.specs.Cmp.Lexicographic.{pointwise}
-use Rattle.mc_wire.specs.declared.TheConstants.{LINE_LIMIT}
 use Rattle.mc_wire.specs.Words.{words_of}
 use Rattle.mc_command.specs.declared.command.Command.{Command}
 use Rattle.mc_command.specs.declared.command.Command.TheVariants as command
 use Rattle.mc_command.specs.declared.refusal.Refusal.{Refusal}
-use Rattle.mc_command.specs.declared.refusal.Refusal.TheVariants.{BadChunk, LineTooLong, Memory}
+use Rattle.mc_command.specs.declared.refusal.Refusal.TheVariants.{BadChunk, Hidden, LineTooLong, Memory}
 use Rattle.mc_command.specs.declared.line.Line.{Line}
 use Rattle.mc_command.specs.declared.line.Line.TheVariants.{Whole, Data, Refused, Skip}
 use Rattle.mc_command.specs.Command.{can_give_up, with_block}
 use Rattle.mc_command.specs.Table.{line_of}
 use Rattle.mc_command.specs.declared.rules.Rules.{Rules}
+use Rattle.mc_command.specs.Rules.{is_drop_in}
 
 -- the bytes but for one carriage return at their end
 abbrev pub without_return : List ℕ → List ℕ
@@ -27,19 +27,25 @@ line_says rules line = line_of rules (words_of (without_return line))
 abbrev pub HasNoEnd : List ℕ → Type 0
 HasNoEnd bytes = AllByRecursion (λ byte. (byte == 10) ≡ false) bytes
 
--- a text that is one line, its line feed last and nowhere else, of at most 65,536 bytes
-pub record IsLine (text line : List ℕ) : Type 0 where
+-- a text that is one line, its line feed last and nowhere else, of at most as many bytes as the rules allow
+pub record IsLine (rules : Rules) (text line : List ℕ) : Type 0 where
   pub text_is : text ≡ line ++ 10 ∷ []
   pub no_end : HasNoEnd line
-  pub short : length text ≤ LINE_LIMIT
+  pub short : length text ≤ rules.line_limit
 
 -- the two bytes that end a data block are CR LF
 abbrev pub is_block_end : List ℕ → Bool
 is_block_end ends = pointwise nat_eq ends (13 ∷ 10 ∷ [])
 
+-- what refuses a command whose data block has another end; by memcached's rules that is hidden behind `noreply`
+abbrev pub chunk_refusal : Rules → Command → Refusal
+chunk_refusal rules (command.Store storage) = if is_drop_in rules && storage.noreply then Hidden else BadChunk
+chunk_refusal rules other = BadChunk
+
 -- what a command is with the bytes behind its line, so many of a data block and two that end it
-abbrev pub block_entry : Command → ℕ → List ℕ → Command
-block_entry asked count bytes = if is_block_end (drop count bytes) then with_block asked (take count bytes) else command.Refused BadChunk
+abbrev pub block_entry : Rules → Command → ℕ → List ℕ → Command
+block_entry rules asked count bytes =
+    if is_block_end (drop count bytes) then with_block asked (take count bytes) else command.Refused (chunk_refusal rules asked)
 
 -- what a line is whose bytes are skipped: its refusal, and with it the item under a key is discarded, where there is one
 abbrev pub skip_entry : Option (List ℕ) → Refusal → Command
@@ -49,22 +55,22 @@ skip_entry (Some key) refusal = command.Discard key refusal
 -- the whole text spells the entry, and nothing is left over
 pub data Spells (rules : Rules) (text : List ℕ) (entry : Command) : Type 0 where
   -- a line that is a command
-  line : (line : List ℕ) → IsLine text line → line_says rules line ≡ Whole entry → Spells rules text entry
+  line : (line : List ℕ) → IsLine rules text line → line_says rules line ≡ Whole entry → Spells rules text entry
   -- a line that is refused
-  refused : (line : List ℕ) (refusal : Refusal) → IsLine text line → line_says rules line ≡ Refused refusal →
+  refused : (line : List ℕ) (refusal : Refusal) → IsLine rules text line → line_says rules line ≡ Refused refusal →
       entry ≡ command.Refused refusal → Spells rules text entry
   -- a storage line with its data block and its end
-  block : (head line data_block : List ℕ) (asked : Command) → IsLine head line → text ≡ head ++ (data_block ++ 13 ∷ 10 ∷ []) →
+  block : (head line data_block : List ℕ) (asked : Command) → IsLine rules head line → text ≡ head ++ (data_block ++ 13 ∷ 10 ∷ []) →
       line_says rules line ≡ Data asked (length data_block) → entry ≡ with_block asked data_block → Spells rules text entry
   -- a storage line with as many bytes, and two more that are no end
-  bad_block : (head line chunk ends : List ℕ) (asked : Command) → IsLine head line → text ≡ head ++ (chunk ++ ends) →
+  bad_block : (head line chunk ends : List ℕ) (asked : Command) → IsLine rules head line → text ≡ head ++ (chunk ++ ends) →
       length ends ≡ 2 → is_block_end ends ≡ false →
-      line_says rules line ≡ Data asked (length chunk) → entry ≡ command.Refused BadChunk → Spells rules text entry
+      line_says rules line ≡ Data asked (length chunk) → entry ≡ command.Refused (chunk_refusal rules asked) → Spells rules text entry
   -- a line that is refused, with the bytes that are skipped
-  skipped : (head line skipped : List ℕ) (discarded : Option (List ℕ)) (refusal : Refusal) → IsLine head line → text ≡ head ++ skipped →
+  skipped : (head line skipped : List ℕ) (discarded : Option (List ℕ)) (refusal : Refusal) → IsLine rules head line → text ≡ head ++ skipped →
       line_says rules line ≡ Skip discarded refusal (length skipped) → entry ≡ skip_entry discarded refusal → Spells rules text entry
   -- a line that is too long
-  long : length text ≡ LINE_LIMIT → HasNoEnd text → entry ≡ command.Refused LineTooLong → Spells rules text entry
+  long : length text ≡ rules.line_limit → HasNoEnd text → entry ≡ command.Refused LineTooLong → Spells rules text entry
 
 -- No beginning of the bytes spells anything.
 abbrev pub SpellsNothing : Rules → List ℕ → Type 0

@@ -14,7 +14,7 @@ use Rattle.mc_replay.specs.declared.schedule.ScheduleFault.TheVariants.{Bad, Mem
 
 -- the server of a schedule
 abbrev pub sizes_of : schedule.Schedule → Sizes
-sizes_of plan = record { profile = plan.profile; seats = plan.seats; shards = plan.shards; bytes = plan.bytes; ring = plan.ring; value = plan.value; window = plan.window }
+sizes_of plan = record { profile = plan.profile; seats = plan.seats; shards = plan.shards; bytes = plan.bytes; ring = plan.ring; value = plan.value; line = plan.line; window = plan.window }
 
 -- the events of a schedule
 abbrev pub events_of : schedule.Schedule → List Event

@@ -72,6 +72,7 @@ fn tell<R: RandomSource>(rt: &R, alloc: Global, schedule: &Schedule) -> Result<V
         schedule.bytes,
         schedule.ring,
         schedule.value,
+        schedule.line,
         schedule.window,
     ) {
         Ok(sim) => sim,

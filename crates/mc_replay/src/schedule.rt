@@ -29,6 +29,8 @@ pub struct Schedule {
     pub ring: usize,
     /// How many bytes a value has at most.
     pub value: usize,
+    /// How many bytes a line has at most.
+    pub line: usize,
     /// How many commands of a connection may be open: taken, and their replies not handed out.
     pub window: usize,
     /// What happens, in order.
@@ -70,6 +72,7 @@ pub fn read_schedule(alloc: Global, text: &[u8]) -> Result<Schedule, ScheduleFau
         bytes: header.bytes,
         ring: header.ring,
         value: header.value,
+        line: header.line,
         window: header.window,
         events,
     })

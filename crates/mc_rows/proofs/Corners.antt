@@ -18,6 +18,7 @@ use Rattle.mc_item.specs.declared.answer.Answer.TheVariants.{NotStored, Exists, 
 use Rattle.mc_item.specs.declared.op.Op.{Op}
 use Rattle.mc_item.specs.declared.op.Op.TheVariants as op
 use Rattle.mc_item.specs.Kind.{key_of}
+use Rattle.mc_item.specs.Tally.{no_counts}
 use Rattle.mc_item.specs.Value.{number_in}
 use Rattle.mc_item.specs.Expiry.{expiry_of, is_dead, seconds_left}
 use Rattle.mc_wire.specs.Base64Key.{base64_of, base64_bytes}
@@ -40,6 +41,8 @@ step_on_is_step state (op.Count key direction amount) = refl
 step_on_is_step state (op.Delete key) = refl
 step_on_is_step state (op.Touch key exptime) = refl
 step_on_is_step state (op.Flush delay) = refl
+step_on_is_step state op.Stats = refl
+step_on_is_step state op.ResetStats = refl
 step_on_is_step state (op.MetaGet asked) = refl
 step_on_is_step state (op.MetaStore asked) = refl
 step_on_is_step state (op.MetaDelete asked) = refl
@@ -53,7 +56,7 @@ block text behind = record { line = text; behind = behind }
 
 -- the first of two shards, which has given so many uniques
 abbrev shard : ℕ → State
-shard given = record { items = empty; uses = 0; time = 1000; flush = None; given = given; index = 0; shards = 2; budget = 16777216; limit = 1048576 }
+shard given = record { items = empty; uses = 0; time = 1000; flush = None; given = given; index = 0; shards = 2; budget = 16777216; limit = 1048576; tally = no_counts; evicted = 0 }
 
 -- an item with this value and the unique 1, just stored
 abbrev item : List ℕ → Item

@@ -2,16 +2,18 @@
 use Rattle.std.specs.Prelude.{ℕ, false, List, map, Option, None}
 use Rattle.std.specs.FinMap.{get}
 use Rattle.std.specs.Option.{option_and_then}
-use Rattle.mc_wire.specs.declared.TheConstants.{DEFAULT_VALUE_LIMIT}
+use Rattle.mc_wire.specs.declared.TheConstants.{DEFAULT_LINE_LIMIT, DEFAULT_VALUE_LIMIT}
 use Rattle.mc_command.specs.declared.command.Command.{Command}
 use Rattle.mc_command.specs.declared.command.Command.TheVariants as command
 use Rattle.mc_command.specs.declared.line.Line.{Line}
 use Rattle.mc_command.specs.declared.line.Line.TheVariants.{Whole, Data, Refused, Skip}
+use Rattle.mc_item.specs.declared.answer.Answer.TheVariants as answer
 use Rattle.mc_item.specs.declared.answer.Answer.TheVariants.{Stored, Number, Done, MetaDone}
 use Rattle.mc_item.specs.declared.op.Op.{Op}
 use Rattle.mc_item.specs.declared.op.Op.TheVariants as op
 use Rattle.mc_item.specs.Expiry.{expiry_of}
 use Rattle.mc_item.specs.Kind.{key_of}
+use Rattle.mc_item.specs.Tally.{no_counts}
 use Rattle.mc_command.specs.Rules.{own}
 use Rattle.mc_command.specs.declared.rules.Profile.TheVariants.{Own}
 use Rattle.mc_reader.specs.Spelling.{line_says, block_entry, skip_entry}
@@ -21,7 +23,7 @@ use Rattle.mc_core.specs.Alone.{alone}
 use Rattle.mc_split.specs.Pieces.{pieces_of}
 use Rattle.mc_split.specs.Text.{text_of}
 use Rattle.mc_store.specs.State.{State, Used}
-use Rattle.mc_store.specs.Step.{Outcome, fetch_step, store_step, storing, mode_of, compare_of, count_step, counting, delete_step, touch_step, flush_step, coming, meta_get_step, meta_delete_step}
+use Rattle.mc_store.specs.Step.{Outcome, fetch_step, store_step, storing, mode_of, compare_of, count_step, counting, delete_step, touch_step, flush_step, coming, meta_get_step, meta_delete_step, stats_of}
 
 -- a line without its end, and the bytes behind it that belong to it
 pub record Sent : Type 0 where
@@ -31,7 +33,7 @@ pub record Sent : Type 0 where
 -- what is spelled by a line of which the table says this, with the bytes behind it
 abbrev pub entry_of : Line → List ℕ → Command
 entry_of (Whole entry) behind = entry
-entry_of (Data asked count) behind = block_entry asked count behind
+entry_of (Data asked count) behind = block_entry (own DEFAULT_VALUE_LIMIT) asked count behind
 entry_of (Refused refusal) behind = command.Refused refusal
 entry_of (Skip discarded refusal count) behind = skip_entry discarded refusal
 
@@ -42,7 +44,7 @@ abbrev pub taken_at : ℕ → Sent → Taken
 taken_at moment sent = record { entry = spelled sent; moment = moment; given_up = false }
 
 abbrev pub row_sizes : Sizes
-row_sizes = record { profile = Own; seats = 1; shards = 2; bytes = 65536; ring = 64; value = DEFAULT_VALUE_LIMIT; window = 256 }
+row_sizes = record { profile = Own; seats = 1; shards = 2; bytes = 65536; ring = 64; value = DEFAULT_VALUE_LIMIT; line = DEFAULT_LINE_LIMIT; window = 256 }
 
 -- the replies of a server of two shards, still empty, at the moment
 abbrev pub replies : ℕ → List Sent → List ℕ
@@ -58,7 +60,9 @@ step_on state (op.Count key direction amount) found =
 step_on state (op.Delete key) found = delete_step state key found
 step_on state (op.Touch key exptime) found = touch_step state key exptime found
 step_on state (op.Flush delay) found = (Done, flush_step state (coming (expiry_of delay state.time) state.time))
-step_on state (op.MetaGet asked) found = meta_get_step state asked.key asked.touch asked.vivify asked.recache found
+step_on state op.Stats found = (answer.Stats (stats_of state), state)
+step_on state op.ResetStats found = (answer.Reset, record state { tally = no_counts; evicted = 0 })
+step_on state (op.MetaGet asked) found = meta_get_step state asked.key asked.touch asked.vivify asked.recache asked.unnoted found
 step_on state (op.MetaStore asked) found =
     store_step state asked.key (storing asked.mode asked.compare asked.unique asked.flags asked.exptime asked.value) (λ done. MetaDone done) found
 step_on state (op.MetaDelete asked) found =

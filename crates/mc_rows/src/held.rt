@@ -2,7 +2,7 @@
 //! moment are they more than the longest line and the largest block.
 use crate::escape::unescape;
 use mc_conn::{Conn, Taken};
-use mc_wire::{DEFAULT_VALUE_LIMIT, GREATEST_VALUE_LIMIT, LEAST_VALUE_LIMIT, LINE_LIMIT};
+use mc_wire::{DEFAULT_LINE_LIMIT, DEFAULT_VALUE_LIMIT, GREATEST_VALUE_LIMIT, LEAST_VALUE_LIMIT};
 use std::alloc::Global;
 
 /// The value limits of the connections that are fed.
@@ -161,7 +161,7 @@ fn most_held(alloc: Global, input: &[u8], limit: usize, feeding: Feeding) -> Opt
 fn is_bounded_below(alloc: Global, input: &[u8], limit: usize) -> bool {
     for feeding in FEEDINGS {
         match most_held(alloc, input, limit, feeding) {
-            Some(most) if most <= LINE_LIMIT.saturating_add(limit).saturating_add(2) => {}
+            Some(most) if most <= DEFAULT_LINE_LIMIT.saturating_add(limit).saturating_add(2) => {}
             _ => return false,
         }
     }

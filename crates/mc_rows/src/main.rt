@@ -14,7 +14,7 @@ use mc_command::Profile;
 use mc_seat::{Line, Served};
 use mc_server::{DEFAULT_RING, Sizes, StillClock, serve_one};
 use mc_store::{GREATEST_BUDGET, LEAST_BUDGET};
-use mc_wire::GREATEST_VALUE_LIMIT;
+use mc_wire::{DEFAULT_LINE_LIMIT, GREATEST_VALUE_LIMIT};
 use row::{Row, split_at_tab};
 use std::alloc::Global;
 use std::io::Print;
@@ -66,6 +66,7 @@ fn served<R: Wait + RandomSource, L: Line>(
         bytes: row.bytes,
         ring: DEFAULT_RING,
         value: row.value,
+        line: DEFAULT_LINE_LIMIT,
         window: window.max(1),
     };
     serve_one(rt, alloc, line, sizes, &StillClock(row.moment)).ok()

@@ -23,7 +23,7 @@ use mc_seat::Clock;
 use mc_server::Sizes;
 use mc_threads::{Working, make_workers};
 use mc_wake::{Sleeper, Wakers};
-use mc_wire::GREATEST_VALUE_LIMIT;
+use mc_wire::{GREATEST_LINE_LIMIT, GREATEST_VALUE_LIMIT};
 use std::alloc::{AllocError, Global};
 use std::random::RandomSource;
 use std::sync::{Arc, Wait};
@@ -156,6 +156,7 @@ fn sit_down<D: Door + Drop>(
 ) -> Result<Vec<Sitting<D>>, AllocError>
     requires shards { 0 < sizes.shards }
     requires value { sizes.value ≤ GREATEST_VALUE_LIMIT }
+    requires line { sizes.line ≤ GREATEST_LINE_LIMIT }
     requires window { 0 < sizes.window }
     requires width { AllByRecursion (λ seat. length seat.lanes ≡ sizes.shards) ends.items }
     requires as_many { length doors.items ≡ length ends.items }

@@ -15,7 +15,7 @@ use mc_seat::{Clock, Line, Ready, Rooms};
 use mc_server::Sizes;
 use mc_threads::{Session, Stepped as LineStep};
 use mc_wake::Wakers;
-use mc_wire::GREATEST_VALUE_LIMIT;
+use mc_wire::{GREATEST_LINE_LIMIT, GREATEST_VALUE_LIMIT};
 use std::alloc::{AllocError, Global};
 use std::mem;
 
@@ -64,6 +64,7 @@ impl<D: Door + Drop> Sitting<D> {
     ) -> Result<Sitting<D>, AllocError>
         requires shards { 0 < sizes.shards }
         requires value { sizes.value ≤ GREATEST_VALUE_LIMIT }
+        requires line { sizes.line ≤ GREATEST_LINE_LIMIT }
         requires window { 0 < sizes.window }
         requires width { length ends.lanes ≡ sizes.shards }
         ensures vacant { IfOk result (λ sitting. IsVacant (rules_of sizes) sizes.window sitting.session) }

@@ -9,7 +9,7 @@ use mc_conn::{Conn, Taken};
 use mc_ring::Reply;
 use mc_seat::{Clock, Line, Rooms, Seat, Served, Turn};
 use mc_store::{GREATEST_BUDGET, LEAST_BUDGET, Shard};
-use mc_wire::GREATEST_VALUE_LIMIT;
+use mc_wire::{GREATEST_LINE_LIMIT, GREATEST_VALUE_LIMIT};
 use std::alloc::{AllocError, Global};
 use std::hash::RandomState;
 use std::random::RandomSource;
@@ -33,6 +33,8 @@ pub struct Sizes {
     pub ring: usize,
     /// How many bytes a value has at most.
     pub value: usize,
+    /// How many bytes a line has at most.
+    pub line: usize,
     /// How many commands of a line may be open: taken, and their replies not handed out.
     pub window: usize,
 }
@@ -47,6 +49,7 @@ impl Sizes {
         Rules {
             profile: self.profile,
             value_limit: self.value,
+            line_limit: self.line,
         }
     }
 }
@@ -120,6 +123,7 @@ pub fn serve_one<R: Wait + RandomSource, L: Line, K: Clock>(
     requires least_bytes { LEAST_BUDGET ≤ sizes.bytes }
     requires most_bytes { sizes.bytes ≤ GREATEST_BUDGET }
     requires value { sizes.value ≤ GREATEST_VALUE_LIMIT }
+    requires line { sizes.line ≤ GREATEST_LINE_LIMIT }
     requires window { 0 < sizes.window }
     // One log explains what was read, what was written and what the shards did.
     ensures explained { IfOk result (λ served. IsExplained (line_sizes sizes) (K.may_answer clock.now)

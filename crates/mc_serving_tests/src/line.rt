@@ -5,7 +5,7 @@ use crate::memory_line::MemoryLine;
 use mc_command::Profile;
 use mc_seat::Clock;
 use mc_server::{DEFAULT_RING, ServeRefusal, Sizes, StillClock, serve_one};
-use mc_wire::DEFAULT_VALUE_LIMIT;
+use mc_wire::{DEFAULT_LINE_LIMIT, DEFAULT_VALUE_LIMIT};
 use std::alloc::Global;
 use std::cell::Cell;
 use std::random::RandomSource;
@@ -18,6 +18,7 @@ const SIZES: Sizes = Sizes {
     bytes: 1_024,
     ring: DEFAULT_RING,
     value: DEFAULT_VALUE_LIMIT,
+    line: DEFAULT_LINE_LIMIT,
     window: 256,
 };
 

@@ -43,6 +43,7 @@ fn each_call(rt: HostRuntime) -> Result<(), Fail> {
         shards: 2,
         bytes: 16_777_216,
         value: 1_048_576,
+        line: 65_536,
         window: 256,
     };
     holds(
@@ -68,6 +69,7 @@ fn each_call(rt: HostRuntime) -> Result<(), Fail> {
         shards: 16,
         bytes: 1_024,
         value: 8_388_608,
+        line: 1_048_576,
         window: 1,
     };
     holds(
@@ -122,12 +124,33 @@ fn numbers_of_bytes(rt: HostRuntime) -> Result<(), Fail> {
 }
 
 #[test]
+fn line_limits(rt: HostRuntime) -> Result<(), Fail> {
+    let alloc = rt.alloc();
+    let calls = [
+        ("mcd --stdio", 65_536),
+        ("mcd --stdio --drop-in", 1_048_576),
+        ("mcd --stdio --line-limit 2k", 2_048),
+        ("mcd --stdio --drop-in --line-limit 8m", 8_388_608),
+    ];
+    for (call, line) in calls {
+        let words = words_of(alloc, call)?;
+        match read_options(alloc, words.as_slice())? {
+            Options::Stdio { limits, .. } => equal(&rt, (call, limits.line), (call, line)),
+            _ => assert!(rt; false, "{call}"),
+        }
+    }
+    Ok(())
+}
+
+#[test]
 fn faults(rt: HostRuntime) -> Result<(), Fail> {
     let alloc = rt.alloc();
     let calls = [
         ("mcd --stdio --shards 17", 2),
         ("mcd --stdio --bytes 1023", 2),
         ("mcd --stdio --value-limit 1023", 2),
+        ("mcd --stdio --line-limit 2047", 2),
+        ("mcd --stdio --line-limit 8388609", 2),
         ("mcd --stdio --window 4097", 2),
         ("mcd --stdio --at x", 2),
         ("mcd --stdio --listen 127.0.0.1:0", 2),

@@ -60,6 +60,7 @@ const SIZES: Sizes = Sizes {
     bytes: 65_536,
     ring: 64,
     value: 1_048_576,
+    line: 65_536,
     window: 256,
 };
 

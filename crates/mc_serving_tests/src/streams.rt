@@ -123,6 +123,7 @@ fn a_line_is_served_over_it(rt: HostRuntime) -> Result<(), Fail> {
         bytes: 1_024,
         ring: 1,
         value: 1_024,
+        line: 65_536,
         window: 2,
     };
     let served = serve_one(&rt, rt.alloc(), &mut line, sizes, &StillClock(1000))?;

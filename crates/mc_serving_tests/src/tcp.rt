@@ -59,6 +59,7 @@ fn serve_client<
         bytes: 65_536,
         ring,
         value: 1_048_576,
+        line: 65_536,
         window,
     };
     let watch = Watch::nothing(alloc);
@@ -111,6 +112,7 @@ fn serve_three<
         bytes: 65_536,
         ring: 1,
         value: 1_048_576,
+        line: 65_536,
         window: 2,
     };
     let watch = Watch::nothing(alloc);
@@ -172,6 +174,7 @@ fn serve_idle<
         bytes: 65_536,
         ring: 64,
         value: 1_048_576,
+        line: 65_536,
         window: 256,
     };
     let ended = serve_tcp(

@@ -12,14 +12,14 @@ use mc_ring::{Parcel, Reply, SeatEnds, ShardEnds, lanes};
 use mc_split::{Piece, Ticket};
 use mc_store::Shard;
 use mc_wire::{
-    DEFAULT_VALUE_LIMIT, Key, LINE_LIMIT, WireFault, key_fault, number_i64, number_u64, put_all,
-    words,
+    DEFAULT_LINE_LIMIT, DEFAULT_VALUE_LIMIT, Key, WireFault, key_fault, number_i64, number_u64,
+    put_all, words,
 };
 use std::alloc::{AllocError, Global};
 use std::hash::RandomState;
 use std::process::Abort;
 
-static LONG: [u8; LINE_LIMIT] = [b'x'; LINE_LIMIT];
+static LONG: [u8; DEFAULT_LINE_LIMIT] = [b'x'; DEFAULT_LINE_LIMIT];
 
 fn key_of(alloc: Global) -> Result<Key, AllocError> {
     Key::from_word(alloc, b"a").map_err(|_| AllocError)
@@ -129,7 +129,7 @@ fn lines_without_a_key_and_skipped_blocks(rt: HostRuntime) {
     reads(&rt, alloc, &mut reader, b"set a 0 0 65536 x\r\n", &["more"]);
     holds(&rt, reader.is_skipping());
     reads(&rt, alloc, &mut reader, &LONG, &["more"]);
-    holds(&rt, reader.held() <= LINE_LIMIT);
+    holds(&rt, reader.held() <= DEFAULT_LINE_LIMIT);
     reads(&rt, alloc, &mut reader, b"\r\nmn\r\n", &["another"]);
     holds(&rt, reader.whole());
     reads(

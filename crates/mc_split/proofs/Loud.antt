@@ -10,7 +10,7 @@ use Rattle.mc_command.specs.declared.meta.MetaKind.TheVariants as kind
 use Rattle.mc_split.specs.declared.form.Shape.TheVariants as shape
 use Rattle.mc_split.specs.Pieces.{pieces_of}
 use Rattle.mc_split.specs.Shape.{shape_of, shown_key}
-use Rattle.mc_split.specs.Text.{coded_text, is_hidden, is_no_memory, memory_line, shape_text, text_of}
+use Rattle.mc_split.specs.Text.{coded_text, is_hidden, is_no_memory, memory_line, shape_text, text_of, told}
 use Rattle.mc_split.specs.TextLaws.{loud, without_quiet}
 
 -- nothing is said where the test holds
@@ -26,26 +26,30 @@ noreply_or_not : (noreply : Bool) (text : List ℕ) → EmptyOr (cond noreply []
 noreply_or_not true text = inl refl
 noreply_or_not false text = inr refl
 
-meta_or_not : (kind : MetaKind) (flags : MetaFlags) (value : Bool) (key : Option (List ℕ)) (answers : List Answer) →
-    EmptyOr (shape_text (shape.Meta kind flags value key) answers) (shape_text (shape.Meta kind (without_quiet flags) value key) answers)
+coded_or_not : (kind : MetaKind) (flags : MetaFlags) (value : Bool) (key : Option (List ℕ)) (test lacks : Bool) (given : Answer) →
+    EmptyOr (cond lacks memory_line (cond test [] (coded_text kind flags key given value))) (cond lacks memory_line (coded_text kind (without_quiet flags) key given value))
+coded_or_not kind flags value key test lacks given = hidden_or_not test lacks (coded_text kind flags key given value)
+
+meta_or_not : (kind : MetaKind) (flags : MetaFlags) (value : Bool) (key : Option (List ℕ)) (lenient : Bool) (answers : List Answer) →
+    EmptyOr (shape_text (shape.Meta kind flags value key lenient) answers) (shape_text (shape.Meta kind (without_quiet flags) value key lenient) answers)
 unfolding shape_text
-meta_or_not kind flags value key [] = inl refl
-meta_or_not kind flags value key (answer ∷ answers) =
-    hidden_or_not (flags.quiet && is_hidden kind value answer) (list_any is_no_memory (answer ∷ answers)) (coded_text flags key answer value)
+meta_or_not kind flags value key lenient [] = inl refl
+meta_or_not kind flags value key lenient (answer ∷ answers) =
+    coded_or_not kind flags value key (flags.quiet && is_hidden kind value answer) (list_any is_no_memory (answer ∷ answers)) (told answer lenient)
 
 pub empty_or_loud : (command : Command) (answers : List Answer) → (text_of command answers ≡ []) ⊎ (text_of command answers ≡ text_of (loud command) answers)
 unfolding shape_of shape_text
-empty_or_loud (command.Store storage) answers = noreply_or_not storage.noreply (shape_text (shape.Line false) answers)
-empty_or_loud (command.Delete key noreply) answers = noreply_or_not noreply (shape_text (shape.Line false) answers)
-empty_or_loud (command.Count key direction amount noreply) answers = noreply_or_not noreply (shape_text (shape.Line false) answers)
-empty_or_loud (command.Touch key exptime noreply) answers = noreply_or_not noreply (shape_text (shape.Line false) answers)
-empty_or_loud (command.FlushAll delay noreply) answers = noreply_or_not noreply (shape_text (shape.Line false) answers)
+empty_or_loud (command.Store storage) answers = noreply_or_not storage.noreply (shape_text (shape.Line false storage.lenient) answers)
+empty_or_loud (command.Delete key noreply) answers = noreply_or_not noreply (shape_text (shape.Line false false) answers)
+empty_or_loud (command.Count key direction amount noreply) answers = noreply_or_not noreply (shape_text (shape.Line false false) answers)
+empty_or_loud (command.Touch key exptime noreply) answers = noreply_or_not noreply (shape_text (shape.Line false false) answers)
+empty_or_loud (command.FlushAll delay noreply) answers = noreply_or_not noreply (shape_text (shape.Line false false) answers)
 empty_or_loud (command.Verbosity true) answers = inl refl
 empty_or_loud command.Quit answers = inl refl
-empty_or_loud (command.MetaGet get) answers = meta_or_not kind.Get get.flags get.value (shown_key get.flags get.key) answers
-empty_or_loud (command.MetaSet set) answers = meta_or_not kind.Set set.flags false (shown_key set.flags set.key) answers
-empty_or_loud (command.MetaDelete delete) answers = meta_or_not kind.Delete delete.flags false (shown_key delete.flags delete.key) answers
-empty_or_loud (command.MetaArithmetic arithmetic) answers = meta_or_not kind.Arithmetic arithmetic.flags arithmetic.value (shown_key arithmetic.flags arithmetic.key) answers
+empty_or_loud (command.MetaGet get) answers = meta_or_not kind.Get get.flags get.value (shown_key get.flags get.key) false answers
+empty_or_loud (command.MetaSet set) answers = meta_or_not kind.Set set.flags false (shown_key set.flags set.key) set.lenient answers
+empty_or_loud (command.MetaDelete delete) answers = meta_or_not kind.Delete delete.flags false (shown_key delete.flags delete.key) false answers
+empty_or_loud (command.MetaArithmetic arithmetic) answers = meta_or_not kind.Arithmetic arithmetic.flags arithmetic.value (shown_key arithmetic.flags arithmetic.key) false answers
 empty_or_loud other answers = inr refl
 
 pub asks_as_loud : (shards : ℕ) (command : Command) → pieces_of shards command ≡ pieces_of shards (loud command)

@@ -2,11 +2,13 @@
 use Rattle.std.proofs.Common.{◌≡◌, ℕ, suc, ◌+◌, ◌-◌, ◌<◌, ◌≤◌, List, [], ◌∷◌, ◌++◌, length, map, replicate, Option, None, refl, ap, sym, ◌∙◌, append_assoc, append-nil, arith, length-append, take}
 use Rattle.std.proofs.lemmas.List.{take_at}
 use Rattle.std.proofs.lemmas.List.FromFn.{length-map-range_with_len}
-use Rattle.mc_item.specs.declared.answer.Kind.TheVariants.{Fetch, Flush}
-use Rattle.mc_split.proofs.Shards.{flush_of, flushes_kind, gets_kind}
+use Rattle.mc_item.specs.declared.answer.Kind.TheVariants.{Fetch}
+use Rattle.mc_split.proofs.Shards.{ask_of, asks_kind, gets_kind}
 use Rattle.std.specs.Prelude.{ℤ, IfOk, Result, Ok, Err}
 use Rattle.std.specs.List.{range_with_len}
+use Rattle.mc_item.specs.declared.op.Op.{Op}
 use Rattle.mc_item.specs.declared.op.Op.TheVariants as op
+use Rattle.mc_item.specs.Kind.{kind_of}
 use Rattle.mc_item.specs.declared.answer.Answer.{Answer}
 use Rattle.mc_split.specs.declared.plan.Ticket.{Ticket}
 use Rattle.mc_split.specs.declared.plan.Piece.{Piece}
@@ -81,12 +83,12 @@ parts_numbered part ticket moment (piece ∷ asked) = ap (λ (parts : List ℕ).
 abbrev pub gets_of : ℕ → Option ℤ → List (List ℕ) → List Asked
 gets_of shards touch keys = map (λ key. asked_of shards key (op.Fetch key touch)) keys
 
--- a flush on so many shards, from this one on
-abbrev pub flush_from : ℤ → ℕ → ℕ → List Asked
-flush_from delay first count = map (flush_of delay) (range_with_len first count)
+-- what so many shards are asked, from this one on
+abbrev pub asks_from : Op → ℕ → ℕ → List Asked
+asks_from op first count = map (ask_of op) (range_with_len first count)
 
-pub flush_from-next : (delay : ℤ) (first shards : ℕ) → first < shards → flush_from delay first (shards - first) ≡ flush_of delay first ∷ flush_from delay (first + 1) (shards - (first + 1))
-flush_from-next delay first shards below =
+pub asks_from-next : (op : Op) (first shards : ℕ) → first < shards → asks_from op first (shards - first) ≡ ask_of op first ∷ asks_from op (first + 1) (shards - (first + 1))
+asks_from-next op first shards below =
     let left : shards - first ≡ suc (shards - (first + 1)) = omega arith in
     rw left refl
 
@@ -107,33 +109,33 @@ pub gives_up : (result : Result Form NoMemory) (ticket : Ticket) (moment : ℕ) 
 gives_up (Ok form) ticket moment shape rest asked old now failed some so_far = absurd cc
 gives_up (Err fault) ticket moment shape rest asked old now failed some so_far = record { form = tt; pieces = tt; front = queued_behind so_far; asks = some }
 
-pub flush_none : (old : List (ℕ × Piece)) (ticket : Ticket) (moment : ℕ) (delay : ℤ) (shards : ℕ) → Queued old old ticket moment (flush_from delay 0 (shards - 0)) (flush_from delay 0 shards)
-flush_none old ticket moment delay shards =
+pub asks_none : (old : List (ℕ × Piece)) (ticket : Ticket) (moment : ℕ) (op : Op) (shards : ℕ) → Queued old old ticket moment (asks_from op 0 (shards - 0)) (asks_from op 0 shards)
+asks_none old ticket moment op shards =
     let all : shards - 0 ≡ shards = omega arith in
-    rw all (queued_none old ticket moment (flush_from delay 0 shards))
+    rw all (queued_none old ticket moment (asks_from op 0 shards))
 
 -- the next shard
-pub flush_more : (old now new : List (ℕ × Piece)) (ticket : Ticket) (moment : ℕ) (delay : ℤ) (shard shards : ℕ) → shard < shards → Queued old now ticket moment (flush_from delay shard (shards - shard)) (flush_from delay 0 shards) →
-    new ≡ now ++ numbered shard ticket moment (flush_of delay shard) ∷ [] → Queued old new ticket moment (flush_from delay (shard + 1) (shards - (shard + 1))) (flush_from delay 0 shards)
-flush_more old now new ticket moment delay shard shards below so_far after =
-    let parts = length-append so_far.done (flush_from delay shard (shards - shard)) in
-    let left = length-map-range_with_len (flush_of delay) in
+pub asks_more : (old now new : List (ℕ × Piece)) (ticket : Ticket) (moment : ℕ) (op : Op) (shard shards : ℕ) → shard < shards → Queued old now ticket moment (asks_from op shard (shards - shard)) (asks_from op 0 shards) →
+    new ≡ now ++ numbered shard ticket moment (ask_of op shard) ∷ [] → Queued old new ticket moment (asks_from op (shard + 1) (shards - (shard + 1))) (asks_from op 0 shards)
+asks_more old now new ticket moment op shard shards below so_far after =
+    let parts = length-append so_far.done (asks_from op shard (shards - shard)) in
+    let left = length-map-range_with_len (ask_of op) in
     let count : length now ≡ length old + shard = omega (arith, added so_far, ap length so_far.together, parts, left shard (shards - shard), left 0 shards) in
-    queued_more old now new ticket moment shard (flush_of delay shard) (flush_from delay (shard + 1) (shards - (shard + 1))) (flush_from delay 0 shards) (rw (flush_from-next delay shard shards below) at so_far) count after
+    queued_more old now new ticket moment shard (ask_of op shard) (asks_from op (shard + 1) (shards - (shard + 1))) (asks_from op 0 shards) (rw (asks_from-next op shard shards below) at so_far) count after
 
-pub flush_all : (old now : List (ℕ × Piece)) (ticket : Ticket) (moment : ℕ) (delay : ℤ) (shard shards : ℕ) → shards ≤ shard → Queued old now ticket moment (flush_from delay shard (shards - shard)) (flush_from delay 0 shards) → Queued old now ticket moment [] (flush_from delay 0 shards)
-flush_all old now ticket moment delay shard shards all so_far =
+pub asks_all : (old now : List (ℕ × Piece)) (ticket : Ticket) (moment : ℕ) (op : Op) (shard shards : ℕ) → shards ≤ shard → Queued old now ticket moment (asks_from op shard (shards - shard)) (asks_from op 0 shards) → Queued old now ticket moment [] (asks_from op 0 shards)
+asks_all old now ticket moment op shard shards all so_far =
     let none : shards - shard ≡ 0 = omega arith in
     rw none at so_far
 
-pub flush_some : (delay : ℤ) (shards : ℕ) → 0 < shards → 0 < length (flush_from delay 0 shards)
-flush_some delay shards some = omega (arith, length-map-range_with_len (flush_of delay) 0 shards, some)
+pub asks_some : (op : Op) (shards : ℕ) → 0 < shards → 0 < length (asks_from op 0 shards)
+asks_some op shards some = omega (arith, length-map-range_with_len (ask_of op) 0 shards, some)
 
-pub splits_flush : (result : Result Form NoMemory) (ticket : Ticket) (moment : ℕ) (shape : Shape) (delay : ℤ) (shards : ℕ) (old now : List (ℕ × Piece)) → IfOk result (λ form. form ≡ record { ticket = ticket; kind = Flush; shape = shape; slots = replicate shards None }) → 0 < shards → Queued old now ticket moment [] (flush_from delay 0 shards) →
-    Splits result ticket moment shape (flush_from delay 0 shards) old now
-splits_flush result ticket moment shape delay shards old now form_is some all =
-    let count : shards ≡ length (flush_from delay 0 shards) = sym (length-map-range_with_len (flush_of delay) 0 shards) in
-    splits result ticket moment shape Flush (flush_from delay 0 shards) old now (rw count at form_is) (flushes_kind 0 shards delay) (flush_some delay shards some) all
+pub splits_asks : (result : Result Form NoMemory) (ticket : Ticket) (moment : ℕ) (shape : Shape) (op : Op) (shards : ℕ) (old now : List (ℕ × Piece)) → IfOk result (λ form. form ≡ record { ticket = ticket; kind = kind_of op; shape = shape; slots = replicate shards None }) → 0 < shards → Queued old now ticket moment [] (asks_from op 0 shards) →
+    Splits result ticket moment shape (asks_from op 0 shards) old now
+splits_asks result ticket moment shape op shards old now form_is some all =
+    let count : shards ≡ length (asks_from op 0 shards) = sym (length-map-range_with_len (ask_of op) 0 shards) in
+    splits result ticket moment shape (kind_of op) (asks_from op 0 shards) old now (rw count at form_is) (asks_kind 0 shards op some) (asks_some op shards some) all
 
 pub get_first : (old now : List (ℕ × Piece)) (ticket : Ticket) (moment : ℕ) (shards : ℕ) (touch : Option ℤ) (first : List ℕ) (others : List (List ℕ)) → now ≡ old ++ numbered 0 ticket moment (asked_of shards first (op.Fetch first touch)) ∷ [] →
     Queued old now ticket moment (gets_of shards touch others) (gets_of shards touch (first ∷ others))

@@ -4,9 +4,11 @@ use Rattle.std.specs.Prelude.{codes, pos}
 use Rattle.mc_wire.specs.Key.{fnv_of}
 use Rattle.mc_command.specs.declared.command.Command.{Command}
 use Rattle.mc_command.specs.declared.command.Command.TheVariants as command
+use Rattle.mc_command.specs.declared.command.StatsRequest.TheVariants as request
 use Rattle.mc_command.specs.declared.command.Direction.TheVariants as direction
 use Rattle.mc_command.specs.declared.refusal.Refusal.TheVariants.{TooLarge}
 use Rattle.mc_command.specs.declared.meta.MetaFlags.{MetaFlags}
+use Rattle.mc_command.specs.declared.rules.Profile.TheVariants.{Own}
 use Rattle.mc_command.specs.declared.meta.ReturnFlag.TheVariants as flag
 use Rattle.mc_item.specs.declared.op.Op.TheVariants as op
 use Rattle.mc_split.specs.declared.form.Shape.TheVariants as shape
@@ -32,9 +34,16 @@ other_pieces : (pieces_of 3 (command.FlushAll (pos 5) true)
 unfolding pieces_of fnv_of
 other_pieces = (refl, refl, refl, refl)
 
+-- the counts of every shard, rising; they begin anew on every shard; and counts of other kinds ask none
+stats_pieces : (pieces_of 2 (command.Stats request.General) ≡ record { shard = 0; op = op.Stats } ∷ record { shard = 1; op = op.Stats } ∷ [])
+    × (pieces_of 2 (command.Stats request.Reset) ≡ record { shard = 0; op = op.ResetStats } ∷ record { shard = 1; op = op.ResetStats } ∷ [])
+    × (pieces_of 2 (command.Stats request.Empty) ≡ [])
+unfolding pieces_of
+stats_pieces = (refl, refl, refl)
+
 -- ma with N30 and J13
 abbrev flags_k : MetaFlags
-flags_k = record { base64 = false; quiet = true; returned = flag.TimeLeft ∷ flag.Key ∷ []; opaque = [] }
+flags_k = record { base64 = false; quiet = true; profile = Own; returned = flag.TimeLeft ∷ flag.Key ∷ []; opaque = [] }
 
 vivify_pieces : pieces_of 2 (command.MetaArithmetic (record { key = codes "c"; flags = flags_k; value = true; compare = None; unique = None; direction = direction.Increment; amount = 1; initial = 13; vivify = Some (pos 30); exptime = None }))
     ≡ record { shard = 0; op = op.MetaCount (record { key = codes "c"; compare = None; unique = None; direction = direction.Increment; amount = 1; exptime = None; vivify = Some (record { exptime = pos 30; initial = 13 }) }) } ∷ []
@@ -45,8 +54,8 @@ abbrev deletion : MetaFlags → Command
 deletion flags = command.MetaDelete (record { key = codes "a"; flags = flags; compare = None; unique = None; invalidate = false; exptime = None })
 
 -- the key is kept for the reply where the flag k stands
-shapes : (shape_of (deletion flags_k) ≡ shape.Meta kind.Delete flags_k false (Some (codes "a")))
-    × (shape_of (deletion (record flags_k { returned = flag.TimeLeft ∷ [] })) ≡ shape.Meta kind.Delete (record flags_k { returned = flag.TimeLeft ∷ [] }) false None)
+shapes : (shape_of (deletion flags_k) ≡ shape.Meta kind.Delete flags_k false (Some (codes "a")) false)
+    × (shape_of (deletion (record flags_k { returned = flag.TimeLeft ∷ [] })) ≡ shape.Meta kind.Delete (record flags_k { returned = flag.TimeLeft ∷ [] }) false None false)
     × (shape_of (command.Verbosity true) ≡ shape.Fixed fixed.Nothing)
     × (shape_of (command.Verbosity false) ≡ shape.Fixed fixed.Ok)
     × (shape_of (command.Discard (codes "a") TooLarge) ≡ shape.Fixed (fixed.Refused TooLarge))

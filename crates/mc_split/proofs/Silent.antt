@@ -1,9 +1,10 @@
 -- Which replies are empty.
 use Rattle.std.proofs.Common.{◌≡◌, ℕ, zero, suc, ◌<◌, Bool, true, false, ◌&&◌, ◌↔◌, cond, List, [], ◌∷◌, ◌++◌, Option, refl, arith}
-use Rattle.std.specs.Prelude.{ℤ, IsTrue, codes, decimal}
+use Rattle.std.specs.Prelude.{IsTrue, codes, decimal}
 use Rattle.std.specs.List.{flat_map, list_any, zip}
 use Rattle.mc_command.specs.declared.command.Command.{Command}
 use Rattle.mc_command.specs.declared.command.Command.TheVariants as command
+use Rattle.mc_command.specs.declared.command.StatsRequest.TheVariants as request
 use Rattle.mc_command.specs.declared.meta.MetaFlags.{MetaFlags}
 use Rattle.mc_command.specs.declared.refusal.Refusal.{Refusal}
 use Rattle.mc_command.specs.declared.rules.Profile.{Profile}
@@ -13,14 +14,16 @@ use Rattle.mc_item.specs.declared.answer.Answer.{Answer}
 use Rattle.mc_item.specs.declared.answer.Answer.TheVariants.{NoMemory, Number}
 use Rattle.mc_item.specs.declared.answer.Answer.TheVariants as answer
 use Rattle.mc_item.specs.declared.answer.Kind.{Kind}
-use Rattle.mc_item.specs.declared.answer.Kind.TheVariants.{Store, Count, Delete, Touch, Flush, MetaGet, MetaStore, MetaDelete, MetaCount}
+use Rattle.mc_item.specs.declared.answer.Kind.TheVariants.{Store, Count, Delete, Touch, Flush, ResetStats, MetaGet, MetaStore, MetaDelete, MetaCount}
 use Rattle.mc_item.specs.Kind.{is_lawful, kind_of}
+use Rattle.mc_item.specs.declared.op.Op.{Op}
+use Rattle.mc_item.specs.declared.op.Op.TheVariants as op
 use Rattle.mc_command.specs.declared.meta.MetaKind.{MetaKind}
 use Rattle.mc_command.specs.declared.meta.MetaKind.TheVariants as kind
 use Rattle.mc_split.specs.declared.form.Shape.TheVariants as shape
-use Rattle.mc_split.specs.Pieces.{pieces_of}
+use Rattle.mc_split.specs.Pieces.{asked_of_all, pieces_of}
 use Rattle.mc_split.specs.Shape.{shape_of, shown_key}
-use Rattle.mc_split.specs.Text.{answer_line, coded_text, is_hidden, is_no_memory, memory_line, item_text, refusal_line, shape_text, text_of, version_line}
+use Rattle.mc_split.specs.Text.{answer_line, coded_text, is_hidden, is_no_memory, memory_line, item_text, refusal_line, shape_text, text_of, told, version_line}
 use Rattle.mc_split.specs.TextLaws.{AnswersTo, is_hidden_refusal, is_silent}
 
 -- a text with a byte behind it isn't empty
@@ -35,6 +38,7 @@ is_plain Count = true
 is_plain Delete = true
 is_plain Touch = true
 is_plain Flush = true
+is_plain ResetStats = true
 is_plain kind = false
 
 -- Each lawful answer of such a kind has a line.
@@ -43,6 +47,19 @@ unfolding is_lawful
 has_line kind plain (Number number) lawful e = some_behind (decimal number) (10 ∷ []) 13 e
 has_line Store plain given lawful e = cc
 has_line kind plain given lawful e = cc
+
+told_as_it_is : (given : Answer) → told given false ≡ given
+told_as_it_is answer.TooLarge = refl
+told_as_it_is given = refl
+
+-- Whatever is lawful is told as what is lawful.
+told_lawful : (kind : Kind) (lenient : Bool) (given : Answer) → is_lawful kind given ≡ true → is_lawful kind (told given lenient) ≡ true
+unfolding is_lawful
+told_lawful Store true answer.TooLarge lawful = refl
+told_lawful MetaStore true answer.TooLarge lawful = refl
+told_lawful kind true answer.TooLarge lawful = cc
+told_lawful kind false given lawful = rw (told_as_it_is given) lawful
+told_lawful kind true given lawful = lawful
 
 line_silent : (noreply lacks : Bool) (line : List ℕ) → (line ≡ [] → ⊥) → (cond noreply [] (cond lacks memory_line line) ≡ []) ↔ IsTrue noreply
 line_silent true lacks line some = (λ e. refl, λ e. refl)
@@ -53,6 +70,10 @@ values_shown : (lacks : Bool) (items : List ℕ) → (cond lacks memory_line (it
 values_shown true items = (λ e. absurd cc, λ e. absurd cc)
 values_shown false items = (λ e. absurd (some_behind items (codes "ND\r\n") 69 e), λ e. absurd cc)
 
+told_shown : (lacks : Bool) (byte : ℕ) (text : List ℕ) → (cond lacks memory_line (byte ∷ text) ≡ []) ↔ IsTrue false
+told_shown true byte text = (λ e. absurd cc, λ e. absurd cc)
+told_shown false byte text = (λ e. absurd cc, λ e. absurd cc)
+
 -- the kinds of the meta commands
 abbrev is_meta : Kind → Bool
 is_meta MetaGet = true
@@ -62,12 +83,12 @@ is_meta MetaCount = true
 is_meta kind = false
 
 -- Each lawful answer of such a kind has a text.
-has_code : (kind : Kind) → is_meta kind ≡ true → (flags : MetaFlags) (key : Option (List ℕ)) (given : Answer) (value : Bool) → is_lawful kind given ≡ true → coded_text flags key given value ≡ [] → ⊥
+has_code : (kind : Kind) → is_meta kind ≡ true → (name : MetaKind) (flags : MetaFlags) (key : Option (List ℕ)) (given : Answer) (value : Bool) → is_lawful kind given ≡ true → coded_text name flags key given value ≡ [] → ⊥
 unfolding is_lawful
-has_code kind meta flags key (answer.MetaHit hit) true lawful e = cc
-has_code kind meta flags key (answer.MetaDone done) true lawful e = cc
-has_code MetaGet meta flags key given value lawful e = cc
-has_code kind meta flags key given value lawful e = cc
+has_code kind meta name flags key (answer.MetaHit hit) true lawful e = cc
+has_code kind meta name flags key (answer.MetaDone done) true lawful e = cc
+has_code MetaGet meta name flags key given value lawful e = cc
+has_code kind meta name flags key given value lawful e = cc
 
 -- Want of memory isn't hidden.
 hidden_is_told : (given : Answer) (kind : MetaKind) (value : Bool) → is_hidden kind value given ≡ true → is_no_memory given ≡ false
@@ -81,13 +102,13 @@ hidden_silent quiet hidden true text some told = (λ e. absurd cc, λ e. absurd 
 hidden_silent true true false text some told = (λ e. refl, λ e. refl)
 hidden_silent quiet hidden false text some told = (λ e. absurd (some e), λ e. absurd cc)
 
-meta_silent : (piece : Kind) → is_meta piece ≡ true → (kind : MetaKind) (flags : MetaFlags) (value : Bool) (key : Option (List ℕ)) (given : Answer) → is_lawful piece given ≡ true →
-    (shape_text (shape.Meta kind flags value key) (given ∷ []) ≡ []) ↔ IsTrue (flags.quiet && is_hidden kind value given)
+meta_silent : (piece : Kind) → is_meta piece ≡ true → (kind : MetaKind) (flags : MetaFlags) (value : Bool) (key : Option (List ℕ)) (lenient : Bool) (given : Answer) → is_lawful piece given ≡ true →
+    (shape_text (shape.Meta kind flags value key lenient) (given ∷ []) ≡ []) ↔ IsTrue (flags.quiet && is_hidden kind value given)
 unfolding shape_text
-meta_silent piece meta kind flags value key given lawful =
-    hidden_silent flags.quiet (is_hidden kind value given) (list_any is_no_memory (given ∷ [])) (coded_text flags key given value) (has_code piece meta flags key given value lawful) told where
-      told : is_hidden kind value given ≡ true → list_any is_no_memory (given ∷ []) ≡ false
-      told e = rw (hidden_is_told given kind value e) refl
+meta_silent piece meta kind flags value key lenient given lawful =
+    hidden_silent flags.quiet (is_hidden kind value given) (list_any is_no_memory (given ∷ [])) (coded_text kind flags key (told given lenient) value) (has_code piece meta kind flags key (told given lenient) value (told_lawful piece lenient given lawful)) is_told where
+      is_told : is_hidden kind value given ≡ true → list_any is_no_memory (given ∷ []) ≡ false
+      is_told e = rw (hidden_is_told given kind value e) refl
 
 refused_shown : (refused : Refusal) → (refusal_line refused ≡ []) ↔ IsTrue (is_hidden_refusal refused)
 refused_shown refusal.Unknown = (λ e. absurd cc, λ e. absurd cc)
@@ -98,32 +119,33 @@ version_shown : (profile : Profile) (answers : List Answer) → (version_line pr
 version_shown Own answers = (λ e. absurd cc, λ e. absurd cc)
 version_shown DropIn answers = (λ e. absurd cc, λ e. absurd cc)
 
-plain_silent : (piece : Kind) → is_plain piece ≡ true → (noreply : Bool) (given : Answer) (answers : List Answer) → is_lawful piece given ≡ true →
-    (shape_text (shape.Line noreply) (given ∷ answers) ≡ []) ↔ IsTrue noreply
+plain_silent : (piece : Kind) → is_plain piece ≡ true → (noreply lenient : Bool) (given : Answer) (answers : List Answer) → is_lawful piece given ≡ true →
+    (shape_text (shape.Line noreply lenient) (given ∷ answers) ≡ []) ↔ IsTrue noreply
 unfolding shape_text
-plain_silent piece plain noreply given answers lawful =
-    line_silent noreply (list_any is_no_memory (given ∷ answers)) (answer_line given) (has_line piece plain given lawful)
+plain_silent piece plain noreply lenient given answers lawful =
+    line_silent noreply (list_any is_no_memory (given ∷ answers)) (answer_line (told given lenient)) (has_line piece plain (told given lenient) (told_lawful piece lenient given lawful))
 
-flush_silent : (shards : ℕ) → 0 < shards → (delay : ℤ) (noreply : Bool) (answers : List Answer) → AnswersTo (pieces_of shards (command.FlushAll delay noreply)) answers →
-    (shape_text (shape.Line noreply) answers ≡ []) ↔ IsTrue noreply
-unfolding pieces_of kind_of
-flush_silent zero some delay noreply answers h = absurd (omega arith)
-flush_silent (suc shards) some delay noreply (given ∷ answers) h = plain_silent Flush refl noreply given answers h.0
-flush_silent (suc shards) some delay noreply [] h = absurd h
+asks_silent : (shards : ℕ) → 0 < shards → (op : Op) → is_plain (kind_of op) ≡ true → (noreply : Bool) (answers : List Answer) → AnswersTo (asked_of_all shards op) answers →
+    (shape_text (shape.Line noreply false) answers ≡ []) ↔ IsTrue noreply
+asks_silent zero some op plain noreply answers h = absurd (omega arith)
+asks_silent (suc shards) some op plain noreply (given ∷ answers) h = plain_silent (kind_of op) plain noreply false given answers h.0
+asks_silent (suc shards) some op plain noreply [] h = absurd h
 
 pub empty_where_silent : (shards : ℕ) → 0 < shards → (asked : Command) (answers : List Answer) → AnswersTo (pieces_of shards asked) answers → (text_of asked answers ≡ []) ↔ IsTrue (is_silent asked answers)
 unfolding pieces_of kind_of shape_of shape_text
-empty_where_silent shards some (command.Store storage) (given ∷ answers) h = plain_silent Store refl storage.noreply given answers h.0
-empty_where_silent shards some (command.Delete key noreply) (given ∷ answers) h = plain_silent Delete refl noreply given answers h.0
-empty_where_silent shards some (command.Count key direction amount noreply) (given ∷ answers) h = plain_silent Count refl noreply given answers h.0
-empty_where_silent shards some (command.Touch key exptime noreply) (given ∷ answers) h = plain_silent Touch refl noreply given answers h.0
-empty_where_silent shards some (command.FlushAll delay noreply) answers h = flush_silent shards some delay noreply answers h
+empty_where_silent shards some (command.Store storage) (given ∷ answers) h = plain_silent Store refl storage.noreply storage.lenient given answers h.0
+empty_where_silent shards some (command.Delete key noreply) (given ∷ answers) h = plain_silent Delete refl noreply false given answers h.0
+empty_where_silent shards some (command.Count key direction amount noreply) (given ∷ answers) h = plain_silent Count refl noreply false given answers h.0
+empty_where_silent shards some (command.Touch key exptime noreply) (given ∷ answers) h = plain_silent Touch refl noreply false given answers h.0
+empty_where_silent shards some (command.FlushAll delay noreply) answers h = asks_silent shards some (op.Flush delay) refl noreply answers h
+empty_where_silent shards some (command.Stats request.General) answers h = told_shown (list_any is_no_memory answers) _ _
+empty_where_silent shards some (command.Stats request.Reset) answers h = asks_silent shards some op.ResetStats refl false answers h
 empty_where_silent shards some (command.Get retrieval) answers h =
     values_shown (list_any is_no_memory answers) (flat_map (λ (pair : List ℕ × Answer). item_text retrieval.with_unique pair.0 pair.1) (zip retrieval.keys answers))
-empty_where_silent shards some (command.MetaGet get) (given ∷ []) h = meta_silent MetaGet refl kind.Get get.flags get.value (shown_key get.flags get.key) given h.0
-empty_where_silent shards some (command.MetaSet set) (given ∷ []) h = meta_silent MetaStore refl kind.Set set.flags false (shown_key set.flags set.key) given h.0
-empty_where_silent shards some (command.MetaDelete delete) (given ∷ []) h = meta_silent MetaDelete refl kind.Delete delete.flags false (shown_key delete.flags delete.key) given h.0
-empty_where_silent shards some (command.MetaArithmetic arithmetic) (given ∷ []) h = meta_silent MetaCount refl kind.Arithmetic arithmetic.flags arithmetic.value (shown_key arithmetic.flags arithmetic.key) given h.0
+empty_where_silent shards some (command.MetaGet get) (given ∷ []) h = meta_silent MetaGet refl kind.Get get.flags get.value (shown_key get.flags get.key) false given h.0
+empty_where_silent shards some (command.MetaSet set) (given ∷ []) h = meta_silent MetaStore refl kind.Set set.flags false (shown_key set.flags set.key) set.lenient given h.0
+empty_where_silent shards some (command.MetaDelete delete) (given ∷ []) h = meta_silent MetaDelete refl kind.Delete delete.flags false (shown_key delete.flags delete.key) false given h.0
+empty_where_silent shards some (command.MetaArithmetic arithmetic) (given ∷ []) h = meta_silent MetaCount refl kind.Arithmetic arithmetic.flags arithmetic.value (shown_key arithmetic.flags arithmetic.key) false given h.0
 empty_where_silent shards some (command.Refused refused) answers h = refused_shown refused
 empty_where_silent shards some (command.Discard key refused) answers h = refused_shown refused
 empty_where_silent shards some (command.Version profile) answers h = version_shown profile answers

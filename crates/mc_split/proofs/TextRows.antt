@@ -1,15 +1,22 @@
 -- Worked replies, each computed from the command and its answers.
-use Rattle.std.proofs.Common.{◌≡◌, ℕ, Bool, true, false, List, [], ◌∷◌, Option, Some, None, refl}
+use Rattle.std.proofs.Common.{◌≡◌, ℕ, Bool, true, false, List, [], ◌∷◌, ◌++◌, Option, Some, None, refl}
 use Rattle.std.specs.Prelude.{codes, pos}
 use Rattle.std.specs.Fmt.{digits}
 use Rattle.mc_command.specs.declared.command.Command.{Command}
 use Rattle.mc_command.specs.declared.command.Command.TheVariants as command
 use Rattle.mc_command.specs.declared.command.Direction.TheVariants as direction
+use Rattle.mc_command.specs.declared.command.StoreMode.{StoreMode}
+use Rattle.mc_command.specs.declared.command.StoreMode.TheVariants as store
 use Rattle.mc_command.specs.declared.meta.MetaMode.TheVariants as mode
 use Rattle.mc_command.specs.declared.meta.MetaFlags.{MetaFlags}
 use Rattle.mc_command.specs.declared.meta.ReturnFlag.{ReturnFlag}
 use Rattle.mc_command.specs.declared.meta.ReturnFlag.TheVariants as flag
 use Rattle.mc_command.specs.declared.refusal.Refusal.TheVariants as refusal
+use Rattle.mc_command.specs.declared.command.StatsRequest.TheVariants as request
+use Rattle.mc_command.specs.declared.rules.Profile.TheVariants.{DropIn, Own}
+use Rattle.mc_item.specs.declared.tally.Asked.TheVariants as asked
+use Rattle.mc_item.specs.declared.tally.Status.TheVariants as status
+use Rattle.mc_item.specs.Tally.{no_counts, noted}
 use Rattle.mc_item.specs.declared.answer.Answer.{Answer}
 use Rattle.mc_item.specs.declared.answer.Answer.TheVariants as answer
 use Rattle.mc_split.specs.Shape.{shape_of}
@@ -42,13 +49,13 @@ lines = (refl, refl, refl, refl)
 
 -- the flags of a meta command
 abbrev flags_of : Bool → Bool → List ReturnFlag → List ℕ → MetaFlags
-flags_of base64 quiet returned token = record { base64 = base64; quiet = quiet; returned = returned; opaque = token }
+flags_of base64 quiet returned token = record { base64 = base64; quiet = quiet; profile = Own; returned = returned; opaque = token }
 
 abbrev meta_get : List ℕ → MetaFlags → Bool → Command
-meta_get key flags value = command.MetaGet (record { key = key; flags = flags; value = value; touch = None; vivify = None; recache = None })
+meta_get key flags value = command.MetaGet (record { key = key; flags = flags; value = value; touch = None; vivify = None; recache = None; unnoted = false })
 
 abbrev meta_set : List ℕ → MetaFlags → Command
-meta_set key flags = command.MetaSet (record { key = key; flags = flags; mode = mode.Set; compare = None; unique = None; client_flags = 0; exptime = pos 0; block = codes "x" })
+meta_set key flags = command.MetaSet (record { key = key; flags = flags; mode = mode.Set; compare = None; unique = None; client_flags = 0; exptime = pos 0; lenient = false; block = codes "x" })
 
 abbrev meta_hit : List ℕ → ℕ → Option ℕ → Bool → Bool → Bool → Answer
 meta_hit value unique left won stale sent = answer.MetaHit (record { value = value; flags = 0; unique = unique; fetched = true; idle = 2; left = left; marks = record { won = won; stale = stale; sent = sent } })
@@ -87,3 +94,61 @@ sets = (refl, refl, refl, refl)
 arithmetic : text_of (command.MetaArithmetic (record { key = codes "c"; flags = flags_of false true (flag.Unique ∷ []) []; value = true; compare = None; unique = None; direction = direction.Increment; amount = 2; initial = 0; vivify = None; exptime = None })) (meta_done 3 2 15 ∷ []) ≡ codes "VA 2 c3\r\n15\r\n"
 unfolding shape_of shape_text digits
 arithmetic = refl
+
+-- By memcached's rules: the marks stand the other way round, `ms` shows the unique 0 of what it did not store, also where it is
+-- quiet, and a joined value that is too large counts as not stored.
+abbrev by_memcached : MetaFlags → MetaFlags
+by_memcached flags = record flags { profile = DropIn }
+
+abbrev joined : StoreMode → Bool → Bool → Command
+joined mode noreply lenient = command.Store (record { key = codes "a"; mode = mode; flags = 0; exptime = pos 0; noreply = noreply; lenient = lenient; block = codes "x" })
+
+abbrev joined_by_ms : MetaFlags → Bool → Command
+joined_by_ms flags lenient = command.MetaSet (record { key = codes "a"; flags = flags; mode = mode.Append; compare = None; unique = None; client_flags = 0; exptime = pos 0; lenient = lenient; block = codes "x" })
+
+memcached_marks : (text_of (meta_get (codes "a") (by_memcached (flags_of false false (flag.Unique ∷ []) [])) true) (meta_hit (codes "x") 5 None false true true ∷ []) ≡ codes "VA 1 c5 Z X\r\nx\r\n")
+    × (text_of (meta_get (codes "a") (by_memcached (flags_of false false [] [])) false) (meta_hit (codes "x") 5 None true true false ∷ []) ≡ codes "HD X W\r\n")
+    × (text_of (meta_get (codes "a") (flags_of false false [] []) false) (meta_hit (codes "x") 5 None true true false ∷ []) ≡ codes "HD W X\r\n")
+unfolding shape_of shape_text digits
+memcached_marks = (refl, refl, refl)
+
+memcached_zero : (text_of (meta_set (codes "a") (by_memcached (flags_of false true (flag.Key ∷ flag.Unique ∷ flag.Opaque ∷ []) (codes "1")))) (answer.NotStored ∷ []) ≡ codes "NS ka c0 O1\r\n")
+    × (text_of (meta_set (codes "a") (by_memcached (flags_of false false (flag.Unique ∷ flag.Size ∷ []) []))) (answer.Exists ∷ []) ≡ codes "EX c0\r\n")
+    × (text_of (meta_set (codes "a") (by_memcached (flags_of false false (flag.Unique ∷ []) []))) (answer.NotFound ∷ []) ≡ codes "NF c0\r\n")
+    × (text_of (meta_set (codes "a") (flags_of false false (flag.Unique ∷ []) [])) (answer.NotFound ∷ []) ≡ codes "NF\r\n")
+    × (text_of (command.MetaArithmetic (record { key = codes "c"; flags = by_memcached (flags_of false false (flag.Unique ∷ []) []); value = false; compare = None; unique = None; direction = direction.Increment; amount = 2; initial = 0; vivify = None; exptime = None })) (answer.NotFound ∷ []) ≡ codes "NF\r\n")
+unfolding shape_of shape_text digits
+memcached_zero = (refl, refl, refl, refl, refl)
+
+joined_too_large : (text_of (joined store.Append false true) (answer.TooLarge ∷ []) ≡ codes "NOT_STORED\r\n")
+    × (text_of (joined store.Append true true) (answer.TooLarge ∷ []) ≡ [])
+    × (text_of (joined store.Append false false) (answer.TooLarge ∷ []) ≡ codes "SERVER_ERROR object too large for cache\r\n")
+    × (text_of (joined_by_ms (by_memcached (flags_of false true (flag.Unique ∷ flag.Key ∷ []) [])) true) (answer.TooLarge ∷ []) ≡ codes "NS c0 ka\r\n")
+    × (text_of (joined_by_ms (flags_of false true (flag.Unique ∷ flag.Key ∷ []) []) false) (answer.TooLarge ∷ []) ≡ codes "SERVER_ERROR object too large for cache\r\n")
+unfolding shape_of shape_text digits
+joined_too_large = (refl, refl, refl, refl, refl)
+
+-- a shard that was asked for two items and had one of them, and another that had one, stored one with a unique, and let the most
+-- items go that can be counted
+abbrev first_shard : Answer
+first_shard = answer.Stats (record { tally = noted (noted no_counts asked.Get status.Hit) asked.Get status.Miss; evicted = 3; items = 4; bytes = 400; budget = 1000 })
+
+abbrev second_shard : Answer
+second_shard = answer.Stats (record { tally = noted (noted no_counts asked.Get status.Hit) asked.Cas status.Hit; evicted = 18446744073709551615; items = 5; bytes = 500; budget = 1000 })
+
+-- The numbers of the shards are added up, and a count starts anew after its greatest value.
+counts : text_of (command.Stats request.General) (first_shard ∷ second_shard ∷ [])
+    ≡ codes "STAT version 1.6.18\r\nSTAT cmd_get 3\r\nSTAT cmd_set 1\r\nSTAT cmd_flush 0\r\nSTAT cmd_touch 0\r\nSTAT get_hits 2\r\nSTAT get_misses 1\r\n"
+    ++ codes "STAT delete_misses 0\r\nSTAT delete_hits 0\r\nSTAT incr_misses 0\r\nSTAT incr_hits 0\r\nSTAT decr_misses 0\r\nSTAT decr_hits 0\r\n"
+    ++ codes "STAT cas_misses 0\r\nSTAT cas_hits 1\r\nSTAT cas_badval 0\r\nSTAT touch_hits 0\r\nSTAT touch_misses 0\r\nSTAT limit_maxbytes 2000\r\n"
+    ++ codes "STAT bytes 900\r\nSTAT curr_items 9\r\nSTAT total_items 1\r\nSTAT evictions 2\r\nSTAT threads 2\r\nEND\r\n"
+unfolding shape_of shape_text digits
+counts = refl
+
+-- what other words behind `stats` are answered with, and the release
+other_counts : (text_of (command.Stats request.Reset) (answer.Reset ∷ answer.Reset ∷ []) ≡ codes "RESET\r\n")
+    × (text_of (command.Stats request.Empty) [] ≡ codes "END\r\n")
+    × (text_of (command.Stats request.General) (first_shard ∷ answer.NoMemory ∷ []) ≡ codes "SERVER_ERROR out of memory\r\n")
+    × (text_of (command.Version DropIn) [] ≡ codes "VERSION 1.6.18\r\n")
+unfolding shape_of shape_text digits
+other_counts = (refl, refl, refl, refl)

@@ -5,6 +5,7 @@ use Rattle.std.specs.Option.{option_map}
 use Rattle.mc_wire.specs.Key.{place_of}
 use Rattle.mc_command.specs.declared.command.Command.{Command}
 use Rattle.mc_command.specs.declared.command.Command.TheVariants as command
+use Rattle.mc_command.specs.declared.command.StatsRequest.TheVariants as request
 use Rattle.mc_item.specs.declared.op.Op.{Op}
 use Rattle.mc_item.specs.declared.op.Op.TheVariants as op
 use Rattle.mc_item.specs.declared.op.Vivify.{Vivify}
@@ -18,12 +19,16 @@ pub record Asked : Type 0 where
 abbrev pub asked_of : ℕ → List ℕ → Op → Asked
 asked_of shards key op = record { shard = place_of key shards; op = op }
 
+-- what every shard is asked, in rising order
+abbrev pub asked_of_all : ℕ → Op → List Asked
+asked_of_all shards op = map (λ shard. record { shard = shard; op = op }) (range_with_len 0 shards)
+
 -- the item that ma makes of a miss: its exptime is the token of N, its number that of J
 abbrev pub vivify_of : Option ℤ → ℕ → Option Vivify
 vivify_of exptime initial = option_map (λ exptime. record { exptime = exptime; initial = initial }) exptime
 
 -- The pieces of a command, over so many shards: one for a command with one key, one a key in the order of the
--- request for a get, one a shard in rising order for flush_all, and none for what asks no shard.
+-- request for a get, one a shard for flush_all and stats, and none for what asks no shard.
 unfoldable pub pieces_of : ℕ → Command → List Asked
 pieces_of shards (command.Store storage) =
     asked_of shards storage.key (op.Store storage.key storage.mode storage.flags storage.exptime storage.block) ∷ []
@@ -31,12 +36,15 @@ pieces_of shards (command.Get retrieval) = map (λ key. asked_of shards key (op.
 pieces_of shards (command.Delete key noreply) = asked_of shards key (op.Delete key) ∷ []
 pieces_of shards (command.Count key direction amount noreply) = asked_of shards key (op.Count key direction amount) ∷ []
 pieces_of shards (command.Touch key exptime noreply) = asked_of shards key (op.Touch key exptime) ∷ []
-pieces_of shards (command.FlushAll delay noreply) = map (λ shard. record { shard = shard; op = op.Flush delay }) (range_with_len 0 shards)
+pieces_of shards (command.FlushAll delay noreply) = asked_of_all shards (op.Flush delay)
 pieces_of shards (command.Version profile) = []
 pieces_of shards (command.Verbosity noreply) = []
+pieces_of shards (command.Stats request.General) = asked_of_all shards op.Stats
+pieces_of shards (command.Stats request.Reset) = asked_of_all shards op.ResetStats
+pieces_of shards (command.Stats request.Empty) = []
 pieces_of shards command.Quit = []
 pieces_of shards command.MetaNoop = []
-pieces_of shards (command.MetaGet get) = asked_of shards get.key (op.MetaGet (record { key = get.key; touch = get.touch; vivify = get.vivify; recache = get.recache })) ∷ []
+pieces_of shards (command.MetaGet get) = asked_of shards get.key (op.MetaGet (record { key = get.key; touch = get.touch; vivify = get.vivify; recache = get.recache; unnoted = get.unnoted })) ∷ []
 pieces_of shards (command.MetaSet set) =
     asked_of shards set.key (op.MetaStore (record { key = set.key; mode = set.mode; compare = set.compare; unique = set.unique; flags = set.client_flags; exptime = set.exptime; value = set.block })) ∷ []
 pieces_of shards (command.MetaDelete delete) =

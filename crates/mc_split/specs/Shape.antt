@@ -3,11 +3,12 @@ use Rattle.std.specs.Prelude.{ℕ, Bool, true, false, List, Option, Some, None, 
 use Rattle.std.specs.List.{list_any}
 use Rattle.mc_command.specs.declared.command.Command.{Command}
 use Rattle.mc_command.specs.declared.command.Command.TheVariants as command
+use Rattle.mc_command.specs.declared.command.StatsRequest.TheVariants as request
 use Rattle.mc_command.specs.declared.meta.MetaFlags.{MetaFlags}
 use Rattle.mc_command.specs.declared.meta.ReturnFlag.{ReturnFlag}
 use Rattle.mc_command.specs.declared.meta.ReturnFlag.TheVariants.{Unique, ClientFlags, Fetched, Key, LastAccess, Opaque, Size, TimeLeft}
 use Rattle.mc_split.specs.declared.form.Shape.{Shape}
-use Rattle.mc_split.specs.declared.form.Shape.TheVariants.{Fixed, Line, Values, Meta}
+use Rattle.mc_split.specs.declared.form.Shape.TheVariants.{Fixed, Line, Values, Stats, Meta}
 use Rattle.mc_split.specs.declared.form.Fixed.TheVariants as fixed
 use Rattle.mc_command.specs.declared.meta.MetaKind.TheVariants as kind
 
@@ -28,20 +29,23 @@ shown_key flags key = if list_any is_key_flag flags.returned then Some key else 
 
 -- the shape of the reply to a command
 unfoldable pub shape_of : Command → Shape
-shape_of (command.Store storage) = Line storage.noreply
+shape_of (command.Store storage) = Line storage.noreply storage.lenient
 shape_of (command.Get retrieval) = Values retrieval.keys retrieval.with_unique
-shape_of (command.Delete key noreply) = Line noreply
-shape_of (command.Count key direction amount noreply) = Line noreply
-shape_of (command.Touch key exptime noreply) = Line noreply
-shape_of (command.FlushAll delay noreply) = Line noreply
+shape_of (command.Delete key noreply) = Line noreply false
+shape_of (command.Count key direction amount noreply) = Line noreply false
+shape_of (command.Touch key exptime noreply) = Line noreply false
+shape_of (command.FlushAll delay noreply) = Line noreply false
 shape_of (command.Version profile) = Fixed (fixed.Version profile)
 shape_of (command.Verbosity noreply) = Fixed (if noreply then fixed.Nothing else fixed.Ok)
+shape_of (command.Stats request.General) = Stats
+shape_of (command.Stats request.Reset) = Line false false
+shape_of (command.Stats request.Empty) = Fixed fixed.End
 shape_of command.Quit = Fixed fixed.Nothing
 shape_of command.MetaNoop = Fixed fixed.MetaNoop
-shape_of (command.MetaGet get) = Meta kind.Get get.flags get.value (shown_key get.flags get.key)
-shape_of (command.MetaSet set) = Meta kind.Set set.flags false (shown_key set.flags set.key)
-shape_of (command.MetaDelete delete) = Meta kind.Delete delete.flags false (shown_key delete.flags delete.key)
+shape_of (command.MetaGet get) = Meta kind.Get get.flags get.value (shown_key get.flags get.key) false
+shape_of (command.MetaSet set) = Meta kind.Set set.flags false (shown_key set.flags set.key) set.lenient
+shape_of (command.MetaDelete delete) = Meta kind.Delete delete.flags false (shown_key delete.flags delete.key) false
 shape_of (command.MetaArithmetic arithmetic) =
-    Meta kind.Arithmetic arithmetic.flags arithmetic.value (shown_key arithmetic.flags arithmetic.key)
+    Meta kind.Arithmetic arithmetic.flags arithmetic.value (shown_key arithmetic.flags arithmetic.key) false
 shape_of (command.Refused refusal) = Fixed (fixed.Refused refusal)
 shape_of (command.Discard key refusal) = Fixed (fixed.Refused refusal)

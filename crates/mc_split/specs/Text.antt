@@ -1,6 +1,6 @@
 -- The texts of replies, as functions of the whole list of answers (protocol.txt, the reply lines of each command).
-use Rattle.std.specs.Prelude.{ℕ, Bool, true, false, ◌&&◌, List, [], ◌∷◌, ◌++◌, length, codes, decimal, Option, Some, None, if◌then◌else◌}
-use Rattle.std.specs.List.{concat, flat_map, list_any, zip}
+use Rattle.std.specs.Prelude.{ℕ, ◌^◌, ◌%◌, Bool, true, false, ◌&&◌, List, [], ◌∷◌, ◌++◌, length, codes, decimal, Option, Some, None, if◌then◌else◌}
+use Rattle.std.specs.List.{concat, flat_map, list_any, sum_by, zip}
 use Rattle.mc_command.specs.declared.command.Command.{Command}
 use Rattle.mc_command.specs.declared.meta.MetaFlags.{MetaFlags}
 use Rattle.mc_command.specs.declared.meta.ReturnFlag.{ReturnFlag}
@@ -10,9 +10,11 @@ use Rattle.mc_command.specs.declared.rules.Profile.{Profile}
 use Rattle.mc_command.specs.declared.rules.Profile.TheVariants as profile
 use Rattle.mc_command.specs.declared.refusal.Refusal.TheVariants as refusal
 use Rattle.mc_item.specs.declared.answer.Answer.{Answer}
-use Rattle.mc_item.specs.declared.answer.Answer.TheVariants.{Stored, NotStored, Exists, NotFound, TooLarge, NoCas, NoMemory, Hit, Miss, Number, NonNumeric, Deleted, Touched, Done}
+use Rattle.mc_item.specs.declared.answer.Answer.TheVariants.{Stored, NotStored, Exists, NotFound, TooLarge, NoCas, NoMemory, Hit, Miss, Number, NonNumeric, Deleted, Touched, Done, Reset}
 use Rattle.mc_item.specs.declared.answer.Answer.TheVariants as answer
 use Rattle.mc_item.specs.declared.answer.Marks.{Marks}
+use Rattle.mc_item.specs.declared.stat.Stat.{Stat}
+use Rattle.mc_item.specs.Stat.{all_stats, row_of}
 use Rattle.mc_split.specs.declared.form.Fixed.{Fixed}
 use Rattle.mc_split.specs.declared.form.Fixed.TheVariants as fixed
 use Rattle.mc_command.specs.declared.meta.MetaKind.{MetaKind}
@@ -37,16 +39,21 @@ refusal_line refusal.Memory = codes "SERVER_ERROR out of memory\r\n"
 refusal_line refusal.WordCount = codes "ERROR\r\n"
 refusal_line refusal.Hidden = []
 
--- the line of `version`; by memcached's rules that of the release that they follow, whose parts clients compare as numbers
+-- the release of memcached that its rules follow, whose parts clients compare as numbers
+abbrev pub release : List ℕ
+release = codes "1.6.18"
+
+-- the line of `version`; by memcached's rules that of the release that they follow
 abbrev pub version_line : Profile → List ℕ
 version_line profile.Own = codes "VERSION 1.6.0-sharded\r\n"
-version_line profile.DropIn = codes "VERSION 1.6.18\r\n"
+version_line profile.DropIn = concat (codes "VERSION " ∷ release ∷ codes "\r\n" ∷ [])
 
 -- a reply that no answer changes
 abbrev pub fixed_text : Fixed → List ℕ
 fixed_text fixed.Nothing = []
 fixed_text fixed.Ok = codes "OK\r\n"
 fixed_text (fixed.Version profile) = version_line profile
+fixed_text fixed.End = codes "END\r\n"
 fixed_text fixed.MetaNoop = codes "MN\r\n"
 fixed_text (fixed.Refused refusal) = refusal_line refusal
 
@@ -76,7 +83,13 @@ answer_line NonNumeric = codes "CLIENT_ERROR cannot increment or decrement non-n
 answer_line Deleted = codes "DELETED\r\n"
 answer_line Touched = codes "TOUCHED\r\n"
 answer_line Done = codes "OK\r\n"
+answer_line Reset = codes "RESET\r\n"
 answer_line answer = []
+
+-- An answer as it is told: where that counts as not stored, none is too large.
+abbrev pub told : Answer → Bool → Answer
+told TooLarge true = NotStored
+told answer lenient = answer
 
 -- the text of the first answer: a command of several parts that has one line has the same answer to each
 abbrev pub of_first : (Answer → List ℕ) → List Answer → List ℕ
@@ -102,6 +115,25 @@ item_text with_unique key answer = []
 -- the items found, in the order of the keys, and the line that ends them
 abbrev pub values_text : List (List ℕ) → Bool → List Answer → List ℕ
 values_text keys with_unique answers = flat_map (λ pair. item_text with_unique pair.0 pair.1) (zip keys answers) ++ codes "END\r\n"
+
+-- a line of `stats` (protocol.txt, "General-purpose statistics")
+abbrev pub stat_text : List ℕ → List ℕ → List ℕ
+stat_text name value = concat (codes "STAT " ∷ name ∷ codes " " ∷ value ∷ codes "\r\n" ∷ [])
+
+-- what the answer of a shard tells of a number
+abbrev pub stat_in : Stat → Answer → ℕ
+stat_in stat (answer.Stats stats) = (row_of stat).1 stats
+stat_in stat answer = 0
+
+-- a number of all shards together; a count starts anew after 2^64 - 1
+abbrev pub together : Stat → List Answer → ℕ
+together stat answers = sum_by (stat_in stat) answers % 2 ^ 64
+
+-- the release, the numbers of all shards together, and how many shards there are, each of which runs in a thread of its own
+abbrev pub stats_text : List Answer → List ℕ
+stats_text answers =
+    concat (stat_text (codes "version") release ∷ flat_map (λ stat. stat_text (row_of stat).0 (decimal (together stat answers))) all_stats
+    ∷ stat_text (codes "threads") (decimal (length answers)) ∷ codes "END\r\n" ∷ [])
 
 -- what the flag `q` hides (protocol.txt, "Meta Commands": "noreply semantics for return codes"): of `mg` the miss,
 -- of `ms` that it is stored, of `md` that it is done or not found, of `ma` the same, unless it shows the number
@@ -149,9 +181,19 @@ flag_text flags key answer flag = item_flag answer flag
 abbrev pub flags_text : MetaFlags → Option (List ℕ) → Answer → List ℕ
 flags_text flags key answer = flat_map (flag_text flags key answer) flags.returned
 
--- the marks of a hit, behind its flags
-abbrev pub marks_text : Marks → List ℕ
-marks_text marks =
+-- the same where nothing was stored or changed: by memcached's rules `ms` shows a unique of 0
+abbrev pub failed_flag : MetaKind → Profile → (ReturnFlag → List ℕ) → ReturnFlag → List ℕ
+failed_flag kind.Set profile.DropIn text return_flag.Unique = codes " c0"
+failed_flag kind profile text flag = text flag
+
+abbrev pub failed_text : MetaKind → MetaFlags → Option (List ℕ) → Answer → List ℕ
+failed_text kind flags key answer = flat_map (failed_flag kind flags.profile (flag_text flags key answer)) flags.returned
+
+-- the marks of a hit, behind its flags; in memcached the other way round
+abbrev pub marks_text : Profile → Marks → List ℕ
+marks_text profile.DropIn marks =
+    concat ((if marks.sent then codes " Z" else []) ∷ (if marks.stale then codes " X" else []) ∷ (if marks.won then codes " W" else []) ∷ [])
+marks_text profile.Own marks =
     concat ((if marks.won then codes " W" else []) ∷ (if marks.stale then codes " X" else []) ∷ (if marks.sent then codes " Z" else []) ∷ [])
 
 -- a reply without a value: the code, the flags, the marks
@@ -165,30 +207,31 @@ value_text value flags marks =
 
 -- the reply of a meta command, with its value or number where that is asked for (protocol.txt, "Meta Commands");
 -- an error line has no flags
-abbrev pub coded_text : MetaFlags → Option (List ℕ) → Answer → Bool → List ℕ
-coded_text flags key (answer.MetaHit hit) true = value_text hit.value (flags_text flags key (answer.MetaHit hit)) (marks_text hit.marks)
-coded_text flags key (answer.MetaHit hit) false = head_text (codes "HD") (flags_text flags key (answer.MetaHit hit)) (marks_text hit.marks)
-coded_text flags key (answer.MetaDone done) true = value_text (decimal done.number) (flags_text flags key (answer.MetaDone done)) []
-coded_text flags key (answer.MetaDone done) false = head_text (codes "HD") (flags_text flags key (answer.MetaDone done)) []
-coded_text flags key Deleted value = head_text (codes "HD") (flags_text flags key Deleted) []
-coded_text flags key Done value = head_text (codes "HD") (flags_text flags key Done) []
-coded_text flags key Miss value = head_text (codes "EN") (flags_text flags key Miss) []
-coded_text flags key NotStored value = head_text (codes "NS") (flags_text flags key NotStored) []
-coded_text flags key Exists value = head_text (codes "EX") (flags_text flags key Exists) []
-coded_text flags key NotFound value = head_text (codes "NF") (flags_text flags key NotFound) []
-coded_text flags key answer value = answer_line answer
+abbrev pub coded_text : MetaKind → MetaFlags → Option (List ℕ) → Answer → Bool → List ℕ
+coded_text kind flags key (answer.MetaHit hit) true = value_text hit.value (flags_text flags key (answer.MetaHit hit)) (marks_text flags.profile hit.marks)
+coded_text kind flags key (answer.MetaHit hit) false = head_text (codes "HD") (flags_text flags key (answer.MetaHit hit)) (marks_text flags.profile hit.marks)
+coded_text kind flags key (answer.MetaDone done) true = value_text (decimal done.number) (flags_text flags key (answer.MetaDone done)) []
+coded_text kind flags key (answer.MetaDone done) false = head_text (codes "HD") (flags_text flags key (answer.MetaDone done)) []
+coded_text kind flags key Deleted value = head_text (codes "HD") (flags_text flags key Deleted) []
+coded_text kind flags key Done value = head_text (codes "HD") (flags_text flags key Done) []
+coded_text kind flags key Miss value = head_text (codes "EN") (flags_text flags key Miss) []
+coded_text kind flags key NotStored value = head_text (codes "NS") (failed_text kind flags key NotStored) []
+coded_text kind flags key Exists value = head_text (codes "EX") (failed_text kind flags key Exists) []
+coded_text kind flags key NotFound value = head_text (codes "NF") (failed_text kind flags key NotFound) []
+coded_text kind flags key answer value = answer_line answer
 
 -- the reply of a meta command, or nothing where `q` hides it
-abbrev pub meta_text : MetaKind → MetaFlags → Bool → Option (List ℕ) → Answer → List ℕ
-meta_text kind flags value key answer =
-    if flags.quiet && is_hidden kind value answer then [] else coded_text flags key answer value
+abbrev pub meta_text : MetaKind → MetaFlags → Bool → Option (List ℕ) → Bool → Answer → List ℕ
+meta_text kind flags value key lenient answer =
+    if flags.quiet && is_hidden kind value answer then [] else coded_text kind flags key (told answer lenient) value
 
 -- the text of a reply of this shape, from the answers of all parts
 unfoldable pub shape_text : Shape → List Answer → List ℕ
 shape_text (shape.Fixed fixed) answers = fixed_text fixed
-shape_text (shape.Line noreply) answers = if noreply then [] else unless_no_memory answers (of_first answer_line answers)
+shape_text (shape.Line noreply lenient) answers = if noreply then [] else unless_no_memory answers (of_first (λ answer. answer_line (told answer lenient)) answers)
 shape_text (shape.Values keys with_unique) answers = unless_no_memory answers (values_text keys with_unique answers)
-shape_text (shape.Meta kind flags value key) answers = unless_no_memory answers (of_first (meta_text kind flags value key) answers)
+shape_text shape.Stats answers = unless_no_memory answers (stats_text answers)
+shape_text (shape.Meta kind flags value key lenient) answers = unless_no_memory answers (of_first (meta_text kind flags value key lenient) answers)
 
 -- the reply to a command, from the answers of all its pieces
 abbrev pub text_of : Command → List Answer → List ℕ

@@ -44,6 +44,7 @@ is_silent (command.Touch key exptime noreply) answers = noreply
 is_silent (command.FlushAll delay noreply) answers = noreply
 is_silent (command.Version profile) answers = false
 is_silent (command.Verbosity noreply) answers = noreply
+is_silent (command.Stats asked) answers = false
 is_silent command.Quit answers = true
 is_silent command.MetaNoop answers = false
 is_silent (command.MetaGet get) answers = hides kind.Get get.flags get.value answers
@@ -72,6 +73,7 @@ loud (command.Touch key exptime noreply) = command.Touch key exptime false
 loud (command.FlushAll delay noreply) = command.FlushAll delay false
 loud (command.Version profile) = command.Version profile
 loud (command.Verbosity noreply) = command.Verbosity false
+loud (command.Stats asked) = command.Stats asked
 loud command.Quit = command.Quit
 loud command.MetaNoop = command.MetaNoop
 loud (command.MetaGet get) = command.MetaGet (record get { flags = without_quiet get.flags })

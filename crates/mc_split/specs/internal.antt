@@ -1,2 +1,3 @@
 -- Definitions that only private contracts name.
 pub mod Splits
+pub mod ToAll

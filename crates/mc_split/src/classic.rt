@@ -1,6 +1,5 @@
 //! The pieces of the classic commands.
-ghost use Rattle.std.specs.Prelude.{◌≡◌, ◌<◌, ◌∷◌, [], IfOk, OnErr, length, map};
-ghost use Rattle.std.specs.List.{range_with_len};
+ghost use Rattle.std.specs.Prelude.{◌≡◌, ◌<◌, ◌∷◌, [], IfOk, OnErr, false, length, map};
 ghost use Rattle.mc_split.specs.Pieces.{pieces_of, asked_of};
 ghost use Rattle.mc_split.specs.Shape.{shape_of};
 ghost use Rattle.mc_split.specs.internal.Splits.{Splits};
@@ -8,6 +7,7 @@ ghost use Rattle.mc_split.specs.internal.Splits.{Splits};
 use crate::form::{Fixed, Form, Shape};
 use crate::plan::Piece;
 use crate::splitter::Splitter;
+use crate::stats::ToAll;
 use mc_command::{Block, Command, Direction, Refusal, Retrieval, Storage};
 use mc_item::{Kind, NoMemory, Op, Value};
 use mc_wire::Key;
@@ -18,6 +18,17 @@ pub fn value_of(block: Block) -> Result<Value, NoMemory>
     ensures { IfOk result (λ value. value ≡ block) }
 {
     Value::new(block.into_bytes())
+}
+
+/// The line of the answer, or nothing; where it says that a value is too large, that is an error.
+#[inline(always)]
+pub(crate) fn plain_line(noreply: bool) -> Shape
+    ensures { result ≡ Shape.Line noreply false }
+{
+    Shape::Line {
+        noreply,
+        lenient: false,
+    }
 }
 
 impl Splitter {
@@ -33,6 +44,7 @@ impl Splitter {
     {
         let shape = Shape::Line {
             noreply: storage.noreply,
+            lenient: storage.lenient,
         };
         let shard = storage.key.place(self.shards);
         let op = Op::Store {
@@ -87,7 +99,7 @@ impl Splitter {
         ensures { Splits result self.ticket self.moment (shape_of (Command.Delete key noreply)) (pieces_of self.shards (Command.Delete key noreply)) queue.old.items queue.new.items }
     {
         let shard = key.place(self.shards);
-        self.one(queue, Shape::Line { noreply }, shard, Op::Delete { key })
+        self.one(queue, plain_line(noreply), shard, Op::Delete { key })
     }
 
     /// A set whose value is too large, by memcached's rules: the item goes, whatever the shard answers, and the line is refused.
@@ -125,7 +137,7 @@ impl Splitter {
             direction,
             amount,
         };
-        self.one(queue, Shape::Line { noreply }, shard, op)
+        self.one(queue, plain_line(noreply), shard, op)
     }
 
     /// `touch`.
@@ -143,7 +155,7 @@ impl Splitter {
         let shard = key.place(self.shards);
         self.one(
             queue,
-            Shape::Line { noreply },
+            plain_line(noreply),
             shard,
             Op::Touch { key, exptime },
         )
@@ -160,9 +172,6 @@ impl Splitter {
         requires { 0 < self.shards }
         ensures { Splits result self.ticket self.moment (shape_of (Command.FlushAll delay noreply)) (pieces_of self.shards (Command.FlushAll delay noreply)) queue.old.items queue.new.items }
     {
-        for shard in 0..self.shards {
-            self.push(queue, shard, shard, Op::Flush { delay })?;
-        }
-        self.form(Shape::Line { noreply }, Kind::Flush, self.shards)
+        self.all(queue, plain_line(noreply), ToAll::Flush { delay })
     }
 }

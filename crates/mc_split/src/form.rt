@@ -18,12 +18,16 @@ pub enum Shape {
     /// The line of the answer, or nothing.
     Line {
         noreply: bool,
+        /// Too large counts as not stored.
+        lenient: bool,
     },
     /// The items found, then `END`.
     Values {
         keys: Keys,
         with_unique: bool,
     },
+    /// The counts of all shards together.
+    Stats,
     /// The reply of a meta command.
     Meta {
         kind: MetaKind,
@@ -32,6 +36,8 @@ pub enum Shape {
         value: bool,
         /// The key, where the reply shows it.
         key: Option<Key>,
+        /// Too large counts as not stored.
+        lenient: bool,
     },
 }
 
@@ -44,6 +50,8 @@ pub enum Fixed {
     Ok,
     /// `VERSION ..`, by the profile.
     Version(Profile),
+    /// `END`, where `stats` has nothing to show.
+    End,
     /// `MN`.
     MetaNoop,
     /// The line of a refusal.

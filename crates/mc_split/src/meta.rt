@@ -58,6 +58,7 @@ impl Splitter {
             value: get.value,
             key: copy_shown(&get.flags, &get.key)?,
             flags: get.flags,
+            lenient: false,
         };
         let shard = get.key.place(self.shards);
         let op = Op::MetaGet(mc_item::MetaGet {
@@ -65,6 +66,7 @@ impl Splitter {
             touch: get.touch,
             vivify: get.vivify,
             recache: get.recache,
+            unnoted: get.unnoted,
         });
         self.one(queue, shape, shard, op)
     }
@@ -84,6 +86,7 @@ impl Splitter {
             value: false,
             key: copy_shown(&set.flags, &set.key)?,
             flags: set.flags,
+            lenient: set.lenient,
         };
         let shard = set.key.place(self.shards);
         let op = Op::MetaStore(mc_item::MetaStore {
@@ -113,6 +116,7 @@ impl Splitter {
             value: false,
             key: copy_shown(&delete.flags, &delete.key)?,
             flags: delete.flags,
+            lenient: false,
         };
         let shard = delete.key.place(self.shards);
         let op = Op::MetaDelete(mc_item::MetaDelete {
@@ -140,6 +144,7 @@ impl Splitter {
             value: arithmetic.value,
             key: copy_shown(&arithmetic.flags, &arithmetic.key)?,
             flags: arithmetic.flags,
+            lenient: false,
         };
         let shard = arithmetic.key.place(self.shards);
         let initial = arithmetic.initial;

@@ -4,6 +4,7 @@ ghost use Rattle.mc_command.specs.declared.command.Command.{Command};
 ghost use Rattle.mc_command.specs.Command.{with_block};
 ghost use Rattle.mc_command.specs.Field.{AreKeys};
 ghost use Rattle.mc_command.specs.declared.command.Command.TheVariants as command;
+ghost use Rattle.mc_command.specs.declared.rules.Profile.{Profile};
 ghost use Rattle.mc_wire.specs.Key.{key_fault};
 ghost use Rattle.mc_wire.specs.Words.{words_of};
 ghost use Rattle.mc_wire.specs.declared.TheConstants.{GREATEST_VALUE_LIMIT};
@@ -13,11 +14,13 @@ ghost use Rattle.mc_split.specs.Plan.{form_of, Queues, SplitsInto};
 ghost use Rattle.mc_split.specs.Shape.{shape_of};
 ghost use Rattle.mc_split.specs.internal.Splits.{Splits};
 
+use crate::classic::plain_line;
 use crate::form::{Fixed, Form, Shape, Slots};
 use crate::plan::{Piece, Ticket};
 use crate::splitter::Splitter;
 use mc_command::{
-    Block, Keys, MetaFlags, MetaGet, MetaKind, MetaSet, Opaque, Retrieval, Returned, StoreMode,
+    Block, Keys, MetaFlags, MetaGet, MetaKind, MetaSet, Opaque, Profile, Retrieval, Returned,
+    StoreMode,
 };
 use mc_item::{Kind, NoMemory, Op, Value};
 use mc_wire::Key;
@@ -127,7 +130,7 @@ pub fn queue_meta_get_value(
 ) -> Result<(), NoMemory>
     requires shards { 0 < shards }
     requires key { key_fault key.now ≡ None }
-    ensures { Queues shards ticket moment (meta_get_of key.now) result queue.old.items queue.new.items }
+    ensures { (profile : Profile) → Queues shards ticket moment (meta_get_of profile key.now) result queue.old.items queue.new.items }
 {
     let splitter = Splitter {
         alloc,
@@ -142,27 +145,30 @@ pub fn queue_meta_get_value(
         touch: None,
         vivify: None,
         recache: None,
+        unnoted: false,
     });
     splitter.push(queue, shard, 0, op)?;
     Ok(())
 }
 
-/// The form of the reply to `mg KEY v`. It takes no memory.
+/// The form of the reply to `mg KEY v`, which follows these rules. It takes no memory.
 #[inline(always)]
 #[tactic(auto, unfolding(crate::specs::Pieces::pieces_of, crate::specs::Shape::shape_of))]
-pub fn form_of_meta_get_value(ticket: Ticket) -> Form
-    ensures { (shards : ℕ) (key : List ℕ) → result ≡ form_of shards ticket (meta_get_of key) }
+pub fn form_of_meta_get_value(ticket: Ticket, profile: Profile) -> Form
+    ensures { (shards : ℕ) (key : List ℕ) → result ≡ form_of shards ticket (meta_get_of profile key) }
 {
     let shape = Shape::Meta {
         kind: MetaKind::Get,
         flags: MetaFlags {
             base64: false,
             quiet: false,
+            profile,
             returned: Returned::new(),
             opaque: Opaque::empty(),
         },
         value: true,
         key: None,
+        lenient: false,
     };
     form_of_one(shape, Kind::MetaGet, ticket)
 }
@@ -268,7 +274,7 @@ pub fn form_of_set(ticket: Ticket, noreply: bool) -> Form
     ensures { (shards : ℕ) (key : List ℕ) (flags : ℕ) (exptime : ℤ) (block : List ℕ) →
         result ≡ form_of shards ticket (set_of key flags exptime noreply block) }
 {
-    form_of_one(Shape::Line { noreply }, Kind::Store, ticket)
+    form_of_one(plain_line(noreply), Kind::Store, ticket)
 }
 
 /// The form of a reply to one piece of this kind. It takes no memory.

@@ -113,6 +113,7 @@ impl Splitter {
             Command::Version(profile) => Ok(self.fixed(Fixed::Version(profile))),
             Command::Verbosity { noreply: false } => Ok(self.fixed(Fixed::Ok)),
             Command::Verbosity { noreply: true } | Command::Quit => Ok(self.fixed(Fixed::Nothing)),
+            Command::Stats(asked) => self.stats(queue, asked),
             Command::MetaNoop => Ok(self.fixed(Fixed::MetaNoop)),
             Command::MetaGet(get) => self.meta_get(queue, get),
             Command::MetaSet(set) => self.meta_set(queue, set),

@@ -7,12 +7,15 @@ use Rattle.mc_item.specs.declared.item.Item.{Item}
 use Rattle.mc_item.specs.Expiry.{is_dead}
 use Rattle.mc_store.specs.declared.access.Access.{Access}
 use Rattle.mc_store.specs.Shelf.{Shelf}
-use Rattle.mc_store.specs.internal.Access.{read_shelf}
+use Rattle.mc_store.specs.internal.Access.{read_shelf, seen_shelf}
 use Rattle.mc_store.proofs.Listed.{not_found, first_gone}
 use Rattle.mc_store.proofs.Changes.{dead_none}
 
 pub read_absent : (access : Access) (key : List ℕ) (shelf : Shelf) → None ≡ lookup (pointwise nat_eq key) shelf.entries → shelf ≡ read_shelf access key shelf
 read_absent access key shelf none = rw (← none, (not_found shelf.entries key (sym none)).1)
+
+pub seen_absent : (access : Access) (key : List ℕ) (shelf : Shelf) → None ≡ lookup (pointwise nat_eq key) shelf.entries → shelf ≡ seen_shelf access key shelf
+seen_absent access key shelf none = rw (← none, (not_found shelf.entries key (sym none)).1)
 
 pub read_dead : (access : Access) (key : List ℕ) (shelf : Shelf) (item new : Item) → Some item ≡ lookup (pointwise nat_eq key) shelf.entries → is_dead item.expiry access.time ≡ true →
     record shelf { entries = remove_entry (pointwise nat_eq key) (set_value (pointwise nat_eq key) (promoted (pointwise nat_eq key) shelf.entries) new) } ≡ read_shelf access key shelf

@@ -6,6 +6,7 @@ use Rattle.std.specs.Map.{lookup, remove_entry}
 use Rattle.mc_wire.specs.Limits.{latest_moment}
 use Rattle.mc_item.specs.declared.item.Item.{Item}
 use Rattle.mc_item.specs.Expiry.{is_dead}
+use Rattle.mc_item.specs.Tally.{no_counts}
 use Rattle.mc_store.specs.internal.Found.{live}
 use Rattle.mc_store.specs.State.{State, costs, empty_state, is_due, flushed, arrived, without_dead}
 use Rattle.mc_store.specs.Shard.{AllBelow, Held, Keeps}
@@ -20,7 +21,7 @@ none_below n q u h = absurd (let h' = rw (get_nothing q) at h in cc)
 none_fits : (budget : ℕ) → costs nothing ≤ budget
 none_fits budget = omega (arith, costs_nothing)
 
-pub new_keeps : (index shards budget given limit : ℕ) → index < shards → Keeps (record { entries = []; budget = budget; limit = limit; time = 0; flush = None; given = given; index = index; shards = shards }) (empty_state index shards budget given limit)
+pub new_keeps : (index shards budget given limit : ℕ) → index < shards → Keeps (record { entries = []; budget = budget; limit = limit; time = 0; flush = None; given = given; index = index; shards = shards; tally = no_counts; evicted = 0 }) (empty_state index shards budget given limit)
 new_keeps index shards budget given limit place = assumption (none_below 1, none_fits budget)
 
 pub flush_all : (held : Held) (state : State) → Keeps held state → Keeps (record held { entries = []; flush = None }) (flushed state)

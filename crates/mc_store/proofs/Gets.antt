@@ -1,8 +1,8 @@
 -- The outcomes of reading and touching.
-use Rattle.std.proofs.Common.{◌≡◌, ℕ, ℤ, true, false, List, [], Option, Some, None, refl, sym, ◌∙◌, nat_eq, subst}
+use Rattle.std.proofs.Common.{◌≡◌, ℕ, ℤ, true, false, List, [], Option, Some, None, refl, sym, ap, ◌∙◌, inr, nat_eq, subst}
 use Rattle.std.specs.Option.{IsSome}
 use Rattle.std.specs.Cmp.Lexicographic.{pointwise}
-use Rattle.std.specs.FinMap.{get}
+use Rattle.std.specs.FinMap.{get, insert}
 use Rattle.std.specs.Map.{lookup, remove_entry, set_value}
 use Rattle.lru.specs.LruCache.{promoted}
 use Rattle.mc_item.specs.declared.item.Item.{Item}
@@ -14,14 +14,14 @@ use Rattle.mc_item.specs.declared.answer.Answer.TheVariants.{Hit, Miss, NoMemory
 use Rattle.mc_item.specs.Expiry.{expiry_of, seconds_left}
 use Rattle.mc_item.specs.Kind.{kind_of, is_lawful}
 use Rattle.mc_store.specs.internal.Found.{live}
-use Rattle.mc_store.specs.State.{State, without_dead, entered}
+use Rattle.mc_store.specs.State.{State, Used, with_items, without_dead, entered}
 use Rattle.mc_store.specs.Rows.{fetched_item, touched_item, shown_item, hit_of, made_hit}
 use Rattle.mc_store.specs.Step.{numbered, fetch_step, touch_step, meta_get_step, absent_meta_get, step_of}
 use Rattle.mc_store.specs.Shard.{Held, Keeps}
-use Rattle.mc_store.proofs.Shards.{with_entries, at_now, misses}
+use Rattle.mc_store.proofs.Shards.{with_entries, at_now, misses, set_in_place}
 use Rattle.mc_store.proofs.Changes.{settled_again}
 use Rattle.mc_store.proofs.Writes.{Closes, along, met_time}
-use Rattle.mc_store.proofs.Outcomes.{Ends, ends, misses_as, absent_as, lacks_as, some_of, uses_as}
+use Rattle.mc_store.proofs.Outcomes.{Ends, ends, here, at_live, misses_as, absent_as, lacks_as, some_of, uses_as}
 
 pub fetch_miss : (held : Held) (state : State) (key : List ℕ) (touch : Option ℤ) → Keeps held state → None ≡ live held.time (lookup (pointwise nat_eq key) held.entries) → Ends (without_dead state (Some key)) (Fetch key touch) Miss (with_entries held (remove_entry (pointwise nat_eq key) held.entries))
 unfolding step_of kind_of is_lawful
@@ -57,11 +57,30 @@ meta_get_lacks held state asked h some =
     let alive = some_of (live held.time (lookup (pointwise nat_eq asked.key) held.entries)) some in
     ends (without_dead state (Some asked.key)) (MetaGet asked) NoMemory held (λ _. refl) (lacks_as held state asked.key alive.0 _ h alive.1)
 
-pub meta_get_hit : (held : Held) (state : State) (asked : op.MetaGet) (item : Item) → Keeps held state → Some item ≡ live held.time (lookup (pointwise nat_eq asked.key) held.entries) → Ends (without_dead state (Some asked.key)) (MetaGet asked) (MetaHit (hit_of item asked.touch asked.recache held.time)) (with_entries held (set_value (pointwise nat_eq asked.key) (promoted (pointwise nat_eq asked.key) held.entries) (at_now (shown_item item asked.touch asked.recache held.time) held.time)))
+pub meta_get_hit : (held : Held) (state : State) (asked : op.MetaGet) (item : Item) → asked.unnoted ≡ false → Keeps held state → Some item ≡ live held.time (lookup (pointwise nat_eq asked.key) held.entries) → Ends (without_dead state (Some asked.key)) (MetaGet asked) (MetaHit (hit_of item asked.touch asked.recache held.time)) (with_entries held (set_value (pointwise nat_eq asked.key) (promoted (pointwise nat_eq asked.key) held.entries) (at_now (shown_item item asked.touch asked.recache held.time) held.time)))
 unfolding step_of kind_of is_lawful
-meta_get_hit held state asked item h is =
+meta_get_hit held state asked item noted h is =
     ends (without_dead state (Some asked.key)) (MetaGet asked) (MetaHit (hit_of item asked.touch asked.recache held.time)) _ (λ _. refl)
-    (uses_as held state asked.key item (λ s o. meta_get_step s asked.key asked.touch asked.vivify asked.recache o) (λ i time. MetaHit (hit_of i asked.touch asked.recache time)) (λ i time. shown_item i asked.touch asked.recache time) (λ _ _. refl) h is (λ s u _. refl))
+    (uses_as held state asked.key item (λ s o. meta_get_step s asked.key asked.touch asked.vivify asked.recache asked.unnoted o) (λ i time. MetaHit (hit_of i asked.touch asked.recache time)) (λ i time. shown_item i asked.touch asked.recache time) (λ _ _. refl) h is (λ s u _. rw noted))
+
+-- the item that a hit leaves whose use isn't noted
+abbrev pub seen : op.MetaGet → Item → ℕ → Item
+seen asked item time = record (shown_item item asked.touch asked.recache time) { fetched = item.fetched }
+
+sees : (s : State) (asked : op.MetaGet) (u : Used) → asked.unnoted ≡ true →
+    (MetaHit (hit_of u.item asked.touch asked.recache s.time), with_items s (insert s.items asked.key (record u { item = seen asked u.item s.time }))) ≡ meta_get_step s asked.key asked.touch asked.vivify asked.recache asked.unnoted (Some u)
+sees s asked u unnoted = rw unnoted
+
+pub meta_see_hit : (held : Held) (state : State) (asked : op.MetaGet) (item : Item) → asked.unnoted ≡ true → Keeps held state → Some item ≡ live held.time (lookup (pointwise nat_eq asked.key) held.entries) → Ends (without_dead state (Some asked.key)) (MetaGet asked) (MetaHit (hit_of item asked.touch asked.recache held.time)) (with_entries held (set_value (pointwise nat_eq asked.key) held.entries (seen asked item held.time)))
+unfolding step_of kind_of is_lawful
+meta_see_hit held state asked item unnoted h is =
+    ends (without_dead state (Some asked.key)) (MetaGet asked) (MetaHit (hit_of item asked.touch asked.recache held.time)) _ (λ _. refl)
+    (at_live held state asked.key item h is (λ i time settled. Closes settled (here (λ s o. meta_get_step s asked.key asked.touch asked.vivify asked.recache asked.unnoted o) settled asked.key) (MetaHit (hit_of i asked.touch asked.recache time)) (with_entries held (set_value (pointwise nat_eq asked.key) held.entries (seen asked i time))))
+    (λ u found. (
+      with_items state (insert state.items asked.key (record u { item = seen asked u.item state.time })),
+      inr (sees state asked u unnoted ∙ sym (ap (λ o. meta_get_step state asked.key asked.touch asked.vivify asked.recache asked.unnoted o) found)),
+      set_in_place held state asked.key u (seen asked u.item state.time) h found refl,
+    )))
 
 -- the key was settled, and is settled once more by what makes the item
 pub meta_get_absent : (held : Held) (state : State) (asked : op.MetaGet) (answer : Answer) (new : Held) → Keeps held state → None ≡ live held.time (lookup (pointwise nat_eq asked.key) held.entries) →
@@ -71,8 +90,8 @@ meta_get_absent held state asked answer new h none closes =
     let settled = without_dead state (Some asked.key) in
     let once = subst (λ s. Closes s (absent_meta_get s asked.key asked.vivify) answer new) (settled_again settled asked.key (misses held state asked.key h none).gone) closes in
     ends settled (MetaGet asked) answer new (λ _. refl)
-    (along settled (absent_meta_get settled asked.key asked.vivify) (meta_get_step settled asked.key asked.touch asked.vivify asked.recache (get settled.items asked.key)) answer new
-    (absent_as held state asked.key (λ s o. meta_get_step s asked.key asked.touch asked.vivify asked.recache o) (λ s. absent_meta_get s asked.key asked.vivify) h none (λ s. refl)) once)
+    (along settled (absent_meta_get settled asked.key asked.vivify) (meta_get_step settled asked.key asked.touch asked.vivify asked.recache asked.unnoted (get settled.items asked.key)) answer new
+    (absent_as held state asked.key (λ s o. meta_get_step s asked.key asked.touch asked.vivify asked.recache asked.unnoted o) (λ s. absent_meta_get s asked.key asked.vivify) h none (λ s. refl)) once)
 
 -- an item that mg makes, before it has a unique
 abbrev pub empty_item : Expiry → ℕ → Item

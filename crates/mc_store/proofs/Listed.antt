@@ -9,7 +9,6 @@ use Rattle.std.proofs.lemmas.List.{take_all}
 use Rattle.std.proofs.lemmas.List.Sums.{sum_by-cons}
 use Rattle.lru.specs.LruCache.{lru_cache, promoted, put_entries}
 use Rattle.mc_item.specs.declared.item.Item.{Item}
-use Rattle.mc_store.specs.Shelf.{Shelf}
 use Rattle.mc_store.specs.internal.Listed.{Entry, entry_cost, listed_cost, freed_by, within, HaveKeys, IsCounted}
 use Rattle.mc_store.proofs.Lists.{same_is, same_self}
 
@@ -180,10 +179,6 @@ pub first_gone : (es : List Entry) (key : List ℕ) (old item : Item) → lookup
 first_gone es key old item h = rw (first_is es key old item h, texts_ties key key, same_self key)
 
 -- A put
-
--- the shelf after a put
-abbrev pub put_shelf : List ℕ → Item → Shelf → Shelf
-put_shelf key item shelf = record shelf { entries = within shelf.budget ((key, item) ∷ remove_entry (pointwise nat_eq key) shelf.entries) }
 
 -- what a put gives, which never pushes an item out
 pub put_is : (es : List Entry) (capacity cost budget : ℕ) (key : List ℕ) (item : Item) → IsCounted es capacity cost budget → put_entries (pointwise nat_eq) (lru_cache es capacity) key item ≡ (key, item) ∷ remove_entry (pointwise nat_eq key) es

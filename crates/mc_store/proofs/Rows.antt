@@ -10,13 +10,14 @@ use Rattle.mc_item.specs.declared.answer.Answer.{Answer}
 use Rattle.mc_item.specs.declared.answer.Answer.TheVariants.{Stored, Exists, NotFound, NoCas, MetaDone}
 use Rattle.mc_item.specs.declared.answer.MetaDone as done
 use Rattle.mc_item.specs.Expiry.{expiry_of, is_dead, seconds_left}
+use Rattle.mc_item.specs.Tally.{no_counts}
 use Rattle.mc_store.specs.State.{Used, Items, State, is_dead_at, next_unique}
 use Rattle.mc_store.specs.Rows.{joined_item, stale_item, marks_of, hit_of, vivified_item, made_hit}
 use Rattle.mc_store.specs.Step.{Outcome, Storing, storing, mode_of, compare_of, store_step, numbered, counted, coming}
 
 -- the first of two shards that has given so many uniques
 abbrev at : Items → ℕ → State
-at items given = record { items = items; uses = 7; time = 1000; flush = None; given = given; index = 0; shards = 2; budget = 1024; limit = 1048576 }
+at items given = record { items = items; uses = 7; time = 1000; flush = None; given = given; index = 0; shards = 2; budget = 1024; limit = 1048576; tally = no_counts; evicted = 0 }
 
 -- an item with the value x
 abbrev item : ℕ → Item

@@ -1,5 +1,5 @@
 -- What each change of the list does to the state that it shows.
-use Rattle.std.proofs.Common.{◌≡◌, ℕ, ◌+◌, ◌<◌, ◌≤◌, true, false, ◌⊎◌, List, [], ◌∷◌, Option, Some, None, refl, sym, ap, ◌∙◌, inl, inr, arith, nat_eq}
+use Rattle.std.proofs.Common.{◌≡◌, ℕ, ◌+◌, ◌%◌, ◌^◌, ◌<◌, ◌≤◌, true, false, ◌⊎◌, List, [], ◌∷◌, Option, Some, None, refl, sym, ap, ◌∙◌, inl, inr, arith, nat_eq}
 use Rattle.std.specs.Option.{option_map}
 use Rattle.std.specs.Cmp.Lexicographic.{pointwise, texts_ties}
 use Rattle.std.specs.FinMap.{get, insert, remove}
@@ -9,10 +9,10 @@ use Rattle.lru.specs.LruCache.{promoted}
 use Rattle.mc_item.specs.declared.item.Item.{Item}
 use Rattle.mc_item.specs.Expiry.{is_dead}
 use Rattle.mc_store.specs.internal.Found.{live, given_after}
-use Rattle.mc_store.specs.internal.Listed.{within}
+use Rattle.mc_store.specs.internal.Listed.{gone, within}
 use Rattle.mc_store.specs.State.{Used, Items, State, is_dead_at, with_items, without_dead, first, cost, costs, fitting, entered, with_given}
 use Rattle.mc_store.specs.Shard.{AllBelow, Shows, Held, Keeps}
-use Rattle.mc_store.proofs.Lists.{same, used, same_is, not_same, get_nothing, get_gone, get_here, get_other, get_apart, inserted_all, insert_gone, insert_apart, remove_none, AllBelow-remove, lookup-Shows, Shows-remove, Shows-first}
+use Rattle.mc_store.proofs.Lists.{same, used, same_is, not_same, get_nothing, get_gone, get_here, get_other, get_apart, inserted_all, insert_gone, insert_apart, remove_none, AllBelow-remove, lookup-Shows, len-Shows, Shows-remove, Shows-first}
 use Rattle.mc_store.proofs.Listed.{first_is, cost_within}
 use Rattle.mc_store.proofs.Costs.{costs_with, costs_inserted, costs_shown, AllBelow-fitting, fitting_is, Shows-within}
 
@@ -26,6 +26,12 @@ AllBelow-insert m key item n below = inserted_all m key (used item n) (λ _ v. v
 abbrev pub with_entries : Held → List (List ℕ × Item) → Held
 with_entries held es = record held { entries = es }
 
+-- once an item was put first, and others went for it
+abbrev pub with_put : Held → List ℕ → Item → Held
+with_put held key item =
+    let es = (key, item) ∷ remove_entry (pointwise nat_eq key) held.entries in
+    record held { entries = within held.budget es; evicted = (held.evicted + gone held.budget es) % 2 ^ 64 }
+
 abbrev pub at_now : Item → ℕ → Item
 at_now item time = record item { last_access = time }
 
@@ -35,21 +41,23 @@ numbered_first es m n key item h below =
     Shows-first (remove_entry (pointwise nat_eq key) es) m key item n (Shows-remove es m key h) (AllBelow-remove m key n below)
 
 -- an item that enters, before which others go
-pub put_first : (held : Held) (state : State) (key : List ℕ) (item : Item) → Keeps held state → cost key item.value ≤ state.budget →
-    Keeps (with_entries held (within held.budget ((key, at_now item state.time) ∷ remove_entry (pointwise nat_eq key) held.entries))) (entered state key item)
+pub put_first : (held : Held) (state : State) (key : List ℕ) (item : Item) → Keeps held state → cost key item.value ≤ state.budget → Keeps (with_put held key (at_now item state.time)) (entered state key item)
 put_first held state key item h small =
     let n = state.uses + 1 in
     let it = at_now item state.time in
     let new = insert state.items key (used it n) in
     let es = (key, it) ∷ remove_entry (pointwise nat_eq key) held.entries in
     let others : AllBelow (remove new key) n = rw (insert_gone state.items key (used it n)) (AllBelow-remove state.items key n h.below) in
+    let first_shown = numbered_first held.entries state.items n key it h.order h.below in
     let stays = fitting_is new key (used it n) (get_here state.items key (used it n)) others state.budget small in
     let shown : Shows (within state.budget es) (fitting new state.budget key) =
-    rw stays (Shows-within state.budget es new (numbered_first held.entries state.items n key it h.order h.below)) in
+    rw stays (Shows-within state.budget es new first_shown) in
     let order : Shows (within held.budget es) (fitting new state.budget key) = rw (← h.budget) shown in
     let below = AllBelow-fitting new state.budget key (n + 1) (AllBelow-insert state.items key it n h.below) in
     let fits : costs (fitting new state.budget key) ≤ state.budget =
     rw (costs_shown (within state.budget es) (fitting new state.budget key) shown) (cost_within state.budget es) in
+    let evicted : (entered state key item).evicted ≡ (with_put held key it).evicted =
+    rw (h.evicted, len-Shows es new first_shown, len-Shows (within held.budget es) (fitting new state.budget key) order) in
     assumption
 
 pub item_at : (held : Held) (state : State) (key : List ℕ) (u : Used) → Keeps held state → get state.items key ≡ Some u → lookup (pointwise nat_eq key) held.entries ≡ Some u.item

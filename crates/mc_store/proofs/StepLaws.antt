@@ -1,5 +1,5 @@
 -- The laws of the step.
-use Rattle.std.proofs.Common.{◌≡◌, ℕ, ◌+◌, ◌*◌, ◌<◌, ◌^◌, ℤ, true, false, ◌⊎◌, List, ◌++◌, Option, Some, None, refl, sym, ap, ◌∙◌, inl, inr, arith, nat_lt, max, min, subst}
+use Rattle.std.proofs.Common.{◌≡◌, ℕ, ◌+◌, ◌*◌, ◌<◌, ◌^◌, ℤ, Bool, true, false, ◌⊎◌, List, ◌++◌, Option, Some, None, refl, sym, ap, ◌∙◌, inl, inr, arith, nat_lt, max, min, subst}
 use Rattle.std.specs.Prelude.{◌||◌, not, if◌then◌else◌}
 use Rattle.std.specs.FinMap.{get, insert, remove}
 use Rattle.std.proofs.lemmas.Bool.{cases_Bool, both_ways, not-true, and_parts, or_right}
@@ -10,21 +10,24 @@ use Rattle.mc_command.specs.declared.meta.MetaMode.TheVariants.{Set, Add, Append
 use Rattle.mc_wire.specs.Limits.{latest_moment}
 use Rattle.mc_item.specs.declared.item.Item.{Item}
 use Rattle.mc_item.specs.declared.op.Op.{Op}
-use Rattle.mc_item.specs.declared.op.Op.TheVariants.{Store, Fetch, Count, Delete, Touch, Flush, MetaGet, MetaStore, MetaDelete, MetaCount}
+use Rattle.mc_item.specs.declared.op.Op.TheVariants.{Store, Fetch, Count, Delete, Touch, Flush, Stats, ResetStats, MetaGet, MetaStore, MetaDelete, MetaCount}
 use Rattle.mc_item.specs.declared.op.MetaDelete as op
 use Rattle.mc_item.specs.declared.op.Vivify.{Vivify}
 use Rattle.mc_item.specs.declared.answer.Kind.{Kind}
 use Rattle.mc_item.specs.declared.answer.Kind.TheVariants as kind
 use Rattle.mc_item.specs.declared.answer.Answer.{Answer}
-use Rattle.mc_item.specs.declared.answer.Answer.TheVariants.{NoCas, NoMemory, NotFound, Stored, Number, MetaDone, Hit, Miss, MetaHit, Touched, Exists, Deleted, Done, TooLarge, NotStored, NonNumeric}
+use Rattle.mc_item.specs.declared.answer.Answer.TheVariants.{NoCas, NoMemory, NotFound, Stored, Number, MetaDone, Hit, Miss, MetaHit, Touched, Exists, Deleted, Done, TooLarge, NotStored, NonNumeric, Reset}
+use Rattle.mc_item.specs.declared.answer.Answer.TheVariants as shown
 use Rattle.mc_item.specs.declared.answer.MetaDone as done
 use Rattle.mc_item.specs.declared.answer.MetaHit as hit
+use Rattle.mc_item.specs.declared.tally.Tally.{Tally}
 use Rattle.mc_item.specs.Expiry.{expiry_of, seconds_left}
 use Rattle.mc_item.specs.Value.{number_in}
 use Rattle.mc_item.specs.Kind.{kind_of, key_of, is_lawful}
+use Rattle.mc_item.specs.Tally.{no_counts}
 use Rattle.mc_store.specs.State.{Used, Items, State, is_due, arrived, is_dead_at, with_items, without_dead, settle, first, entered, next_unique, with_given}
 use Rattle.mc_store.specs.Rows.{fetched_item, touched_item, stored_item, joined_item, counted_item, counter_item, vivified_item, stale_item, shown_item, hit_of, made_hit, done_of, is_won, has_fewer_left}
-use Rattle.mc_store.specs.Step.{Outcome, Reply, Storing, Counting, is_other, compared, numbered, is_too_large, writes, stores, joins, absent_store, present_store, store_step, storing, mode_of, compare_of, counting, absent_count, counts, count_step, fetch_step, touch_step, absent_meta_get, meta_get_step, delete_step, deletes, stales, meta_delete_step, counted, coming, flush_step, step_of, Answers, IsStep}
+use Rattle.mc_store.specs.Step.{Outcome, Reply, Storing, Counting, is_other, compared, numbered, is_too_large, writes, stores, joins, absent_store, present_store, store_step, storing, mode_of, compare_of, counting, absent_count, counts, count_step, fetch_step, touch_step, absent_meta_get, meta_get_step, shows, delete_step, deletes, stales, meta_delete_step, counted, coming, flush_step, stats_of, noted_in, step_of, Answers, IsStep}
 use Rattle.mc_store.specs.Laws.{StaysUnless, tells_stored, IsEvicted, SameStored, IsKept, IsNew, token_of, is_sent, may_clear_sent, AnswersAreLawful, StepsAgree, OthersStay, UniquesRise, UniquesDiffer, UniquesTell, TokensAreTaken, TimeRises, WinnersAreFirst, SentStays}
 use Rattle.mc_store.proofs.Lists.{same, same_is, by_key, nothing, get_nothing, get_gone, get_apart, get_here, get_other, get_kept, inserted_all}
 use Rattle.mc_store.proofs.Costs.{fitting_key, fitting_other}
@@ -61,10 +64,10 @@ record Leaves (s : State) (asked : Kind) (token : Option ℕ) (key : Option (Lis
 abbrev HasUnique : Option ℕ → Answer → Type 0
 HasUnique token answer = (unique : ℕ) → token ≡ Some unique → ¬ (answer ≡ NoCas)
 
-follows : (s : State) (asked : Kind) (token : Option ℕ) (key : Option (List ℕ)) (answer : Answer) (items : Items) (uses : ℕ) (flush : Option ℕ) →
+follows : (s : State) (asked : Kind) (token : Option ℕ) (key : Option (List ℕ)) (answer : Answer) (items : Items) (uses : ℕ) (flush : Option ℕ) (tally : Tally) (evicted : ℕ) →
     HasUnique token answer → is_lawful asked answer ≡ true → Leaves s asked token key answer items → Follows s asked token key
-    (answer, record s { items = items; uses = uses; flush = flush })
-follows s asked token key answer items uses flush has lawful leaves = record {
+    (answer, record s { items = items; uses = uses; flush = flush; tally = tally; evicted = evicted })
+follows s asked token key answer items uses flush tally evicted has lawful leaves = record {
   given = inl refl;
   taken = λ unique is. (refl, has unique is);
   time = refl;
@@ -123,7 +126,7 @@ sent_inserted m key u keeps k = by_key (λ q. is_sent m q ≡ true → is_sent (
 
 unchanged : (s : State) (asked : Kind) (token : Option ℕ) (key : Option (List ℕ)) (answer : Answer) → HasUnique token answer →
     is_lawful asked answer ≡ true → Follows s asked token key (answer, s)
-unchanged s asked token key answer has lawful = follows s asked token key answer s.items s.uses s.flush has lawful (record {
+unchanged s asked token key answer has lawful = follows s asked token key answer s.items s.uses s.flush s.tally s.evicted has lawful (record {
   others = λ _ _. inl refl;
   items_are = λ k u h. inl (itself s.items k u h);
   sent = λ _ k h. inr h;
@@ -134,7 +137,7 @@ uses : (s : State) (asked : Kind) (token : Option ℕ) (key : List ℕ) (u : Use
     Follows s asked token (Some key) (answer, first s key item)
 uses s asked token key u item answer has is stored keeps lawful =
     let items = insert s.items key (put_at s item) in
-    follows s asked token (Some key) answer items (s.uses + 1) s.flush has lawful (record {
+    follows s asked token (Some key) answer items (s.uses + 1) s.flush s.tally s.evicted has lawful (record {
       others = λ other differ. inl (get_other s.items key other (put_at s item) (apart key other differ));
       items_are = inserted_are s.items token key (put_at s item) (inl (u, is, assumption));
       sent = λ _ k h. inr (sent_inserted s.items key (put_at s item) (λ had. keeps (rw is at had)) k h);
@@ -145,7 +148,7 @@ enters : (s : State) (asked : Kind) (key : List ℕ) (item : Item) (answer : Ans
     Follows s asked (Some item.unique) (Some key) (answer, entered s key item)
 enters s asked key item answer not_no_cas told keeps lawful =
     let all = insert s.items key (put_at s item) in
-    follows s asked (Some item.unique) (Some key) answer (entered s key item).items (s.uses + 1) s.flush (λ _ _. not_no_cas) lawful (record {
+    follows s asked (Some item.unique) (Some key) answer (entered s key item).items (s.uses + 1) s.flush s.tally (entered s key item).evicted (λ _ _. not_no_cas) lawful (record {
       others = λ other differ. elim (fitting_other all s.budget key other) [
         | inl e ↦ inl (e ∙ get_other s.items key other (put_at s item) (apart key other differ))
         | inr gone ↦ inr (
@@ -172,7 +175,7 @@ enters s asked key item answer not_no_cas told keeps lawful =
 
 goes : (s : State) (asked : Kind) (token : Option ℕ) (key : List ℕ) (answer : Answer) → HasUnique token answer → is_lawful asked answer ≡ true →
     Follows s asked token (Some key) (answer, with_items s (remove s.items key))
-goes s asked token key answer has lawful = follows s asked token (Some key) answer (remove s.items key) s.uses s.flush has lawful (record {
+goes s asked token key answer has lawful = follows s asked token (Some key) answer (remove s.items key) s.uses s.flush s.tally s.evicted has lawful (record {
   others = λ other differ. inl (get_apart s.items key other (apart key other differ));
   items_are = λ k u h. inl (itself s.items k u (get_kept s.items key k u h));
   sent = λ _ k. by_key (λ q. is_sent s.items q ≡ true → (get (remove s.items key) q ≡ None) ⊎ (is_sent (remove s.items key) q ≡ true)) key k
@@ -300,15 +303,27 @@ unfolding is_lawful
 touch_follows s key exptime None is = unchanged s kind.Touch None (Some key) NotFound (λ _ _ e. cc) refl
 touch_follows s key exptime (Some u) is = uses s kind.Touch None key u (touched_item u.item exptime s.time) Touched (λ _ _ e. cc) is (assumption) (λ h. h) refl
 
-meta_get_follows : (s : State) (key : List ℕ) (touch vivify recache : Option ℤ) (o : Option Used) → get s.items key ≡ o → Follows s kind.MetaGet None (Some key) (meta_get_step s key touch vivify recache o)
+-- what an unnoted hit leaves of the item
+abbrev seen : State → Used → Option ℤ → Option ℤ → Used
+seen s u touch recache = record u { item = record (shown_item u.item touch recache s.time) { fetched = u.item.fetched } }
+
+meta_get_follows : (s : State) (key : List ℕ) (touch vivify recache : Option ℤ) (unnoted : Bool) (o : Option Used) → get s.items key ≡ o → Follows s kind.MetaGet None (Some key) (meta_get_step s key touch vivify recache unnoted o)
 unfolding is_lawful
-meta_get_follows s key touch None recache None is = unchanged s kind.MetaGet None (Some key) Miss (λ _ _ e. cc) refl
-meta_get_follows s key touch (Some exptime) recache None is =
+meta_get_follows s key touch None recache unnoted None is = unchanged s kind.MetaGet None (Some key) Miss (λ _ _ e. cc) refl
+meta_get_follows s key touch (Some exptime) recache unnoted None is =
     numbers_first s kind.MetaGet None key (λ u. MetaHit (made_hit (vivified_item exptime s.time u) s.time)) (vivified_item exptime s.time 0)
     (λ _ e. cc) (λ _. rw is refl) (λ _ _. refl) refl (λ _. refl)
-meta_get_follows s key touch vivify recache (Some u) is =
+meta_get_follows s key touch vivify recache false (Some u) is =
     uses s kind.MetaGet None key u (shown_item u.item touch recache s.time) (MetaHit (hit_of u.item touch recache s.time)) (λ _ _ e. cc) is
     (assumption) (λ h. rw h) refl
+meta_get_follows s key touch vivify recache true (Some u) is =
+    let keeps : u.item.sent ≡ true → (seen s u touch recache).item.sent ≡ true = λ h. rw h in
+    follows s kind.MetaGet None (Some key) (MetaHit (hit_of u.item touch recache s.time)) (insert s.items key (seen s u touch recache)) s.uses s.flush s.tally s.evicted
+    (λ _ _ e. cc) refl (record {
+      others = λ other differ. inl (get_other s.items key other (seen s u touch recache) (apart key other differ));
+      items_are = inserted_are s.items None key (seen s u touch recache) (inl (u, is, assumption));
+      sent = λ _ k h. inr (sent_inserted s.items key (seen s u touch recache) (λ had. keeps (rw is at had)) k h);
+    })
 
 delete_follows : (s : State) (key : List ℕ) (o : Option Used) → Follows s kind.Delete None (Some key) (delete_step s key o)
 unfolding is_lawful
@@ -321,7 +336,7 @@ stale_follows s asked u =
     let stale : ℕ → Used = λ unique. record u { item = stale_item u.item asked.exptime s.time unique } in
     numbers s kind.MetaDelete asked.unique (Some asked.key) (λ _. Done) (λ unique after. with_items after (insert s.items asked.key (stale unique)))
     (λ _. refl) refl
-    (λ unique. follows s kind.MetaDelete (Some unique) (Some asked.key) Done (insert s.items asked.key (stale unique)) s.uses s.flush
+    (λ unique. follows s kind.MetaDelete (Some unique) (Some asked.key) Done (insert s.items asked.key (stale unique)) s.uses s.flush s.tally s.evicted
     (λ _ _ e. cc) refl (record {
       others = λ other differ. inl (get_other s.items asked.key other (stale unique) (apart asked.key other differ));
       items_are = inserted_are s.items (Some unique) asked.key (stale unique) (inr refl);
@@ -338,12 +353,20 @@ meta_delete_follows s asked (Some u) = compares s kind.MetaDelete asked.unique (
 
 flush_follows : (s : State) (o : Option ℕ) → Follows s kind.Flush None None (Done, flush_step s o)
 unfolding is_lawful
-flush_follows s None = follows s kind.Flush None None Done nothing s.uses None (λ _ _ e. cc) refl (record {
+flush_follows s None = follows s kind.Flush None None Done nothing s.uses None s.tally s.evicted (λ _ _ e. cc) refl (record {
   others = λ other _. inr (get_nothing other, inl refl);
   items_are = λ k u h. absurd (let h' = rw (get_nothing k) at h in cc);
   sent = λ _ k _. inl (get_nothing k);
 })
-flush_follows s (Some second) = follows s kind.Flush None None Done s.items s.uses (Some second) (λ _ _ e. cc) refl (record {
+flush_follows s (Some second) = follows s kind.Flush None None Done s.items s.uses (Some second) s.tally s.evicted (λ _ _ e. cc) refl (record {
+  others = λ _ _. inl refl;
+  items_are = λ k u h. inl (itself s.items k u h);
+  sent = λ _ k h. inr h;
+})
+
+reset_follows : (s : State) → Follows s kind.ResetStats None None (Reset, record s { tally = no_counts; evicted = 0 })
+unfolding is_lawful
+reset_follows s = follows s kind.ResetStats None None Reset s.items s.uses s.flush no_counts 0 (λ _ _ e. cc) refl (record {
   others = λ _ _. inl refl;
   items_are = λ k u h. inl (itself s.items k u h);
   sent = λ _ k h. inr h;
@@ -368,7 +391,9 @@ step_follows s (Count key direction amount) = classic_count_follows s key (count
 step_follows s (Delete key) = delete_follows s key (get s.items key)
 step_follows s (Touch key exptime) = touch_follows s key exptime (get s.items key) refl
 step_follows s (Flush delay) = flush_follows s (coming (expiry_of delay s.time) s.time)
-step_follows s (MetaGet asked) = meta_get_follows s asked.key asked.touch asked.vivify asked.recache (get s.items asked.key) refl
+step_follows s Stats = unchanged s kind.Stats None None (shown.Stats (stats_of s)) (λ _ _ e. cc) refl
+step_follows s ResetStats = reset_follows s
+step_follows s (MetaGet asked) = meta_get_follows s asked.key asked.touch asked.vivify asked.recache asked.unnoted (get s.items asked.key) refl
 step_follows s (MetaStore asked) = storing_follows s kind.MetaStore asked.key (storing asked.mode asked.compare asked.unique asked.flags asked.exptime asked.value) (λ shown. MetaDone shown) (record { clears = refl; absent = refl; not_stored = refl; exists = refl; large = refl; no_cas = refl; replies = λ _. refl; not_no_cas = λ _ e. cc; told = λ _ _. refl }) (get s.items asked.key) refl
 step_follows s (MetaDelete asked) = meta_delete_follows s asked (get s.items asked.key)
 step_follows s (MetaCount asked) = meta_count_follows s asked.key (counting asked.compare asked.unique asked.direction asked.amount asked.exptime) (λ shown. MetaDone shown) asked.vivify (record { absent = refl; no_number = refl; no_cas = refl; replies = λ _. refl; not_no_cas = λ _ e. cc; told = λ _ _. refl }) (get s.items asked.key) refl
@@ -417,13 +442,29 @@ met_settles old s time (Some key) settles = elim (cases_Bool (is_dead_at s.time 
 settle_settles : (old : State) (key : Option (List ℕ)) (moment : ℕ) → Settles old (settle old key moment) key (max old.time (min moment latest_moment))
 settle_settles old key moment = met_settles old (arrived old moment) (max old.time (min moment latest_moment)) key (arrived_settles old moment)
 
+answered_is : (settled new : State) (op : Op) (answer : Answer) → Answers settled op answer new → Follows settled (kind_of op) (token_of op) (key_of op) (answer, new)
+unfolding Answers
+answered_is settled new op answer (inl none) = rw (none.0, none.2) (unchanged settled (kind_of op) (token_of op) (key_of op) NoMemory (λ _ _ e. cc) none.1)
+answered_is settled new op answer (inr is) = subst (λ o. Follows settled (kind_of op) (token_of op) (key_of op) o) (sym is) (step_follows settled op)
+
+-- counting what was asked changes nothing of that
+noted_follows : (s new : State) (asked : Kind) (token : Option ℕ) (key : Option (List ℕ)) (op : Op) (answer : Answer) → Follows s asked token key (answer, new) → Follows s asked token key (answer, noted_in new op answer)
+noted_follows s new asked token key op answer done = record {
+  given = done.given;
+  taken = done.taken;
+  time = done.time;
+  place = (let place = done.place in assumption);
+  others = done.others;
+  lawful = done.lawful;
+  items = done.items;
+  sent = done.sent;
+}
+
 step_is : (old new : State) (op : Op) (moment : ℕ) (answer : Answer) → IsStep old op moment answer new → Follows (settle old (key_of op) moment) (kind_of op) (token_of op) (key_of op) (answer, new)
-unfolding IsStep Answers
-step_is old new op moment answer (inl none) =
+unfolding IsStep
+step_is old new op moment answer step =
     let settled = settle old (key_of op) moment in
-    rw (none.0, none.2) (unchanged settled (kind_of op) (token_of op) (key_of op) NoMemory (λ _ _ e. cc) none.1)
-step_is old new op moment answer (inr is) =
-    subst (λ o. Follows (settle old (key_of op) moment) (kind_of op) (token_of op) (key_of op) o) (sym is) (step_follows (settle old (key_of op) moment) op)
+    rw step.2 (noted_follows settled step.0 (kind_of op) (token_of op) (key_of op) op answer (answered_is settled step.0 op answer step.1))
 
 pub answers_are_lawful : AnswersAreLawful
 answers_are_lawful old new op moment answer step = (step_is old new op moment answer step).lawful
@@ -491,16 +532,24 @@ made_wins s key (Some exptime) shown new none is = elim (cases_Bool (nat_lt (nex
   | inr f ↦ absurd (let is' = rw f at is in let answer : MetaHit shown ≡ NoCas = ap (λ o. o.0) is' in cc)
 ]
 
-get_wins : (s : State) (key : List ℕ) (touch vivify recache : Option ℤ) (shown : hit.MetaHit) (new : State) (o : Option Used) → get s.items key ≡ o → ◌≡◌ {A = Outcome} (MetaHit shown, new) (meta_get_step s key touch vivify recache o) → shown.marks.won ≡ true → Wins s key new
-get_wins s key touch vivify recache shown new None is step won = made_wins s key vivify shown new is step
-get_wins s key touch vivify recache shown new (Some u) is step won =
+-- what an item is that was put where the key was
+sent_at : (m : Items) (key : List ℕ) (u : Used) → u.item.sent ≡ true → is_sent (insert m key u) key ≡ true
+sent_at m key u sent = rw (get_here m key u) sent
+
+shown_wins : (s : State) (key : List ℕ) (touch recache : Option ℤ) (unnoted : Bool) (u : Used) → (shown_item u.item touch recache s.time).sent ≡ true → is_sent (shows unnoted s key u (shown_item u.item touch recache s.time)).items key ≡ true
+shown_wins s key touch recache false u sent = sent_at s.items key (put_at s (shown_item u.item touch recache s.time)) sent
+shown_wins s key touch recache true u sent = sent_at s.items key (seen s u touch recache) sent
+
+get_wins : (s : State) (key : List ℕ) (touch vivify recache : Option ℤ) (unnoted : Bool) (shown : hit.MetaHit) (new : State) (o : Option Used) → get s.items key ≡ o → ◌≡◌ {A = Outcome} (MetaHit shown, new) (meta_get_step s key touch vivify recache unnoted o) → shown.marks.won ≡ true → Wins s key new
+get_wins s key touch vivify recache unnoted shown new None is step won = made_wins s key vivify shown new is step
+get_wins s key touch vivify recache unnoted shown new (Some u) is step won =
     let answer : MetaHit shown ≡ MetaHit (hit_of u.item touch recache s.time) = ap (λ o. o.0) step in
-    let shows : shown ≡ hit_of u.item touch recache s.time = cc in
-    let wins : is_won u.item recache s.time ≡ true = sym (ap (λ h. h.marks.won) shows) ∙ won in
-    let after : new ≡ first s key (shown_item u.item touch recache s.time) = ap (λ o. o.1) step in
+    let alike : shown ≡ hit_of u.item touch recache s.time = cc in
+    let wins : is_won u.item recache s.time ≡ true = sym (ap (λ h. h.marks.won) alike) ∙ won in
+    let after : new ≡ shows unnoted s key u (shown_item u.item touch recache s.time) = ap (λ o. o.1) step in
     let free = and_parts (not u.item.sent) (u.item.stale || has_fewer_left (seconds_left u.item.expiry s.time) recache) wins in (
       rw is (not-true u.item.sent free.0),
-      rw (after, get_here s.items key (put_at s (shown_item u.item touch recache s.time))) (or_right u.item.sent (is_won u.item recache s.time) wins),
+      rw after (shown_wins s key touch recache unnoted u (or_right u.item.sent (is_won u.item recache s.time) wins)),
     )
 
 -- only mg answers such a hit
@@ -511,20 +560,30 @@ op_wins : (s : State) (op : Op) (shown : hit.MetaHit) (new : State) → ◌≡�
 unfolding step_of kind_of key_of is_lawful
 op_wins s (MetaGet asked) shown new is won k at =
     let same_key : asked.key ≡ k = (let both : ◌≡◌ {A = Option (List ℕ)} (Some asked.key) (Some k) = at in cc) in
-    subst (λ q. Wins s q new) same_key (get_wins s asked.key asked.touch asked.vivify asked.recache shown new (get s.items asked.key) refl is won)
+    subst (λ q. Wins s q new) same_key (get_wins s asked.key asked.touch asked.vivify asked.recache asked.unnoted shown new (get s.items asked.key) refl is won)
 op_wins s op shown new is won k at = absurd (not_lawful (kind_of op) shown (step_of s op).0 refl (step_follows s op).lawful (ap (λ o. o.0) is))
 
+answer_wins : (settled new : State) (op : Op) (shown : hit.MetaHit) → Answers settled op (MetaHit shown) new → shown.marks.won ≡ true → (key : List ℕ) → key_of op ≡ Some key → Wins settled key new
+unfolding Answers
+answer_wins settled new op shown (inl none) won key at = absurd (let answer : MetaHit shown ≡ NoMemory = none.0 in cc)
+answer_wins settled new op shown (inr is) won key at = op_wins settled op shown new is won key at
+
 pub winners_are_first : WinnersAreFirst
-unfolding IsStep Answers
-winners_are_first old new op moment shown (inl none) won key at = absurd (let answer : MetaHit shown ≡ NoMemory = none.0 in cc)
-winners_are_first old new op moment shown (inr is) won key at = op_wins (settle old (key_of op) moment) op shown new is won key at
+unfolding IsStep
+winners_are_first old new op moment shown step won key at = rw step.2 (answer_wins (settle old (key_of op) moment) step.0 op shown step.1 won key at)
+
+answers_agree : (settled one other : State) (op : Op) (answer second : Answer) → Answers settled op answer one → Answers settled op second other →
+    ¬ (answer ≡ NoMemory) → ¬ (second ≡ NoMemory) → ◌≡◌ {A = Outcome} (answer, one) (second, other)
+unfolding Answers
+answers_agree settled one other op answer second (inl none) b had had_too = absurd (had none.0)
+answers_agree settled one other op answer second (inr is) (inl none) had had_too = absurd (had_too none.0)
+answers_agree settled one other op answer second (inr is) (inr too) had had_too = is ∙ sym too
 
 pub steps_agree : StepsAgree
-unfolding IsStep Answers
-steps_agree old one other op moment answer second (inl none) b had had_too = absurd (had none.0)
-steps_agree old one other op moment answer second (inr is) (inl none) had had_too = absurd (had_too none.0)
-steps_agree old one other op moment answer second (inr is) (inr too) had had_too =
-    let both : ◌≡◌ {A = Outcome} (answer, one) (second, other) = is ∙ sym too in (ap (λ o. o.0) both, ap (λ o. o.1) both)
+unfolding IsStep
+steps_agree old one other op moment answer second a b had had_too =
+    let both = answers_agree (settle old (key_of op) moment) a.0 b.0 op answer second a.1 b.1 had had_too in
+    (ap (λ o. o.0) both, a.2 ∙ ap (λ o. noted_in o.1 op o.0) both ∙ sym b.2)
 
 -- no multiple of the number of shards lies between two places
 same_next : (shards index given other more : ℕ) → index < shards → other < shards → index + 1 + shards * given ≡ other + 1 + shards * more →

@@ -3,7 +3,7 @@ use Rattle.std.proofs.Common.{◌≡◌, ℕ, ◌+◌, ◌*◌, ◌^◌, ◌≤�
 use Rattle.std.specs.Option.{IsSome, option_map}
 use Rattle.std.specs.Cmp.Lexicographic.{pointwise}
 use Rattle.std.specs.FinMap.{get, remove}
-use Rattle.std.specs.Map.{lookup, remove_entry}
+use Rattle.std.specs.Map.{lookup}
 use Rattle.std.specs.Prelude.{◌||◌, if◌then◌else◌}
 use Rattle.std.proofs.lemmas.Bool.{cases_Bool, ltb-false, or_parts}
 use Rattle.std.proofs.lemmas.Option.{cond_some}
@@ -12,14 +12,13 @@ use Rattle.mc_item.specs.Expiry.{is_dead}
 use Rattle.mc_item.specs.declared.answer.Answer.{Answer}
 use Rattle.mc_item.specs.declared.answer.Answer.TheVariants.{NoCas, NoMemory, TooLarge}
 use Rattle.mc_store.specs.Rows.{done_of}
-use Rattle.mc_store.specs.State.{Used, State, with_items, without_dead, item_overhead, cost, fitting, entered, next_unique, with_given}
+use Rattle.mc_store.specs.State.{Used, State, with_items, without_dead, item_overhead, cost, evicting, entered, next_unique, with_given}
 use Rattle.mc_store.specs.internal.Found.{unique_for, given_after}
-use Rattle.mc_store.specs.internal.Listed.{within}
 use Rattle.mc_store.specs.Step.{Outcome, Reply, numbered, is_too_large, writes}
 use Rattle.mc_store.specs.Shard.{Held, Keeps}
 use Rattle.mc_store.specs.internal.Parts.{IsOutcome}
 use Rattle.mc_store.proofs.Lists.{used, insert-remove, lookup-Shows}
-use Rattle.mc_store.proofs.Shards.{at_now, put_first, giving, gives}
+use Rattle.mc_store.proofs.Shards.{at_now, with_put, put_first, giving, gives}
 
 -- what is held now shows a state that the outcome may have led to
 abbrev pub Closes : State → Outcome → Answer → Held → Type 0
@@ -71,7 +70,7 @@ write_refused held state key new token outcome h none after =
 
 -- to put an item in place of a dead one is to put it where that has gone
 entered_removed : (state : State) (key : List ℕ) (item : Item) → entered (with_items state (remove state.items key)) key item ≡ entered state key item
-entered_removed state key item = ap (λ m. let after : State = record state { items = fitting m state.budget key; uses = state.uses + 1 } in after) (insert-remove state.items key (used (at_now item state.time) (state.uses + 1)))
+entered_removed state key item = ap (λ m. evicting (record state { items = m; uses = state.uses + 1 }) key) (insert-remove state.items key (used (at_now item state.time) (state.uses + 1)))
 
 giving_removed : (state : State) (key : List ℕ) (item : Item) (token : Option ℕ) → entered (giving token (with_items state (remove state.items key))) key item ≡ entered (giving token state) key item
 giving_removed state key item (Some token) = entered_removed state key item
@@ -86,7 +85,7 @@ giving_keeps state None = (refl, refl)
 
 pub write_done : (held : Held) (state : State) (key : List ℕ) (item : Item) (token : Option ℕ) (unique : ℕ) (reply : ℕ → Answer) → Keeps held state → cost key item.value ≤ held.budget → Some unique ≡ unique_for token (next_of held) →
     Closes (without_dead state (Some key)) (numbered (without_dead state (Some key)) token (λ number after. (reply number, entered after key (record item { unique = number })))) (reply unique)
-    (record held { entries = within held.budget ((key, record item { unique = unique; last_access = held.time }) ∷ remove_entry (pointwise nat_eq key) held.entries); given = given_after token held.given })
+    (record (with_put held key (record item { unique = unique; last_access = held.time })) { given = given_after token held.given })
 write_done held state key item token unique reply h small is =
     let new_item : Item = record item { unique = unique } in
     let same_things = giving_keeps state token in
@@ -97,7 +96,7 @@ write_done held state key item token unique reply h small is =
     let there = numbered_some (without_dead state (Some key)) token unique outcome (unique_there held state key token (Some unique) h is) in (
       entered (giving token state) key new_item,
       inr (sym (there ∙ ap (λ s. (reply unique, s)) (entered_met state key new_item token))),
-      subst (λ t. Keeps (record held { entries = within held.budget ((key, record item { unique = unique; last_access = t }) ∷ remove_entry (pointwise nat_eq key) held.entries); given = given_after token held.given }) (entered (giving token state) key new_item)) time placed,
+      subst (λ t. Keeps (record (with_put held key (record item { unique = unique; last_access = t })) { given = given_after token held.given }) (entered (giving token state) key new_item)) time placed,
     )
 
 none_of : (o : Option Item) → (IsSome o → ⊥) → o ≡ None

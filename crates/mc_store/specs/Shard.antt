@@ -4,6 +4,7 @@ use Rattle.std.specs.FinMap.{empty, get, remove}
 use Rattle.mc_item.specs.declared.item.Item.{Item}
 use Rattle.mc_item.specs.declared.op.Op.{Op}
 use Rattle.mc_item.specs.declared.answer.Answer.{Answer}
+use Rattle.mc_item.specs.declared.tally.Tally.{Tally}
 use Rattle.mc_store.specs.declared.shard.Shard.{Shard}
 use Rattle.mc_store.specs.State.{Used, Items, State, costs}
 use Rattle.mc_store.specs.Step.{IsStep}
@@ -18,7 +19,7 @@ Shows [] items = items ≡ empty
 Shows (e ∷ es) items =
     (number : ℕ) × (get items e.0 ≡ Some (record { item = e.1; number = number })) × AllBelow (remove items e.0) number × Shows es (remove items e.0)
 
--- what a shard holds: the list, what it may cost, and its numbers
+-- what a shard holds: the list, what it may cost, its numbers, and its counts
 pub record Held : Type 0 where
   pub entries : List (List ℕ × Item)
   pub budget : ℕ
@@ -28,6 +29,8 @@ pub record Held : Type 0 where
   pub given : ℕ
   pub index : ℕ
   pub shards : ℕ
+  pub tally : Tally
+  pub evicted : ℕ
 
 abbrev pub held_of : Shard → Held
 held_of shard = record {
@@ -39,6 +42,8 @@ held_of shard = record {
   given = shard.given;
   index = shard.index;
   shards = shard.shards;
+  tally = shard.tally;
+  evicted = shard.items.evicted;
 }
 
 -- What is held shows the state.
@@ -53,6 +58,8 @@ pub record Keeps (held : Held) (state : State) : Type 0 where
   pub given : state.given ≡ held.given
   pub index : state.index ≡ held.index
   pub shards : state.shards ≡ held.shards
+  pub tally : state.tally ≡ held.tally
+  pub evicted : state.evicted ≡ held.evicted
   pub place : state.index < state.shards
 
 unfoldable pub IsShard : Shard → State → Type 0

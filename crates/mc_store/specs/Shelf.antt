@@ -7,3 +7,5 @@ pub record Shelf : Type 0 where
   pub entries : List (List ℕ × Item)
   -- what they may cost together, in bytes
   pub budget : ℕ
+  -- how many went to make room for others, modulo 2^64
+  pub evicted : ℕ

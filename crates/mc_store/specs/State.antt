@@ -1,15 +1,17 @@
 -- The state of a shard: a finite map from keys to items, each with the number of its last use. The map has
 -- no order of its own.
-use Rattle.std.specs.Prelude.{ℕ, ◌+◌, ◌*◌, Bool, false, ◌||◌, max, min, nat_le, List, length, Option, Some, None, if◌then◌else◌}
+use Rattle.std.specs.Prelude.{ℕ, ◌+◌, ◌-◌, ◌*◌, ◌%◌, ◌^◌, Bool, false, ◌||◌, max, min, nat_le, List, length, Option, Some, None, if◌then◌else◌}
 use Rattle.std.specs.Option.{option_map_or}
 use Rattle.std.specs.List.{sum_by}
 use Rattle.std.specs.Ordering.{nat_cmp}
 use Rattle.std.specs.Cmp.Lexicographic.{slice_cmp}
-use Rattle.std.specs.FinMap.{FinMap, empty, get, insert, remove, retain_keys, entries}
+use Rattle.std.specs.FinMap.{FinMap, empty, get, insert, remove, retain_keys, entries, len}
 use Rattle.mc_wire.specs.SameKey.{same_key}
 use Rattle.mc_wire.specs.Limits.{latest_moment}
 use Rattle.mc_item.specs.declared.item.Item.{Item}
+use Rattle.mc_item.specs.declared.tally.Tally.{Tally}
 use Rattle.mc_item.specs.Expiry.{is_dead}
+use Rattle.mc_item.specs.Tally.{no_counts}
 
 -- an item, and the number of its last use
 pub record Used : Type 0 where
@@ -35,9 +37,13 @@ pub record State : Type 0 where
   pub budget : ℕ
   -- how many bytes a value may have
   pub limit : ℕ
+  -- what it was asked, and what came of it
+  pub tally : Tally
+  -- how many items went to make room for others, modulo 2^64
+  pub evicted : ℕ
 
 abbrev pub empty_state : ℕ → ℕ → ℕ → ℕ → ℕ → State
-empty_state index shards budget given limit = record { items = empty; uses = 0; time = 0; flush = None; given = given; index = index; shards = shards; budget = budget; limit = limit }
+empty_state index shards budget given limit = record { items = empty; uses = 0; time = 0; flush = None; given = given; index = index; shards = shards; budget = budget; limit = limit; tally = no_counts; evicted = 0 }
 
 -- Settling, which comes before every operation (protocol.txt, "flush_all" and "Expiration times")
 
@@ -118,10 +124,17 @@ used_since items key = retain_keys items (λ other. nat_le (number_at items key)
 unfoldable pub fitting : Items → ℕ → List ℕ → Items
 fitting items budget key = retain_keys items (λ other. same_key key other || nat_le (costs (used_since items other)) budget)
 
+-- The state where items went for that under the key, each of which is counted.
+abbrev pub evicting : State → List ℕ → State
+evicting state key = record state {
+  items = fitting state.items state.budget key;
+  evicted = (state.evicted + (len state.items - len (fitting state.items state.budget key))) % 2 ^ 64;
+}
+
 -- The item enters, or changes its size, and is the most recently used one; others go where the costs would pass the
 -- budget.
 abbrev pub entered : State → List ℕ → Item → State
-entered state key item = with_items (first state key item) (fitting (first state key item).items state.budget key)
+entered state key item = evicting (first state key item) key
 
 -- Uniques
 

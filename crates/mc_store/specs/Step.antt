@@ -1,7 +1,7 @@
 -- What a shard answers to an operation, and what its state is then. Within one operation the tests stand in this
 -- order: absent or present, the unique, the number, the size, whether a unique is left.
-use Rattle.std.specs.Prelude.{ℕ, ◌≡◌, ◌+◌, ◌-◌, ◌%◌, ◌^◌, Bool, false, not, IsTrue, ◌||◌, ℤ, ◌⊎◌, ◌++◌, List, length, Option, Some, None, nat_le, nat_lt, ◌==◌, if◌then◌else◌}
-use Rattle.std.specs.FinMap.{get, insert, remove}
+use Rattle.std.specs.Prelude.{ℕ, ◌≡◌, ◌+◌, ◌-◌, ◌%◌, ◌^◌, Bool, true, false, not, IsTrue, ◌||◌, ℤ, ◌⊎◌, ◌++◌, List, length, Option, Some, None, nat_le, nat_lt, ◌==◌, if◌then◌else◌}
+use Rattle.std.specs.FinMap.{get, insert, remove, len}
 use Rattle.mc_command.specs.declared.command.StoreMode.{StoreMode}
 use Rattle.mc_command.specs.declared.command.StoreMode.TheVariants as store
 use Rattle.mc_command.specs.declared.command.Direction.{Direction}
@@ -13,15 +13,19 @@ use Rattle.mc_item.specs.declared.item.Expiry.{Expiry}
 use Rattle.mc_item.specs.declared.item.Expiry.TheVariants.{Never, At}
 use Rattle.mc_item.specs.declared.op.Op.{Op}
 use Rattle.mc_item.specs.declared.op.Op.TheVariants.{Store, Fetch, Count, Delete, Touch, Flush, MetaGet, MetaStore, MetaDelete, MetaCount}
-use Rattle.mc_item.specs.declared.op.MetaDelete as op
+use Rattle.mc_item.specs.declared.op.Op.TheVariants as op
+use Rattle.mc_item.specs.declared.op.MetaDelete as asked
 use Rattle.mc_item.specs.declared.op.Vivify.{Vivify}
 use Rattle.mc_item.specs.declared.answer.Answer.{Answer}
 use Rattle.mc_item.specs.declared.answer.MetaDone as done
+use Rattle.mc_item.specs.declared.answer.Answer.TheVariants as answer
+use Rattle.mc_item.specs.declared.stats.Stats.{Stats}
 use Rattle.mc_item.specs.declared.answer.Answer.TheVariants.{Stored, NotStored, Exists, NotFound, TooLarge, NoCas, NoMemory, Hit, Miss, Number, NonNumeric, Deleted, Touched, Done, MetaHit, MetaDone}
 use Rattle.mc_item.specs.Expiry.{expiry_of}
 use Rattle.mc_item.specs.Value.{number_in}
 use Rattle.mc_item.specs.Kind.{kind_of, key_of, is_lawful}
-use Rattle.mc_store.specs.State.{Used, State, settle, flushed, with_items, first, cost, entered, next_unique, with_given}
+use Rattle.mc_item.specs.Tally.{asked_of, no_counts, noted, status_of}
+use Rattle.mc_store.specs.State.{Used, State, settle, flushed, with_items, first, cost, costs, entered, next_unique, with_given}
 use Rattle.mc_store.specs.Rows.{fetched_item, touched_item, stored_item, joined_item, counted_item, counter_item, vivified_item, stale_item, shown_item, hit_of, made_hit, done_of}
 
 -- an answer, and the state after it
@@ -63,10 +67,16 @@ absent_meta_get state key (Some exptime) =
       entered given key (vivified_item exptime state.time unique),
     ))
 
-abbrev pub meta_get_step : State → List ℕ → Option ℤ → Option ℤ → Option ℤ → Option Used → Outcome
-meta_get_step state key touch vivify recache None = absent_meta_get state key vivify
-meta_get_step state key touch vivify recache (Some used) =
-    (MetaHit (hit_of used.item touch recache state.time), first state key (shown_item used.item touch recache state.time))
+-- What a hit of mg leaves of the item that it showed. Where its use isn't noted, the item keeps its place in the order, its
+-- last access, and whether it was fetched.
+abbrev pub shows : Bool → State → List ℕ → Used → Item → State
+shows false state key used shown = first state key shown
+shows true state key used shown = with_items state (insert state.items key (record used { item = record shown { fetched = used.item.fetched } }))
+
+abbrev pub meta_get_step : State → List ℕ → Option ℤ → Option ℤ → Option ℤ → Bool → Option Used → Outcome
+meta_get_step state key touch vivify recache unnoted None = absent_meta_get state key vivify
+meta_get_step state key touch vivify recache unnoted (Some used) =
+    (MetaHit (hit_of used.item touch recache state.time), shows unnoted state key used (shown_item used.item touch recache state.time))
 
 -- Storing
 
@@ -198,11 +208,11 @@ delete_step state key None = (NotFound, state)
 delete_step state key (Some used) = deletes state key
 
 -- md with I: the item becomes stale where it stands
-abbrev pub stales : State → op.MetaDelete → Used → Outcome
+abbrev pub stales : State → asked.MetaDelete → Used → Outcome
 stales state asked used =
     numbered state asked.unique (λ unique after. (Done, with_items after (insert state.items asked.key (record used { item = stale_item used.item asked.exptime state.time unique }))))
 
-abbrev pub meta_delete_step : State → op.MetaDelete → Option Used → Outcome
+abbrev pub meta_delete_step : State → asked.MetaDelete → Option Used → Outcome
 meta_delete_step state asked None = (NotFound, state)
 meta_delete_step state asked (Some used) =
     compared state asked.compare used.item (if asked.invalidate then stales state asked used else deletes state asked.key)
@@ -217,6 +227,16 @@ abbrev pub flush_step : State → Option ℕ → State
 flush_step state None = flushed state
 flush_step state (Some second) = record state { flush = Some second }
 
+-- Counting what was asked (protocol.txt, "General-purpose statistics")
+
+-- what a shard counted, and what it holds
+abbrev pub stats_of : State → Stats
+stats_of state = record { tally = state.tally; evicted = state.evicted; items = len state.items; bytes = costs state.items; budget = state.budget }
+
+-- What was asked is counted, with what came of it.
+abbrev pub noted_in : State → Op → Answer → State
+noted_in state op answer = record state { tally = noted state.tally (asked_of op) (status_of answer) }
+
 -- The step
 
 -- what a settled shard answers, and its state then
@@ -229,7 +249,9 @@ step_of state (Count key direction amount) =
 step_of state (Delete key) = delete_step state key (get state.items key)
 step_of state (Touch key exptime) = touch_step state key exptime (get state.items key)
 step_of state (Flush delay) = (Done, flush_step state (coming (expiry_of delay state.time) state.time))
-step_of state (MetaGet asked) = meta_get_step state asked.key asked.touch asked.vivify asked.recache (get state.items asked.key)
+step_of state op.Stats = (answer.Stats (stats_of state), state)
+step_of state op.ResetStats = (answer.Reset, record state { tally = no_counts; evicted = 0 })
+step_of state (MetaGet asked) = meta_get_step state asked.key asked.touch asked.vivify asked.recache asked.unnoted (get state.items asked.key)
 step_of state (MetaStore asked) =
     store_step state asked.key (storing asked.mode asked.compare asked.unique asked.flags asked.exptime asked.value) (λ done. MetaDone done) (get state.items asked.key)
 step_of state (MetaDelete asked) = meta_delete_step state asked (get state.items asked.key)
@@ -242,6 +264,6 @@ unfoldable pub Answers : State → Op → Answer → State → Type 0
 Answers settled op answer new =
     ((answer ≡ NoMemory) × IsTrue (is_lawful (kind_of op) NoMemory) × (new ≡ settled)) ⊎ ◌≡◌ {A = Outcome} (answer, new) (step_of settled op)
 
--- one step of a shard: the state, the operation, its moment, the answer, and the state after it
+-- one step of a shard: the state, the operation, its moment, the answer, and the state after it, in which it is counted
 unfoldable pub IsStep : State → Op → ℕ → Answer → State → Type 0
-IsStep old op moment answer new = Answers (settle old (key_of op) moment) op answer new
+IsStep old op moment answer new = (done : State) × Answers (settle old (key_of op) moment) op answer done × (new ≡ noted_in done op answer)

@@ -7,8 +7,8 @@ ghost use Rattle.mc_wire.specs.SameKey.{same_key};
 ghost use Rattle.mc_item.specs.declared.item.Item.{Item as TheItem};
 ghost use Rattle.mc_store.specs.State.{item_overhead, cost};
 ghost use Rattle.mc_store.specs.Step.{is_other};
-ghost use Rattle.mc_store.specs.internal.Access.{met, read_item, read_shelf};
-ghost use Rattle.mc_store.specs.internal.Listed.{Fits, freed_by, listed_cost, within};
+ghost use Rattle.mc_store.specs.internal.Access.{met, read_item, read_shelf, seen_shelf};
+ghost use Rattle.mc_store.specs.internal.Listed.{Fits, freed_by, listed_cost, put_in, within};
 
 use crate::access::{Access, Use};
 use crate::hashing::PolynomialState;
@@ -35,7 +35,7 @@ pub struct Items {
     cost: usize,
     /// What they may cost together, in bytes.
     budget: usize,
-    /// How many went to make room for others.
+    /// How many went to make room for others. The count starts anew after 2^64 - 1.
     evicted: u64,
     /// For a copy of a value that is read, where it can't be shared. None is left once it was used, and where no memory was
     /// found for it.
@@ -49,7 +49,7 @@ impl Model for Items {
 
     ghost Value = { Shelf };
 
-    ghost view = { λ items. record { entries = items.cache.entries; budget = items.budget } };
+    ghost view = { λ items. record { entries = items.cache.entries; budget = items.budget; evicted = items.evicted } };
 
     ghost invariant = { λ items. IsCounted items.cache.entries items.cache.cap items.cost items.budget };
 }
@@ -159,13 +159,24 @@ fn mark_stale(cache: &mut Cache, key: &Key, new: Staling)
     }
 }
 
+/// Gives the item under the key another expiry, and notes in it whether a client was told to recompute it. It stays where it is.
+fn mark_seen(cache: &mut Cache, key: &Key, new: Use)
+    ensures marked { (item : TheItem) → lookup (same_key key.now) cache.old.entries ≡ Some item → cache.new ≡ lru_cache (set_value (same_key key.now) cache.old.entries (record item { expiry = new.expiry; sent = new.sent })) cache.old.cap }
+    ensures none { lookup (same_key key.now) cache.old.entries ≡ None → cache.new ≡ cache.old }
+{
+    if let Some(seen) = cache.peek_mut(key) {
+        seen.expiry = new.expiry;
+        seen.sent = new.sent;
+    }
+}
+
 impl Items {
     /// No items, which may cost so many bytes together. It takes no room for them before they come. They are hashed under
     /// words that are drawn from the random state.
     pub fn new(alloc: Global, hasher: RandomState, budget: usize) -> Result<Items, AllocError>
         requires least { LEAST_BUDGET ≤ budget }
         requires most { budget ≤ GREATEST_BUDGET }
-        ensures { IfOk result (λ items. items ≡ record { entries = []; budget = budget }) }
+        ensures { IfOk result (λ items. items ≡ record { entries = []; budget = budget; evicted = 0 }) }
     {
         let capacity = NonZeroUsize::new(budget / LEAST_COST + 1).unwrap();
         let mut cache = LruCache::unbounded_with_hasher(alloc, PolynomialState::new(hasher))?;
@@ -204,8 +215,17 @@ impl Items {
     }
 
     /// How many went to make room for others.
-    pub fn evicted(&self) -> u64 {
+    pub fn evicted(&self) -> u64
+        ensures { result ≡ self.now.evicted }
+    {
         self.evicted
+    }
+
+    /// Begins the count of those at 0 again.
+    pub fn reset_evicted(&mut self)
+        ensures { self.new ≡ record self.old { evicted = 0 } }
+    {
+        self.evicted = 0;
     }
 
     /// The item under the key.
@@ -270,6 +290,28 @@ impl Items {
         Ok(Some(item))
     }
 
+    /// Gives the item under the key as it is, unless it is dead, and makes it what it becomes by the access, but for what tells of
+    /// its use: its place in the order, its last access, and whether it was fetched. A dead item is taken out. Where memory is
+    /// refused nothing changes.
+    pub fn see(&mut self, key: &Key, access: Access) -> Result<Option<Item>, NoMemory>
+        requires { access.time ≤ LATEST_MOMENT }
+        ensures item { IfOk result (λ item. item ≡ met access key.now self.old.entries) }
+        ensures seen { OnOk result (self.new ≡ seen_shelf access key.now self.old) }
+        ensures alive { OnErr result (IsSome (met access key.now self.old.entries)) }
+        ensures err { OnErr result (self.new ≡ self.old) }
+    {
+        let Some(old) = self.peek(key) else {
+            return Ok(None);
+        };
+        if old.is_dead(access.time) {
+            self.remove(key);
+            return Ok(None);
+        }
+        let item = old.clone()?;
+        self.mark_seen(key, access.use_of(&item));
+        Ok(Some(item))
+    }
+
     /// Takes the item under the key out.
     pub fn remove(&mut self, key: &Key) -> Option<Item>
         ensures item { result ≡ lookup (same_key key.now) self.old.entries }
@@ -290,10 +332,10 @@ impl Items {
 
     /// Puts the item under the key as the most recently used one. Then the least recently used ones go, as long as the
     /// items cost more than the budget. Where memory is refused nothing changes; over an item that is there it never
-    /// is.
+    /// is. Each that went is counted.
     pub fn put(&mut self, key: Key, item: Item) -> Result<(), NoMemory>
         requires fits { Fits self.old.budget key item.value }
-        ensures put { OnOk result (self.new ≡ record self.old { entries = within self.old.budget ((key, item) ∷ remove_entry (same_key key) self.old.entries) }) }
+        ensures put { OnOk result (self.new ≡ put_in key item self.old) }
         ensures small { OnOk result (cost key item.value ≤ self.old.budget) }
         ensures err { OnErr result (self.new ≡ self.old) }
         ensures succeeds { IsSome (lookup (same_key key) self.old.entries) → IsOk result }
@@ -307,7 +349,7 @@ impl Items {
         let before = self.cache.len();
         self.cost = evict(&mut self.cache, self.cost + added - freed, self.budget);
         let went = before.saturating_sub(self.cache.len());
-        self.evicted = self.evicted.saturating_add(went as u64);
+        self.evicted = self.evicted.wrapping_add(went as u64);
         Ok(())
     }
 
@@ -323,5 +365,13 @@ impl Items {
         ensures { (item : TheItem) → lookup (same_key key.now) self.old.entries ≡ Some item → self.new ≡ record self.old { entries = set_value (same_key key.now) self.old.entries (record item { unique = new.unique; expiry = new.expiry; stale = true; sent = false }) } }
     {
         mark_stale(&mut self.cache, key, new);
+    }
+
+    /// Gives the item under the key another expiry, and notes in it whether a client was told to recompute it. It stays where it
+    /// is.
+    fn mark_seen(&mut self, key: &Key, new: Use)
+        ensures { (item : TheItem) → lookup (same_key key.now) self.old.entries ≡ Some item → self.new ≡ record self.old { entries = set_value (same_key key.now) self.old.entries (record item { expiry = new.expiry; sent = new.sent }) } }
+    {
+        mark_seen(&mut self.cache, key, new);
     }
 }

@@ -11,18 +11,17 @@ ghost use Rattle.mc_item.specs.Kind.{kind_of, is_lawful};
 ghost use Rattle.mc_store.specs.internal.Found.{live, unique_for, given_after};
 ghost use Rattle.mc_store.specs.internal.Listed.{Fits};
 ghost use Rattle.mc_store.specs.Rows.{expiry_from, done_of};
-ghost use Rattle.mc_store.specs.Tally.{asked_of, noted, status_of};
 
 mod counting;
 mod deleting;
 mod reading;
 mod running;
+mod stats;
 mod storing;
 
 use crate::items::{Items, cost_of};
-use crate::tally::{Asked, Status, Tally};
 use crate::{GREATEST_BUDGET, LEAST_BUDGET, access};
-use mc_item::{Answer, Item, MetaDone, Op, PackedExpiry, Value};
+use mc_item::{Answer, Asked, Item, MetaDone, Op, PackedExpiry, Status, Tally, Value};
 use mc_wire::{GREATEST_VALUE_LIMIT, Key, LATEST_MOMENT};
 use std::alloc::{AllocError, Global};
 use std::hash::RandomState;
@@ -59,7 +58,7 @@ pub struct Shard {
     given: u64,
     index: u64,
     shards: u64,
-    /// What it was asked so far.
+    /// What it was asked since its counts began.
     tally: Tally,
     ghost limited: { limit ≤ GREATEST_VALUE_LIMIT },
     ghost timely: { time ≤ LATEST_MOMENT },
@@ -70,7 +69,7 @@ impl Shard {
     ghost use Rattle.mc_store.specs.State.{State, empty_state, arrived, is_due, flushed, without_dead, item_overhead, costs, entered};
     ghost use Rattle.mc_store.specs.Step.{numbered};
     ghost use Rattle.mc_store.specs.Shard.{IsShard, Steps, held_of};
-    ghost use Rattle.mc_store.specs.internal.Parts.{Does, answered};
+    ghost use Rattle.mc_store.specs.internal.Parts.{Does, Handles, answered};
 
     /// An empty shard: the one with this index of so many shards. Its items may cost `budget` bytes together, its
     /// values have at most `limit` bytes each, and so many uniques were given before. It takes no room for its items
@@ -107,7 +106,6 @@ impl Shard {
     pub fn run(&mut self, alloc: Global, op: Op, moment: u64) -> Answer
         ensures step { Steps self.old op moment result self.new }
         ensures lawful { is_lawful (kind_of op) result ≡ true }
-        ensures noted { self.new.tally ≡ noted self.old.tally (asked_of op) (status_of result) }
     {
         let asked = Asked::of(&op);
         let answer = self.answer(alloc, op, moment);
@@ -119,9 +117,8 @@ impl Shard {
     #[inline(always)]
     #[tactic(auto, unfolding(mc_item::specs::Kind::is_lawful, mc_item::specs::Kind::kind_of))]
     fn answer(&mut self, alloc: Global, op: Op, moment: u64) -> Answer
-        ensures step { Steps self.old op moment result self.new }
+        ensures handles { Handles self.old op moment result self.new }
         ensures lawful { is_lawful (kind_of op) result ≡ true }
-        ensures tally { self.new.tally ≡ self.old.tally }
     {
         self.arrive(moment);
         match op {
@@ -141,6 +138,8 @@ impl Shard {
             Op::Delete { key } => self.delete(&key),
             Op::Touch { key, exptime } => self.touch(&key, exptime),
             Op::Flush { delay } => self.flush_at(delay),
+            Op::Stats => self.stats(alloc),
+            Op::ResetStats => self.reset_stats(),
             Op::MetaGet(asked) => self.meta_get(asked),
             Op::MetaStore(asked) => self.meta_store(alloc, asked),
             Op::MetaDelete(asked) => self.meta_delete(&asked),
@@ -170,22 +169,23 @@ impl Shard {
         self.items.cost()
     }
 
-    /// What it was asked so far, and how often each came to what.
+    /// What it was asked since its counts began, and how often each came to what.
     pub fn tally(&self) -> Tally
-        ensures { result ≡ self.now.tally }
+        ensures { (state : State) → IsShard self.now state → result ≡ state.tally }
     {
         self.tally
     }
 
-    /// How many items went to make room for others.
-    pub fn evicted(&self) -> u64 {
+    /// How many items went to make room for others since its counts began.
+    pub fn evicted(&self) -> u64
+        ensures { (state : State) → IsShard self.now state → result ≡ state.evicted }
+    {
         self.items.evicted()
     }
 
     /// Moves the time to the moment, unless that is past, and runs a flush that is due.
     fn arrive(&mut self, moment: u64)
-        ensures state { (state : State) → IsShard self.old state → IsShard self.new (arrived state moment) }
-        ensures tally { self.new.tally ≡ self.old.tally }
+        ensures { (state : State) → IsShard self.old state → IsShard self.new (arrived state moment) }
     {
         self.time = self.time.max(moment.min(LATEST_MOMENT));
         if self.is_flush_due() {
@@ -205,8 +205,7 @@ impl Shard {
 
     /// Removes all items, and a pending flush.
     fn remove_all(&mut self)
-        ensures state { (state : State) → IsShard self.old state → IsShard self.new (flushed state) }
-        ensures tally { self.new.tally ≡ self.old.tally }
+        ensures { (state : State) → IsShard self.old state → IsShard self.new (flushed state) }
     {
         self.items.clear();
         self.flush = None;
@@ -226,8 +225,7 @@ impl Shard {
 
     /// Removes the item under the key where it is dead.
     fn remove_dead(&mut self, key: &Key)
-        ensures state { (state : State) → IsShard self.old state → IsShard self.new (without_dead state (Some key.now)) }
-        ensures tally { self.new.tally ≡ self.old.tally }
+        ensures { (state : State) → IsShard self.old state → IsShard self.new (without_dead state (Some key.now)) }
     {
         let Some(item) = self.items.peek(key) else {
             return;
@@ -252,8 +250,7 @@ impl Shard {
     /// Counts a unique that the shard gave.
     fn count_given(&mut self, token: Option<u64>)
         requires { token ≡ None → self.old.given + 1 < 2 ^ 64 }
-        ensures held { held_of self.new ≡ record (held_of self.old) { given = given_after token self.old.given } }
-        ensures tally { self.new.tally ≡ self.old.tally }
+        ensures { held_of self.new ≡ record (held_of self.old) { given = given_after token self.old.given } }
     {
         if token.is_none() {
             self.given += 1;
@@ -281,7 +278,6 @@ impl Shard {
         requires fits { Fits self.old.items.budget key item.value }
         ensures does { (reply : ℕ → TheAnswer) → Does self.old key (λ settled. numbered settled token (λ unique after. (reply unique, entered after key (record item { unique = unique })))) (answered reply result) self.new }
         ensures refused { IfErr result (λ answer. (answer ≡ Answer.NoCas) ⊎ (answer ≡ Answer.NoMemory)) }
-        ensures tally { self.new.tally ≡ self.old.tally }
     {
         let Some(unique) = self.unique_for(token) else {
             self.remove_dead(&key);
@@ -307,7 +303,6 @@ impl Shard {
         requires fits { Fits self.old.items.budget key item.value }
         ensures does { (reply : TheDone → TheAnswer) → Does self.old key (λ settled. numbered settled token (λ unique after. (reply (done_of (record item { unique = unique }) number settled.time), entered after key (record item { unique = unique })))) (answered reply result) self.new }
         ensures refused { IfErr result (λ answer. (answer ≡ Answer.NoCas) ⊎ (answer ≡ Answer.NoMemory)) }
-        ensures tally { self.new.tally ≡ self.old.tally }
     {
         let size = item.value.len() as u64;
         let left = item.expiry.seconds_left(self.time);

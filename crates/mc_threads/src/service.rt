@@ -7,7 +7,7 @@ use crate::session::Stepped;
 use mc_command::Rules;
 use mc_conn::{Conn, Taken};
 use mc_seat::{Clock, Line, Rooms, Seat, Served, Turn, Unwritten};
-use mc_wire::GREATEST_VALUE_LIMIT;
+use mc_wire::{GREATEST_LINE_LIMIT, GREATEST_VALUE_LIMIT};
 use std::alloc::{AllocError, Global};
 
 /// What a seat serves one line by, and how far it is with the line.
@@ -43,6 +43,7 @@ impl Service {
     ) -> Result<Service, AllocError>
         requires some { 0 < shards }
         requires value { rules.value_limit ≤ GREATEST_VALUE_LIMIT }
+        requires line { rules.line_limit ≤ GREATEST_LINE_LIMIT }
         requires window { 0 < window }
         ensures { IfOk result (λ service. IsNew shards rules window service) }
     {

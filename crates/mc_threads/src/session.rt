@@ -2,7 +2,7 @@
 ghost use Rattle.mc_command.specs.declared.rules.Rules.{Rules};
 ghost use Rattle.std.specs.Prelude.{◌≡◌, ◌<◌, ◌≤◌, ◌↔◌, ℕ, Some, IfOk, IsTrue, OnErr, OnOk, length};
 ghost use Rattle.std.specs.Bool.{OnFalse, OnTrue};
-ghost use Rattle.mc_wire.specs.declared.TheConstants.{GREATEST_VALUE_LIMIT};
+ghost use Rattle.mc_wire.specs.declared.TheConstants.{GREATEST_LINE_LIMIT, GREATEST_VALUE_LIMIT};
 
 use crate::courier::Courier;
 use crate::service::Service;
@@ -10,7 +10,7 @@ use mc_command::Rules;
 use mc_ring::SeatEnds;
 use mc_seat::{Clock, Line, Rooms, Served};
 use mc_wake::Wakers;
-use mc_wire::GREATEST_VALUE_LIMIT;
+use mc_wire::{GREATEST_LINE_LIMIT, GREATEST_VALUE_LIMIT};
 use std::alloc::{AllocError, Global};
 
 /// What a step did.
@@ -38,6 +38,7 @@ pub struct Session {
     service: Option<Service>,
     ghost some_shards: { 0 < shards },
     ghost small_values: { rules.value_limit ≤ GREATEST_VALUE_LIMIT },
+    ghost short_lines: { rules.line_limit ≤ GREATEST_LINE_LIMIT },
     ghost some_commands: { 0 < window },
 }
 
@@ -65,6 +66,7 @@ impl Session {
     ) -> Result<Session, AllocError>
         requires some { 0 < length ends.lanes }
         requires value { rules.value_limit ≤ GREATEST_VALUE_LIMIT }
+        requires line { rules.line_limit ≤ GREATEST_LINE_LIMIT }
         requires window { 0 < window }
         ensures vacant { IfOk result (λ session. IsVacant rules window session) }
         ensures ends { IfOk result (λ session. session.courier.ends ≡ ends) }

@@ -24,6 +24,7 @@ pub const SIZES: Sizes = Sizes {
     bytes: 67_108_864,
     ring: 64,
     value: 1_048_576,
+    line: 65_536,
     window: 256,
 };
 

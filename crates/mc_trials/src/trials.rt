@@ -126,6 +126,7 @@ fn sizes(shards: usize, ring: usize, window: usize) -> Sizes {
         bytes: 65_536,
         ring,
         value: 1_048_576,
+        line: 65_536,
         window,
     }
 }

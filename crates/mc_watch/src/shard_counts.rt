@@ -3,7 +3,8 @@ ghost use Rattle.std.specs.Prelude.{◌≡◌};
 ghost use Rattle.mc_watch.specs.Totals.{commands_of_both, shards_of_both};
 
 use crate::counter::Counter;
-use mc_store::{Asked, Shard, Status};
+use mc_item::{Asked, Status};
+use mc_store::Shard;
 
 /// How often a command of one kind came to what.
 #[derive(Clone, Copy, Debug, Default, PartialEq, Eq)]

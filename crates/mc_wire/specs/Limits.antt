@@ -1,6 +1,6 @@
 -- The limits of the protocol and of this server, as numbers.
 use Rattle.std.specs.Prelude.{ℕ, ◌≡◌, ◌*◌, ◌^◌}
-use Rattle.mc_wire.specs.declared.TheConstants.{LINE_LIMIT, DIGIT_LIMIT, KEY_LIMIT, DECODED_KEY_LIMIT, BASE64_LIMIT, OPAQUE_LIMIT, DEFAULT_VALUE_LIMIT, LEAST_VALUE_LIMIT, GREATEST_VALUE_LIMIT, LATEST_MOMENT}
+use Rattle.mc_wire.specs.declared.TheConstants.{DEFAULT_LINE_LIMIT, DROP_IN_LINE_LIMIT, LEAST_LINE_LIMIT, GREATEST_LINE_LIMIT, DIGIT_LIMIT, KEY_LIMIT, DECODED_KEY_LIMIT, BASE64_LIMIT, OPAQUE_LIMIT, DEFAULT_VALUE_LIMIT, LEAST_VALUE_LIMIT, GREATEST_VALUE_LIMIT, LATEST_MOMENT}
 
 -- how many digits a number may have, its leading zeros among them
 abbrev pub digit_limit : ℕ
@@ -20,7 +20,10 @@ latest_moment = 2 ^ 40
 
 -- What the constants of the code are. Lengths are in bytes.
 pub record LimitsAre : Type 0 where
-  pub line : LINE_LIMIT ≡ 65536
+  pub default_line : DEFAULT_LINE_LIMIT ≡ 2 ^ 16
+  pub drop_in_line : DROP_IN_LINE_LIMIT ≡ 2 ^ 20
+  pub least_line : LEAST_LINE_LIMIT ≡ 2048
+  pub greatest_line : GREATEST_LINE_LIMIT ≡ 8 * 2 ^ 20
   pub digits : DIGIT_LIMIT ≡ digit_limit
   pub key : KEY_LIMIT ≡ key_limit
   pub decoded_key : DECODED_KEY_LIMIT ≡ decoded_key_limit

@@ -16,9 +16,6 @@ pub use number::{number_i64, number_u64};
 pub use outlet::{Outlet, put_all, put_parts};
 pub use walk::{WordWalk, words};
 
-/// A line has at most this many bytes, its `\n` among them.
-pub const LINE_LIMIT: usize = 65_536;
-
 /// A number has at most this many digits, its leading zeros among them.
 pub const DIGIT_LIMIT: usize = 20;
 
@@ -34,6 +31,18 @@ pub const BASE64_LIMIT: usize = 336;
 
 /// The token behind a meta command's flag `O` has at most this many bytes.
 pub const OPAQUE_LIMIT: usize = 32;
+
+/// A line has at most this many bytes, its `\n` among them, where nothing else is said.
+pub const DEFAULT_LINE_LIMIT: usize = 65_536;
+
+/// A line has at most this many bytes where a server follows memcached's rules and nothing else is said.
+pub const DROP_IN_LINE_LIMIT: usize = 1_048_576;
+
+/// The line limit of a server is at least this many bytes.
+pub const LEAST_LINE_LIMIT: usize = 2_048;
+
+/// The line limit of a server is at most this many bytes.
+pub const GREATEST_LINE_LIMIT: usize = 8_388_608;
 
 /// A value has at most this many bytes where nothing else is said.
 pub const DEFAULT_VALUE_LIMIT: usize = 1_048_576;

@@ -5,7 +5,7 @@ use Rattle.mc_server.specs.declared.serve as serve
 
 -- its sizes and rules: those that are given, and rings of 20 places
 abbrev pub sizes_by : Limits → serve.Sizes.Sizes
-sizes_by limits = record { profile = limits.profile; shards = limits.shards; bytes = limits.bytes; ring = 20; value = limits.value; window = limits.window }
+sizes_by limits = record { profile = limits.profile; shards = limits.shards; bytes = limits.bytes; ring = 20; value = limits.value; line = limits.line; window = limits.window }
 
 -- The moment is one that a command may have: the one that is given, or any that the machine's clock tells.
 abbrev pub MayBe : Option ℕ → ℕ → Type 0

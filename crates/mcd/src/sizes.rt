@@ -15,6 +15,7 @@ pub fn sizes_of(limits: Limits) -> Sizes
         bytes: limits.bytes,
         ring: DEFAULT_RING,
         value: limits.value,
+        line: limits.line,
         window: limits.window,
     }
 }

@@ -13,6 +13,7 @@ use Rattle.mc_command.specs.declared.meta.MetaKind.{MetaKind}
 use Rattle.mc_command.specs.declared.meta.MetaKind.TheVariants.{Set, Arithmetic}
 use Rattle.mc_command.specs.declared.refusal.Refusal.{Refusal}
 use Rattle.mc_command.specs.declared.refusal.Refusal.TheVariants.{BadFormat, InvalidFlag, DuplicateFlag, OpaqueTooLong}
+use Rattle.mc_command.specs.declared.rules.Profile.TheVariants.{Own}
 use Rattle.mc_command.specs.declared.rules.Rules.{Rules}
 use Rattle.mc_command.specs.Field.{then_of}
 use Rattle.mc_command.specs.Meta.{letters_of, is_among, mode_of, direction_of, return_flag}
@@ -20,9 +21,10 @@ use Rattle.mc_command.specs.Meta.{letters_of, is_among, mode_of, direction_of, r
 -- what no flags ask
 abbrev pub nothing_asked : Asked
 nothing_asked = record {
-  flags = record { base64 = false; quiet = false; returned = []; opaque = [] };
+  flags = record { base64 = false; quiet = false; profile = Own; returned = []; opaque = [] };
   value = false;
   invalidate = false;
+  unnoted = false;
   exptime = None;
   vivify = None;
   recache = None;
@@ -50,6 +52,7 @@ flag_of name letter token =
     else (if letter == byte "q" then Ok flag.Quiet
     else (if letter == byte "v" then Ok flag.Value
     else (if letter == byte "I" then Ok flag.Invalidate
+    else (if letter == byte "u" then Ok flag.Unnoted
     else (if letter == byte "O" then opaque_flag token
     else (if letter == byte "M" then mode_flag name token
     else (if letter == byte "T" then ok_or (option_map flag.Exptime (integer_of token)) BadFormat
@@ -60,7 +63,7 @@ flag_of name letter token =
     else (if letter == byte "D" then ok_or (option_map flag.Amount (number_of (2 ^ 64) token)) BadFormat
     else (if letter == byte "J" then ok_or (option_map flag.Initial (number_of (2 ^ 64) token)) BadFormat
     else (if letter == byte "F" then ok_or (option_map flag.ClientFlags (number_of (2 ^ 32) token)) BadFormat
-    else Ok flag.Bare)))))))))))))
+    else Ok flag.Bare))))))))))))))
 
 -- with what a flag says
 abbrev pub with_flag : Asked → Flag → Asked
@@ -68,6 +71,7 @@ with_flag asked flag.Base64 = record asked { flags = record asked.flags { base64
 with_flag asked flag.Quiet = record asked { flags = record asked.flags { quiet = true } }
 with_flag asked flag.Value = record asked { value = true }
 with_flag asked flag.Invalidate = record asked { invalidate = true }
+with_flag asked flag.Unnoted = record asked { unnoted = true }
 with_flag asked (flag.Opaque token) = record asked { flags = record asked.flags { opaque = token } }
 with_flag asked (flag.Mode mode) = record asked { mode = Some mode }
 with_flag asked (flag.Direction direction) = record asked { direction = Some direction }

@@ -4,8 +4,8 @@ ghost use Rattle.mc_core.specs.Sizes.{AreWithin, rules_of};
 ghost use Rattle.mc_core.specs.Numbers.{sizes_of};
 
 use crate::sizes::{
-    LEAST, LEAST_BYTES, LEAST_VALUE, MOST_BYTES, MOST_RING, MOST_SEATS, MOST_SHARDS, MOST_VALUE,
-    MOST_WINDOW,
+    LEAST, LEAST_BYTES, LEAST_LINE, LEAST_VALUE, MOST_BYTES, MOST_LINE, MOST_RING, MOST_SEATS,
+    MOST_SHARDS, MOST_VALUE, MOST_WINDOW,
 };
 use mc_command::{Profile, Rules};
 
@@ -21,6 +21,8 @@ pub(crate) struct Numbers {
     pub(crate) ring: usize,
     /// How many bytes a value has at most.
     pub(crate) value: usize,
+    /// How many bytes a line has at most.
+    pub(crate) line: usize,
     /// How many commands of a connection may be open.
     pub(crate) window: usize,
 }
@@ -35,6 +37,7 @@ impl Numbers {
             && (LEAST_BYTES..=MOST_BYTES).contains(&self.bytes)
             && (LEAST..=MOST_RING).contains(&self.ring)
             && (LEAST_VALUE..=MOST_VALUE).contains(&self.value)
+            && (LEAST_LINE..=MOST_LINE).contains(&self.line)
             && (LEAST..=MOST_WINDOW).contains(&self.window)
     }
 
@@ -45,6 +48,7 @@ impl Numbers {
         Rules {
             profile: self.profile,
             value_limit: self.value,
+            line_limit: self.line,
         }
     }
 }

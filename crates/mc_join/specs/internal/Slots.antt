@@ -1,11 +1,13 @@
 -- The texts of replies over slots, some of which may be empty still: an empty slot shows nothing.
-use Rattle.std.specs.Prelude.{ℕ, Bool, false, List, [], ◌∷◌, ◌++◌, codes, Option, Some, None, if◌then◌else◌}
-use Rattle.std.specs.List.{list_any}
+use Rattle.std.specs.Prelude.{ℕ, ◌%◌, ◌^◌, Bool, false, List, [], ◌∷◌, ◌++◌, length, codes, decimal, Option, Some, None, if◌then◌else◌}
+use Rattle.std.specs.List.{concat, flat_map, list_any, sum_by}
 use Rattle.mc_item.specs.declared.answer.Answer.{Answer}
 use Rattle.mc_item.specs.declared.answer.Answer.TheVariants.{Number}
 use Rattle.mc_split.specs.declared.form.Shape.{Shape}
 use Rattle.mc_split.specs.declared.form.Shape.TheVariants as shape
-use Rattle.mc_split.specs.Text.{memory_line, fixed_text, answer_line, is_no_memory, item_text, meta_text}
+use Rattle.mc_item.specs.declared.stat.Stat.{Stat}
+use Rattle.mc_item.specs.Stat.{all_stats, row_of}
+use Rattle.mc_split.specs.Text.{memory_line, fixed_text, answer_line, is_no_memory, item_text, meta_text, release, stat_in, stat_text, told}
 
 -- the line of an answer that is the same in every reply; a number's is not
 abbrev pub fixed_line : Answer → List ℕ
@@ -28,6 +30,22 @@ items_text with_unique (key ∷ keys) (slot ∷ slots) = slot_text (item_text wi
 items_text with_unique [] slots = []
 items_text with_unique (key ∷ keys) [] = []
 
+-- a number of the shard of a slot
+abbrev pub slot_stat : Stat → Option Answer → ℕ
+slot_stat stat None = 0
+slot_stat stat (Some answer) = stat_in stat answer
+
+-- the line of a number of all shards together, and all such lines
+abbrev pub sum_line : List (Option Answer) → Stat → List ℕ
+sum_line slots stat = stat_text (row_of stat).0 (decimal (sum_by (slot_stat stat) slots % 2 ^ 64))
+
+unfoldable pub sums_text : List (Option Answer) → List ℕ
+sums_text slots = flat_map (sum_line slots) all_stats
+
+-- the reply to stats
+abbrev pub stats_over : List (Option Answer) → List ℕ
+stats_over slots = concat (stat_text (codes "version") release ∷ sums_text slots ∷ stat_text (codes "threads") (decimal (length slots)) ∷ codes "END\r\n" ∷ [])
+
 -- a slot's answer says that memory ran out
 abbrev pub lacks_memory : Option Answer → Bool
 lacks_memory None = false
@@ -39,6 +57,7 @@ unless_lacking slots text = if list_any lacks_memory slots then memory_line else
 -- the text of a reply of this shape, over its slots
 unfoldable pub slots_text : Shape → List (Option Answer) → List ℕ
 slots_text (shape.Fixed fixed) slots = fixed_text fixed
-slots_text (shape.Line noreply) slots = if noreply then [] else unless_lacking slots (first_text answer_line slots)
+slots_text (shape.Line noreply lenient) slots = if noreply then [] else unless_lacking slots (first_text (λ answer. answer_line (told answer lenient)) slots)
 slots_text (shape.Values keys with_unique) slots = unless_lacking slots (items_text with_unique keys slots ++ codes "END\r\n")
-slots_text (shape.Meta kind flags value key) slots = unless_lacking slots (first_text (meta_text kind flags value key) slots)
+slots_text shape.Stats slots = unless_lacking slots (stats_over slots)
+slots_text (shape.Meta kind flags value key lenient) slots = unless_lacking slots (first_text (meta_text kind flags value key lenient) slots)

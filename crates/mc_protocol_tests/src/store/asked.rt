@@ -27,6 +27,8 @@ pub enum Ask {
     Touch(i64),
     /// Of the whole shard, whatever the key.
     Flush(i64),
+    Stats,
+    ResetStats,
     /// `mg`, with its flags `T`, `N` and `R`.
     Mg(Option<i64>, Option<i64>, Option<i64>),
     /// `ms` with the flags 9 and the exptime 99, with its flag `C`.
@@ -162,11 +164,14 @@ fn reading(key: Key, ask: Ask) -> Op {
         Ask::Delete => Op::Delete { key },
         Ask::Touch(exptime) => Op::Touch { key, exptime },
         Ask::Flush(delay) => Op::Flush { delay },
+        Ask::Stats => Op::Stats,
+        Ask::ResetStats => Op::ResetStats,
         Ask::Mg(touch, vivify, recache) => Op::MetaGet(MetaGet {
             key,
             touch,
             vivify,
             recache,
+            unnoted: false,
         }),
         Ask::Md(compare, invalidate) => meta_deleted(key, compare, None, invalidate),
         Ask::MdAs(token, invalidate) => meta_deleted(key, None, Some(token), invalidate),

@@ -1,5 +1,5 @@
 //! An answer of a shard as a short text.
-use mc_item::{Answer, Marks, MetaDone, MetaHit, Value};
+use mc_item::{Answer, Asked, Marks, MetaDone, MetaHit, Stats, Status, Tally, Value};
 use std::alloc::{AllocError, Global};
 
 /// The bytes of a value as text, or its length where it is long.
@@ -48,6 +48,29 @@ fn done_text(alloc: Global, done: &MetaDone) -> Result<String, AllocError> {
     format!(in alloc; "c{} s{} {left} {}", done.unique, done.size, done.number)
 }
 
+/// The hits and the misses of a kind.
+fn counted_text(
+    alloc: Global,
+    name: &str,
+    tally: &Tally,
+    asked: Asked,
+) -> Result<String, AllocError> {
+    let hits = tally.count(asked, Status::Hit);
+    let misses = tally.count(asked, Status::Miss);
+    format!(in alloc; "{name} {hits}/{misses}")
+}
+
+fn stats_text(alloc: Global, stats: &Stats) -> Result<String, AllocError> {
+    let get = counted_text(alloc, "get", &stats.tally, Asked::Get)?;
+    let set = counted_text(alloc, "set", &stats.tally, Asked::Set)?;
+    let touch = counted_text(alloc, "touch", &stats.tally, Asked::Touch)?;
+    let own = counted_text(alloc, "stats", &stats.tally, Asked::Stats)?;
+    format!(in alloc;
+        "{get} {set} {touch} {own} n{} b{} of {} e{}",
+        stats.items, stats.bytes, stats.budget, stats.evicted
+    )
+}
+
 fn name(answer: &Answer) -> &'static str {
     match answer {
         Answer::Stored => "stored",
@@ -62,6 +85,7 @@ fn name(answer: &Answer) -> &'static str {
         Answer::Deleted => "deleted",
         Answer::Touched => "touched",
         Answer::Done => "done",
+        Answer::Reset => "reset",
         _ => "",
     }
 }
@@ -87,6 +111,7 @@ pub fn shown(alloc: Global, answer: &Answer) -> Result<String, AllocError> {
         Answer::Number(number) => format!(in alloc; "{number}"),
         Answer::MetaHit(hit) => hit_text(alloc, hit),
         Answer::MetaDone(done) => done_text(alloc, done),
+        Answer::Stats(stats) => stats_text(alloc, stats.get()),
         _ => String::from_str(alloc, name(answer)),
     }
 }

@@ -1,6 +1,5 @@
 -- What the unread bytes of a stream are, by the state of its reader.
 use Rattle.std.specs.Prelude.{ℕ, ◌≡◌, ◌+◌, ◌<◌, ◌≤◌, Bool, true, false, List, [], ◌∷◌, ◌++◌, length, Option, Some, None, nat_lt}
-use Rattle.mc_wire.specs.declared.TheConstants.{LINE_LIMIT}
 use Rattle.mc_command.specs.declared.command.Command.{Command}
 use Rattle.mc_command.specs.declared.refusal.Refusal.{Refusal}
 use Rattle.mc_command.specs.declared.line.Line.TheVariants.{Data, Skip}
@@ -39,7 +38,7 @@ SpellsSomething rules bytes = (text after : List ℕ) × (entry : Command) × (b
 pub record IsInBlock (rules : Rules) (asked : Command) (count : ℕ) (bytes others unread : List ℕ) : Type 0 where
   pub line : List ℕ
   pub no_end : HasNoEnd line
-  pub short : length line < LINE_LIMIT
+  pub short : length line < rules.line_limit
   pub says : line_says rules line ≡ Data asked count
   pub unread_are : unread ≡ line ++ 10 ∷ (bytes ++ others)
   pub behind : length bytes < count + 2 → others ≡ []
@@ -49,14 +48,14 @@ pub record IsInSkip (rules : Rules) (discarded : Option (List ℕ)) (refusal : R
   pub line : List ℕ
   pub skipped : List ℕ
   pub no_end : HasNoEnd line
-  pub short : length line < LINE_LIMIT
+  pub short : length line < rules.line_limit
   pub says : Says (line_says rules line) (Skip discarded refusal (length skipped + left))
   pub unread_are : unread ≡ line ++ 10 ∷ (skipped ++ others)
   pub behind : 0 < left → others ≡ []
 
 -- What is unread, by the state and the bytes of the buffer.
 abbrev pub Holds : Rules → State → List ℕ → List ℕ → Type 0
-Holds rules (state.Line long) buffer unread = (unread ≡ buffer) × (length buffer ≤ LINE_LIMIT) × EndsAt buffer long
+Holds rules (state.Line long) buffer unread = (unread ≡ buffer) × (length buffer ≤ rules.line_limit) × EndsAt buffer long
 Holds rules (state.Block block) buffer unread = IsInBlock rules block.command block.count block.bytes.items buffer unread
 Holds rules (state.Skip skipped) buffer unread = IsInSkip rules skipped.discarded skipped.refusal skipped.left buffer unread
 Holds rules state.Closed buffer unread = ⊥
@@ -71,25 +70,25 @@ abbrev pub line_fits : State → List ℕ → Bool
 line_fits (state.Line long) buffer = fits_in long buffer
 line_fits other buffer = true
 
--- More bytes are needed: no line is whole, or the bytes behind it have not all come.
-abbrev pub Waits : State → List ℕ → Type 0
-Waits (state.Line None) buffer = length buffer < LINE_LIMIT
-Waits (state.Line (Some long)) buffer = ⊥
-Waits (state.Block block) buffer = length block.bytes.items < block.count + 2
-Waits (state.Skip skipped) buffer = 0 < skipped.left
-Waits state.Closed buffer = ⊥
+-- More bytes are needed: no line is whole of as many as a line may have, or the bytes behind it have not all come.
+abbrev pub Waits : ℕ → State → List ℕ → Type 0
+Waits limit (state.Line None) buffer = length buffer < limit
+Waits limit (state.Line (Some long)) buffer = ⊥
+Waits limit (state.Block block) buffer = length block.bytes.items < block.count + 2
+Waits limit (state.Skip skipped) buffer = 0 < skipped.left
+Waits limit state.Closed buffer = ⊥
 
 -- What is awaited is no line that was found already.
 abbrev pub is_opened : State → Bool
 is_opened (state.Line (Some long)) = false
 is_opened other = true
 
--- All that a state awaits has come, or a line is too long.
-abbrev pub Completes : State → List ℕ → Type 0
-Completes (state.Line long) buffer = length buffer ≡ LINE_LIMIT
-Completes (state.Block block) buffer = block.count + 2 ≤ length block.bytes.items
-Completes (state.Skip skipped) buffer = skipped.left ≡ 0
-Completes state.Closed buffer = ⊥
+-- All that a state awaits has come, or a line has as many bytes as one may have.
+abbrev pub Completes : ℕ → State → List ℕ → Type 0
+Completes limit (state.Line long) buffer = length buffer ≡ limit
+Completes limit (state.Block block) buffer = block.count + 2 ≤ length block.bytes.items
+Completes limit (state.Skip skipped) buffer = skipped.left ≡ 0
+Completes limit state.Closed buffer = ⊥
 
 -- how many bytes of a block have come
 abbrev pub held_in : State → ℕ

@@ -21,6 +21,10 @@ is_sent_after (Meta recache) item time = item.sent || is_won item recache time
 abbrev pub read_item : Access → Item → Item
 read_item access item = record item { last_access = access.time; expiry = expiry_from access.touch item.expiry access.time; fetched = true; sent = is_sent_after access.reader item access.time }
 
+-- the item once it was looked at, which notes no use
+abbrev pub seen_item : Access → Item → Item
+seen_item access item = record item { expiry = expiry_from access.touch item.expiry access.time; sent = is_sent_after access.reader item access.time }
+
 -- the item that is met under the key, unless it is dead
 abbrev pub met : Access → List ℕ → List Entry → Option Item
 met access key entries = live access.time (lookup (same_key key) entries)
@@ -33,3 +37,11 @@ read_entries access key entries (Some item) = set_value (same_key key) (promoted
 
 abbrev pub read_shelf : Access → List ℕ → Shelf → Shelf
 read_shelf access key shelf = record shelf { entries = read_entries access key shelf.entries (met access key shelf.entries) }
+
+-- the same once it was looked at: it stays where it is
+abbrev pub seen_entries : Access → List ℕ → List Entry → Option Item → List Entry
+seen_entries access key entries None = remove_entry (same_key key) entries
+seen_entries access key entries (Some item) = set_value (same_key key) entries (seen_item access item)
+
+abbrev pub seen_shelf : Access → List ℕ → Shelf → Shelf
+seen_shelf access key shelf = record shelf { entries = seen_entries access key shelf.entries (met access key shelf.entries) }

@@ -1,10 +1,13 @@
 -- A shard's items as a list, the most recently used first, and what they cost.
-use Rattle.std.specs.Prelude.{ℕ, ◌≡◌, ◌+◌, ◌-◌, ◌/◌, ◌<◌, ◌≤◌, ◌⊎◌, List, [], ◌∷◌, length, All, Option, Some, None, nat_le, if◌then◌else◌}
+use Rattle.std.specs.Prelude.{ℕ, ◌≡◌, ◌+◌, ◌-◌, ◌/◌, ◌%◌, ◌^◌, ◌<◌, ◌≤◌, ◌⊎◌, List, [], ◌∷◌, length, All, Option, Some, None, nat_le, if◌then◌else◌}
 use Rattle.std.specs.List.{sum_by}
+use Rattle.std.specs.Map.{remove_entry}
+use Rattle.mc_wire.specs.SameKey.{same_key}
 use Rattle.mc_item.specs.declared.item.Item.{Item}
 use Rattle.mc_wire.specs.declared.TheConstants.{DIGIT_LIMIT}
 use Rattle.mc_store.specs.declared.TheConstants.{LEAST_BUDGET, GREATEST_BUDGET}
 use Rattle.mc_store.specs.State.{item_overhead, cost}
+use Rattle.mc_store.specs.Shelf.{Shelf}
 
 abbrev pub Entry : Type 0
 Entry = List ℕ × Item
@@ -26,6 +29,16 @@ abbrev pub within : ℕ → List Entry → List Entry
 within room [] = []
 within room (entry ∷ entries) =
     if nat_le (entry_cost entry) room then entry ∷ within (room - entry_cost entry) entries else []
+
+-- how many items go where the others are to cost no more than the room
+abbrev pub gone : ℕ → List Entry → ℕ
+gone room entries = length entries - length (within room entries)
+
+-- the items once one was put first, and others went for it
+abbrev pub put_in : List ℕ → Item → Shelf → Shelf
+put_in key item shelf =
+    let entries = (key, item) ∷ remove_entry (same_key key) shelf.entries in
+    record shelf { entries = within shelf.budget entries; evicted = (shelf.evicted + gone shelf.budget entries) % 2 ^ 64 }
 
 -- No key is empty.
 abbrev pub HaveKeys : List Entry → Type 0

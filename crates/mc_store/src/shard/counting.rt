@@ -52,7 +52,6 @@ impl Shard {
     ) -> Answer
         ensures acts { Acts self.old (op.Count key direction amount) result self.new }
         ensures lawful { is_lawful Kind.Count result ≡ true }
-        ensures tally { self.new.tally ≡ self.old.tally }
     {
         let asked = Counting {
             compare: None,
@@ -72,7 +71,6 @@ impl Shard {
     pub(super) fn meta_count(&mut self, alloc: Global, asked: MetaCount) -> Answer
         ensures acts { Acts self.old (op.MetaCount asked) result self.new }
         ensures lawful { is_lawful Kind.MetaCount result ≡ true }
-        ensures tally { self.new.tally ≡ self.old.tally }
     {
         let counting = Counting {
             compare: asked.compare,
@@ -99,7 +97,6 @@ impl Shard {
         ensures does { (reply : TheDone → TheAnswer) → Does self.old key (λ settled. count_step settled key (counting asked.compare asked.unique asked.direction asked.amount asked.exptime) reply vivify (get settled.items key)) (answered reply result) self.new }
         ensures refused { asked.compare ≡ None → IfErr result (λ answer. is_lawful Kind.Count answer ≡ true) }
         ensures meta_refused { IfErr result (λ answer. is_lawful Kind.MetaCount answer ≡ true) }
-        ensures tally { self.new.tally ≡ self.old.tally }
     {
         let Some(item) = self.find(&key) else {
             return self.count_absent(alloc, key, asked.unique, vivify);
@@ -139,7 +136,6 @@ impl Shard {
         ensures does { (reply : TheDone → TheAnswer) → Does self.old key (λ settled. absent_count settled key token reply vivify) (answered reply result) self.new }
         ensures refused { IfErr result (λ answer. is_lawful Kind.Count answer ≡ true) }
         ensures meta_refused { IfErr result (λ answer. is_lawful Kind.MetaCount answer ≡ true) }
-        ensures tally { self.new.tally ≡ self.old.tally }
     {
         let Some(made) = vivify else {
             self.remove_dead(&key);

@@ -18,7 +18,6 @@ impl Shard {
     pub(super) fn delete(&mut self, key: &Key) -> Answer
         ensures acts { Acts self.old (op.Delete key.now) result self.new }
         ensures lawful { is_lawful Kind.Delete result ≡ true }
-        ensures tally { self.new.tally ≡ self.old.tally }
     {
         let Some(item) = self.items.remove(key) else {
             return Answer::NotFound;
@@ -34,7 +33,6 @@ impl Shard {
     pub(super) fn meta_delete(&mut self, asked: &MetaDelete) -> Answer
         ensures acts { Acts self.old (op.MetaDelete asked.now) result self.new }
         ensures lawful { is_lawful Kind.MetaDelete result ≡ true }
-        ensures tally { self.new.tally ≡ self.old.tally }
     {
         let Some(item) = self.find(&asked.key) else {
             self.items.remove(&asked.key);
@@ -62,7 +60,6 @@ impl Shard {
     pub(super) fn flush_at(&mut self, delay: i64) -> Answer
         ensures acts { Acts self.old (op.Flush delay) result self.new }
         ensures lawful { is_lawful Kind.Flush result ≡ true }
-        ensures tally { self.new.tally ≡ self.old.tally }
     {
         let Some(second) = self.coming(delay) else {
             self.remove_all();

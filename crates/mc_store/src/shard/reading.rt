@@ -106,7 +106,6 @@ impl Shard {
     pub(super) fn fetch(&mut self, key: &Key, touch: Option<i64>) -> Answer
         ensures acts { Acts self.old (op.Fetch key.now touch) result self.new }
         ensures lawful { is_lawful Kind.Fetch result ≡ true }
-        ensures tally { self.new.tally ≡ self.old.tally }
     {
         let access = self.access(touch, Reader::Classic);
         let Ok(found) = self.items.read(key, access) else {
@@ -123,7 +122,6 @@ impl Shard {
     pub(super) fn touch(&mut self, key: &Key, exptime: i64) -> Answer
         ensures acts { Acts self.old (op.Touch key.now exptime) result self.new }
         ensures lawful { is_lawful Kind.Touch result ≡ true }
-        ensures tally { self.new.tally ≡ self.old.tally }
     {
         let Some(item) = self.find(key) else {
             self.items.remove(key);
@@ -144,8 +142,10 @@ impl Shard {
     pub(super) fn meta_get(&mut self, asked: MetaGet) -> Answer
         ensures acts { Acts self.old (op.MetaGet asked) result self.new }
         ensures lawful { is_lawful Kind.MetaGet result ≡ true }
-        ensures tally { self.new.tally ≡ self.old.tally }
     {
+        if asked.unnoted {
+            return self.meta_see(asked);
+        }
         let access = self.access(asked.touch, Reader::Meta(asked.recache));
         let Ok(found) = self.items.read(&asked.key, access) else {
             return Answer::NoMemory;
@@ -156,12 +156,28 @@ impl Shard {
         }
     }
 
+    /// `mg` with the flag `u`: that the item was read isn't noted.
+    #[tactic(auto, unfolding(mc_item::specs::Kind::is_lawful))]
+    fn meta_see(&mut self, asked: MetaGet) -> Answer
+        requires { asked.unnoted ≡ true }
+        ensures acts { Acts self.old (op.MetaGet asked) result self.new }
+        ensures lawful { is_lawful Kind.MetaGet result ≡ true }
+    {
+        let look = self.access(asked.touch, Reader::Meta(asked.recache));
+        let Ok(found) = self.items.see(&asked.key, look) else {
+            return Answer::NoMemory;
+        };
+        match found {
+            Some(item) => shown(item, look, asked.recache),
+            None => self.meta_get_absent(asked.key, asked.vivify),
+        }
+    }
+
     /// `mg` of a key that is not there: with an exptime it makes an empty item, and this client is told to fill it.
     #[tactic(auto, unfolding(mc_item::specs::Kind::is_lawful))]
     fn meta_get_absent(&mut self, key: Key, vivify: Option<i64>) -> Answer
         ensures does { Does self.old key (λ settled. absent_meta_get settled key vivify) result self.new }
         ensures lawful { is_lawful Kind.MetaGet result ≡ true }
-        ensures tally { self.new.tally ≡ self.old.tally }
     {
         let Some(exptime) = vivify else {
             self.remove_dead(&key);

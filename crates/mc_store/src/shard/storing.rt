@@ -90,7 +90,6 @@ impl Shard {
     ) -> Answer
         ensures acts { Acts self.old (op.Store key mode flags exptime value) result self.new }
         ensures lawful { is_lawful Kind.Store result ≡ true }
-        ensures tally { self.new.tally ≡ self.old.tally }
     {
         if let StoreMode::Set = mode {
             return self.set(key, flags, exptime, value);
@@ -114,7 +113,6 @@ impl Shard {
     fn set(&mut self, key: Key, flags: u32, exptime: i64, value: Value) -> Answer
         ensures does { Does self.old key (λ settled. stores settled key (storing MetaMode.Set None None flags exptime value) (λ done. Answer.Stored)) result self.new }
         ensures lawful { is_lawful Kind.Store result ≡ true }
-        ensures tally { self.new.tally ≡ self.old.tally }
     {
         if self.is_too_large(&key, value.len()) {
             self.remove_dead(&key);
@@ -132,7 +130,6 @@ impl Shard {
     pub(super) fn meta_store(&mut self, alloc: Global, asked: MetaStore) -> Answer
         ensures acts { Acts self.old (op.MetaStore asked) result self.new }
         ensures lawful { is_lawful Kind.MetaStore result ≡ true }
-        ensures tally { self.new.tally ≡ self.old.tally }
     {
         let storing = Storing {
             mode: asked.mode,
@@ -154,7 +151,6 @@ impl Shard {
         ensures does { (reply : TheDone → TheAnswer) → Does self.old key (λ settled. store_step settled key (storing asked.mode asked.compare asked.unique asked.flags asked.exptime asked.value) reply (get settled.items key)) (answered reply result) self.new }
         ensures refused { IfErr result (λ answer. is_lawful Kind.Store answer ≡ true) }
         ensures meta_refused { IfErr result (λ answer. is_lawful Kind.MetaStore answer ≡ true) }
-        ensures tally { self.new.tally ≡ self.old.tally }
     {
         if is_unconditional(asked.mode, asked.compare) {
             return self.store_asked(key, asked);
@@ -194,7 +190,6 @@ impl Shard {
         ensures does { (reply : TheDone → TheAnswer) → Does self.old key (λ settled. stores settled key (storing asked.mode asked.compare asked.unique asked.flags asked.exptime asked.value) reply) (answered reply result) self.new }
         ensures refused { IfErr result (λ answer. is_lawful Kind.Store answer ≡ true) }
         ensures meta_refused { IfErr result (λ answer. is_lawful Kind.MetaStore answer ≡ true) }
-        ensures tally { self.new.tally ≡ self.old.tally }
     {
         let expiry = PackedExpiry::from_exptime(asked.exptime, self.time);
         let item = fresh_item(asked.value, asked.flags, expiry);
@@ -207,7 +202,6 @@ impl Shard {
         ensures does { (reply : TheDone → TheAnswer) → Does self.old key (λ settled. absent_store settled key (storing asked.mode asked.compare asked.unique asked.flags asked.exptime asked.value) reply asked.mode asked.compare) (answered reply result) self.new }
         ensures refused { IfErr result (λ answer. is_lawful Kind.Store answer ≡ true) }
         ensures meta_refused { IfErr result (λ answer. is_lawful Kind.MetaStore answer ≡ true) }
-        ensures tally { self.new.tally ≡ self.old.tally }
     {
         if asked.compare.is_some() {
             self.remove_dead(&key);
@@ -228,7 +222,6 @@ impl Shard {
         ensures does { (reply : TheDone → TheAnswer) → Does self.old key (λ settled. writes settled key token item.value (λ unique. record item { unique = unique }) reply) (answered reply result) self.new }
         ensures refused { IfErr result (λ answer. is_lawful Kind.Store answer ≡ true) }
         ensures meta_refused { IfErr result (λ answer. is_lawful Kind.MetaStore answer ≡ true) }
-        ensures tally { self.new.tally ≡ self.old.tally }
     {
         if self.is_too_large(&key, item.value.len()) {
             self.remove_dead(&key);

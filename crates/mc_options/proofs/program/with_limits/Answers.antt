@@ -11,7 +11,8 @@ returns c =
     let bytes = c.in_ok-command-3.ensures ∙ ap (λ (app : App). with_rule app (option_rule (codes "bytes"))) seats in
     let memory = c.in_ok-command-4.ensures ∙ ap (λ (app : App). with_rule app (option_rule (codes "memory"))) bytes in
     let value = c.in_ok-command-5.ensures ∙ ap (λ (app : App). with_rule app (option_rule (codes "value-limit"))) memory in
-    let window = c.in_ok-command-6.ensures ∙ ap (λ (app : App). with_rule app (option_rule (codes "window"))) value in
-    let connections = c.in_ok-command-7.ensures ∙ ap (λ (app : App). with_rule app (option_rule (codes "connections"))) window in
-    let drop_in = c.in_ok-command-8.ensures ∙ ap (λ (app : App). with_rule app (flag_rule (codes "drop-in"))) connections in
+    let line = c.in_ok-command-6.ensures ∙ ap (λ (app : App). with_rule app (option_rule (codes "line-limit"))) value in
+    let window = c.in_ok-command-7.ensures ∙ ap (λ (app : App). with_rule app (option_rule (codes "window"))) line in
+    let connections = c.in_ok-command-8.ensures ∙ ap (λ (app : App). with_rule app (option_rule (codes "connections"))) window in
+    let drop_in = c.in_ok-command-9.ensures ∙ ap (λ (app : App). with_rule app (flag_rule (codes "drop-in"))) connections in
     IfOk-weaker c.with_items.result _ _ (λ more added. added ∙ ap (λ (app : App). with_rule app (option_rule (codes "items"))) drop_in) c.with_items.ensures

@@ -1,17 +1,22 @@
-use Rattle.std.proofs.Common.{refl}
+use Rattle.std.proofs.Common.{ap, refl, ◌∙◌}
+use Rattle.mc_split.specs.declared.form.Form.{Form}
 use Rattle.mc_plain.specs.Plain.{meta_get_of}
 use Rattle.mc_conn.specs.internal.Dispatcher.{refusal_of}
 use Rattle.mc_conn.proofs.Dispatching.{plans_queued}
 use Rattle.mc_conn.proofs.GivenUp.{plans_refusal}
 use Rattle.mc_conn.proofs.dispatcher.DispatcherCommands.meta_get_value.Goals as goal
 
+pub open-requires-clause-number : goal.open-requires-clause-number
+open-requires-clause-number c =
+    ap (λ (form : Form). form.ticket.0) (c.form_of_meta_get_value.ensures c.args.self.now.shards c.args.key.now) ∙ c.requires.can.number
+
 pub returns-in-Ok : goal.returns-in-Ok
 returns-in-Ok c =
     let dispatcher = c.args.self.now in
-    let asked = meta_get_of c.args.key.now in
+    let asked = meta_get_of c.args.profile c.args.key.now in
     record {
       form = c.form_of_meta_get_value.result;
-      plan = rw c.open.ensures.unsent (plans_queued dispatcher.shards dispatcher.ticket dispatcher.moment asked c.form_of_meta_get_value.result dispatcher.unsent.items _ (c.form_of_meta_get_value.ensures dispatcher.shards c.args.key.now) c.in-Ok.ensures.pieces);
+      plan = rw c.open.ensures.unsent (plans_queued dispatcher.shards dispatcher.ticket dispatcher.moment asked c.form_of_meta_get_value.result dispatcher.unsent.items _ (c.form_of_meta_get_value.ensures dispatcher.shards c.args.key.now) (c.in-Ok.ensures c.args.profile).pieces);
       joiner = c.open.ensures.joiner;
       joins = c.open.ensures.joins;
       shards = c.open.ensures.shards;
@@ -20,10 +25,10 @@ returns-in-Ok c =
 pub returns-in-Err : goal.returns-in-Err
 returns-in-Err c =
     let dispatcher = c.args.self.now in
-    let asked = meta_get_of c.args.key.now in
+    let asked = meta_get_of c.args.profile c.args.key.now in
     record {
       form = refusal_of dispatcher;
-      plan = rw c.open_refusal.ensures.unsent (plans_refusal dispatcher.shards dispatcher.ticket dispatcher.moment asked (refusal_of dispatcher) dispatcher.unsent.items _ c.in-Err.ensures.gives_up refl c.in-Err.ensures.unchanged);
+      plan = rw c.open_refusal.ensures.unsent (plans_refusal dispatcher.shards dispatcher.ticket dispatcher.moment asked (refusal_of dispatcher) dispatcher.unsent.items _ (c.in-Err.ensures c.args.profile).gives_up refl (c.in-Err.ensures c.args.profile).unchanged);
       joiner = c.open_refusal.ensures.joiner;
       joins = c.open_refusal.ensures.joins;
       shards = c.open_refusal.ensures.shards;

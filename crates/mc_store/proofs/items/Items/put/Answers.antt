@@ -1,9 +1,8 @@
-use Rattle.std.proofs.Common.{◌≡◌, ◌∷◌, arith, ap, sym, length, ◌∙◌}
+use Rattle.std.proofs.Common.{◌≡◌, ◌∷◌, arith, ap, sym, length}
 use Rattle.std.specs.Map.{remove_entry}
 use Rattle.mc_wire.specs.SameKey.{same_key}
-use Rattle.mc_store.specs.internal.Listed.{entry_cost, freed_by, within}
-use Rattle.mc_store.specs.Shelf.{Shelf}
-use Rattle.mc_store.proofs.Listed.{put_shelf, put_is, put_cost, counted_put}
+use Rattle.mc_store.specs.internal.Listed.{entry_cost, freed_by, gone, put_in, within}
+use Rattle.mc_store.proofs.Listed.{put_is, put_cost, counted_put}
 use Rattle.mc_store.proofs.items.Items.put.Goals as goal
 
 pub overflow_sub-self-inside : goal.overflow_sub-self-inside
@@ -30,4 +29,8 @@ pub returns-clause-put : goal.returns-clause-put
 returns-clause-put c =
     let is = put_is c.self.inside.cache.entries c.self.inside.cache.cap c.self.inside.cost c.self.inside.budget c.args.key c.args.item c.self.invariant in
     let entries : c.evict-self-inside.new.cache.entries ≡ within c.self.inside.budget ((c.args.key, c.args.item) ∷ remove_entry (same_key c.args.key) c.self.inside.cache.entries) = rw (c.evict-self-inside.ensures.left, c.in-Ok.ensures.entries, is) in
-    ap (λ es. let new : Shelf = record { entries = es; budget = c.self.inside.budget } in new) entries ∙ ap (put_shelf c.args.key c.args.item) c.self.view_is
+    let es = (c.args.key, c.args.item) ∷ remove_entry (same_key c.args.key) c.self.inside.cache.entries in
+    let before : c.len-before.result ≡ length es = rw (c.len-before.ensures.len, c.in-Ok.ensures.entries, is) in
+    let after : c.len-2.result ≡ length (within c.self.inside.budget es) = rw (c.len-2.ensures.len, entries) in
+    let went : c.saturating_sub-went.result ≡ gone c.self.inside.budget es = rw (c.saturating_sub-went.ensures, before, after) in
+    rw (entries, went) (ap (put_in c.args.key c.args.item) c.self.view_is)

@@ -14,11 +14,11 @@ pub returns-in_default-clause-does : goal.returns-in_default-clause-does
 unfolding IsShard
 returns-in_default-clause-does c = λ reply state h.
     let settled = without_dead state (Some c.args.key) in
-    (settled, inr (ap (λ v. absent_count settled c.args.key c.args.token reply v) (sym c.in_default.is)), c.remove_dead.ensures.state state h)
+    (settled, inr (ap (λ v. absent_count settled c.args.key c.args.token reply v) (sym c.in_default.is)), c.remove_dead.ensures state h)
 
 pub returns-in_default-of_number-clause-does : goal.returns-in_default-of_number-clause-does
 unfolding IsShard
-returns-in_default-of_number-clause-does c = λ reply state h. (without_dead state (Some c.args.key), inl (refl, refl), c.remove_dead-in_default-of_number.ensures.state state h)
+returns-in_default-of_number-clause-does c = λ reply state h. (without_dead state (Some c.args.key), inl (refl, refl), c.remove_dead-in_default-of_number.ensures state h)
 
 pub returns-clause-does : goal.returns-clause-does
 unfolding IsShard

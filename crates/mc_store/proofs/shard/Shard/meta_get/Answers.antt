@@ -27,4 +27,4 @@ pub returns-in-Some-clause-acts : goal.returns-in-Some-clause-acts
 unfolding IsShard key_of
 returns-in-Some-clause-acts c = λ state h.
     let there : Some c.in-Some.item ≡ live c.args.self.now.time (lookup (same_key c.args.asked.key) c.args.self.now.items.entries) = sym c.in-Some.is ∙ rw c.access-access.ensures at c.in-Ok.ensures.item in
-    rw (c.shown.ensures, c.in-Ok.ensures.read, c.access-access.ensures, ← there) (meta_get_hit (held_of c.args.self.now) state c.args.asked c.in-Some.item h there)
+    rw (c.shown.ensures, c.in-Ok.ensures.read, c.access-access.ensures, ← there) (meta_get_hit (held_of c.args.self.now) state c.args.asked c.in-Some.item c.if-asked.false h there)

@@ -15,7 +15,7 @@ pub returns-in_default-clause-does : goal.returns-in_default-clause-does
 unfolding IsShard
 returns-in_default-clause-does c = λ state h.
     let settled = without_dead state (Some c.args.key) in
-    (settled, inr (ap (λ v. absent_meta_get settled c.args.key v) (sym c.in_default.is)), c.remove_dead.ensures.state state h)
+    (settled, inr (ap (λ v. absent_meta_get settled c.args.key v) (sym c.in_default.is)), c.remove_dead.ensures state h)
 
 pub returns-in-Ok-clause-does : goal.returns-in-Ok-clause-does
 unfolding IsShard

@@ -2,6 +2,6 @@ use Rattle.mc_store.specs.Shard.{IsShard, held_of}
 use Rattle.mc_store.proofs.Changes.{flush_all}
 use Rattle.mc_store.proofs.shard.Shard.remove_all.Goals as goal
 
-pub returns-clause-state : goal.returns-clause-state
+pub returns : goal.returns
 unfolding IsShard
-returns-clause-state c = λ state h. rw c.clear.ensures (flush_all (held_of c.args.self.now) state h)
+returns c = λ state h. rw c.clear.ensures (flush_all (held_of c.args.self.now) state h)

@@ -15,7 +15,7 @@ unfolding IsShard
 returns-then-is_too_large-clause-does c = λ state h.
     let settled = without_dead state (Some c.args.key) in
     let large : is_too_large settled c.args.key c.args.value ≡ true = large_there (held_of c.args.self.now) state c.args.key c.args.value c.len.result true h (sym c.len.ensures.value) (sym c.is_too_large.ensures ∙ c.if-is_too_large.true) in
-    too_large settled c.args.key None c.args.value (stored_item c.args.value c.args.flags c.args.exptime settled.time) (λ _. Stored) (held_of c.remove_dead.new.self) large (c.remove_dead.ensures.state state h)
+    too_large settled c.args.key None c.args.value (stored_item c.args.value c.args.flags c.args.exptime settled.time) (λ _. Stored) (held_of c.remove_dead.new.self) large (c.remove_dead.ensures state h)
 
 pub write-requires : goal.write-requires
 write-requires c =

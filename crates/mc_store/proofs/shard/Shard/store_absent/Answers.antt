@@ -13,7 +13,7 @@ returns-then-is_some-clause-does c = λ reply state h.
     let settled = without_dead state (Some c.args.key) in (
       settled,
       inr (absent_compared settled c.args.key (asked_in c.args.asked) reply c.args.asked.mode c.args.asked.compare c.if-is_some.ensures),
-      c.remove_dead.ensures.state state h,
+      c.remove_dead.ensures state h,
     )
 
 pub returns-in-Set-clause-does : goal.returns-in-Set-clause-does
@@ -30,5 +30,5 @@ returns-in_default-clause-does c = λ reply state h.
       settled,
       inr (absent_refused settled c.args.key
           (asked_in c.args.asked) reply c.args.asked.mode c.args.asked.compare c.if-is_some.ensures c.in_default.not-Set c.in_default.not-Add),
-      c.remove_dead-in_default.ensures.state state h,
+      c.remove_dead-in_default.ensures state h,
     )

@@ -6,12 +6,12 @@ use Rattle.mc_store.proofs.shard.Shard.write.Goals as goal
 
 pub returns-in_default-clause-does : goal.returns-in_default-clause-does
 unfolding IsShard
-returns-in_default-clause-does c = λ reply state h. write_refused (held_of c.args.self.now) state c.args.key (held_of c.remove_dead.new.self) c.args.token (λ unique after. (reply unique, entered after c.args.key (record c.args.item { unique = unique }))) h c.in_default.ensures.unique (c.remove_dead.ensures.state state h)
+returns-in_default-clause-does c = λ reply state h. write_refused (held_of c.args.self.now) state c.args.key (held_of c.remove_dead.new.self) c.args.token (λ unique after. (reply unique, entered after c.args.key (record c.args.item { unique = unique }))) h c.in_default.ensures.unique (c.remove_dead.ensures state h)
 
 pub returns-clause-does : goal.returns-clause-does
 unfolding IsShard
 returns-clause-does c = λ reply state h.
-    rw (c.count_given.ensures.held, c.in-Ok.ensures.put) (write_done (held_of c.args.self.now) state c.args.key c.args.item c.args.token c.in-Some.unique reply h c.in-Ok.ensures.small c.in-Some.ensures.unique)
+    rw (c.count_given.ensures, c.in-Ok.ensures.put) (write_done (held_of c.args.self.now) state c.args.key c.args.item c.args.token c.in-Some.unique reply h c.in-Ok.ensures.small c.in-Some.ensures.unique)
 
 pub returns-in_default-put-clause-does : goal.returns-in_default-put-clause-does
 unfolding IsShard

@@ -11,7 +11,7 @@ pub returns-then-is_too_large-clause-does : goal.returns-then-is_too_large-claus
 unfolding IsShard
 returns-then-is_too_large-clause-does c = λ reply state h.
     let large : is_too_large (without_dead state (Some c.args.key)) c.args.key c.args.item.value ≡ true = large_there (held_of c.args.self.now) state c.args.key c.args.item.value c.len.result true h (sym c.len.ensures.value) (sym c.is_too_large.ensures ∙ c.if-is_too_large.true) in
-    too_large (without_dead state (Some c.args.key)) c.args.key c.args.token c.args.item.value (λ unique. record c.args.item { unique = unique }) reply (held_of c.remove_dead.new.self) large (c.remove_dead.ensures.state state h)
+    too_large (without_dead state (Some c.args.key)) c.args.key c.args.token c.args.item.value (λ unique. record c.args.item { unique = unique }) reply (held_of c.remove_dead.new.self) large (c.remove_dead.ensures state h)
 
 pub write_done-requires : goal.write_done-requires
 write_done-requires c =

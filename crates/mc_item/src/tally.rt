@@ -1,20 +1,21 @@
 //! How often a shard was asked for what, and what came of it: what who runs the server sees of its commands.
 ghost use Rattle.std.specs.Prelude.{◌≡◌, ◌<◌, replicate};
-ghost use Rattle.mc_store.specs.Tally.{asked_of, counted, counter, counters, counting, noted, status_of};
+ghost use Rattle.mc_item.specs.Tally.{asked_of, counted, counter, counters, counting, no_counts, noted, status_of};
 
+use crate::answer::Answer;
+use crate::op::{MetaGet, Op};
 use mc_command::{Direction, StoreMode};
-use mc_item::{Answer, Op};
 
 /// What a shard is asked, as it is counted: under memcached's names (protocol.txt, "General-purpose statistics").
 #[derive(Clone, Copy, Debug, PartialEq, Eq)]
 pub enum Asked {
-    /// `get`, `gets`, `mg`.
+    /// `get`, `gets`, and `mg` without `T`.
     Get,
     /// `set`, `add`, `replace`, `append`, `prepend`, `ms`.
     Set,
     /// `cas`, and `ms` with `C`.
     Cas,
-    /// `touch`, `gat`, `gats`.
+    /// `touch`, `gat`, `gats`, and `mg` with `T`.
     Touch,
     /// `delete`, `md`.
     Delete,
@@ -24,6 +25,8 @@ pub enum Asked {
     Decr,
     /// `flush_all`.
     Flush,
+    /// `stats`, `stats reset`.
+    Stats,
 }
 
 /// What came of it.
@@ -42,7 +45,7 @@ pub enum Status {
 }
 
 /// So many kinds are counted, and so many statuses of each.
-const KINDS: usize = 8;
+const KINDS: usize = 9;
 
 const STATUSES: usize = 5;
 
@@ -64,11 +67,14 @@ impl Asked {
                 ..
             } => Asked::Cas,
             Op::Store { .. } => Asked::Set,
-            Op::Fetch { touch: Some(_), .. } | Op::Touch { .. } => Asked::Touch,
+            Op::Fetch { touch: Some(_), .. }
+            | Op::Touch { .. }
+            | Op::MetaGet(MetaGet { touch: Some(_), .. }) => Asked::Touch,
             Op::Fetch { .. } | Op::MetaGet(_) => Asked::Get,
             Op::Count { direction, .. } => Asked::counting(*direction),
             Op::Delete { .. } | Op::MetaDelete(_) => Asked::Delete,
             Op::Flush { .. } => Asked::Flush,
+            Op::Stats | Op::ResetStats => Asked::Stats,
             Op::MetaStore(asked) if asked.compare.is_some() => Asked::Cas,
             Op::MetaStore(_) => Asked::Set,
             Op::MetaCount(asked) => Asked::counting(asked.direction),
@@ -99,7 +105,9 @@ impl Status {
             | Answer::Touched
             | Answer::Done
             | Answer::MetaHit(_)
-            | Answer::MetaDone(_) => Status::Hit,
+            | Answer::MetaDone(_)
+            | Answer::Stats(_)
+            | Answer::Reset => Status::Hit,
             Answer::NotStored | Answer::NotFound | Answer::Miss => Status::Miss,
             Answer::Exists => Status::BadValue,
             Answer::NoMemory => Status::NoMemory,
@@ -111,7 +119,7 @@ impl Status {
 impl Tally {
     /// Nothing was asked.
     pub const fn new() -> Tally
-        ensures { result.counts ≡ replicate counters 0 }
+        ensures { result ≡ no_counts }
     {
         Tally {
             counts: [0; KINDS * STATUSES],
@@ -126,7 +134,7 @@ impl Tally {
     }
 
     /// Counts what was asked, and what came of it.
-    pub(crate) fn note(&mut self, asked: Asked, status: Status)
+    pub fn note(&mut self, asked: Asked, status: Status)
         ensures { self.new ≡ noted self.old asked status }
     {
         let count = &mut self.counts[place_of(asked, status)];

@@ -1,5 +1,5 @@
 -- What a piece counts as, and what its answer does, as memcached counts them (protocol.txt, "General-purpose statistics").
-use Rattle.std.specs.Prelude.{ℕ, ◌+◌, ◌*◌, ◌^◌, ◌%◌, Option, Some, None, slice_index, slice_set}
+use Rattle.std.specs.Prelude.{ℕ, ◌+◌, ◌*◌, ◌^◌, ◌%◌, ℤ, Option, Some, None, replicate, slice_index, slice_set}
 use Rattle.mc_command.specs.declared.command.Direction.{Direction}
 use Rattle.mc_command.specs.declared.command.Direction.TheVariants as direction
 use Rattle.mc_command.specs.declared.command.StoreMode.TheVariants as mode
@@ -7,15 +7,19 @@ use Rattle.mc_item.specs.declared.answer.Answer.{Answer}
 use Rattle.mc_item.specs.declared.answer.Answer.TheVariants as answer
 use Rattle.mc_item.specs.declared.op.Op.{Op}
 use Rattle.mc_item.specs.declared.op.Op.TheVariants as op
-use Rattle.mc_store.specs.declared.tally.Asked.{Asked}
-use Rattle.mc_store.specs.declared.tally.Asked.TheVariants as asked
-use Rattle.mc_store.specs.declared.tally.Status.{Status}
-use Rattle.mc_store.specs.declared.tally.Status.TheVariants as status
-use Rattle.mc_store.specs.declared.tally.Tally.{Tally}
+use Rattle.mc_item.specs.declared.tally.Asked.{Asked}
+use Rattle.mc_item.specs.declared.tally.Asked.TheVariants as asked
+use Rattle.mc_item.specs.declared.tally.Status.{Status}
+use Rattle.mc_item.specs.declared.tally.Status.TheVariants as status
+use Rattle.mc_item.specs.declared.tally.Tally.{Tally}
 
 abbrev pub counting : Direction → Asked
 counting direction.Increment = asked.Incr
 counting direction.Decrement = asked.Decr
+
+abbrev pub getting : Option ℤ → Asked
+getting None = asked.Get
+getting (Some exptime) = asked.Touch
 
 abbrev pub storing : Option ℕ → Asked
 storing None = asked.Set
@@ -25,13 +29,14 @@ storing (Some unique) = asked.Cas
 unfoldable pub asked_of : Op → Asked
 asked_of (op.Store key (mode.Cas unique) flags exptime value) = asked.Cas
 asked_of (op.Store key _ flags exptime value) = asked.Set
-asked_of (op.Fetch key (Some exptime)) = asked.Touch
-asked_of (op.Fetch key None) = asked.Get
+asked_of (op.Fetch key touch) = getting touch
 asked_of (op.Count key direction amount) = counting direction
 asked_of (op.Delete key) = asked.Delete
 asked_of (op.Touch key exptime) = asked.Touch
 asked_of (op.Flush delay) = asked.Flush
-asked_of (op.MetaGet get) = asked.Get
+asked_of op.Stats = asked.Stats
+asked_of op.ResetStats = asked.Stats
+asked_of (op.MetaGet get) = getting get.touch
 asked_of (op.MetaStore store) = storing store.compare
 asked_of (op.MetaDelete delete) = asked.Delete
 asked_of (op.MetaCount count) = counting count.direction
@@ -58,6 +63,7 @@ kind_number asked.Delete = 4
 kind_number asked.Incr = 5
 kind_number asked.Decr = 6
 kind_number asked.Flush = 7
+kind_number asked.Stats = 8
 
 -- the number of a status
 abbrev pub status_number : Status → ℕ
@@ -69,7 +75,11 @@ status_number status.Refused = 4
 
 -- so many counters there are: one for each kind and status
 abbrev pub counters : ℕ
-counters = 40
+counters = 45
+
+-- nothing was counted
+abbrev pub no_counts : Tally
+no_counts = record { counts = replicate counters 0 }
 
 -- the counter of a kind and a status
 abbrev pub counter : Asked → Status → ℕ

@@ -1,0 +1,90 @@
+//! The reply to `stats` over three shards, whose answers come in another order.
+ghost use Rattle.std.specs.Prelude.{◌≡◌, IfOk};
+
+use crate::asserting::{equal, holds};
+use crate::outlet::outlet;
+use mc_command::{Command, StatsRequest};
+use mc_item::{Answer, Asked, BoxedStats, Kind, Stats, Status, Tally};
+use mc_join::Joiner;
+use mc_ring::Reply;
+use mc_split::{Form, Ticket, split};
+use std::alloc::Global;
+use std::process::Abort;
+use std::test::Fail;
+
+const STATS: &[u8] = b"\
+    STAT version 1.6.18\r\n\
+    STAT cmd_get 6\r\n\
+    STAT cmd_set 3\r\n\
+    STAT cmd_flush 0\r\n\
+    STAT cmd_touch 0\r\n\
+    STAT get_hits 3\r\n\
+    STAT get_misses 3\r\n\
+    STAT delete_misses 0\r\n\
+    STAT delete_hits 0\r\n\
+    STAT incr_misses 0\r\n\
+    STAT incr_hits 0\r\n\
+    STAT decr_misses 0\r\n\
+    STAT decr_hits 0\r\n\
+    STAT cas_misses 0\r\n\
+    STAT cas_hits 3\r\n\
+    STAT cas_badval 0\r\n\
+    STAT touch_hits 0\r\n\
+    STAT touch_misses 0\r\n\
+    STAT limit_maxbytes 3145728\r\n\
+    STAT bytes 192\r\n\
+    STAT curr_items 3\r\n\
+    STAT total_items 3\r\n\
+    STAT evictions 3\r\n\
+    STAT threads 3\r\n\
+    END\r\n";
+
+/// The form of `stats`.
+fn stats(alloc: Global) -> Result<Form, Fail>
+    ensures { IfOk result (λ form. form.ticket.0 ≡ 0) }
+{
+    let asked = Command::Stats(StatsRequest::General);
+    Ok(split(alloc, asked, Ticket(0), 1000, 3)?.form)
+}
+
+/// What a shard tells: it had as many items that it was asked for, lacked as many, and stored as many with a unique, as its
+/// number says.
+fn counts(alloc: Global, shard: usize) -> Result<Answer, Fail> {
+    let mut tally = Tally::new();
+    for _ in 0..shard {
+        tally.note(Asked::Get, Status::Hit);
+        tally.note(Asked::Get, Status::Miss);
+        tally.note(Asked::Cas, Status::Hit);
+    }
+    let number = shard as u64;
+    let stats = Stats {
+        tally,
+        evicted: number,
+        items: number,
+        bytes: number.wrapping_mul(64),
+        budget: 1_048_576,
+    };
+    Ok(Answer::Stats(BoxedStats::new(alloc, stats)?))
+}
+
+/// The reply of this shard.
+fn reply(rt: &impl Abort, shard: usize, answer: Answer) -> Reply {
+    holds(rt, answer.is_lawful(Kind::Stats));
+    Reply::new(Ticket(0), shard, Kind::Stats, answer)
+}
+
+#[test]
+fn the_shards_are_counted_together(rt: HostRuntime) -> Result<(), Fail> {
+    let alloc = rt.alloc();
+    let mut joiner = Joiner::new(alloc, 1)?;
+    holds(&rt, joiner.open(stats(alloc)?).is_ok());
+    for shard in [2, 0, 1] {
+        equal(&rt, joiner.ready(), 0);
+        let told = reply(&rt, shard, counts(alloc, shard)?);
+        holds(&rt, joiner.accept(told).is_ok());
+    }
+    let mut out = outlet(alloc, usize::MAX);
+    equal(&rt, joiner.hand(&mut out), Ok(1));
+    equal(&rt, out.taken.as_slice(), STATS);
+    Ok(())
+}

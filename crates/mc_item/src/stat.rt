@@ -1,0 +1,154 @@
+//! The numbers that `stats` shows (protocol.txt, "General-purpose statistics").
+ghost use Rattle.std.specs.Prelude.{◌≡◌, ◌%◌, ◌^◌};
+ghost use Rattle.mc_item.specs.Stat.{all_stats, row_of, total};
+
+use crate::stats::Stats;
+use crate::tally::{Asked, Status};
+
+/// One of the numbers that `stats` shows.
+#[derive(Clone, Copy, Debug, PartialEq, Eq)]
+pub enum Stat {
+    CmdGet,
+    CmdSet,
+    CmdFlush,
+    CmdTouch,
+    GetHits,
+    GetMisses,
+    DeleteMisses,
+    DeleteHits,
+    IncrMisses,
+    IncrHits,
+    DecrMisses,
+    DecrHits,
+    CasMisses,
+    CasHits,
+    CasBadval,
+    TouchHits,
+    TouchMisses,
+    LimitMaxbytes,
+    Bytes,
+    CurrItems,
+    TotalItems,
+    Evictions,
+}
+
+impl Stat {
+    /// All of them, in the order in which they are shown.
+    pub fn all() -> &'static [Stat]
+        ensures { result.now ≡ all_stats }
+    {
+        &[
+            Stat::CmdGet,
+            Stat::CmdSet,
+            Stat::CmdFlush,
+            Stat::CmdTouch,
+            Stat::GetHits,
+            Stat::GetMisses,
+            Stat::DeleteMisses,
+            Stat::DeleteHits,
+            Stat::IncrMisses,
+            Stat::IncrHits,
+            Stat::DecrMisses,
+            Stat::DecrHits,
+            Stat::CasMisses,
+            Stat::CasHits,
+            Stat::CasBadval,
+            Stat::TouchHits,
+            Stat::TouchMisses,
+            Stat::LimitMaxbytes,
+            Stat::Bytes,
+            Stat::CurrItems,
+            Stat::TotalItems,
+            Stat::Evictions,
+        ]
+    }
+
+    /// Its name.
+    pub fn name(self) -> &'static [u8]
+        ensures { result.now ≡ (row_of self).0 }
+    {
+        match self {
+            Stat::CmdGet => b"cmd_get",
+            Stat::CmdSet => b"cmd_set",
+            Stat::CmdFlush => b"cmd_flush",
+            Stat::CmdTouch => b"cmd_touch",
+            Stat::GetHits => b"get_hits",
+            Stat::GetMisses => b"get_misses",
+            Stat::DeleteMisses => b"delete_misses",
+            Stat::DeleteHits => b"delete_hits",
+            Stat::IncrMisses => b"incr_misses",
+            Stat::IncrHits => b"incr_hits",
+            Stat::DecrMisses => b"decr_misses",
+            Stat::DecrHits => b"decr_hits",
+            Stat::CasMisses => b"cas_misses",
+            Stat::CasHits => b"cas_hits",
+            Stat::CasBadval => b"cas_badval",
+            Stat::TouchHits => b"touch_hits",
+            Stat::TouchMisses => b"touch_misses",
+            Stat::LimitMaxbytes => b"limit_maxbytes",
+            Stat::Bytes => b"bytes",
+            Stat::CurrItems => b"curr_items",
+            Stat::TotalItems => b"total_items",
+            Stat::Evictions => b"evictions",
+        }
+    }
+
+    /// What it is of a shard. A sum of counts starts anew after 2^64 - 1.
+    pub fn of(self, stats: &Stats) -> u64
+        ensures { result ≡ (row_of self).1 stats.now % 2 ^ 64 }
+    {
+        // What a shard holds is read so that it is known to fit 64 bits.
+        let Stats {
+            evicted,
+            items,
+            bytes,
+            budget,
+            ..
+        } = *stats;
+        match self {
+            Stat::CmdGet => total(stats, Asked::Get),
+            Stat::CmdSet => total(stats, Asked::Set).wrapping_add(total(stats, Asked::Cas)),
+            Stat::CmdFlush => total(stats, Asked::Flush),
+            Stat::CmdTouch => total(stats, Asked::Touch),
+            Stat::GetHits => stats.tally.count(Asked::Get, Status::Hit),
+            Stat::GetMisses => stats.tally.count(Asked::Get, Status::Miss),
+            Stat::DeleteMisses => stats.tally.count(Asked::Delete, Status::Miss),
+            Stat::DeleteHits => stats.tally.count(Asked::Delete, Status::Hit),
+            Stat::IncrMisses => stats.tally.count(Asked::Incr, Status::Miss),
+            Stat::IncrHits => stats.tally.count(Asked::Incr, Status::Hit),
+            Stat::DecrMisses => stats.tally.count(Asked::Decr, Status::Miss),
+            Stat::DecrHits => stats.tally.count(Asked::Decr, Status::Hit),
+            Stat::CasMisses => stats.tally.count(Asked::Cas, Status::Miss),
+            Stat::CasHits => stats.tally.count(Asked::Cas, Status::Hit),
+            Stat::CasBadval => stats.tally.count(Asked::Cas, Status::BadValue),
+            Stat::TouchHits => stats.tally.count(Asked::Touch, Status::Hit),
+            Stat::TouchMisses => stats.tally.count(Asked::Touch, Status::Miss),
+            Stat::LimitMaxbytes => budget,
+            Stat::Bytes => bytes,
+            Stat::CurrItems => items,
+            Stat::TotalItems => stored(stats),
+            Stat::Evictions => evicted,
+        }
+    }
+}
+
+/// How often this was asked, whatever came of it.
+fn total(stats: &Stats, asked: Asked) -> u64
+    ensures { result ≡ total asked stats.now % 2 ^ 64 }
+{
+    let tally = &stats.tally;
+    let told = tally
+        .count(asked, Status::Hit)
+        .wrapping_add(tally.count(asked, Status::Miss))
+        .wrapping_add(tally.count(asked, Status::BadValue));
+    told.wrapping_add(tally.count(asked, Status::NoMemory))
+        .wrapping_add(tally.count(asked, Status::Refused))
+}
+
+/// How many items were stored.
+fn stored(stats: &Stats) -> u64
+    ensures { result ≡ (row_of Stat.TotalItems).1 stats.now % 2 ^ 64 }
+{
+    let set = stats.tally.count(Asked::Set, Status::Hit);
+    set.wrapping_add(stats.tally.count(Asked::Cas, Status::Hit))
+}

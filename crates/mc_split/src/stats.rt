@@ -1,0 +1,73 @@
+//! The pieces of what every shard is asked, and of `stats`.
+ghost use Rattle.std.specs.Prelude.{◌≡◌, ◌<◌};
+ghost use Rattle.mc_split.specs.Pieces.{asked_of_all, pieces_of};
+ghost use Rattle.mc_split.specs.Shape.{shape_of};
+ghost use Rattle.mc_split.specs.internal.Splits.{Splits};
+ghost use Rattle.mc_split.specs.internal.ToAll.{op_of};
+
+use crate::classic::plain_line;
+use crate::form::{Fixed, Form, Shape};
+use crate::plan::Piece;
+use crate::splitter::Splitter;
+use mc_command::{Command, StatsRequest};
+use mc_item::{NoMemory, Op};
+use std::collections::VecDeque;
+
+/// What every shard is asked.
+#[derive(Clone, Copy)]
+pub enum ToAll {
+    /// `flush_all`.
+    Flush { delay: i64 },
+    /// `stats`.
+    Stats,
+    /// `stats reset`.
+    ResetStats,
+}
+
+impl ToAll {
+    /// The piece for a shard.
+    fn op(self) -> Op
+        ensures { result ≡ op_of self }
+    {
+        match self {
+            ToAll::Flush { delay } => Op::Flush { delay },
+            ToAll::Stats => Op::Stats,
+            ToAll::ResetStats => Op::ResetStats,
+        }
+    }
+}
+
+impl Splitter {
+    /// `stats`, and `stats reset`. Other counts are none, and ask no shard.
+    #[tactic(auto, unfolding(crate::specs::Pieces::pieces_of, crate::specs::Shape::shape_of))]
+    pub fn stats(
+        self,
+        queue: &mut VecDeque<(usize, Piece)>,
+        asked: StatsRequest,
+    ) -> Result<Form, NoMemory>
+        requires { 0 < self.shards }
+        ensures { Splits result self.ticket self.moment (shape_of (Command.Stats asked)) (pieces_of self.shards (Command.Stats asked)) queue.old.items queue.new.items }
+    {
+        match asked {
+            StatsRequest::General => self.all(queue, Shape::Stats, ToAll::Stats),
+            StatsRequest::Reset => self.all(queue, plain_line(false), ToAll::ResetStats),
+            StatsRequest::Empty => Ok(self.fixed(Fixed::End)),
+        }
+    }
+
+    /// Asks every shard: one piece a shard, rising.
+    pub fn all(
+        self,
+        queue: &mut VecDeque<(usize, Piece)>,
+        shape: Shape,
+        asked: ToAll,
+    ) -> Result<Form, NoMemory>
+        requires { 0 < self.shards }
+        ensures { Splits result self.ticket self.moment shape (asked_of_all self.shards (op_of asked)) queue.old.items queue.new.items }
+    {
+        for shard in 0..self.shards {
+            self.push(queue, shard, shard, asked.op())?;
+        }
+        self.form(shape, asked.op().kind(), self.shards)
+    }
+}

@@ -1,0 +1,55 @@
+-- Worked rows of the counts, each computed: a shard that is asked, shows its counts, and begins them anew.
+use Rattle.std.proofs.Common.{◌≡◌, ℕ, List, None, refl}
+use Rattle.std.specs.Prelude.{codes}
+use Rattle.std.specs.FinMap.{len}
+use Rattle.mc_item.specs.declared.op.Op.TheVariants as op
+use Rattle.mc_item.specs.declared.answer.Answer.TheVariants as answer
+use Rattle.mc_item.specs.declared.tally.Asked.TheVariants.{Get, Set, Stats}
+use Rattle.mc_item.specs.declared.tally.Status.TheVariants.{Hit, Miss}
+use Rattle.mc_item.specs.Tally.{asked_of, counted, no_counts, status_of}
+use Rattle.mc_store.specs.State.{Items, State, evicting, fitting}
+use Rattle.mc_store.specs.Step.{noted_in, stats_of, step_of}
+
+-- a shard that was asked nothing, with these items, of which so many went to make room for others
+abbrev fresh : Items → ℕ → State
+fresh items evicted = record { items = items; uses = 7; time = 1000; flush = None; given = 1; index = 0; shards = 2; budget = 1024; limit = 1048576; tally = no_counts; evicted = evicted }
+
+-- after two gets, of which one found its item
+abbrev two_gets : Items → State
+two_gets items = noted_in (noted_in (fresh items 3) (op.Fetch (codes "a") None) (answer.Hit 0 1 (codes "x"))) (op.Fetch (codes "b") None) answer.Miss
+
+-- and after stats reset
+abbrev begun_anew : Items → State
+begun_anew items = noted_in (step_of (two_gets items) op.ResetStats).1 op.ResetStats answer.Reset
+
+record CountRows : Type 0 where
+  -- what stats shows of two gets
+  shown : (m : Items) → (step_of (two_gets m) op.Stats).0 ≡ answer.Stats (stats_of (two_gets m))
+  hit : (m : Items) → counted (stats_of (two_gets m)).tally Get Hit ≡ 1
+  miss : (m : Items) → counted (stats_of (two_gets m)).tally Get Miss ≡ 1
+  no_set : (m : Items) → counted (stats_of (two_gets m)).tally Set Hit ≡ 0
+  went : (m : Items) → (stats_of (two_gets m)).evicted ≡ 3
+  -- the reset is counted in the counts that it begins, and no other
+  reset : (m : Items) → counted (stats_of (begun_anew m)).tally Stats Hit ≡ 1
+  no_hit : (m : Items) → counted (stats_of (begun_anew m)).tally Get Hit ≡ 0
+  no_miss : (m : Items) → counted (stats_of (begun_anew m)).tally Get Miss ≡ 0
+  none_went : (m : Items) → (stats_of (begun_anew m)).evicted ≡ 0
+  -- two of three items go, and after 2^64 - 1 the count starts anew
+  two_went : (m : Items) (key : List ℕ) → len m ≡ 3 → len (fitting m 1024 key) ≡ 1 → (evicting (fresh m 3) key).evicted ≡ 5
+  starts_anew : (m : Items) (key : List ℕ) → len m ≡ 3 → len (fitting m 1024 key) ≡ 1 → (evicting (fresh m 18446744073709551615) key).evicted ≡ 1
+
+all_counted : CountRows
+unfolding step_of asked_of status_of
+all_counted = record {
+  shown = λ _. refl;
+  hit = λ _. refl;
+  miss = λ _. refl;
+  no_set = λ _. refl;
+  went = λ _. refl;
+  reset = λ _. refl;
+  no_hit = λ _. refl;
+  no_miss = λ _. refl;
+  none_went = λ _. refl;
+  two_went = λ m key all left. rw (all, left) refl;
+  starts_anew = λ m key all left. rw (all, left) refl;
+}

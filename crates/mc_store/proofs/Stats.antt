@@ -1,0 +1,41 @@
+-- What a shard counted and holds, by the state that it shows.
+use Rattle.std.proofs.Common.{◌≡◌, length, refl, ap, inl, inr}
+use Rattle.mc_item.specs.declared.op.Op.{Op}
+use Rattle.mc_item.specs.declared.op.Op.TheVariants as op
+use Rattle.mc_item.specs.declared.answer.Answer.{Answer}
+use Rattle.mc_item.specs.declared.answer.Answer.TheVariants.{NoMemory, Reset}
+use Rattle.mc_item.specs.declared.answer.Answer.TheVariants as answer
+use Rattle.mc_item.specs.declared.stats.Stats.{Stats}
+use Rattle.mc_item.specs.Kind.{kind_of, is_lawful}
+use Rattle.mc_item.specs.Tally.{asked_of, no_counts, noted, status_of}
+use Rattle.mc_store.specs.State.{State}
+use Rattle.mc_store.specs.Step.{Answers, noted_in, stats_of, step_of}
+use Rattle.mc_store.specs.Shard.{Held, Keeps}
+use Rattle.mc_store.specs.internal.Listed.{listed_cost}
+use Rattle.mc_store.proofs.Lists.{len-Shows}
+use Rattle.mc_store.proofs.Costs.{costs_shown}
+use Rattle.mc_store.proofs.Outcomes.{Ends}
+
+-- what is held, as stats shows it
+abbrev pub stats_held : Held → Stats
+stats_held held = record { tally = held.tally; evicted = held.evicted; items = length held.entries; bytes = listed_cost held.entries; budget = held.budget }
+
+pub stats_there : (held : Held) (state : State) (stats : Stats) → Keeps held state → stats ≡ stats_held held → Ends state op.Stats (answer.Stats stats) held
+unfolding Answers step_of
+stats_there held state stats h is =
+    let there : stats ≡ stats_of state = rw (h.tally, h.evicted, h.budget, len-Shows held.entries state.items h.order, costs_shown held.entries state.items h.order) is in
+    (state, inr (ap (λ s. (answer.Stats s, state)) there), h)
+
+pub stats_lack : (held : Held) (state : State) → Keeps held state → Ends state op.Stats NoMemory held
+unfolding Answers kind_of is_lawful
+stats_lack held state h = (state, inl (refl, refl, refl), h)
+
+pub stats_reset : (held : Held) (state : State) → Keeps held state → Ends state op.ResetStats Reset (record held { tally = no_counts; evicted = 0 })
+unfolding Answers step_of
+stats_reset held state h = (record state { tally = no_counts; evicted = 0 }, inr refl, assumption)
+
+-- one more is counted
+pub noted_keeps : (held : Held) (state : State) (asked : Op) (said : Answer) → Keeps held state → Keeps (record held { tally = noted held.tally (asked_of asked) (status_of said) }) (noted_in state asked said)
+noted_keeps held state asked said h =
+    let tally : noted state.tally (asked_of asked) (status_of said) ≡ noted held.tally (asked_of asked) (status_of said) = rw h.tally in
+    assumption
