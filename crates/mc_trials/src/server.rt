@@ -1,10 +1,11 @@
 //! Serves lines over memory, by threads or alone.
 ghost use Rattle.std.specs.Prelude.{◌≤◌, IsTrue};
-ghost use Rattle.mc_core.specs.declared.sizes.TheConstants.{LEAST, LEAST_BYTES, MOST_BYTES, MOST_RING, MOST_SHARDS, MOST_VALUE};
+ghost use Rattle.mc_core.specs.declared.sizes.TheConstants.{LEAST, LEAST_BYTES, LEAST_LINE, MOST_BYTES, MOST_LINE, MOST_RING, MOST_SHARDS, MOST_VALUE};
 
 use crate::line::MemoryLine;
 use mc_core::{
-    Gate, LEAST, LEAST_BYTES, MOST_BYTES, MOST_RING, MOST_SEATS, MOST_SHARDS, MOST_VALUE, OpenGate,
+    Gate, LEAST, LEAST_BYTES, LEAST_LINE, MOST_BYTES, MOST_LINE, MOST_RING, MOST_SEATS,
+    MOST_SHARDS, MOST_VALUE, OpenGate,
 };
 use mc_seat::{Clock, Line, Served};
 use mc_serve::{ServedLine, Sizes, serve_over};
@@ -65,6 +66,7 @@ fn may_serve(sizes: Sizes) -> bool
     ensures bytes { IsTrue result → (LEAST_BYTES ≤ sizes.bytes) × (sizes.bytes ≤ MOST_BYTES) }
     ensures ring { IsTrue result → (LEAST ≤ sizes.ring) × (sizes.ring ≤ MOST_RING) }
     ensures value { IsTrue result → sizes.value ≤ MOST_VALUE }
+    ensures line { IsTrue result → (LEAST_LINE ≤ sizes.line) × (sizes.line ≤ MOST_LINE) }
     ensures window { IsTrue result → LEAST ≤ sizes.window }
 {
     LEAST <= sizes.shards
@@ -74,5 +76,7 @@ fn may_serve(sizes: Sizes) -> bool
         && LEAST <= sizes.ring
         && sizes.ring <= MOST_RING
         && sizes.value <= MOST_VALUE
+        && LEAST_LINE <= sizes.line
+        && sizes.line <= MOST_LINE
         && LEAST <= sizes.window
 }
