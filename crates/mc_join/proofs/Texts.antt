@@ -140,9 +140,8 @@ pub text_last : {X : Type 0} {whole : List ℕ} {old now : Sight} (f : X → Lis
 text_last f xs ys i same past so_far = rw (ap (λ zs. flat_map f (drop i zs)) (sym same) ∙ at_drop_all (λ zs. flat_map f zs) ys i past) at so_far
 
 -- the line before a value is the first part of what stands before it
-pub size-parts : (size : ℕ) (digits line flags : List ℕ) → digits ≡ decimal size → line ≡ codes "VA " ++ (digits ++ []) →
-    codes "VA " ++ (decimal size ++ flags) ≡ line ++ flags
-size-parts size digits line flags size_is line_is = rw (line_is, size_is, append-nil (decimal size))
+pub size-parts : (size : ℕ) (line flags : List ℕ) → line ≡ codes "VA " ++ (decimal size ++ []) → codes "VA " ++ (decimal size ++ flags) ≡ line ++ flags
+size-parts size line flags line_is = rw (line_is, append-nil (decimal size))
 
 -- the size and the flags stand before a value
 front_text : (size flags rest : List ℕ) → codes "VA " ++ (size ++ (flags ++ rest)) ≡ (codes "VA " ++ (size ++ flags)) ++ rest

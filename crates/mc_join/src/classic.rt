@@ -195,12 +195,8 @@ fn put_plain_item<O: Outlet, const ROOM: usize>(
     requires small { ROOM ≤ HEADER_LIMIT }
     ensures { Writes (plain_item key.now flags value.now) result (O.sight out.old) (O.sight out.new) }
 {
-    let mut flag_digits = Buffer::new();
-    let mut size_digits = Buffer::new();
-    let flags = flag_digits.format(flags).as_bytes();
-    let size = size_digits.format(value.len()).as_bytes();
     let mut room = [0; ROOM];
-    let end = place_line(&mut room, key, flags, size);
+    let end = place_line(&mut room, key, flags, value.len());
     let end = place(&mut room, end, b"\r\n");
     if value.len() <= SHORT_VALUE {
         let end = place(&mut room, end, value.bytes());
@@ -220,14 +216,8 @@ fn put_unique_item<O: Outlet>(
     requires { length key.now ≤ KEY_LIMIT }
     ensures { Writes (unique_item key.now flags unique value.now) result (O.sight out.old) (O.sight out.new) }
 {
-    let mut flag_digits = Buffer::new();
-    let mut size_digits = Buffer::new();
-    let mut unique_digits = Buffer::new();
-    let flags = flag_digits.format(flags).as_bytes();
-    let size = size_digits.format(value.len()).as_bytes();
-    let unique = unique_digits.format(unique).as_bytes();
     let mut room = [0; HEADER_LIMIT];
-    let end = place_line(&mut room, key, flags, size);
+    let end = place_line(&mut room, key, flags, value.len());
     let end = place_unique(&mut room, end, unique);
     put_block(out, room.split_at(end).0, value)
 }

@@ -9,6 +9,7 @@ mod header;
 mod joiner;
 mod length;
 mod meta;
+mod number;
 mod queue;
 mod room;
 mod stats;

@@ -202,9 +202,7 @@ fn put_size<O: Outlet>(
 ) -> Result<(), OutFault>
     ensures { Writes (codes "VA " ++ (decimal size ++ flags_text flags.now key.now answer.now)) result (O.sight out.old) (O.sight out.new) }
 {
-    let mut digits = Buffer::new();
     let mut room = [0; SIZE_LIMIT];
-    let size = digits.format(size).as_bytes();
     put_all(out, sized(&mut room, size))?;
     put_flags(out, flags, key, answer)
 }
