@@ -57,6 +57,8 @@ lawful_meta rules Set [] = lawful_whole rules.value_limit (Err (word_count_refus
 lawful_meta rules name [] = lawful_whole rules.value_limit (Err (word_count_refusal rules)) (words_told rules)
 lawful_meta rules name (word ∷ words) = lawful_whole rules.value_limit _ (told_may _ (meta_given_up rules name word words))
 
+-- A line of any name never says that memory ran out, has as many bytes behind it as its words announce, and a data
+-- block only of a command that may be given up, and within the value limit.
 pub lawful_named : (rules : Rules) (name : CommandName) (words : List (List ℕ)) → IsLawful rules.value_limit (bytes_with (count_named rules name words)) (line_named rules name words)
 lawful_named rules (name.Store mode) words = lawful_block rules (count_in rules words) _ (storage_may rules mode words)
 lawful_named rules name.CompareAndSwap words = lawful_block rules (cas_count_in rules words) _ (cas_may rules words)
@@ -95,5 +97,6 @@ never_given_up rules words = (lawful_line rules words).1.told
 pub data_lawful : (rules : Rules) (words : List (List ℕ)) (asked : Command) (count : ℕ) → line_of rules words ≡ Data asked count → IsDataLawful rules.value_limit (Data asked count)
 data_lawful rules words asked count is = rw is at (lawful_line rules words).1.block
 
+-- A command that a data block follows may be given up where memory runs out.
 pub data_stores : (rules : Rules) (words : List (List ℕ)) (asked : Command) (count : ℕ) → line_of rules words ≡ Data asked count → IsTrue (can_give_up asked)
 data_stores rules words asked count is = (data_lawful rules words asked count is).0

@@ -35,6 +35,7 @@ abbrev pub FewAsked : ℕ → Result Command Refusal → Type 0
 FewAsked most (Ok asked) = AsksFew most asked
 FewAsked most (Err refusal) = Unit {0}
 
+-- The command that a line is gets at most so many keys; a refused line gets none.
 abbrev pub FewLine : ℕ → Line → Type 0
 FewLine most (Whole asked) = AsksFew most asked
 FewLine most (Data asked count) = AsksFew most asked

@@ -9,6 +9,7 @@ use Rattle.mc_command.specs.Command.{is_memory, refusal_takes_memory}
 use Rattle.mc_command.specs.Hiding.{shown_line, shown_refusal}
 use Rattle.mc_command.specs.Line.{Says, CanGiveUpLine, CanGiveUpBlock}
 
+-- Hiding faults neither hides that memory ran out nor makes another refusal say so.
 pub shown_told : (hides : Bool) (refusal : Refusal) → is_memory (shown_refusal hides refusal) ≡ is_memory refusal
 shown_told false refusal = refl
 shown_told true Memory = refl

@@ -37,6 +37,7 @@ key_first : (fault : Option WireFault) (rest : Bool) → (is_none fault && rest)
 key_first None rest h = (refl, h)
 key_first (Some fault) rest h = absurd cc
 
+-- Words that all pass the test for keys have none of the faults of keys.
 pub each_key : (words : List (List ℕ)) → list_all is_key words ≡ true → AreKeys words
 unfolding is_key
 each_key [] h = tt

@@ -25,10 +25,12 @@ pub yields_cond : {A : Type 0} (test : Bool) (one other : Result A Refusal) → 
 yields_cond true one other first second = first
 yields_cond false one other first second = second
 
+-- A field that cannot be read has a fault that may be given up, where its refusal is one that may be.
 pub yields_or : {A : Type 0} (found : Option A) (refusal : Refusal) → IsTrue (refusal_takes_memory refusal) → Yields (ok_or found refusal)
 yields_or (Some value) refusal takes = tt
 yields_or None refusal takes = takes
 
+-- A word that is no key is a fault that may be given up where memory runs out.
 pub yields_key : (word : List ℕ) → Yields (key_of word)
 yields_key word = yields_cond (is_key word) (Ok word) (Err BadKey) tt refl
 
@@ -66,6 +68,7 @@ pub takes_words : (rules : Rules) → IsTrue (refusal_takes_memory (word_count_r
 unfolding word_count_refusal
 takes_words rules = takes_either (is_drop_in rules)
 
+-- A line may be given up where the fault of its next field may be, and so may what comes of each value of that field.
 pub may_then : {A : Type 0} (read : Result A Refusal) (rest : A → Result Command Refusal) → Yields read → ((value : A) → MayBeGivenUp (rest value)) → MayBeGivenUp (then_of read rest)
 may_then (Ok value) rest yields may = may value
 may_then (Err refusal) rest yields may = yields
@@ -76,24 +79,29 @@ may_cond false one other first second = second
 
 pub ruleset readings = (may_then, yields_key, yields_keys, yields_number, yields_exptime, yields_last)
 
+-- A line of `set`, `add`, `replace`, `append` or `prepend` may be given up, whatever its words are.
 pub storage_may : (rules : Rules) (mode : StoreMode) (words : List (List ℕ)) → MayBeGivenUp (storage_words rules mode words)
 storage_may rules mode (key ∷ flags ∷ exptime ∷ count ∷ []) = search readings
 storage_may rules mode (key ∷ flags ∷ exptime ∷ count ∷ noreply ∷ []) = search readings
 storage_may rules mode words = takes_words rules
 
+-- A line of `cas` may be given up, whatever its words are.
 pub cas_may : (rules : Rules) (words : List (List ℕ)) → MayBeGivenUp (cas_words rules words)
 cas_may rules (key ∷ flags ∷ exptime ∷ count ∷ unique ∷ []) = search readings depth 8
 cas_may rules (key ∷ flags ∷ exptime ∷ count ∷ unique ∷ noreply ∷ []) = search readings depth 8
 cas_may rules words = takes_words rules
 
+-- A line of `get` or `gets` may be given up, whatever its words are.
 pub get_may : (rules : Rules) (with_unique : Bool) (words : List (List ℕ)) → MayBeGivenUp (get_words rules with_unique words)
 get_may rules with_unique [] = takes_words rules
 get_may rules with_unique (key ∷ keys) = search readings
 
+-- A line of `gat` or `gats` may be given up, whatever its words are.
 pub gat_may : (rules : Rules) (with_unique : Bool) (words : List (List ℕ)) → MayBeGivenUp (gat_words rules with_unique words)
 gat_may rules with_unique (exptime ∷ key ∷ keys) = search readings
 gat_may rules with_unique words = takes_words rules
 
+-- A line of `delete` may be given up, whatever its words are.
 pub delete_may : (rules : Rules) (words : List (List ℕ)) → MayBeGivenUp (delete_words rules words)
 delete_may rules (key ∷ []) = search readings
 delete_may rules (key ∷ word ∷ []) =
@@ -104,16 +112,19 @@ delete_may rules (key ∷ word ∷ noreply ∷ []) =
     may_then _ _ (yields_key key) (λ k. may_then _ _ told (λ n. refl))
 delete_may rules words = takes_words rules
 
+-- A line of `incr` or `decr` may be given up, whatever its words are.
 pub count_may : (rules : Rules) (direction : Direction) (words : List (List ℕ)) → MayBeGivenUp (count_words rules direction words)
 count_may rules direction (key ∷ amount ∷ []) = search readings
 count_may rules direction (key ∷ amount ∷ noreply ∷ []) = search readings
 count_may rules direction words = takes_words rules
 
+-- A line of `touch` may be given up, whatever its words are.
 pub touch_may : (rules : Rules) (words : List (List ℕ)) → MayBeGivenUp (touch_words rules words)
 touch_may rules (key ∷ exptime ∷ []) = search readings
 touch_may rules (key ∷ exptime ∷ noreply ∷ []) = search readings
 touch_may rules words = takes_words rules
 
+-- A line of `flush_all` may be given up, whatever its words are.
 pub flush_may : (rules : Rules) (words : List (List ℕ)) → MayBeGivenUp (flush_words rules words)
 flush_may rules [] = refl
 flush_may rules (word ∷ []) = may_cond (is_noreply word) (Ok (FlushAll (pos 0) true)) (flush_of rules word None) refl (search readings)

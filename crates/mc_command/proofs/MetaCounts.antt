@@ -53,6 +53,7 @@ small_among letter (first ∷ letters) small among =
       | inr rest ↦ small_among letter letters parts.1 rest
     ]
 
+-- Whether two numbers are equal does not depend on which of them comes first.
 pub eq_comm : (a b : ℕ) → (a == b) ≡ (b == a)
 eq_comm a b = grind (arith, nat_tests)
 
@@ -97,17 +98,20 @@ counted_more reader letter said counted within fresh =
       shown = counted_by reader.seen letter (with_flag reader.asked said) (return_flag letter) (sym (shown_among letter)) below fresh (ap length (with_flag-returned reader.asked said) ∙ counted.shown);
     }
 
+-- The count still holds where a letter that was not seen before adds a flag that is given back.
 pub counted_shown : (reader : FlagReader) (letter : ℕ) (said : Flag) (asked : Asked) (shown : ReturnFlag) (returned : List ReturnFlag) → IsCounted reader → letter < 256 → get_or reader.seen letter false ≡ false →
     asked ≡ with_flag reader.asked said → Some shown ≡ return_flag letter → returned ≡ asked.flags.returned ++ shown ∷ [] →
     IsCounted (record { seen = set reader.seen letter true; asked = record asked { flags = record asked.flags { returned = returned } } })
 counted_shown reader letter said asked shown returned counted within fresh is shows more =
     rw (more, is) (rw (← shows) at (counted_more reader letter said counted within fresh))
 
+-- The count still holds where a letter that was not seen before is of no flag that is given back.
 pub counted_bare : (reader : FlagReader) (letter : ℕ) (said : Flag) (asked : Asked) → IsCounted reader → letter < 256 → get_or reader.seen letter false ≡ false →
     asked ≡ with_flag reader.asked said → None ≡ return_flag letter → IsCounted (record { seen = set reader.seen letter true; asked = asked })
 counted_bare reader letter said asked counted within fresh is shows =
     rw is (rw (← shows) at (counted_more reader letter said counted within fresh))
 
+-- Before the first flag is read no letter was seen and no flag is given back, so the count holds.
 pub counted_first : (reader : FlagReader) → reader.seen ≡ unseen → reader.asked ≡ nothing_asked → IsCounted reader
 unfolding shown_count
 counted_first reader seen asked = record {

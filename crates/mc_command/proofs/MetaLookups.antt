@@ -15,6 +15,7 @@ use Rattle.mc_command.specs.declared.meta.MetaKind.{MetaKind}
 use Rattle.mc_command.specs.Meta.{has_letter, has_flag, token_of, shown_flag, return_flag, asked_of, mode_in, direction_in}
 use Rattle.mc_command.specs.internal.FlagReading.{with_shown}
 
+-- A flag stands among some flags and one more just where it is that one or stands among the others.
 pub has_flag-append : (letter : ℕ) (before : List (List ℕ)) (first : ℕ) (token : List ℕ) → has_flag letter (before ++ (first ∷ token) ∷ []) ≡ (first == letter) || has_flag letter before
 has_flag-append letter before first token =
     list_any-append (has_letter letter) before ((first ∷ token) ∷ []) ∙ (ap (λ b. has_flag letter before || b) (or-false (first == letter)) ∙ or_comm (has_flag letter before) (first == letter))
@@ -84,6 +85,7 @@ asked_next name asked first token shown = record {
   direction = cond (first == 77) (direction_in name (Some token)) asked.direction;
 }
 
+-- With a flag more, of a letter that none before it has, a meta line asks what it did and what that flag says.
 pub asked_of-append : (name : MetaKind) (before : List (List ℕ)) (first : ℕ) (token : List ℕ) → has_flag first before ≡ false →
     asked_of name (before ++ (first ∷ token) ∷ []) ≡ asked_next name (asked_of name before) first token (return_flag first)
 asked_of-append name before first token fresh =
@@ -97,6 +99,7 @@ asked_of-append name before first token fresh =
     rw (flag 98, flag 113, returned, opaque, flag 118, flag 73, flag 117, signed 84, signed 78, signed 82)
     (rw (unsigned (2 ^ 64) 67, unsigned (2 ^ 64) 69, unsigned (2 ^ 64) 68, unsigned (2 ^ 64) 74, unsigned (2 ^ 32) 70, mode, direction))
 
+-- A flag more that is given back, where there is one, comes last of these, and all else that is asked stays.
 pub with_shown_is : (asked : Asked) (shown : Option ReturnFlag) → with_shown asked shown ≡ record asked { flags = record asked.flags { returned = more_shown asked.flags.returned shown } }
 with_shown_is asked None = refl
 with_shown_is asked (Some shown) = refl

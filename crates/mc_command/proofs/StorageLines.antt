@@ -70,10 +70,12 @@ later_word : (words rest : List (List ℕ)) (found : Option (Bor (List ℕ))) (p
 later_word words rest None place step = rw (step.0, step.1)
 later_word words rest (Some word) place step = rw step
 
+-- What the fourth step of a walk over words finds is their fourth, or nothing where there are fewer.
 pub fourth_word : (words a b c d : List (List ℕ)) (key flags exptime count : Option (Bor (List ℕ))) → Steps words key a → Steps a flags b → Steps b exptime c → Steps c count d → slice_get words 3 ≡ option_copied count
 fourth_word words a b c d key flags exptime count first second third fourth =
     later_word words a key 2 first ∙ (later_word a b flags 1 second ∙ (later_word b c exptime 0 third ∙ first_word c d count fourth))
 
+-- What the fifth step of a walk over words finds is their fifth, or nothing where there are fewer.
 pub fifth_word : (words a b c d e : List (List ℕ)) (key flags exptime count unique : Option (Bor (List ℕ))) → Steps words key a → Steps a flags b → Steps b exptime c → Steps c count d → Steps d unique e → slice_get words 4 ≡ option_copied unique
 fifth_word words a b c d e key flags exptime count unique first second third fourth fifth =
     later_word words a key 3 first ∙ fourth_word a b c d e flags exptime count unique second third fourth fifth

@@ -21,10 +21,12 @@ abbrev pub Told : Result Command Refusal → Type 0
 Told (Ok command) = is_memory_refusal command ≡ false
 Told (Err refusal) = is_memory refusal ≡ false
 
+-- A fault that may be given up is not itself that memory ran out.
 pub no_memory : (refusal : Refusal) → IsTrue (refusal_takes_memory refusal) → is_memory refusal ≡ false
 no_memory Memory takes = absurd cc
 no_memory other takes = refl
 
+-- A command that may be given up is not itself the refusal that memory ran out.
 pub no_memory_command : (asked : Command) → IsTrue (can_give_up asked) → is_memory_refusal asked ≡ false
 no_memory_command (command.Refused refusal) may = no_memory refusal may
 no_memory_command other may = refl
@@ -38,9 +40,11 @@ told_then : {A : Type 0} (read : Result A Refusal) (rest : A → Result Command 
 told_then (Ok value) rest yields told = told value
 told_then (Err refusal) rest yields told = no_memory refusal yields
 
+-- The refusal of a line with too few or too many words is not that memory ran out.
 pub words_told : (rules : Rules) → is_memory (word_count_refusal rules) ≡ false
 words_told rules = no_memory (word_count_refusal rules) (takes_words rules)
 
+-- A line of `verbosity` never says that memory ran out, whatever its words are.
 pub verbosity_told : (rules : Rules) (words : List (List ℕ)) → Told (verbosity_words rules words)
 verbosity_told rules (level ∷ []) = search (told_then, readings)
 verbosity_told rules (level ∷ noreply ∷ []) = search (told_then, readings)
@@ -50,6 +54,7 @@ stats_read_told : (request : Option StatsRequest) → Told (then_of (ok_or reque
 stats_read_told (Some request) = refl
 stats_read_told None = refl
 
+-- A line of `stats` never says that memory ran out, whatever its words are.
 pub stats_told : (rules : Rules) (words : List (List ℕ)) → Told (stats_words rules words)
 stats_told rules words = cond_both (is_drop_in rules) (then_of (ok_or (request_of words) Unknown) (λ request. Ok (command.Stats request))) (Err Unknown) Told (λ drops. stats_read_told (request_of words)) (λ own. refl)
 

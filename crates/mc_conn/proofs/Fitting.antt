@@ -21,9 +21,11 @@ use Rattle.mc_conn.proofs.Gets.{all_more, all_push, get_cases}
 use Rattle.mc_conn.proofs.Places.{lane_at, lane-append, one_place, piece_at}
 use Rattle.mc_conn.proofs.Forms.{form_at, kind_at, slot_at}
 
+-- The answers fit on a new connection, which took no command and received no reply.
 pub fits_none : (shards : ℕ) → Fits shards [] [] (λ s. [])
 fits_none shards = record { within = λ s. omega arith; asked = tt; answers = λ s i p here. absurd (cc) }
 
+-- The pieces of further commands come behind those of the commands before, with tickets that count on.
 pub pieces_from-append : (shards number : ℕ) (taken more : List Taken) → pieces_from shards number (taken ++ more) ≡ pieces_from shards number taken ++ pieces_from shards (number + length taken) more
 pieces_from-append shards number [] more = let at : number ≡ number + 0 = omega arith in ap (λ n. pieces_from shards n more) at
 pieces_from-append shards number (one ∷ taken) more =
@@ -31,6 +33,7 @@ pieces_from-append shards number (one ∷ taken) more =
     ap (λ ps. pieces_at shards number one ++ ps) (pieces_from-append shards (number + 1) taken more ∙ ap (λ n. pieces_from shards (number + 1) taken ++ pieces_from shards n more) at)
     ∙ sym (append_assoc (pieces_at shards number one) (pieces_from shards (number + 1) taken) (pieces_from shards (number + suc (length taken)) more))
 
+-- Further commands add their pieces for a shard behind those that were due there.
 pub due-append : (shards s : ℕ) (taken more : List Taken) → due shards s (taken ++ more) ≡ due shards s taken ++ lane s (pieces_from shards (0 + length taken) more)
 due-append shards s taken more =
     ap (λ ps. lane s ps) (pieces_from-append shards 0 taken more) ∙ lane-append s (pieces shards taken) (pieces_from shards (0 + length taken) more)

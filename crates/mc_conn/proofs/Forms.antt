@@ -14,6 +14,7 @@ use Rattle.mc_conn.specs.History.{Taken, planned}
 use Rattle.mc_conn.specs.Due.{forms_from, ticket_at}
 use Rattle.mc_conn.proofs.Gets.{all_at}
 
+-- The form of a command is of the kind of each of its pieces.
 pub kind_at : (shards : ℕ) (command : Command) (part : ℕ) (asked : Asked) → slice_get (pieces_of shards command) part ≡ Some asked → form_kind (pieces_of shards command) ≡ kind_of asked.op
 kind_at shards command part asked here =
     sym (all_at (λ one. kind_of one.op ≡ form_kind (pieces_of shards command)) (pieces_of shards command) part asked (pieces_alike shards command) here)
@@ -29,6 +30,7 @@ form_at shards number (first ∷ taken) (suc k) one here =
     let at : number + 1 + k ≡ number + suc k = omega arith in
     form_at shards (number + 1) taken k one here ∙ ap (λ n. Some (form_of shards (ticket_at n) (planned one))) at
 
+-- There is one form for each command that was taken.
 pub length-forms : (shards number : ℕ) (taken : List Taken) → length (forms_from shards number taken) ≡ length taken
 length-forms shards number [] = refl
 length-forms shards number (one ∷ taken) = ap suc (length-forms shards (number + 1) taken)

@@ -14,9 +14,11 @@ use Rattle.mc_conn.specs.Fits.{CameFrom, IsReplyTo, KeysFit, Receives, Serves, r
 use Rattle.mc_conn.proofs.Gets.{get_below, get_front}
 use Rattle.mc_conn.proofs.Fitting.{due-append, fits_none, fits_take, next_expected, next_fits, push_here, within_more}
 
+-- A new connection, which took no command and received no reply, has its answers in their places.
 pub serves_none : (shards : ℕ) → Serves shards [] [] (λ s. [])
 serves_none shards = record { within = λ s. omega arith; fits = λ keys. fits_none shards }
 
+-- A command that is taken leaves the answers in their places, as long as the keys fit.
 pub serves_take : (shards : ℕ) (taken : List Taken) (one : Taken) (accepted : List Shown) (received : ℕ → List Shown) → Serves shards taken accepted received → Serves shards (taken ++ one ∷ []) accepted received
 serves_take shards taken one accepted received serves =
     let more : ℕ → List Piece = λ s. lane s (pieces_from shards (0 + length taken) (one ∷ [])) in
@@ -45,6 +47,7 @@ next_of shards s taken old new reply p next receives keys = (
   keys s (length (old s)) p reply next (ap (λ xs. slice_get xs (length (old s))) receives.here ∙ push_here (old s) reply),
 )
 
+-- A reply accepted from a shard that owes one leaves the answers in their places, as long as the keys fit.
 pub serves_accept : (shards s : ℕ) (taken : List Taken) (accepted : List Shown) (old new : ℕ → List Shown) (reply : Shown) → Serves shards taken accepted old → length (old s) < length (due shards s taken) → Receives old s reply new → Serves shards taken (accepted ++ reply ∷ []) new
 serves_accept shards s taken accepted old new reply serves owed receives = record {
   within = within_more shards s taken old new reply serves.within owed receives;

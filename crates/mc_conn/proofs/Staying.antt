@@ -24,6 +24,8 @@ use Rattle.mc_conn.proofs.Counting.{length-replies}
 use Rattle.mc_join.proofs.Expecting.{awaited_from}
 use Rattle.mc_conn.proofs.Forms.{forms-push, length-forms}
 
+-- Every connection took only commands that its bytes spell, has no more open than its window has room for, and handed
+-- out only replies whose turn has come.
 pub is_sound : (conn : Conn) (told : Told) → IsConn conn told → IsSound told
 unfolding IsConn IsReader
 is_sound conn told h =
@@ -76,12 +78,14 @@ keeps told later held new texts long old after =
       same = both_begin told.handed texts (all_texts told) (all_texts later) long old.beginning after.beginning;
     }
 
+-- The replies that were handed out stay the same when a reply is accepted that is expected.
 pub keeps_accept : (conn : Conn) (told : Told) (reply : Shown) → IsConn conn told → Expects (all_forms told) told.accepted reply → KeepsHanded told (record told { accepted = told.accepted ++ reply ∷ [] })
 unfolding IsConn
 keeps_accept conn told reply h expects =
     let after = joined_accept conn.dispatcher.joiner (all_forms told) told.accepted h.texts reply h.joined expects in
     keeps told (record told { accepted = told.accepted ++ reply ∷ [] }) conn.dispatcher.joiner after.0 h.texts h.handed h.joined after.1
 
+-- The replies that were handed out stay the same when a command is taken.
 pub keeps_take : (conn : Conn) (told : Told) (one : Taken) → IsConn conn told → KeepsHanded told (record told { taken = told.taken ++ one ∷ [] })
 unfolding IsConn
 keeps_take conn told one h =

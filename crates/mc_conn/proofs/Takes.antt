@@ -36,6 +36,7 @@ use Rattle.mc_conn.proofs.Gets.{all_push}
 abbrev pub GoesOn : Conn → Type 0
 GoesOn conn = (told : Told) → IsConn conn told → ¬ IsOver told
 
+-- A connection that is tested not to be over is neither closed nor broken.
 pub goes_on : (conn : Conn) (over : Bool) → over ≡ false → ((told : Told) → IsConn conn told → IsTrue over ↔ IsOver told) → GoesOn conn
 goes_on conn over none says told h o = false≢true (sym none ∙ (says told h).1 o)
 
@@ -45,6 +46,7 @@ unbroken told not_over = elim told.broken as (λ b. told.broken ≡ b → b ≡ 
   | false ↦ λ e. refl
 ] refl
 
+-- A connection that goes on and holds as many forms as its window has room for has as many commands open as may be.
 pub fills_window : (conn : Conn) → GoesOn conn → length conn.dispatcher.joiner.forms ≡ conn.dispatcher.joiner.window → (told : Told) → IsConn conn told → FillsWindow told conn
 unfolding IsConn
 fills_window conn on full told h =
@@ -60,6 +62,7 @@ numbers_left conn on none most told h =
     let opened = opened_length conn.dispatcher.joiner (all_forms told) told.accepted h.texts h.joined in
     absurd (omega (arith, few, opened, none, length-forms told.shards 0 told.taken))
 
+-- A connection that goes on, and whose window has room, needs more bytes where its reader does.
 pub needs_more : (old new : Conn) → GoesOn old → length old.dispatcher.joiner.forms < old.dispatcher.joiner.window → NextSays old.reader next.NeedMore new.reader →
     new.dispatcher.joiner ≡ old.dispatcher.joiner → new.dispatcher.unsent ≡ old.dispatcher.unsent → new.put_back ≡ old.put_back → new.dispatcher.shards ≡ old.dispatcher.shards → new.broken ≡ old.broken →
     (told : Told) → IsConn old told → NeedsMore told new
@@ -96,6 +99,8 @@ put_first-append : (back : Option (ℕ × Piece)) (others more : List (ℕ × Pi
 put_first-append None others more = refl
 put_first-append (Some piece) others more = refl
 
+-- The command that the reader gives is taken, where the connection goes on, its window has room, and the form and the
+-- pieces were put behind the others.
 pub opens : (old new : Conn) (shown : Command) (ticket : Ticket) (moment : ℕ) (form : Form) → GoesOn old → length old.dispatcher.joiner.forms < old.dispatcher.joiner.window → ticket.0 ≡ opened_count old.dispatcher.joiner →
     NextSays old.reader (next.Command shown) new.reader → Plans old.dispatcher.shards ticket moment shown form old.dispatcher.unsent.items new.dispatcher.unsent.items →
     new.dispatcher.joiner ≡ record old.dispatcher.joiner { forms = old.dispatcher.joiner.forms ++ form ∷ [] } →

@@ -100,22 +100,27 @@ alone_goes shards ticket states (done ∷ history) places had answered continues
 abbrev pub ran_of : Entry → Ran
 ran_of entry = record { shard = entry.shard; piece = entry.piece; answer = entry.answer }
 
+-- A run of a shard's log is one too where who asked is left out.
 pub run_of : (old : State) (log : List Entry) (last : State) → Run old log last → RunOf old (map ran_of log) last
 run_of old [] last run = run
 run_of old (entry ∷ log) last run = (run.0, run.1, run_of run.0 log last run.2)
 
+-- The pieces of a log are the same where who asked is left out.
 pub pieces_of_ran : (log : List Entry) → map (λ (r : Ran). r.piece) (map ran_of log) ≡ pieces_in log
 pieces_of_ran [] = refl
 pieces_of_ran (entry ∷ log) = ap (λ ps. entry.piece ∷ ps) (pieces_of_ran log)
 
+-- The replies of a log are the same where who asked is left out.
 pub replies_of_ran : (log : List Entry) → map reply_of (map ran_of log) ≡ replies_in log
 replies_of_ran [] = refl
 replies_of_ran (entry ∷ log) = ap (λ rs. reply_to entry ∷ rs) (replies_of_ran log)
 
+-- Where one connection asked all that is in a log, what is done for it is the whole log.
 pub all_mine : (k : ℕ) (log : List Entry) → AllByRecursion (λ (entry : Entry). entry.asker ≡ k) log → of_asker k log ≡ log
 all_mine k [] all = refl
 all_mine k (entry ∷ log) all = ap (λ b. cond b (entry ∷ of_asker k log) (of_asker k log)) (eq-eqb entry.asker k all.0) ∙ ap (λ es. entry ∷ es) (all_mine k log all.1)
 
+-- What a log has of a shard is that shard's, where who asked is left out too.
 pub on_its_shard : (s : ℕ) (log : List Entry) → AllByRecursion (λ (r : Ran). r.shard ≡ s) (map ran_of (on_shard s log))
 on_its_shard s [] = tt
 on_its_shard s (entry ∷ log) = elim (cases_Bool (entry.shard == s)) [
@@ -147,6 +152,7 @@ had_slots accepted ticket part (one ∷ asked) all =
       | Some answer ↦ λ is. (had_answer accepted ticket part answer all is, had_slots accepted ticket (part + 1) asked all)
     ] refl
 
+-- Where no accepted answer is "out of memory" and no command was given up, the whole history had memory.
 pub had_history : (shards : ℕ) (accepted : List Shown) (number : ℕ) (taken : List Taken) → AllHad accepted → AllByRecursion (λ (one : Taken). one.given_up ≡ false) taken → AllByRecursion HadMemory (history_from shards accepted number taken)
 had_history shards accepted number [] all kept = tt
 had_history shards accepted number (one ∷ taken) all kept = (
@@ -154,6 +160,8 @@ had_history shards accepted number (one ∷ taken) all kept = (
   had_history shards accepted (number + 1) taken all kept.1,
 )
 
+-- Where the law holds and no other connection was served, an unbroken connection at rest that never lacked memory was
+-- handed the replies that its commands get alone.
 pub gets_alone : (sizes : Sizes) (w : World) (k : ℕ) (link : Link) → 0 < sizes.shards → LinkLaw sizes (of_asker k w.log) link → IsLawful sizes w.log → link.broken ≡ false → AtRest sizes link → IsAlone w k link → handed_bytes sizes w k link ≡ alone sizes link.taken
 gets_alone sizes w k link some l lawful unbroken rest by =
     let own = of_asker k w.log in

@@ -269,9 +269,11 @@ replies_wait sizes w old c k link s world at =
     let taken = length-take-le (link.given s) rs (omega (arith, given, long)) in
     ap (λ ps. link.received s + length ps) (world.mirrors.lanes c k link at s).1 ∙ (length_drop (link.received s) (take (link.given s) rs) (omega (arith, taken, received)) ∙ taken)
 
+-- A count to which one was added for a shard is greater by one for that shard.
 pub more_here : (counts : ℕ → ℕ) (shard t : ℕ) → t ≡ shard → one_more counts shard t ≡ counts t + 1
 more_here counts shard t same = ap (λ b. cond b (counts t + 1) (counts t)) (eq-eqb t shard same)
 
+-- A count to which one was added for a shard is the same for every other shard.
 pub more_not : (counts : ℕ → ℕ) (shard t : ℕ) → t ≢ shard → one_more counts shard t ≡ counts t
 more_not counts shard t other = ap (λ b. cond b (counts t + 1) (counts t)) (ne_eqb t shard other)
 

@@ -52,6 +52,8 @@ pub record Differs (old new : Sim) (c : ℕ) (after : Seat) : Type 0 where
   pub log : new.log.items ≡ old.log.items
   pub rings : new.rings ≡ old.rings
 
+-- A core that differs at one seat stands in the world with its connection's change, where the law still holds, the seat
+-- and what is kept show the change, and nothing was sent, given or received.
 pub seat_stays : (sizes : Sizes) (w : World) (old new : Sim) (c number : ℕ) (link next : Link) (place after : Seat) → IsWorld sizes old w → Finds old c number place → IsAt w c number link → next.seat ≡ link.seat →
     Law sizes (with_link w number next) → Differs old new c after → after.current ≡ place.current → IsServing sizes (of_asker number w.log) next after.conn →
     KeptBut sizes (with_link w number next) number next old.connections.items new.connections.items →
@@ -72,6 +74,7 @@ pub record IsSame (old new : Sim) : Type 0 where
   pub log : new.log.items ≡ old.log.items
   pub rings : new.rings ≡ old.rings
 
+-- A core whose seats, connections, log and rings stay as they were stands in the world in which it stood.
 pub world_stays : (sizes : Sizes) (w : World) (old new : Sim) → IsWorld sizes old w → IsSame old new → IsWorld sizes new w
 world_stays sizes w old new world same = record {
   within = world.within;
@@ -271,12 +274,14 @@ takes_none old new c number moment place after finds same differs connections co
       seat_again sizes w old new c number link place after world finds f.1 differs same (record { lent = s.lent; accepted = s.accepted; is = conn (told_of sizes link s.lent s.accepted) s.is; fits = s.fits }) connections,
     )
 
+-- A Take is idle where all commands that the bytes spell were taken, and more bytes are needed for another.
 pub takes_all : (old new : Sim) (c number moment : ℕ) (place after : Seat) → Finds old c number place → after.current ≡ place.current → Differs old new c after → new.connections.items ≡ old.connections.items →
     ((told : Told) → IsConn place.conn told → NeedsMore told after.conn) → Steps old (Take c moment) replied.Idle new
 takes_all old new c number moment place after finds same differs connections conn =
     takes_none old new c number moment place after finds same differs connections (λ told is. (conn told is).now)
     (λ sizes link lent accepted command is next window unset. not_one_more sizes link command (conn (told_of sizes link lent accepted) is).all next)
 
+-- A Take is idle where the connection has as many open commands as its window has room for.
 pub takes_full : (old new : Sim) (c number moment : ℕ) (place after : Seat) → Finds old c number place → after.current ≡ place.current → Differs old new c after → new.connections.items ≡ old.connections.items →
     ((told : Told) → IsConn place.conn told → FillsWindow told after.conn) → Steps old (Take c moment) replied.Idle new
 takes_full old new c number moment place after finds same differs connections conn =
@@ -288,6 +293,7 @@ over_none sizes link lent accepted command (inl broken) next unset = absurd (let
 over_none sizes link lent accepted command (inr (inl shut)) next unset = not_after_last sizes link command shut next
 over_none sizes link lent accepted command (inr (inr done)) next unset = not_one_more sizes link command done.1 next
 
+-- A Take is idle where the connection is closed or broken.
 pub takes_closed : (old new : Sim) (c number moment : ℕ) (place after : Seat) → Finds old c number place → after.current ≡ place.current → Differs old new c after → new.connections.items ≡ old.connections.items →
     ((told : Told) → IsConn place.conn told → IsOver told × IsConn after.conn told) → Steps old (Take c moment) replied.Idle new
 takes_closed old new c number moment place after finds same differs connections conn =
@@ -300,6 +306,7 @@ get_index [] i x below is = absurd (omega (arith, below))
 get_index (y ∷ xs) zero x below is = ap (λ z. Some z) (sym is)
 get_index (y ∷ xs) (suc i) x below is = get_index xs i x (omega (arith, below)) is
 
+-- Two readings of the same place within a list give the same element.
 pub same_index : {X : Type 0} (xs : List X) (i : ℕ) (x y : X) → i < length xs → x ≡ slice_index_or xs i x → y ≡ slice_index_or xs i y → x ≡ y
 same_index xs i x y below is is' = at_once xs i i x y (get_index xs i x below is) (get_index xs i y below is') refl
 
@@ -309,6 +316,7 @@ finds_at sim c number place below is f =
     let here = get_index sim.seats.items c place below is in
     record { here = here; current = ap (λ (x : Seat). x.current) (at_once sim.seats.items c c place f.0 here f.1 refl) ∙ f.2 }
 
+-- An event finds the seat that stands at the place, where that seat has this connection.
 pub finds_some : (sim : Sim) (c number : ℕ) (f : (x : Seat) × (slice_get sim.seats.items c ≡ Some x) × (x.current ≡ Some number)) → Finds sim c number f.0
 finds_some sim c number f = record { here = f.1; current = f.2 }
 
@@ -324,12 +332,14 @@ no_seat sim c beyond sizes w world k link at =
     let n = world.seat_count in
     absurd (omega (arith, below, e, n, beyond))
 
+-- A seat that has had no connection has none in whatever world the core stands.
 pub no_current : (sim : Sim) (c : ℕ) (place : Seat) → slice_get sim.seats.items c ≡ Some place → place.current ≡ None → HasNone sim c
 unfolding Stands
 no_current sim c place here none sizes w world k link at =
     let is : SeatIs sizes w c place.conn None = subst (λ o. SeatIs sizes w c place.conn o) none (world.each_seat c place here) in
     is.0 k link at.here at.seat_is
 
+-- A seat whose connection has a number beyond those kept has none in whatever world the core stands.
 pub no_kept : (sim : Sim) (c number : ℕ) (place : Seat) → Finds sim c number place → length sim.connections.items ≤ number → HasNone sim c
 unfolding Stands
 no_kept sim c number place finds beyond sizes w world k link at =

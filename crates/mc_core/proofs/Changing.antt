@@ -92,6 +92,7 @@ unused_back w c k link next here seat unused j one at_j is = elim (cases_eq j k)
   | inr apart ↦ unused j one (set_other w.links k next j apart ∙ at_j) is
 ]
 
+-- A seat that has had no connection still has had none once a connection changes that keeps its seat.
 pub unused_on : (w : World) (c k : ℕ) (link next : Link) → IsLink w k link → next.seat ≡ link.seat → IsUnused w c → IsUnused (with_link w k next) c
 unused_on w c k link next here seat unused j one at_j is = elim (set_cases w.links k next j one at_j) [
   | inl this ↦ unused k link here (sym seat ∙ (ap seat_of (sym this.1) ∙ is))

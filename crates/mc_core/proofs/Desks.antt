@@ -15,6 +15,7 @@ use Rattle.mc_store.specs.Shard.{Keeps}
 use Rattle.mc_core.specs.Desk.{Desk, HasRun, IsSound, end_come}
 use Rattle.mc_core.specs.Turns.{IsFull}
 
+-- What holds where a condition is true may be promised under that condition.
 pub on_true : (b : Bool) (P : Type 0) → (IsTrue b → P) → OnTrue b P
 on_true true P holds = holds refl
 on_true false P holds = tt
@@ -22,6 +23,7 @@ on_true false P holds = tt
 abbrev any_live : List Bool → Bool
 any_live live = list_any (λ mark. beq mark true) live
 
+-- No lane is marked as live exactly where the End of every lane has come.
 pub all_ended : (live : List Bool) → (IsTrue (not (any_live live)) → AllByRecursion (λ mark. mark ≡ false) live) × (AllByRecursion (λ mark. mark ≡ false) live → IsTrue (not (any_live live)))
 all_ended [] = ((λ h. tt), (λ h. refl))
 all_ended (true ∷ live) = ((λ h. absurd (let e : false ≡ true = h in cc)), (λ all. absurd (let e = all.0 in cc)))
@@ -39,6 +41,7 @@ none_held (Some held) live holder ended = absurd (not_live live held.0 ended (ho
 
 -- at the beginning
 
+-- The marks of a new worker, however many lanes it has, all say that the End is still to come.
 pub all_live : (count : ℕ) → AllByRecursion (λ mark. mark ≡ true) (replicate count true)
 all_live zero = tt
 all_live (suc count) = (refl, all_live count)
@@ -53,6 +56,7 @@ unused_lists read [] seat none all = refl
 unused_lists read (far ∷ lanes) zero none all = none far all.0
 unused_lists read (far ∷ lanes) (suc seat) none all = unused_lists read lanes seat none all.1
 
+-- A worker has run nothing, where its hand is empty, its lanes are unused and their Ends are still to come.
 pub new_has_run : (desk : Desk) (begin : State) → desk.hand ≡ None → AllByRecursion IsUnused desk.ends.lanes → AllByRecursion (λ mark. mark ≡ true) desk.live → Keeps desk.shard begin → HasRun begin desk []
 new_has_run desk begin free unused live kept = record {
   state = begin;

@@ -36,9 +36,11 @@ come_in_log sizes own link l s =
     let long = length-map (on_shard s own) reply_to in
     omega (arith, come, received, given, long)
 
+-- By the law, the commands handed out have their replies, with the answers that the shards gave, in their order.
 pub told : (sizes : Sizes) (own : List Entry) (link : Link) → LinkLaw sizes own link → Tells sizes.shards link.taken (replies_in own) (answers own) link.handed
 told sizes own link l = tells sizes.shards link.handed link.taken (replies_in own) (answers own) l.handed l.may l.fits (come_in_log sizes own link l)
 
+-- By the law, the bytes handed to a connection are whole replies, one to each command, in order.
 pub are_replies : (sizes : Sizes) (w : World) (k : ℕ) (link : Link) → LinkLaw sizes (of_asker k w.log) link → AreReplies sizes w k link
 are_replies sizes w k link l =
     let own = of_asker k w.log in
@@ -127,6 +129,7 @@ is_last_taken sizes w k link l place one here last =
       handed = omega (arith, handed, long);
     }
 
+-- Where the law holds of a world, the headline does: whole replies in order, each piece run once, nothing after quit.
 pub headline : (sizes : Sizes) (w : World) → Law sizes w → Headline sizes w
 headline sizes w l = record {
   the_bytes_handed = λ k link here. are_replies sizes w k link (l.links k link here);

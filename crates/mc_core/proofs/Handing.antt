@@ -62,9 +62,11 @@ received_count sizes own link law s =
     let long = length-map (on_shard s own) reply_to in
     length-take-le (link.received s) (replies_in (on_shard s own)) (omega (arith, received, given, long))
 
+-- By the law, where the counts of replies received are enough for the first commands, their lists are too.
 pub come_on : (sizes : Sizes) (own : List Entry) (link : Link) (count : ℕ) → LinkLaw sizes own link → HasCome sizes.shards link.taken link.received count → HasCome sizes.shards link.taken (counts (received_by link own)) count
 come_on sizes own link count law come s = let here = come s in let same = received_count sizes own link law s in omega (arith, here, same)
 
+-- By the law, where the lists of replies received are enough for the first commands, their counts are too.
 pub come_back : (sizes : Sizes) (own : List Entry) (link : Link) (count : ℕ) → LinkLaw sizes own link → HasCome sizes.shards link.taken (counts (received_by link own)) count → HasCome sizes.shards link.taken link.received count
 come_back sizes own link count law come s = let here = come s in let same = received_count sizes own link law s in omega (arith, here, same)
 

@@ -24,6 +24,7 @@ use Rattle.mc_core.specs.Law.{LinkLaw}
 use Rattle.mc_core.proofs.Lists.{take_next}
 use Rattle.mc_core.proofs.Logs.{on_shard-no, on_shard-yes}
 
+-- The law holds of a new connection for which nothing was run.
 pub new_kept : (sizes : Sizes) (seat : ℕ) → LinkLaw sizes [] (new_link seat)
 new_kept sizes seat = record {
   begins = ([], refl);
@@ -41,6 +42,7 @@ new_kept sizes seat = record {
   come = λ s. omega arith;
 }
 
+-- A connection keeps the law when it is fed more bytes.
 pub feed_kept : (sizes : Sizes) (own : List Entry) (link : Link) (more : List ℕ) → LinkLaw sizes own link → LinkLaw sizes own (record link { fed = link.fed ++ more })
 feed_kept sizes own link more l = record {
   begins = begin_more (rules_of sizes) link.fed more (entries link) l.begins;
@@ -58,6 +60,7 @@ feed_kept sizes own link more l = record {
   come = l.come;
 }
 
+-- A connection keeps the law whether or not it ends or breaks.
 pub end_kept : (sizes : Sizes) (own : List Entry) (link : Link) (ended broken : Bool) → LinkLaw sizes own link → LinkLaw sizes own (record link { ended = ended; broken = broken })
 end_kept sizes own link ended broken l = record {
   begins = l.begins;
@@ -79,6 +82,7 @@ end_kept sizes own link ended broken l = record {
 pub ran_within : (sizes : Sizes) (own : List Entry) (link : Link) → LinkLaw sizes own link → (s : ℕ) → length (on_shard s own) ≤ length (due sizes.shards s link.taken)
 ran_within sizes own link l s = let within = l.fits.within s in omega (arith, within, length-map (on_shard s own) reply_to)
 
+-- A connection keeps the law when its next command is taken, where the window has room, given up only where it may be.
 pub take_kept : (sizes : Sizes) (own : List Entry) (link : Link) (one : Taken) → LinkLaw sizes own link → IsNextCommand sizes link one.entry → MayBeTaken one → HasWindow sizes link → LinkLaw sizes own (record link { taken = link.taken ++ one ∷ [] })
 take_kept sizes own link one l next may window =
     let new : Link = record link { taken = link.taken ++ one ∷ [] } in
@@ -109,6 +113,7 @@ take_kept sizes own link one l next may window =
       come = λ s. subst (λ ts. length (due sizes.shards s ts) ≤ link.received s) (sym (take-append-le link.handed link.taken (one ∷ []) handed_of)) (l.come s);
     }
 
+-- A connection keeps the law when its oldest unsent piece is sent, where the ring to the shard has room.
 pub send_kept : (sizes : Sizes) (own : List Entry) (link : Link) (piece : ℕ × Piece) → LinkLaw sizes own link → slice_get (pieces sizes.shards link.taken) link.sent ≡ Some piece → sent_to sizes piece.0 link < length (on_shard piece.0 own) + sizes.ring → LinkLaw sizes own (record link { sent = link.sent + 1 })
 send_kept sizes own link piece l next room =
     let new : Link = record link { sent = link.sent + 1 } in
@@ -144,6 +149,7 @@ send_kept sizes own link piece l next room =
       come = l.come;
     }
 
+-- A connection keeps the law when a shard gives the next answer that it holds, where the ring back has room.
 pub give_kept : (sizes : Sizes) (own : List Entry) (link : Link) (shard : ℕ) → LinkLaw sizes own link → link.given shard < length (on_shard shard own) → link.given shard < link.received shard + sizes.ring → LinkLaw sizes own (record link { given = one_more link.given shard })
 give_kept sizes own link shard l ungiven room = record {
   begins = l.begins;
@@ -174,6 +180,7 @@ give_kept sizes own link shard l ungiven room = record {
   come = l.come;
 }
 
+-- A connection keeps the law when it receives one more of the answers that a shard has given.
 pub receive_kept : (sizes : Sizes) (own : List Entry) (link : Link) (shard : ℕ) → LinkLaw sizes own link → link.received shard < link.given shard → LinkLaw sizes own (record link { received = one_more link.received shard })
 receive_kept sizes own link shard l waiting = record {
   begins = l.begins;
@@ -202,6 +209,7 @@ receive_kept sizes own link shard l waiting = record {
   ];
 }
 
+-- A connection keeps the law when all replies whose turn has come are handed out, and no more.
 pub hand_kept : (sizes : Sizes) (own : List Entry) (link : Link) (count : ℕ) → LinkLaw sizes own link → IsTurn sizes link count → LinkLaw sizes own (record link { handed = count })
 hand_kept sizes own link count l turn =
     let more = turn.most link.handed l.handed l.come in
@@ -222,6 +230,7 @@ hand_kept sizes own link count l turn =
       come = turn.come;
     }
 
+-- A connection keeps the law when a shard runs the next piece that is due there, where it was sent.
 pub pop_kept : (sizes : Sizes) (own : List Entry) (link : Link) (entry : Entry) → LinkLaw sizes own link → slice_get (due sizes.shards entry.shard link.taken) (length (on_shard entry.shard own)) ≡ Some entry.piece → length (on_shard entry.shard own) < sent_to sizes entry.shard link → LinkLaw sizes (own ++ entry ∷ []) link
 pop_kept sizes own link entry l next waiting =
     let now = own ++ entry ∷ [] in

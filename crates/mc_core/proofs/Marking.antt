@@ -24,9 +24,11 @@ set_within [] i x within = absurd (omega (arith, within))
 set_within (y ∷ xs) zero x within = refl
 set_within (y ∷ xs) (suc i) x within = set_within xs i x (omega (arith, within))
 
+-- Where nothing has happened, the marks that were there are the right ones.
 pub marks_refl : (desk : Desk) (marks : List Bool) → Marks desk desk marks marks
 marks_refl desk marks seat = inl (refl, refl)
 
+-- Marks that are right after a first change, and again after a second, are right after both together.
 pub marks_trans : (a b c : Desk) (xs ys zs : List Bool) → Marks a b xs ys → Marks b c ys zs → Marks a c xs zs
 marks_trans a b c xs ys zs first second seat = elim (first seat) [
   | inl none ↦ elim (second seat) [
@@ -39,6 +41,7 @@ marks_trans a b c xs ys zs first second seat = elim (first seat) [
   ]
 ]
 
+-- whether the turn gave a reply
 abbrev pub is_gave : Turn → Bool
 is_gave Gave = true
 is_gave Blocked = false
@@ -54,6 +57,7 @@ none_given Nothing seat hand no_gift = refl
 none_given Ended seat hand no_gift = refl
 none_given (Ran ticket part moment) seat hand no_gift = refl
 
+-- After a turn that gave no reply, the marks that were there are the right ones.
 pub marks_none : (old : Desk) (turn : Turn) (new : Desk) (marks : List Bool) → is_gave turn ≡ false → Gives old turn new → Marks old new marks marks
 marks_none old turn new marks no_gift gives seat = inl (gives seat ∙ rw (none_given turn seat old.hand no_gift) (append-nil (sent_on old.ends seat)), refl)
 
@@ -84,5 +88,6 @@ marks_gave old new holder marks gives held within seat =
       )
     ]
 
+-- A worker whose hand is empty gives no reply.
 pub marks_absurd : (old new : Desk) (P : Type 0) → GivesIt old new → option_map (λ held. held.0) old.hand ≡ None → P
 marks_absurd old new P gave held = absurd (let e : Some gave.seat ≡ None = sym (ap (option_map (λ held. held.0)) gave.held) ∙ held in cc)

@@ -24,16 +24,19 @@ use Rattle.mc_core.proofs.RingsSteps.{desk_within, gave_wired, hand_at, hand_fre
 
 -- The seat and the shard aren't both there.
 
+-- What a test found to be false doesn't hold.
 pub out_of : {P : Type 0} → (IsTrue false ↔ P) → P → ⊥
 out_of both is = let e : false ≡ true = both.1 is in cc
 
 in_there : (sizes : Sizes) (laid : Laid) (wires : Wires) (c s : ℕ) → HaveWires sizes laid wires → AreThere sizes c s → AreIn laid c s
 in_there sizes laid wires c s was there = (rw was.seat_count there.0, rw was.shard_count there.1)
 
+-- Where the seat and the shard aren't both there, no piece is sent, and the rings hold the same.
 pub keeps_out : (laid : Laid) (c s : ℕ) → (AreIn laid c s → ⊥) → (sizes : Sizes) (wires : Wires) → AreWired sizes laid wires → KeepsPiece sizes wires c s laid
 unfolding AreWired
 keeps_out laid c s out sizes wires was = record { full = λ there. absurd (out (in_there sizes laid wires c s was there)); now = was }
 
+-- Where the seat and the shard aren't both there, the answer that no piece waits is right.
 pub tells_out : (laid : Laid) (c s : ℕ) → (AreIn laid c s → ⊥) → (sizes : Sizes) (wires : Wires) → AreWired sizes laid wires → TellsWaiting sizes wires s c false laid
 unfolding AreWired
 tells_out laid c s out sizes wires was = record {
@@ -42,25 +45,31 @@ tells_out laid c s out sizes wires was = record {
   now = was;
 }
 
+-- Where the seat and the shard aren't both there, no piece is run, and the rings hold the same.
 pub runs_out : (laid : Laid) (c s : ℕ) → (AreIn laid c s → ⊥) → (sizes : Sizes) (wires : Wires) → AreWired sizes laid wires → RunsNone sizes wires s c laid
 unfolding AreWired
 runs_out laid c s out sizes wires was = record { none = λ there free. absurd (out (in_there sizes laid wires c s was there)); now = was }
 
+-- Where the seat and the shard aren't both there, no reply is received, and the rings hold the same.
 pub receives_out : (laid : Laid) (c s : ℕ) → (AreIn laid c s → ⊥) → (sizes : Sizes) (wires : Wires) → AreWired sizes laid wires → ReceivesNone sizes wires c s laid
 unfolding AreWired
 receives_out laid c s out sizes wires was = record { none = λ there. absurd (out (in_there sizes laid wires c s was there)); now = was }
 
 -- The seat and the shard, where the lane was looked at.
 
+-- What is read at the place of a seat whose lane was looked at is the seat that stands there.
 pub seat_read : (old mid : Laid) (c s n m : ℕ) (seat : Ends Near) → LooksAt c s old mid n m → seat ≡ get_or mid.seats c seat → slice_get mid.seats c ≡ Some seat
 seat_read old mid c s n m seat look read = slice_get_read mid.seats (length mid.seats) c seat refl (slice_get_within mid.seats c look.seat_after (seat_after_here old mid c s n m look)) read
 
+-- What is read at the place of a worker whose lane was looked at is the worker that stands there.
 pub desk_read : (old mid : Laid) (c s n m : ℕ) (desk : Desk) → LooksAt c s old mid n m → desk ≡ get_or mid.workers s desk → slice_get mid.workers s ≡ Some desk
 desk_read old mid c s n m desk look read = slice_get_read mid.workers (length mid.workers) s desk refl (slice_get_within mid.workers s look.desk_after (desk_after_here old mid c s n m look)) read
 
+-- A seat whose lane to a shard was looked at has a lane at that shard's number.
 pub seat_lanes : (old mid : Laid) (c s n m : ℕ) (seat : Ends Near) → AreLaid mid → LooksAt c s old mid n m → slice_get mid.seats c ≡ Some seat → s < length seat.lanes
 seat_lanes old mid c s n m seat laid look here = seat_within mid c s seat look.desk_after laid here (desk_after_here old mid c s n m look)
 
+-- A worker whose lane to a seat was looked at has a lane at that seat's number.
 pub desk_lanes : (old mid : Laid) (c s n m : ℕ) (desk : Desk) → AreLaid mid → LooksAt c s old mid n m → slice_get mid.workers s ≡ Some desk → c < length desk.ends.lanes
 desk_lanes old mid c s n m desk laid look here = desk_within mid c s look.seat_after desk laid (seat_after_here old mid c s n m look) here
 
@@ -74,6 +83,7 @@ at_both sizes old mid wires c s n m seat desk was look here there =
 
 -- a piece is sent
 
+-- Where a look finds the ring of pieces full, sending none is right.
 pub keeps_full : (old mid : Laid) (c s n m places : ℕ) → LooksAt c s old mid n m → places ≡ mid.places → places ≤ n → (sizes : Sizes) (wires : Wires) → AreWired sizes old wires → KeepsPiece sizes wires c s mid
 unfolding AreWired
 keeps_full old mid c s n m places look places_are full sizes wires was =
@@ -91,6 +101,7 @@ sends_now sizes mid wires c s n m seat seat' desk piece (Ok tt) now sees room he
 sends_now sizes mid wires c s n m seat seat' desk piece (Err back) now sees room here lane =
     absurd (sent_room sizes c s seat seat' desk (wires.pieces c s) (wires.replies c s) n m piece back sees room lane)
 
+-- Where a look finds room on the ring, a piece that is sent waits there, behind all others.
 pub sends_piece : (old mid : Laid) (c s n m places : ℕ) (seat seat' : Ends Near) (piece : Piece) (result : Result (Unit {0}) Parcel) → LooksAt c s old mid n m → places ≡ mid.places → n < places → seat ≡ get_or mid.seats c seat
     → AtLane (Sends (λ parcel. parcel) (parcel.Piece piece) result) s seat seat' → (sizes : Sizes) (wires : Wires) → AreWired sizes old wires → SendsPiece sizes wires c s piece (record mid { seats = slice_set mid.seats c seat' })
 unfolding AreWired
@@ -100,6 +111,7 @@ sends_piece old mid c s n m places seat seat' piece result look places_are room 
     sends_now sizes mid wires c s n m seat seat' look.desk_after piece result now (at_both sizes old mid wires c s n m seat look.desk_after was look here (desk_after_here old mid c s n m look))
     (let ring = now.places in omega arith) here lane
 
+-- Where a look finds room on the ring, no piece is handed back.
 pub never_back : (P : Type 0) (old mid : Laid) (c s n m places : ℕ) (seat seat' : Ends Near) (piece : Piece) (back : Parcel) → LooksAt c s old mid n m → places ≡ mid.places → n < places → seat ≡ get_or mid.seats c seat
     → AtLane (Sends (λ parcel. parcel) (parcel.Piece piece) (Err back)) s seat seat' → (sizes : Sizes) (wires : Wires) → AreWired sizes old wires → P
 unfolding AreWired
@@ -115,6 +127,7 @@ none_long : {A : Type 0} (xs : List A) (n : ℕ) → n ≡ length xs → n ≡ 0
 none_long [] n count none = refl
 none_long (x ∷ xs) n count none = absurd (let e : suc (length xs) ≡ 0 = sym count ∙ none in omega (arith, e))
 
+-- Where a look finds no reply waiting, receiving none is right.
 pub receives_zero : (old mid : Laid) (c s n m : ℕ) → LooksAt c s old mid n m → m ≡ 0 → (sizes : Sizes) (wires : Wires) → AreWired sizes old wires → ReceivesNone sizes wires c s mid
 unfolding AreWired
 receives_zero old mid c s n m look no_wait sizes wires was = record {
@@ -144,11 +157,13 @@ never_none P old mid c s n m seat seat' look some read lane sizes wires was =
     let sees = at_both sizes old mid wires c s n m seat look.desk_after was look here (desk_after_here old mid c s n m look) in
     absurd (received_none sizes c s seat seat' look.desk_after (wires.pieces c s) (wires.replies c s) n m sees some lane)
 
+-- Where a look finds a reply waiting, the reply that is received is the oldest.
 pub received : (old mid : Laid) (c s n m : ℕ) (seat seat' : Ends Near) (result : Option Reply) → LooksAt c s old mid n m → 0 < m → seat ≡ get_or mid.seats c seat → AtLane (Receives shown result) s seat seat'
     → IfSome result (λ reply. (sizes : Sizes) (wires : Wires) → AreWired sizes old wires → ReceivesReply sizes wires c s (shown reply) (record mid { seats = slice_set mid.seats c seat' }))
 received old mid c s n m seat seat' None look some read lane = tt
 received old mid c s n m seat seat' (Some reply) look some read lane = receives_reply old mid c s n m seat seat' reply look some read lane
 
+-- Where a look finds a reply and yet none is received, none waits: a case that never comes.
 pub received_nothing : (old mid : Laid) (c s n m : ℕ) (seat seat' : Ends Near) (result : Option Reply) → LooksAt c s old mid n m → 0 < m → seat ≡ get_or mid.seats c seat → AtLane (Receives shown result) s seat seat'
     → IfNone result ((sizes : Sizes) (wires : Wires) → AreWired sizes old wires → ReceivesNone sizes wires c s (record mid { seats = slice_set mid.seats c seat' }))
 received_nothing old mid c s n m seat seat' None look some read lane = λ sizes wires was. never_none (ReceivesNone sizes wires c s (record mid { seats = slice_set mid.seats c seat' })) old mid c s n m seat seat' look some read lane sizes wires was
@@ -156,6 +171,7 @@ received_nothing old mid c s n m seat seat' (Some reply) look some read lane = t
 
 -- whether a piece waits
 
+-- Where a look finds no piece waiting, the answer that none may be run is right.
 pub tells_zero : (old mid : Laid) (c s n m : ℕ) → LooksAt c s old mid n m → n ≡ 0 → (sizes : Sizes) (wires : Wires) → AreWired sizes old wires → TellsWaiting sizes wires s c false mid
 unfolding AreWired
 tells_zero old mid c s n m look no_wait sizes wires was = record {
@@ -172,6 +188,7 @@ pub none_told : (hand : Option (ℕ × Shown)) → is_some (option_map (λ held.
 none_told None test = refl
 none_told (Some held) test = absurd (let e : true ≡ false = test in cc)
 
+-- Where a look finds a piece waiting, it is right to answer by whether the worker's hand is empty.
 pub tells_held : (old mid : Laid) (c s n m : ℕ) (desk : Desk) (result : Bool) → LooksAt c s old mid n m → 0 < n → desk ≡ get_or mid.workers s desk → is_some (option_map (λ held. held.0) desk.hand) ≡ not result
     → (sizes : Sizes) (wires : Wires) → AreWired sizes old wires → TellsWaiting sizes wires s c result mid
 unfolding AreWired
@@ -188,6 +205,7 @@ tells_held old mid c s n m desk result look some read told sizes wires was =
 
 -- a piece is run
 
+-- Where a look finds no piece waiting, running none is right.
 pub runs_zero : (old mid : Laid) (c s n m : ℕ) → LooksAt c s old mid n m → n ≡ 0 → (sizes : Sizes) (wires : Wires) → AreWired sizes old wires → RunsNone sizes wires s c mid
 unfolding AreWired
 runs_zero old mid c s n m look no_wait sizes wires was = record {
@@ -199,6 +217,7 @@ runs_zero old mid c s n m look no_wait sizes wires was = record {
 pub free_hand : (mid : Laid) (s : ℕ) (before desk : Desk) → slice_get mid.workers s ≡ Some before → slice_get mid.workers s ≡ Some desk → is_some (option_map (λ held. held.0) before.hand) ≡ false → desk.hand ≡ None
 free_hand mid s before desk there there' test = ap (λ (desk : Desk). desk.hand) (same_Some desk before (sym there' ∙ there)) ∙ none_told before.hand test
 
+-- Where the worker's hand is full, running no piece is right.
 pub runs_held : (old mid : Laid) (c s n m : ℕ) (desk : Desk) → LooksAt c s old mid n m → desk ≡ get_or mid.workers s desk → is_some (option_map (λ held. held.0) desk.hand) ≡ true
     → (sizes : Sizes) (wires : Wires) → AreWired sizes old wires → RunsNone sizes wires s c mid
 unfolding AreWired
@@ -208,6 +227,7 @@ runs_held old mid c s n m desk look read told sizes wires was =
     let hand_is = (now.each_worker s desk there).hand_is in
     record { none = λ in_it free. absurd (some_told desk.hand told (hand_is ∙ free)); now = now }
 
+-- Where a look finds a piece waiting and the worker's hand is empty, the piece that it runs is the seat's oldest.
 pub runs_oldest : (old mid : Laid) (c s n m : ℕ) (desk desk' : Desk) (ran : RanPiece) → LooksAt c s old mid n m → 0 < n → desk ≡ get_or mid.workers s desk → desk.hand ≡ None → RunsPiece desk c ran.ticket ran.part ran.moment desk'
     → (sizes : Sizes) (wires : Wires) → AreWired sizes old wires → RunsOldest sizes wires s c ran (record mid { workers = slice_set mid.workers s desk' })
 unfolding AreWired
@@ -245,10 +265,12 @@ runs_for_sure P old mid c s n m desk desk' turn look some read free turned other
 
 -- a reply is given
 
+-- A shard that isn't there gives no reply.
 pub gives_nowhere : (laid : Laid) (s : ℕ) → length laid.workers ≤ s → (sizes : Sizes) (wires : Wires) → AreWired sizes laid wires → GivesNone sizes wires s laid
 unfolding AreWired
 gives_nowhere laid s past sizes wires was = record { full = λ within seat reply held. absurd (let e = was.shard_count in omega (arith, e, past, within)); now = was }
 
+-- Where the worker's hand is empty, giving no reply is right.
 pub gives_empty : (laid : Laid) (s : ℕ) (desk : Desk) → slice_get laid.workers s ≡ Some desk → option_map (λ held. held.0) desk.hand ≡ None → (sizes : Sizes) (wires : Wires) → AreWired sizes laid wires → GivesNone sizes wires s laid
 unfolding AreWired
 gives_empty laid s desk there none sizes wires was = record {
@@ -256,6 +278,7 @@ gives_empty laid s desk there none sizes wires was = record {
   now = was;
 }
 
+-- A worker with a lane for a seat gives no reply where seat and shard aren't both there: a case that never comes.
 pub gives_out : (laid : Laid) (c s : ℕ) (desk : Desk) → slice_get laid.workers s ≡ Some desk → c < length desk.ends.lanes → (AreIn laid c s → ⊥) → (sizes : Sizes) (wires : Wires) → AreWired sizes laid wires → GivesNone sizes wires s laid
 unfolding AreWired
 gives_out laid c s desk there lane out sizes wires was =
@@ -266,6 +289,7 @@ gives_out laid c s desk there lane out sizes wires was =
 seat_held : (hand : Option (ℕ × Shown)) (c seat : ℕ) (reply : Shown) → option_map (λ held. held.0) hand ≡ Some c → hand ≡ Some (seat, reply) → seat ≡ c
 seat_held hand c seat reply held is = sym (same_Some c seat (sym held ∙ ap (option_map (λ held. held.0)) is))
 
+-- Where a look finds the ring of replies full, keeping the reply in the hand is right.
 pub gives_full : (old mid : Laid) (c s n m places : ℕ) (desk : Desk) → LooksAt c s old mid n m → places ≡ mid.places → places ≤ m → slice_get old.workers s ≡ Some desk → option_map (λ held. held.0) desk.hand ≡ Some c
     → (sizes : Sizes) (wires : Wires) → AreWired sizes old wires → GivesNone sizes wires s mid
 unfolding AreWired
@@ -286,6 +310,7 @@ held_after old mid c s n m desk desk_now look there there_now =
     let is : desk_now ≡ look.desk_after = same_Some desk_now look.desk_after (sym there_now ∙ desk_after_here old mid c s n m look) in
     ap (λ (desk : Desk). desk.hand) is ∙ ap (λ (desk : Desk). desk.hand) look.rest ∙ ap (λ (desk : Desk). desk.hand) was
 
+-- Where a look finds room on the ring, the reply in the hand goes there, behind all others, and the hand is empty.
 pub gives_reply : (old mid : Laid) (c s n m places : ℕ) (before desk desk' : Desk) → LooksAt c s old mid n m → places ≡ mid.places → m < places → slice_get old.workers s ≡ Some before → option_map (λ held. held.0) before.hand ≡ Some c
     → desk ≡ get_or mid.workers s desk → GivesIt desk desk' → (sizes : Sizes) (wires : Wires) → AreWired sizes old wires → GivesReply sizes wires s (record mid { workers = slice_set mid.workers s desk' })
 unfolding AreWired

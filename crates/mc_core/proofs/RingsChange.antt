@@ -25,6 +25,7 @@ pub record ChangesAt {Out In : Type 0} (place : ℕ) (old new : Ends (Side Out I
   pub sent : (k : ℕ) → k ≢ place → sent_on new k ≡ sent_on old k
   pub received : (k : ℕ) → k ≢ place → received_on new k ≡ received_on old k
 
+-- A change at one end that keeps its lane keeps which ends they are, and all that passed on the other lanes.
 pub changes_at : {Out In : Type 0} (says : Side Out In → Side Out In → Type 0) (place : ℕ) (old new : Ends (Side Out In)) → ((x y : Side Out In) → says x y → y.past.lane ≡ x.past.lane) → AtLane says place old new → ChangesAt place old new
 changes_at says place old new same lane = record {
   same = at_lane-same_ends says place old new same lane;
@@ -32,6 +33,7 @@ changes_at says place old new same lane = record {
   received = λ k other. at_lane-other says (λ end. end.past.received) place k old new lane other;
 }
 
+-- A change of the end at one place is a change of the end at a place of the same number.
 pub at_place : {End : Type 0} (says : End → End → Type 0) (p q : ℕ) (old new : Ends End) → p ≡ q → AtLane says p old new → AtLane says q old new
 at_place says p q old new same lane = rw (← same) lane
 
@@ -54,6 +56,7 @@ desk_behind workers s j desk desk' x here same at = elim (set_cases workers s de
   | inr other ↦ (x, other.1, same_ends-refl x.ends)
 ]
 
+-- Seats and workers stay in their places, with their lanes, where one seat changes and has the same ends.
 pub laid_seat : (old : Laid) (c : ℕ) (seat seat' : Ends Near) → AreLaid old → slice_get old.seats c ≡ Some seat → AreSameEnds seat seat' → AreLaid (record old { seats = slice_set old.seats c seat' })
 laid_seat old c seat seat' laid here same = record {
   seat_number = λ j x at. let b = seat_behind old.seats c j seat seat' x here same at in b.2.number ∙ laid.seat_number j b.0 b.1;
@@ -62,6 +65,7 @@ laid_seat old c seat seat' laid here same = record {
       lane_kept b.0 x y.ends y.ends b.2 (same_ends-refl y.ends) (laid.each_lane j k b.0 y b.1 at');
 }
 
+-- Seats and workers stay in their places, with their lanes, where one worker changes and has the same ends.
 pub laid_worker : (old : Laid) (s : ℕ) (desk desk' : Desk) → AreLaid old → slice_get old.workers s ≡ Some desk → AreSameEnds desk.ends desk'.ends → AreLaid (record old { workers = slice_set old.workers s desk' })
 laid_worker old s desk desk' laid here same = record {
   seat_number = laid.seat_number;
@@ -75,9 +79,11 @@ laid_worker old s desk desk' laid here same = record {
 abbrev pub IsOther : ℕ → ℕ → ℕ → ℕ → Type 0
 IsOther c s j k = (j ≢ c) ⊎ (k ≢ s)
 
+-- The value that was put for a seat and a shard is the one found there.
 pub with_lane-here : {X : Type 0} (old : ℕ → ℕ → X) (c s : ℕ) (x : X) → with_lane old c s x c s ≡ x
 with_lane-here old c s x = rw (eqb-refl c, eqb-refl s) refl
 
+-- A value that was put for a seat and a shard leaves those of all other lanes as they were.
 pub with_lane-other : {X : Type 0} (old : ℕ → ℕ → X) (c s : ℕ) (x : X) (j k : ℕ) → IsOther c s j k → with_lane old c s x j k ≡ old j k
 with_lane-other old c s x j k (inl seat) = elim (eqb_tells j c) [
   | inl at ↦ absurd (seat at.1)
@@ -88,9 +94,11 @@ with_lane-other old c s x j k (inr shard) = elim (eqb_tells j c) [
   | inr other ↦ rw other.0 refl
 ]
 
+-- The value that was put for a shard is the one found there.
 pub with_shard-here : {X : Type 0} (old : ℕ → X) (s : ℕ) (x : X) → with_shard old s x s ≡ x
 with_shard-here old s x = rw (eqb-refl s) refl
 
+-- A value that was put for a shard leaves those of all other shards as they were.
 pub with_shard-other : {X : Type 0} (old : ℕ → X) (s : ℕ) (x : X) (k : ℕ) → k ≢ s → with_shard old s x k ≡ old k
 with_shard-other old s x k ne = elim (eqb_tells k s) [
   | inl at ↦ absurd (ne at.1)
@@ -116,6 +124,7 @@ worker_same sizes desk hand hand' state state' is same same' = rw (same, same') 
 seat_kept : (sizes : Sizes) (old new : Ends Near) → AreSameEnds old new → IsSeatEnds sizes old → IsSeatEnds sizes new
 seat_kept sizes old new same is = record { counted = same.count ∙ is.counted; holds = rw same.lanes is.holds }
 
+-- Where one lane of a seat changed, the rings hold what is said if that lane does, and the same is said of all else.
 pub wired_seat : (sizes : Sizes) (old : Laid) (wires wires' : Wires) (c s : ℕ) (seat seat' : Ends Near) → HaveWires sizes old wires → slice_get old.seats c ≡ Some seat → ChangesAt s seat seat'
     → ((desk : Desk) → slice_get old.workers s ≡ Some desk → IsWire c s seat' desk (wires'.pieces c s) (wires'.replies c s))
     → SameElse c s wires wires' → ((k : ℕ) → wires'.hand k ≡ wires.hand k) → ((k : ℕ) → wires'.state k ≡ wires.state k)
@@ -149,6 +158,8 @@ pub record IsNow (desk : Desk) (hand : Option (ℕ × Shown)) (state : State) : 
   pub hand_is : desk.hand ≡ hand
   pub keeps : Keeps desk.shard state
 
+-- Where one lane of a worker changed, the rings hold what is said if that lane and the worker do, and the same is said
+-- of all else.
 pub wired_worker : (sizes : Sizes) (old : Laid) (wires wires' : Wires) (c s : ℕ) (desk desk' : Desk) → HaveWires sizes old wires → slice_get old.workers s ≡ Some desk → ChangesAt c desk.ends desk'.ends
     → IsNow desk' (wires'.hand s) (wires'.state s)
     → ((seat : Ends Near) → slice_get old.seats c ≡ Some seat → IsWire c s seat desk' (wires'.pieces c s) (wires'.replies c s))
@@ -198,6 +209,7 @@ look_past read place k old new same lane = at_lane-kept Looks read place k old n
 pub look_changes : {Out In : Type 0} (place : ℕ) (old new : Ends (Side Out In)) → AtLane Looks place old new → ChangesAt place old new
 look_changes place old new lane = changes_at Looks place old new (λ x y says. ap (λ past. past.lane) says.past) lane
 
+-- A look at a lane leaves what the rings hold, and the states of the shards, as they were.
 pub looked_wired : (sizes : Sizes) (old new : Laid) (wires : Wires) (c s n m : ℕ) → HaveWires sizes old wires → LooksAt c s old new n m → HaveWires sizes new wires
 looked_wired sizes old new wires c s n m was look =
     let near : AtLane Looks s look.seat look.seat_after = at_place Looks look.desk.ends.number s look.seat look.seat_after (was.laid.worker_number s look.desk look.desk_here) look.looked.near in
@@ -254,9 +266,11 @@ capacity_at ring (x ∷ xs) (suc k) end all here = capacity_at ring xs k end all
 after_here : {End : Type 0} (says : End → End → Type 0) (p q : ℕ) (old new : Ends End) → p ≡ q → (lane : AtLane says p old new) → slice_get new.lanes q ≡ Some lane.after
 after_here says p q old new same lane = rw (← same, lane.set) (get-set_same old.lanes p lane.before lane.after lane.here)
 
+-- After a look at a lane, its seat stands at its place as the look left it.
 pub seat_after_here : (old new : Laid) (c s n m : ℕ) (look : LooksAt c s old new n m) → slice_get new.seats c ≡ Some look.seat_after
 seat_after_here old new c s n m look = ap (λ (laid : Laid). slice_get laid.seats c) look.set ∙ get-set_same old.seats c look.seat look.seat_after look.seat_here
 
+-- After a look at a lane, its worker stands at its place as the look left it.
 pub desk_after_here : (old new : Laid) (c s n m : ℕ) (look : LooksAt c s old new n m) → slice_get new.workers s ≡ Some look.desk_after
 desk_after_here old new c s n m look = ap (λ (laid : Laid). slice_get laid.workers s) look.set ∙ get-set_same old.workers s look.desk look.desk_after look.desk_here
 
@@ -272,6 +286,7 @@ room_here ring capacity received free sent waits same all room = omega arith
 split_length : {A : Type 0} (xs ys zs : List A) (n : ℕ) → xs ++ ys ≡ zs → n ≡ length ys → length zs ≡ length xs + n
 split_length xs ys zs n all count = ap length (sym all) ∙ length-append xs ys ∙ ap (λ k. length xs + k) (sym count)
 
+-- After a look at a lane, both its ends know all that waits there, and all the room.
 pub seen : (sizes : Sizes) (old new : Laid) (wires : Wires) (c s n m : ℕ) → HaveWires sizes old wires → (look : LooksAt c s old new n m) → Seen sizes c s look.seat_after look.desk_after (wires.pieces c s) (wires.replies c s) n m
 seen sizes old new wires c s n m was look =
     let both = look.looked in

@@ -41,6 +41,7 @@ first_of (x ∷ xs) y ys some begins = (xs, let e : x ∷ (xs ++ begins.0) ≡ y
 lane_within : {A : Type 0} (f : A → Lane) (xs : List A) (i : ℕ) (lane : Lane) → slice_get (map f xs) i ≡ Some lane → i < length xs
 lane_within f xs i lane here = let at = slice_get_within (map f xs) i lane here in let e = length-map xs f in omega arith
 
+-- A seat has a lane for each shard that is there.
 pub seat_within : (laid : Laid) (c s : ℕ) (seat : Ends Near) (desk : Desk) → AreLaid laid → slice_get laid.seats c ≡ Some seat → slice_get laid.workers s ≡ Some desk → s < length seat.lanes
 seat_within laid c s seat desk is here there =
     let lane = is.each_lane c s seat desk here there in
@@ -48,6 +49,7 @@ seat_within laid c s seat desk is here there =
     let at = lane_within (λ (end : Near). end.past.lane) seat.lanes desk.ends.number lane.lane lane.near in
     omega arith
 
+-- A worker has a lane for each seat that is there.
 pub desk_within : (laid : Laid) (c s : ℕ) (seat : Ends Near) (desk : Desk) → AreLaid laid → slice_get laid.seats c ≡ Some seat → slice_get laid.workers s ≡ Some desk → c < length desk.ends.lanes
 desk_within laid c s seat desk is here there =
     let lane = is.each_lane c s seat desk here there in
@@ -60,6 +62,7 @@ desk_within laid c s seat desk is here there =
 abbrev SendsPiece : Piece → Result (Unit {0}) Parcel → Near → Near → Type 0
 SendsPiece piece = Sends (λ parcel. parcel) (parcel.Piece piece)
 
+-- Where a seat sent a piece on a lane, that piece waits there, behind all others, and all else is as it was.
 pub sent_wired : (sizes : Sizes) (old : Laid) (wires : Wires) (c s : ℕ) (seat seat' : Ends Near) (piece : Piece) → HaveWires sizes old wires → slice_get old.seats c ≡ Some seat → AtLane (SendsPiece piece (Ok tt)) s seat seat'
     → HaveWires sizes (record old { seats = slice_set old.seats c seat' }) (record wires { pieces = with_lane wires.pieces c s (wires.pieces c s ++ piece ∷ []) })
 sent_wired sizes old wires c s seat seat' piece was here lane =
@@ -94,6 +97,7 @@ back_is piece back same = cc
 abbrev ReceivesIt : Option Reply → Near → Near → Type 0
 ReceivesIt = Receives shown
 
+-- Where a seat received the oldest reply of a lane, the rest wait there, and all else is as it was.
 pub received_wired : (sizes : Sizes) (old : Laid) (wires : Wires) (c s : ℕ) (seat seat' : Ends Near) (reply : Reply) (rest : List Shown) → HaveWires sizes old wires → slice_get old.seats c ≡ Some seat
     → AtLane (ReceivesIt (Some reply)) s seat seat' → wires.replies c s ≡ shown reply ∷ rest
     → HaveWires sizes (record old { seats = slice_set old.seats c seat' }) (record wires { replies = with_lane wires.replies c s rest })
@@ -110,6 +114,7 @@ received_wired sizes old wires c s seat seat' reply rest was here lane oldest =
     (record { pieces = λ j k other. refl; replies = with_lane-other wires.replies c s rest })
     (λ k. refl) (λ k. refl)
 
+-- Where a look found a reply waiting, the one that the seat receives is the oldest.
 pub received_first : (sizes : Sizes) (c s : ℕ) (seat seat' : Ends Near) (desk : Desk) (pieces : List Piece) (replies : List Shown) (n m : ℕ) (reply : Reply)
     → Seen sizes c s seat desk pieces replies n m → 0 < m → AtLane (ReceivesIt (Some reply)) s seat seat' → (rest : List Shown) × (replies ≡ shown reply ∷ rest)
 received_first sizes c s seat seat' desk pieces replies n m reply seen some lane =
@@ -117,6 +122,7 @@ received_first sizes c s seat seat' desk pieces replies n m reply seen some lane
     let begins : IsPrefix replies (shown reply ∷ lane.after.ahead) = rw (← seen.answers, ← near_is) lane.said.first in
     first_of replies (shown reply) lane.after.ahead (let e = seen.reply_count in omega arith) begins
 
+-- Where a look found a reply waiting, it can't be that the seat receives none.
 pub received_none : (sizes : Sizes) (c s : ℕ) (seat seat' : Ends Near) (desk : Desk) (pieces : List Piece) (replies : List Shown) (n m : ℕ)
     → Seen sizes c s seat desk pieces replies n m → 0 < m → AtLane (ReceivesIt None) s seat seat' → ⊥
 received_none sizes c s seat seat' desk pieces replies n m seen some lane =
@@ -175,6 +181,7 @@ must_run sizes c s seat desk desk' pieces replies n m Ended seen some free live 
     absurd (no_end pieces first.0 first.1)
 must_run sizes c s seat desk desk' pieces replies n m (Ran ticket part moment) seen some free live turned = (ticket, part, moment, refl)
 
+-- Where a look found a piece waiting, the one that the worker runs is the oldest.
 pub ran_first : (sizes : Sizes) (c s : ℕ) (seat : Ends Near) (desk desk' : Desk) (pieces : List Piece) (replies : List Shown) (n m : ℕ) {ticket : Ticket} {part moment : ℕ}
     → Seen sizes c s seat desk pieces replies n m → 0 < n → (ran : RunsPiece desk c ticket part moment desk') → (rest : List Piece) × (pieces ≡ ran.entry.piece ∷ rest)
 ran_first sizes c s seat desk desk' pieces replies n m seen some ran =
@@ -189,6 +196,8 @@ ran_wires wires c s rest entry after = record {
   state = with_shard wires.state s after;
 }
 
+-- Where a worker ran the oldest piece of a lane, it did so by the protocol's step, the rest wait there, the reply is in
+-- its hand, and all else is as it was.
 pub ran_wired : (sizes : Sizes) (old : Laid) (wires : Wires) (c s : ℕ) (desk desk' : Desk) {ticket : Ticket} {part moment : ℕ} (rest : List Piece) → HaveWires sizes old wires → slice_get old.workers s ≡ Some desk
     → (ran : RunsPiece desk c ticket part moment desk') → wires.pieces c s ≡ ran.entry.piece ∷ rest
     → (after : State) × IsStep (wires.state s) ran.entry.piece.op ran.entry.piece.moment ran.entry.answer after × HaveWires sizes (record old { workers = slice_set old.workers s desk' }) (ran_wires wires c s rest ran.entry after)
@@ -244,6 +253,8 @@ must_give sizes c s seat desk desk' pieces replies n m Nothing reply seen room h
 must_give sizes c s seat desk desk' pieces replies n m Ended reply seen room held turned = absurd (none_or_some desk.hand (c, reply) turned.free held)
 must_give sizes c s seat desk desk' pieces replies n m (Ran ticket part moment) reply seen room held turned = absurd (none_or_some desk.hand (c, reply) turned.free held)
 
+-- Where a worker gave the reply in its hand, that reply waits on the ring to its seat, behind all others, the hand is
+-- empty, and all else is as it was.
 pub gave_wired : (sizes : Sizes) (old : Laid) (wires : Wires) (c s : ℕ) (desk desk' : Desk) (reply : Shown) → HaveWires sizes old wires → slice_get old.workers s ≡ Some desk → desk.hand ≡ Some (c, reply) → GivesIt desk desk'
     → HaveWires sizes (record old { workers = slice_set old.workers s desk' })
     (record wires { replies = with_lane wires.replies c s (wires.replies c s ++ reply ∷ []); hand = with_shard wires.hand s None })
@@ -280,10 +291,12 @@ pub hand_at : (hand : Option (ℕ × Shown)) (c : ℕ) → option_map (λ held. 
 hand_at None c held = absurd (cc)
 hand_at (Some (seat, reply)) c held = (reply, ap (λ (k : ℕ). Some (k, reply)) (same_Some seat c held))
 
+-- A hand that holds a reply for no seat is empty.
 pub hand_free : (hand : Option (ℕ × Shown)) → option_map (λ held. held.0) hand ≡ None → hand ≡ None
 hand_free None none = refl
 hand_free (Some held) none = absurd (cc)
 
+-- On the lane of a seat and a worker that are there, the End is still to come.
 pub live_there : (sizes : Sizes) (old : Laid) (wires : Wires) (c s : ℕ) (seat : Ends Near) (desk : Desk) → HaveWires sizes old wires → slice_get old.seats c ≡ Some seat → slice_get old.workers s ≡ Some desk → slice_get desk.live c ≡ Some true
 live_there sizes old wires c s seat desk was here there =
     let worker = was.each_worker s desk there in

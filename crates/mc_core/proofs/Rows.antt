@@ -36,45 +36,57 @@ use Rattle.mc_core.specs.Schedule.{Schedule}
 use Rattle.mc_core.specs.Schedule.StepReply.{Done}
 use Rattle.mc_core.specs.Headline.{handed_bytes}
 
+-- a server of one seat and one shard, with one place on a ring and one open command
 abbrev pub one_each : Sizes
 one_each = record { profile = Own; seats = 1; shards = 1; bytes = 1024; ring = 1; value = 1024; line = 65536; window = 1 }
 
+-- the bytes that the connection is fed: one line
 abbrev pub line : List ℕ
 line = codes "flush_all\r\n"
 
+-- the command that they spell
 abbrev pub flush : Command
 flush = command.FlushAll (pos 0) false
 
+-- that command, as it is taken
 abbrev pub one : Taken
 one = record { entry = flush; moment = 1000; given_up = false }
 
 abbrev pub piece : Piece
 piece = record { ticket = ticket_at 0; part = 0; op = op.Flush (pos 0); moment = 1000 }
 
+-- what the log has of its piece: it was done
 abbrev pub entry : Entry
 entry = record { shard = 0; asker = 0; piece = piece; answer = answer.Done }
 
 abbrev pub counted : ℕ → ℕ
 counted = one_more (λ _. 0) 0
 
+-- the connection once it was fed the line
 abbrev pub fed : Link
 fed = record (new_link 0) { fed = line }
 
+-- the connection once its command was taken
 abbrev pub taken : Link
 taken = record fed { taken = one ∷ [] }
 
+-- the connection once its piece was sent
 abbrev pub sent : Link
 sent = record taken { sent = 1 }
 
+-- the connection once the shard gave the answer
 abbrev pub given : Link
 given = record sent { given = counted }
 
+-- the connection once it received the answer
 abbrev pub received : Link
 received = record given { received = counted }
 
+-- the connection once it was handed the reply
 abbrev pub handed : Link
 handed = record received { handed = 1 }
 
+-- the connection once it ended
 abbrev pub ended : Link
 ended = record handed { ended = true }
 
@@ -86,6 +98,7 @@ alone log link = record { log = log; links = link ∷ [] }
 abbrev pub both : Link → World
 both link = record { log = entry ∷ []; links = ended ∷ link ∷ [] }
 
+-- the next connection on the seat, once it broke
 abbrev pub broken : Link
 broken = record (new_link 0) { broken = true }
 
@@ -109,16 +122,19 @@ no_end : (bytes : List ℕ) → has_end bytes ≡ false → HasNoEnd bytes
 no_end [] e = tt
 no_end (x ∷ xs) e = let parts = both_false (x == 10) (has_end xs) e in (parts.0, no_end xs parts.1)
 
+-- The line spells the command that removes all items.
 pub spells_flush : Spells (rules_of one_each) line flush
 unfolding line_of words_of name_of number_of
 spells_flush = lined (rules_of one_each) (codes "flush_all\r") [] flush (no_end (codes "flush_all\r") refl) (lit< tt) refl refl
 
+-- The first command that the line spells is that one.
 pub begins : BeginCommands (rules_of one_each) line (flush ∷ [])
 begins = ([], (line, [], refl, spells_flush, refl))
 
 pub all_taken : AreCommands (rules_of one_each) line (flush ∷ [])
 all_taken = ([], (line, [], refl, spells_flush, refl), nothing_without_end (rules_of one_each) [] tt (lit< tt))
 
+-- Once its one answer was received, all that the command needs has come.
 pub come : HasCome 1 (one ∷ []) counted 1
 unfolding pieces_of
 come s = elim (eqb_tells 0 s) [
@@ -146,6 +162,7 @@ pub at_rest : AtRest one_each ended
 unfolding pieces_of
 at_rest = (all_taken, refl, refl)
 
+-- Where there is only one connection, it is the one that its seat has.
 pub at_alone : (log : List Entry) (link : Link) → link.seat ≡ 0 → IsAt (alone log link) 0 0 link
 at_alone log link seat = record { here = refl; seat_is = seat; last = λ j other less here same. only link other j less here }
 

@@ -22,6 +22,7 @@ leads_more sizes w mid w' (event ∷ front) last reply led found happens memory 
     let more = leads_more sizes led.1 mid w' front last reply led.3 found.1 happens memory in
     ((led.0, led.1, led.2, more.0), (found.0, more.1), omega (arith, more.2))
 
+-- A core that stays as it is ran no events, of which none were done.
 pub runs_none : (sim : Sim) → Runs sim [] 0 sim
 runs_none sim sizes w stands = (w, refl, tt, refl, stands)
 
@@ -55,11 +56,13 @@ runs_next old mid new events i event reply done more within here runs steps memo
     let one = runs_more old mid new (map event_of (take i events)) (event_of event) reply done runs steps memory in
     subst (λ some. Runs old some more new) (sym (map_next events i event within here)) (subst (λ n. Runs old (map event_of (take i events) ++ event_of event ∷ []) n new) (sym count) one)
 
+-- A core that ran the first events, each with the memory that it took, and found none for the next stopped there.
 pub runs_until : (old mid new : Sim) (events : List Asked) (i : ℕ) (event : Asked) (done : ℕ) → i < length events → event ≡ get_or events i event →
     Runs old (map event_of (take i events)) done mid → Steps mid (event_of event) replied.NoMemory new → Stops old (map event_of events) new
 runs_until old mid new events i event done within here runs steps =
     let one = runs_stop old mid new (map event_of (take i events)) (event_of event) (map event_of (drop (i + 1) events)) done runs steps in
     subst (λ some. Stops old some new) (sym (map_around events i event within here)) one
 
+-- A core that ran the first events of a list, no fewer than there are, ran all of them.
 pub runs_all : (old new : Sim) (events : List Asked) (i done : ℕ) → length events ≤ i → Runs old (map event_of (take i events)) done new → Runs old (map event_of events) done new
 runs_all old new events i done past runs = subst (λ some. Runs old (map event_of some) done new) (take_all i events past) runs

@@ -20,18 +20,22 @@ shows f g (x ∷ xs) [] same each = absurd (omega (arith, same))
 shows f g (x ∷ xs) (y ∷ ys) same each =
     ap (λ z. z ∷ map f xs) (each 0 x y refl refl) ∙ ap (λ zs. g y ∷ zs) (shows f g xs ys (omega (arith, same)) (λ i a b there here. each (suc i) a b there here))
 
+-- The connections that a core keeps have, in order, the seats that the world says.
 pub seats_shown : (sizes : Sizes) (sim : Sim) (w : World) → Stands sizes sim w → map (λ (one : Connection). one.seat) sim.connections.items ≡ map (λ (link : Link). link.seat) w.links
 unfolding Stands
 seats_shown sizes sim w world = shows (λ (one : Connection). one.seat) (λ (link : Link). link.seat) sim.connections.items w.links world.count (λ i one link there here. (world.keeps i link one there here).seat)
 
+-- The connections that a core keeps are, in order, ended where the world says so.
 pub ended_shown : (sizes : Sizes) (sim : Sim) (w : World) → Stands sizes sim w → map (λ (one : Connection). one.ended) sim.connections.items ≡ map (λ (link : Link). link.ended) w.links
 unfolding Stands
 ended_shown sizes sim w world = shows (λ (one : Connection). one.ended) (λ (link : Link). link.ended) sim.connections.items w.links world.count (λ i one link there here. (world.keeps i link one there here).ended)
 
+-- The connections that a core keeps are, in order, broken where the world says so.
 pub broken_shown : (sizes : Sizes) (sim : Sim) (w : World) → Stands sizes sim w → map (λ (one : Connection). one.broken) sim.connections.items ≡ map (λ (link : Link). link.broken) w.links
 unfolding Stands
 broken_shown sizes sim w world = shows (λ (one : Connection). one.broken) (λ (link : Link). link.broken) sim.connections.items w.links world.count (λ i one link there here. (world.keeps i link one there here).broken)
 
+-- The log that a core keeps has one line for each entry of the world's log, in order.
 pub log_shown : (sizes : Sizes) (sim : Sim) (w : World) → Stands sizes sim w → sim.log.items ≡ map line_of w.log
 unfolding Stands
 log_shown sizes sim w world = world.log
@@ -40,10 +44,12 @@ log_shown sizes sim w world = world.log
 pub kept_is : (sim : Sim) (xs : List Connection) (k : ℕ) (kept : Connection) → xs ≡ sim.connections.items → k < length xs → kept ≡ slice_index_or xs k kept → slice_get sim.connections.items k ≡ Some kept
 kept_is sim xs k kept same below is = ap (λ zs. slice_get zs k) (sym same) ∙ get_index xs k kept below is
 
+-- The bytes that a core keeps as fed to a connection are those that the world says it was fed.
 pub fed_shown : (sizes : Sizes) (sim : Sim) (w : World) (k : ℕ) (link : Link) (kept : Connection) → Stands sizes sim w → IsLink w k link → slice_get sim.connections.items k ≡ Some kept → kept.fed.items ≡ link.fed
 unfolding Stands
 fed_shown sizes sim w k link kept world here found = (world.keeps k link kept here found).fed
 
+-- The bytes that a core keeps as handed to a connection are those that the world says it was handed.
 pub handed_shown : (sizes : Sizes) (sim : Sim) (w : World) (k : ℕ) (link : Link) (kept : Connection) → Stands sizes sim w → IsLink w k link → slice_get sim.connections.items k ≡ Some kept → kept.handed.items ≡ handed_bytes sizes w k link
 unfolding Stands
 handed_shown sizes sim w k link kept world here found = (world.keeps k link kept here found).handed

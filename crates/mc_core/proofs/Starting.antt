@@ -9,6 +9,7 @@ use Rattle.mc_core.specs.Rings.{AreWired, new_wires}
 use Rattle.mc_core.specs.Stands.{IsNewSeat, IsWorld, SeatIs, Stands}
 use Rattle.mc_core.proofs.Worlds.{at_begin}
 
+-- A new core, of sizes that a server may have, stands in the world in which nothing has happened.
 pub begins : (sizes : Sizes) (sim : Sim) → AreWithin sizes → length sim.seats.items ≡ sizes.seats → AllByRecursion (IsNewSeat sizes) sim.seats.items → sim.connections.items ≡ [] → sim.log.items ≡ [] → AreWired sizes sim.rings (new_wires sizes) → Stands sizes sim empty_world
 unfolding Stands
 begins sizes sim within counted seats connections log wired =

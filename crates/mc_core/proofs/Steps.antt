@@ -7,6 +7,7 @@ use Rattle.mc_store.specs.Step.{IsStep}
 use Rattle.mc_store.specs.Shard.{IsShard, Keeps, Steps, held_of}
 use Rattle.mc_store.specs.declared.shard.Shard.{Shard}
 
+-- From whatever state a shard holds, its step is one that the protocol allows, and it holds the state after that.
 pub steps_keep : (old new : Shard) (op : Op) (moment : ℕ) (answer : Answer) → Steps old op moment answer new
     → (state : State) → Keeps (held_of old) state → (after : State) × IsStep state op moment answer after × Keeps (held_of new) after
 unfolding IsShard

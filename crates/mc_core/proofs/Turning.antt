@@ -30,6 +30,7 @@ all_push : {A : Type 0} (P : A → Type 0) (xs : List A) (x : A) → AllByRecurs
 all_push P [] x all one = (one, tt)
 all_push P (y ∷ xs) x all one = (all.0, all_push P xs x all.1 one)
 
+-- Each number passes the test of being equal to itself.
 pub eqb-refl : (n : ℕ) → (n == n) ≡ true
 eqb-refl n = elim (eqb_tells n n) [ inl at ↦ at.0 | inr other ↦ absurd (other.1 refl) ]
 
@@ -167,6 +168,7 @@ ended_none old seat new took begin log had =
       each = all_here old new log same had.each;
     }
 
+-- A turn of a sound worker, for a seat that it has a lane to, adds the piece that it ran to its log, or else nothing.
 pub turned_grows : (old : Desk) (seat : ℕ) (turn : Turn) (new : Desk) → IsSound old → seat < length old.ends.lanes → Turned old seat turn new → Grows old seat turn new
 turned_grows old seat Gave new sound within turned = gave_none old new turned
 turned_grows old seat Blocked new sound within turned = past_same IsFull turned.seat old new (λ x y s. s.past) turned.lane turned.rest
@@ -174,6 +176,7 @@ turned_grows old seat Nothing new sound within turned = found_none old seat new 
 turned_grows old seat Ended new sound within turned = ended_none old seat new turned
 turned_grows old seat (Ran ticket part moment) new sound within turned = (turned, ran_more old new seat part moment turned within)
 
+-- A turn of a sound worker, whatever it did, leaves it its ends of the same lanes.
 pub turned_keeps : (old : Desk) (seat : ℕ) (turn : Turn) (new : Desk) → IsSound old → seat < length old.ends.lanes → Turned old seat turn new → AreSameEnds old.ends new.ends
 turned_keeps old seat Gave new sound within turned = at_lane-same_ends (Sends shown turned.reply (Ok tt)) turned.seat old.ends new.ends (λ x y s. s.lane) turned.lane
 turned_keeps old seat Blocked new sound within turned = at_lane-same_ends IsFull turned.seat old.ends new.ends (λ x y s. ap (λ past. past.lane) s.past) turned.lane

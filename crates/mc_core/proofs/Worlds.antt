@@ -19,6 +19,7 @@ use Rattle.mc_core.proofs.Lists.{at_once, push_cases, set_cases}
 use Rattle.mc_core.proofs.Logs.{none_of, of_asker-no, of_asker-yes, on_shard-no, on_shard-yes, ran_push, Run-push}
 use Rattle.mc_core.proofs.Links.{all_received, new_kept, pop_kept}
 
+-- The law holds of the world in which nothing has happened.
 pub at_begin : (sizes : Sizes) → Law sizes empty_world
 at_begin sizes = record {
   links = λ k link here. absurd (cc);

@@ -21,12 +21,15 @@ none_missing (Some answer ∷ slots) none =
     let step = sum_by-cons (λ (slot : Option Answer). cond (is_none slot) 1 0) (Some answer) slots in
     ap (λ xs. Some answer ∷ xs) (none_missing slots (omega (arith, step, none)))
 
+-- Where every part of a form has its answer, its slots are just these answers.
 pub due_slots : (form : Form) → IsDue form → form.slots ≡ map (λ answer. Some answer) (answers_of form.slots)
 due_slots form due = none_missing form.slots (eqb-true (missing_in form.slots) 0 due)
 
+-- A reply with a command's ticket and the number of a part is to that part of the command.
 pub is_to-same : (ticket : Ticket) (part : ℕ) (reply : Shown) → reply.ticket.0 ≡ ticket.0 → reply.part ≡ part → is_to ticket part reply ≡ true
 is_to-same ticket part reply tickets parts = rw (eq-eqb reply.ticket.0 ticket.0 tickets, eq-eqb reply.part part parts)
 
+-- A reply with another ticket is to no part of the command.
 pub is_to-other_ticket : (ticket : Ticket) (part : ℕ) (reply : Shown) → reply.ticket.0 ≢ ticket.0 → is_to ticket part reply ≡ false
 is_to-other_ticket ticket part reply tickets = rw (ne_eqb reply.ticket.0 ticket.0 tickets)
 
@@ -34,6 +37,7 @@ and-false : (b : Bool) → (b && false) ≡ false
 and-false true = refl
 and-false false = refl
 
+-- A reply with the number of another part is not to this one.
 pub is_to-other_part : (ticket : Ticket) (part : ℕ) (reply : Shown) → reply.part ≢ part → is_to ticket part reply ≡ false
 is_to-other_part ticket part reply parts = rw (ne_eqb reply.part part parts, and-false (eqb reply.ticket.0 ticket.0))
 

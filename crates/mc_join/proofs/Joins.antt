@@ -59,6 +59,7 @@ beginning-same forms new handed beginning same there =
     let within_new = prefix_same is_answered (length handed) forms new within same there in
     beginning ∙ (first_texts forms (length handed) within ∙ (ap (map form_text) same ∙ sym (first_texts new (length handed) within_new)))
 
+-- the forms that were opened, each with the answers accepted for its parts
 abbrev pub all_answered : List Form → List Shown → List Form
 all_answered opened accepted = map (answered accepted) opened
 

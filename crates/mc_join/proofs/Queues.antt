@@ -8,6 +8,7 @@ use Rattle.mc_split.specs.declared.form.Form.{Form}
 use Rattle.mc_split.specs.declared.plan.Ticket.{Ticket}
 use Rattle.mc_join.specs.Held.{Held, AreNumbered, Awaits, AwaitsAt, IsAwaited, Fills, with_answer}
 
+-- Of forms numbered one after another the one at a place has the first number plus that place.
 pub numbered_at : (n : ℕ) (forms : List Form) (place : ℕ) (form : Form) → AreNumbered n forms → slice_get forms place ≡ Some form → form.ticket.0 ≡ n + place
 numbered_at n [] place form numbered here = absurd (cc)
 numbered_at n (first ∷ forms) zero form numbered here = (rw (same_Some first form here) at numbered.0) ∙ omega arith
@@ -26,6 +27,7 @@ numbered_set n (first ∷ forms) zero old new numbered here same =
 numbered_set n (first ∷ forms) (suc place) old new numbered here same =
     (numbered.0, numbered_set (n + 1) forms place old new numbered.1 here same)
 
+-- Forms that are numbered from a number on are numbered from any number that equals it.
 pub numbered_along : (n m : ℕ) (forms : List Form) → n ≡ m → AreNumbered n forms → AreNumbered m forms
 numbered_along n m forms same numbered = rw same at numbered
 
@@ -36,6 +38,7 @@ numbered_drop n (suc count) [] numbered within = tt
 numbered_drop n (suc count) (first ∷ forms) numbered within =
     numbered_along (n + 1 + count) (n + suc count) (drop count forms) (omega arith) (numbered_drop (n + 1) count forms numbered.1 (omega (arith, within)))
 
+-- Two tickets of the same number are the same ticket.
 pub same_ticket : (a b : Ticket) → a.0 ≡ b.0 → a ≡ b
 same_ticket a b e = ap (λ n. record { 0 = n }) e
 
@@ -65,5 +68,6 @@ pub fills_numbered : (n : ℕ) (old new : List Form) (place part : ℕ) (answer 
 fills_numbered n old new place part answer numbered fills =
     rw fills.after (numbered_set n old place fills.form (with_answer part answer fills.form) numbered fills.here refl)
 
+-- An answer that fills a slot leaves the number of forms as it was.
 pub fills_length : (old new : List Form) (place part : ℕ) (answer : Answer) → Fills old new place part answer → length new ≡ length old
 fills_length old new place part answer fills = ap length fills.after ∙ length-set old place (with_answer part answer fills.form)

@@ -30,6 +30,7 @@ pub record WroteBut (whole rest : List ℕ) (old new : Sight) : Type 0 where
   pub sight : new ≡ took front old
   pub parts : whole ≡ front ++ rest
 
+-- Of a text of which some bytes and a rest were left, only the rest is left once these bytes were taken.
 pub wrote_more : {whole : List ℕ} {old mid new : Sight} (bytes rest : List ℕ) → WroteBut whole (bytes ++ rest) old mid → new ≡ took bytes mid → WroteBut whole rest old new
 wrote_more {old} bytes rest so_far more =
     record {
@@ -38,9 +39,11 @@ wrote_more {old} bytes rest so_far more =
       parts = so_far.parts ∙ sym (append_assoc so_far.front bytes rest);
     }
 
+-- A text of which nothing is left was taken whole.
 pub wrote_all : {whole : List ℕ} {old now : Sight} → WroteBut whole [] old now → now ≡ took whole old
 wrote_all {old} all = all.sight ∙ ap (λ xs. took xs old) (sym (all.parts ∙ append-nil all.front))
 
+-- Where the next part of a text breaks off, the whole of it breaks off.
 pub part_breaks : {whole : List ℕ} {old mid new : Sight} (bytes rest : List ℕ) → WroteBut whole (bytes ++ rest) old mid → BreaksOff bytes mid new → BreaksOff whole old new
 part_breaks bytes rest so_far off =
     rw so_far.parts (breaks_later _ _ _ so_far.front (bytes ++ rest) so_far.sight (breaks_first _ _ bytes rest off))
@@ -80,6 +83,7 @@ unfolding sums_text told
 stats-filled answers = ap (λ sums. told sums (length (filled answers))) (lines-filled answers all_stats)
     ∙ ap (told (flat_map (λ stat. stat_text (row_of stat).0 (decimal (together stat answers))) all_stats)) (length-map answers (λ answer. Some answer))
 
+-- Where every slot is filled, the text over the slots is the reply that the answers give.
 pub slots_text-filled : (shape : Shape) (answers : List Answer) → slots_text shape (filled answers) ≡ shape_text shape answers
 unfolding slots_text shape_text
 slots_text-filled (shape.Fixed fixed) answers = refl
@@ -89,6 +93,7 @@ slots_text-filled (shape.Values keys with_unique) answers = unless-filled answer
 slots_text-filled shape.Stats answers = unless-filled answers _ _ (stats-filled answers)
 slots_text-filled (shape.Meta kind flags value key lenient) answers = unless-filled answers _ _ (first-filled _ answers)
 
+-- Without slots no item is shown, whatever the keys are.
 pub items-no_slots : (with_unique : Bool) (keys : List (List ℕ)) → items_text with_unique keys [] ≡ []
 items-no_slots with_unique [] = refl
 items-no_slots with_unique (key ∷ keys) = refl
@@ -115,6 +120,7 @@ pub writes_rest : {X E : Type 0} {whole rest : List ℕ} {old mid : Sight} (new 
 writes_rest {rest} new (Ok done) so_far last = rw so_far.parts (writes_on _ _ _ so_far.front rest so_far.sight last)
 writes_rest {rest} new (Err fault) so_far off = rw so_far.parts (breaks_later _ _ _ so_far.front rest so_far.sight off)
 
+-- The items and what ends them are the item of the first key, then those of the other keys, and then the end.
 pub values-parts : (with_unique : Bool) (keys others : List (List ℕ)) (key : List ℕ) (slots more : List (Option Answer)) (slot : Option Answer) (end : List ℕ) → keys ≡ key ∷ others → slots ≡ slot ∷ more →
     items_text with_unique keys slots ++ end ≡ slot_text (item_text with_unique key) slot ++ (items_text with_unique others more ++ end)
 values-parts with_unique keys others key slots more slot end keys_are slots_are = rw (keys_are, slots_are) (simp append_assoc)
@@ -162,6 +168,7 @@ pub done_text : (kind : MetaKind) (flags : MetaFlags) (key : Option (List ℕ)) 
 done_text kind flags key answer done shown number is on same =
     rw (is, on, same) (front_text (decimal (length (decimal done.number))) (flags_text flags key (answers.MetaDone done)) _)
 
+-- the bytes of the replies to the first forms, up to the first that still lacks an answer
 abbrev pub texts : List Form → List ℕ
 texts forms = concat (map form_text (complete forms))
 

@@ -25,6 +25,7 @@ use Rattle.mc_laws.proofs.Working.{rests_or_goes, sent_within}
 abbrev pub AreSeated : Sizes → World → Type 0
 AreSeated sizes w = (k : ℕ) (link : Link) → IsLink w k link → link.seat < sizes.seats
 
+-- In the empty world no connection has a seat that is not there.
 pub seated_at_begin : (sizes : Sizes) → AreSeated sizes empty_world
 seated_at_begin sizes k link here = absurd (cc)
 
@@ -60,6 +61,7 @@ event_seated sizes w event Done w' h seated = done_seated sizes w event w' h sea
 event_seated sizes w event Idle w' h seated = subst (λ v. AreSeated sizes v) (sym h.1) seated
 event_seated sizes w event NoMemory w' h seated = subst (λ v. AreSeated sizes v) (sym h.1) seated
 
+-- Where the seat of each connection is there, so it is after any events.
 pub all_seated : (sizes : Sizes) (w : World) (events : List Event) (w' : World) → Leads sizes w events w' → AreSeated sizes w → AreSeated sizes w'
 all_seated sizes w [] w' led seated = subst (λ v. AreSeated sizes v) (sym led) seated
 all_seated sizes w (event ∷ events) w' led seated = all_seated sizes led.1 events w' led.3 (event_seated sizes w event led.0 led.1 led.2 seated)
@@ -217,6 +219,7 @@ rests_in (suc fuel) sizes w run n within l seated quiet fair few = elim (rests_o
   | inr lower ↦ let less = lower.less in rests_in fuel sizes w run lower.place within l seated quiet fair (omega (arith, few, less))
 ]
 
+-- From a lawful world whose seats are there, a weakly fair run into which nothing comes comes to rest, all replies out.
 pub rests : (sizes : Sizes) (w : World) (run : EndlessRun sizes w) → AreWithin sizes → Law sizes w → AreSeated sizes w → HasNoInput run → IsWeaklyFair run → ComesToRest run
 rests sizes w run within l seated quiet fair = rests_in (left sizes (run.worlds 0)) sizes w run 0 within l seated quiet fair (omega arith)
 
@@ -233,6 +236,7 @@ one_place w c k j link one a b = elim (cases_eq k j) [
 one_at : (w : World) (c k j : ℕ) (link one : Link) → IsAt w c k link → IsAt w c j one → link ≡ one
 one_at w c k j link one a b = at_once w.links k j link one a.here b.here (one_place w c k j link one a b)
 
+-- On a server whose sizes are within limits, a connection at rest that has neither ended nor broken takes bytes.
 pub takes_bytes : (sizes : Sizes) (w : World) → AreWithin sizes → TakesBytes sizes w
 takes_bytes sizes w within seat k link bytes at rest goes_on whole some = (
   (k, link, at, (goes_on, whole, some)),

@@ -107,6 +107,7 @@ before_kept s (first ∷ log) j a k b before =
       | inr other ↦ rw other.0 rest
     ]
 
+-- Whatever happens from the empty world on, all asked of a key stands in one order, which explains every reply.
 pub is_linearizable : (sizes : Sizes) (events : List Event) (w : World) (led : Schedule sizes events w) (key : List ℕ) → AreWithin sizes → IsLinearizable sizes events w led key
 is_linearizable sizes events w led key within =
     let some = within.shards.0 in

@@ -170,6 +170,7 @@ pop_lowers sizes old new link s some l waits more grows =
     (there_is sizes link s some (omega (arith, waits))) (omega (arith, waits, more, given, received)) in
     omega (arith, lanes)
 
+-- A piece that is run is one more that its shard has run for its connection.
 pub ran_here : (log : List Entry) (entry : Entry) (k s : ℕ) → entry.asker ≡ k → entry.shard ≡ s → length (on_shard s (of_asker k (log ++ entry ∷ []))) ≡ length (on_shard s (of_asker k log)) + 1
 ran_here log entry k s asks on =
     ap (λ es. length (on_shard s es)) (of_asker-yes k log entry asks)
@@ -322,6 +323,7 @@ spelled_at sizes (first ∷ links) (suc k) link own here at = spelled_at sizes l
 pub left_within : (sizes : Sizes) (w : World) → Law sizes w → left sizes w ≤ steps_of_all sizes.shards (map (spelled_by sizes) w.links)
 left_within sizes w l = over_within sizes w.log 0 w.links (λ i link here. let at : i ≡ 0 + i = omega arith in subst (λ n. LinkLaw sizes (of_asker n w.log) link) at (l.links i link here))
 
+-- From a lawful world, while nothing comes in, no more is done than there are steps for the commands that are spelled.
 pub is_bounded : (sizes : Sizes) (w : World) → 0 < sizes.shards → Law sizes w → IsBounded sizes w
 is_bounded sizes w some l =
     let few = left_within sizes w l in
@@ -366,5 +368,6 @@ settles_in (suc fuel) sizes w within l few = elim (rests_or_goes sizes w within 
       record { events = goes.event ∷ next.events; work = (goes.work, next.work); later = next.later; led = (Done, goes.next, goes.happens, next.led); rest = next.rest; replied = next.replied }
 ]
 
+-- From a lawful world some work leads to rest, with all replies out.
 pub settles : (sizes : Sizes) (w : World) → AreWithin sizes → Law sizes w → CanComeToRest sizes w
 settles sizes w within l = settles_in (left sizes w) sizes w within l (omega arith)

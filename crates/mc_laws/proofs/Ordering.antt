@@ -87,6 +87,7 @@ event_adds sizes w event Done w' l h = done_adds sizes w event w' l h
 event_adds sizes w event Idle w' l h = adds_none w w' (ap (λ (v : World). v.log) h.1)
 event_adds sizes w event NoMemory w' l h = adds_none w w' (ap (λ (v : World). v.log) h.1)
 
+-- What holds of each element of two lists holds of each where they are joined.
 pub all_both : {X : Type 0} (P : X → Type 0) (xs ys : List X) → AllByRecursion P xs → AllByRecursion P ys → AllByRecursion P (xs ++ ys)
 all_both P [] ys a b = b
 all_both P (x ∷ xs) ys a b = (a.0, all_both P xs ys a.1 b)
@@ -122,6 +123,7 @@ entry_taken sizes w k link y entry l here at asks =
     let each = all_unmap (λ (reply : Shown). reply.ticket.0 < length link.taken) reply_to own (l.links k link here).fits.asked in
     all_at (λ (e : Entry). e.asker ≡ k → e.piece.ticket.0 < length link.taken) w.log y entry (all_mine (λ (e : Entry). e.piece.ticket.0 < length link.taken) k w.log each) at asks
 
+-- A command whose reply is out while another is not yet asked runs before it, whatever happens after.
 pub ran_before : (sizes : Sizes) (w : World) (after : List Event) (later : World) (j a k b : ℕ) → 0 < sizes.shards → Law sizes w → Leads sizes w after later → IsHandedOut w j a → IsNotYetAsked sizes w k b → RunsBefore later.log j a k b
 ran_before sizes w after later j a k b some l led handed to_come x y one other at_x at_y of_a of_b =
     let adds = all_add sizes w after later some l led in
@@ -160,6 +162,7 @@ first_or : {X : Type 0} (first : X) (xs : List X) (i : ℕ) (x : X) → slice_ge
 first_or first xs zero x here = inl (same_Some first x here)
 first_or first xs (suc i) x here = inr (i, here)
 
+-- What stands among the entries of a shard stands in the log, and is of that shard.
 pub on_there : (s : ℕ) (log : List Entry) (i : ℕ) (entry : Entry) → slice_get (on_shard s log) i ≡ Some entry → IsKept log entry × (entry.shard ≡ s)
 on_there s [] i entry here = absurd (cc)
 on_there s (first ∷ log) i entry here = elim (eqb_tells first.shard s) [
@@ -242,6 +245,7 @@ between sizes w (event ∷ events) w' led zero q order = let parts = parts_at si
 between sizes w (event ∷ events) w' led (suc p) zero order = absurd (omega (arith, order))
 between sizes w (event ∷ events) w' led (suc p) (suc q) order = between sizes led.1 events w' led.3 p q (omega (arith, order))
 
+-- A command whose reply was out at some point of a run runs before one that was not yet asked there, or later on.
 pub ran_first : (sizes : Sizes) (w : World) (events : List Event) (w' : World) (led : Leads sizes w events w') (p q j a k b : ℕ) → 0 < sizes.shards → Law sizes w → p ≤ q → IsHandedOut (world_at sizes w events w' led p) j a → IsNotYetAsked sizes (world_at sizes w events w' led q) k b → RunsBefore w'.log j a k b
 ran_first sizes w events w' led p q j a k b some l order handed to_come =
     let before = parts_at sizes w events w' led p in

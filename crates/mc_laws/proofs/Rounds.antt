@@ -52,6 +52,7 @@ lanes_work seat (suc shard) = all_both IsWork (lanes_round seat shard) (lane_rou
 seat_work : (shards moment seat : ℕ) → AllByRecursion IsWork (seat_round shards moment seat)
 seat_work shards moment seat = all_both IsWork ((Take seat moment ∷ Send seat ∷ []) ++ lanes_round seat shards) (Hand seat ∷ []) (tt, (tt, lanes_work seat shards)) (tt, tt)
 
+-- A round is work alone: each of its events is one that the server does by itself.
 pub round_work : (seats shards moment : ℕ) → AllByRecursion IsWork (round seats shards moment)
 round_work zero shards moment = tt
 round_work (suc seat) shards moment = all_both IsWork (round seat shards moment) (seat_round shards moment seat) (round_work seat shards moment) (seat_work shards moment seat)
@@ -280,6 +281,7 @@ lanes_next seat shard = let e : shard + 1 ≡ suc shard = omega arith in ap (λ 
 pub round_next : (seat shards moment : ℕ) → round (seat + 1) shards moment ≡ round seat shards moment ++ seat_round shards moment seat
 round_next seat shards moment = let e : seat + 1 ≡ suc seat = omega arith in ap (λ n. round n shards moment) e
 
+-- What holds in any case holds where a result is an error.
 pub on_err : {A E : Type 0} (result : Result A E) (P : Type 0) → P → OnErr result P
 on_err (Ok value) P holds = tt
 on_err (Err error) P holds = holds

@@ -11,10 +11,12 @@ abbrev pub sum_to : ℕ → (ℕ → ℕ) → ℕ
 sum_to zero f = 0
 sum_to (suc n) f = f n + sum_to n f
 
+-- A sum is no greater than another where none of its terms is.
 pub sum_le : (n : ℕ) (f g : ℕ → ℕ) → ((i : ℕ) → g i ≤ f i) → sum_to n g ≤ sum_to n f
 sum_le zero f g each = omega arith
 sum_le (suc n) f g each = let here = each n in let rest = sum_le n f g each in omega (arith, here, rest)
 
+-- A sum is less than another where none of its terms is greater, and one of those added is less.
 pub sum_lt : (n : ℕ) (f g : ℕ → ℕ) (k : ℕ) → ((i : ℕ) → g i ≤ f i) → k < n → g k < f k → sum_to n g < sum_to n f
 sum_lt zero f g k each within less = absurd (omega (arith, within))
 sum_lt (suc n) f g k each within less = elim (cases_eq k n) [
@@ -28,10 +30,12 @@ sum_lt (suc n) f g k each within less = elim (cases_eq k n) [
       omega (arith, here, rest)
 ]
 
+-- A sum of terms that are each at most two others together is at most the sums of these together.
 pub sum_more : (n : ℕ) (f g h : ℕ → ℕ) → ((i : ℕ) → g i ≤ f i + h i) → sum_to n g ≤ sum_to n f + sum_to n h
 sum_more zero f g h each = omega arith
 sum_more (suc n) f g h each = let here = each n in let rest = sum_more n f g h each in omega (arith, here, rest)
 
+-- A sum of nothing but zeros is 0.
 pub sum_none : (n : ℕ) → sum_to n (λ i. 0) ≤ 0
 sum_none zero = omega arith
 sum_none (suc n) = let rest = sum_none n in omega (arith, rest)
@@ -47,6 +51,7 @@ sum_beyond (suc n) k c beyond = elim (eqb_tells k n) [
   | inr other ↦ let rest = sum_beyond n k c (omega (arith, beyond)) in rw other.0 (omega (arith, rest))
 ]
 
+-- A sum of one number at one place, and zeros elsewhere, is at most that number.
 pub sum_point : (n k c : ℕ) → sum_to n (at_point k c) ≤ c
 sum_point zero k c = omega arith
 sum_point (suc n) k c = elim (eqb_tells k n) [

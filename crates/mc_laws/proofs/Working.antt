@@ -67,6 +67,7 @@ pub last_at : (sizes : Sizes) (w : World) (k : ℕ) (link : Link) → Law sizes 
 last_at sizes w k link l here busy =
     record { here = here; seat_is = refl; last = λ j other less at_j same. busy (l.rested k j link other less here at_j (sym same)) }
 
+-- A connection that has not received all answers that are due is the last that was opened on its seat.
 pub at_waiting : (sizes : Sizes) (w : World) (k : ℕ) (link : Link) (s : ℕ) → Law sizes w → IsLink w k link → link.received s < length (due sizes.shards s link.taken) → IsAt w link.seat k link
 at_waiting sizes w k link s l here waits =
     last_at sizes w k link l here (λ rest. let all = due_received sizes (of_asker k w.log) link (l.links k link here) rest s in omega (arith, all, waits))
@@ -98,6 +99,7 @@ hand_goes sizes w k link s places l here ungiven = elim (cases_lt (link.given s)
   | inr full ↦ receive_goes sizes w k link s l here (omega (arith, full, places))
 ]
 
+-- A shard's worker holds an answer for some connection, or its hand is empty.
 pub hand_or_empty : (w : World) (s : ℕ) → Found (λ k (link : Link). link.given s < ran w k s) w.links ⊎ IsEmptyHand w s
 hand_or_empty w s = some_or_each (λ k (link : Link). link.given s < ran w k s) (λ k (link : Link). ran w k s ≤ link.given s) w.links (λ k link here. cases_lt (link.given s) (ran w k s))
 
@@ -217,12 +219,14 @@ by_more sizes link all (command ∷ more) commands is =
     let front = front_begins (rules_of sizes) (entries link ++ command ∷ []) more 0 link.fed commands.0 (subst (λ es. SpellsFront (rules_of sizes) 0 link.fed es commands.0) (sym split) commands.1) in
     inr (command, (front.0, front.1))
 
+-- Where the commands taken begin those that the bytes fed spell, they are all of these or there is a next one.
 pub next_or_all : (sizes : Sizes) (link : Link) → SpellFirst sizes link.fed (entries link) → IsAllTaken sizes link ⊎ ((command : Command) × IsNextCommand sizes link command)
 next_or_all sizes link some =
     let all = every_input (rules_of sizes) link.fed in
     let more = commands_begin (rules_of sizes) link.fed [] (entries link) all.0 some (rw append-nil all.1) in
     by_more sizes link all.0 more.0 all.1 more.1
 
+-- Where all commands that the bytes fed spell are taken, there is no next one.
 pub none_next : (sizes : Sizes) (link : Link) (command : Command) → IsAllTaken sizes link → IsNextCommand sizes link command → ⊥
 none_next sizes link command all next =
     let more = commands_begin (rules_of sizes) link.fed [] (entries link ++ command ∷ []) (entries link) next (rw append-nil all) in

@@ -55,6 +55,7 @@ pub record LastOf (rules : Rules) (before : ℕ) (input : List ℕ) (entries : L
   pub goes_on : is_closed_after before entries ≡ false
   pub spelled : Spells rules text entry
 
+-- The last of some commands is spelled by the text behind the others, and none of these closes the stream.
 pub last_of : (rules : Rules) (entries : List Command) (before : ℕ) (input : List ℕ) (entry : Command) (rest : List ℕ) → SpellsFront rules before input (entries ++ entry ∷ []) rest → LastOf rules before input entries entry rest
 last_of rules [] before input entry rest front =
     let after : front.1 ≡ rest = elim (cases_Bool (is_last before entry)) [ inl last ↦ let h = rw last at front.4 in h.1 | inr goes ↦ rw goes at front.4 ] in
@@ -187,5 +188,6 @@ some_commands rules (suc fuel) before input few = elim (first_spelled rules inpu
   ]
 ]
 
+-- Every input has its commands: all that it spells, up to the first after which nothing is read.
 pub every_input : (rules : Rules) (input : List ℕ) → (entries : List Command) × AreCommands rules input entries
 every_input rules input = let some = some_commands rules (length input) 0 input (omega arith) in (some.0, (some.1, some.2, some.3))

@@ -37,6 +37,7 @@ ends_found bytes (Some end) h =
       long_is = omega (arith, length-take end bytes);
     }
 
+-- Bytes without a line feed, behind others without one, are together without one.
 pub no_end_append : (a b : List ℕ) → HasNoEnd a → HasNoEnd b → HasNoEnd (a ++ b)
 no_end_append [] b p q = q
 no_end_append (x ∷ xs) b p q = (p.0, no_end_append xs b p.1 q)
@@ -73,8 +74,10 @@ at_line_of bytes long line rest is none long_is =
     let back : drop (long + 1) bytes ≡ rest = rw (is, ← long_is) (drop-append-add line (10 ∷ rest) 1) in
     record { bytes_are = rw (front, back) is; no_end = rw front none; long_is = rw front long_is }
 
+-- Bytes whose first line ends are that line, its line feed and what comes behind it, cut at its length.
 pub at_line : (bytes : List ℕ) (long : ℕ) → IsFirstLine bytes long → AtLine bytes long
 at_line bytes long first = at_line_of bytes long first.line first.rest first.bytes_are first.no_end first.long_is
 
+-- A first line that ends is shorter than the bytes that it stands in.
 pub line_in : (bytes : List ℕ) (long : ℕ) → IsFirstLine bytes long → long < length bytes
 line_in bytes long first = let e = first.long_is in omega (arith, ap length first.bytes_are, length-append first.line (10 ∷ first.rest))

@@ -165,6 +165,7 @@ pub whole_at_once : (rules : Rules) (line : List ℕ) (asked : Command) (count :
 whole_at_once rules line asked count behind none short says enough =
     whole_block rules asked count _ _ _ (block_begun rules line asked count behind (count + 2) none short says (omega arith)) (omega (arith, length-take (count + 2) behind))
 
+-- A line whose block lies behind it, end and all, may be given up with it where memory runs out.
 pub given_up_at_once : (rules : Rules) (line : List ℕ) (asked : Command) (count : ℕ) (behind : List ℕ) → HasNoEnd line → length line < rules.line_limit → line_says rules line ≡ Data asked count → count + 2 ≤ length behind →
     IsWhole rules (command.Refused Memory) (drop (count + 2) behind) (line ++ 10 ∷ behind)
 given_up_at_once rules line asked count behind none short says enough =

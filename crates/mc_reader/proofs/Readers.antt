@@ -62,6 +62,7 @@ held_in_within rules (state.Block block) buffer unread h =
     omega arith
 held_in_within rules at buffer unread h = omega arith
 
+-- A reader holds no more bytes of a block than the value limit and the two of the block's end.
 pub held_within : (rules : Rules) (reader : Reader) (fed : List ℕ) (ended : Bool) (given : List Given) → HasGiven reader rules fed ended given → held_in reader.state ≤ rules.value_limit + 2
 held_within rules reader fed ended given h = elim (cases_Bool (is_closed (entries_of given))) [
   | inl over ↦ let now : reader.state ≡ state.Closed = rw over at h.now in rw now (omega arith)
@@ -75,6 +76,7 @@ held_in_unread rules (state.Block block) buffer unread h = omega (arith, ap leng
 held_in_unread rules (state.Skip skipped) buffer unread h = omega (arith, ap length h.unread_are, length-append h.line (10 ∷ (h.skipped ++ buffer)), length-append h.skipped buffer)
 held_in_unread rules state.Closed buffer unread h = absurd h
 
+-- While more commands may come, a reader holds no more bytes than are unread.
 pub held_unread : (rules : Rules) (reader : Reader) (fed : List ℕ) (ended : Bool) (given : List Given) (rest : List ℕ) → HasGiven reader rules fed ended given → is_closed (entries_of given) ≡ false → SpellsFront rules 0 fed (entries_of given) rest →
     length reader.buffer.bytes + held_in reader.state ≤ length rest
 held_unread rules reader fed ended given rest h goes_on front =
@@ -91,6 +93,7 @@ line_held rules (state.Block block) buffer unread h none = absurd (has_no_end un
 line_held rules (state.Skip skipped) buffer unread h none = absurd (has_no_end unread h.line (h.skipped ++ buffer) none h.unread_are)
 line_held rules state.Closed buffer unread h none = absurd h
 
+-- While more commands may come, a reader holds all bytes that are unread, where none of them is a line feed.
 pub held_line : (rules : Rules) (reader : Reader) (fed : List ℕ) (ended : Bool) (given : List Given) (rest : List ℕ) → HasGiven reader rules fed ended given → is_closed (entries_of given) ≡ false → SpellsFront rules 0 fed (entries_of given) rest →
     HasNoEnd rest → length reader.buffer.bytes + held_in reader.state ≡ length rest
 held_line rules reader fed ended given rest h goes_on front none =
@@ -278,6 +281,7 @@ no_block rules (state.Block block) buffer unread line skipped discarded refusal 
     absurd cc
 no_block rules at buffer unread line skipped discarded refusal count h is none says = refl
 
+-- A reader amid bytes that it skips behind a line holds no bytes of a block.
 pub nothing_in_blocks : (rules : Rules) (reader : Reader) (fed : List ℕ) (ended : Bool) (given : List Given) → HasGiven reader rules fed ended given → IsAmidSkipped rules fed given → held_in reader.state ≡ 0
 nothing_in_blocks rules reader fed ended given h amid =
     let at = still_open rules reader fed ended given h amid.goes_on in

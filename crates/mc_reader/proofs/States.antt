@@ -36,10 +36,12 @@ nothing_awaited rules (state.Skip skipped) buffer unread more opened h =
     (nothing_in_skip rules skipped.discarded skipped.refusal skipped.left buffer unread h few, few)
 nothing_awaited rules state.Closed buffer unread more opened h = absurd h
 
+-- A buffer full of a line that has not ended is a line that is too long, and nothing comes behind it.
 pub finished_line : (rules : Rules) (s : State) (buffer after unread : List ℕ) (long : Option ℕ) → s ≡ state.Line long → Completes rules.line_limit s buffer → IsTrue (is_opened s) → Holds rules s buffer unread → after ≡ [] → IsWhole rules (command.Refused LineTooLong) after unread
 finished_line rules (state.Line None) buffer after unread long e full opened h none = rw (none, h.0) (whole_long rules buffer h.2 full)
 finished_line rules s buffer after unread long e full opened h none = absurd cc
 
+-- Once all bytes of an open block have come, its line and the block spell a command, and the buffer comes behind.
 pub finished_block : (rules : Rules) (s : State) (buffer unread : List ℕ) (block : OpenBlock) (entry : Command) → s ≡ state.Block block → Completes rules.line_limit s buffer → vec_len block.bytes ≤ block.count + 2 → entry ≡ block_entry rules block.command block.count block.bytes.items → Holds rules s buffer unread → IsWhole rules entry buffer unread
 finished_block rules s buffer unread block entry e full within entry_is h =
     let come : block.count + 2 ≤ length block.bytes.items = rw e at full in
@@ -49,6 +51,7 @@ finished_block rules s buffer unread block entry e full within entry_is h =
 pub not_complete : {P : Type 0} (test : Bool) → test ≡ false → (P → IsTrue test) → P → ⊥
 not_complete test e f p = let yes = f p in absurd cc
 
+-- Once all bytes that are skipped have come, the line spells its refusal with them, and the buffer comes behind.
 pub finished_skip : (rules : Rules) (s : State) (buffer unread : List ℕ) (skipped : Skipped) (entry : Command) → s ≡ state.Skip skipped → Completes rules.line_limit s buffer → Holds rules s buffer unread → entry ≡ skip_entry skipped.discarded skipped.refusal → IsWhole rules entry buffer unread
 finished_skip rules s buffer unread skipped entry e full h entry_is =
     let none : skipped.left ≡ 0 = rw e at full in
@@ -70,11 +73,13 @@ pub still_there : (bytes piece all : List ℕ) (long : Option ℕ) → is_some l
 still_there bytes piece all None old h is = absurd cc
 still_there bytes piece all (Some long) old h is = rw is (ends_more bytes piece long h)
 
+-- What an open block takes of a piece, and then the buffer, comes behind all that was unread before.
 pub fed_block : (rules : Rules) (s : State) (old new : OpenBlock) (buffer after unread piece behind : List ℕ) (n m : ℕ) → s ≡ state.Block old → new.command ≡ old.command → new.count ≡ old.count → new.bytes.items ≡ old.bytes.items ++ take n piece →
     n ≡ min (old.count + 2 - length old.bytes.items) (length piece) → behind ≡ drop n piece → after ≡ buffer ++ take m behind → Holds rules s buffer unread → IsInBlock rules new.command new.count new.bytes.items after (unread ++ take (n + m) piece)
 fed_block rules s old new buffer after unread piece behind n m e same_command same_count bytes_are n_is behind_is after_is h =
     rw (same_command, same_count, bytes_are, after_is, behind_is) (block_fed rules old.command old.count old.bytes.items buffer unread piece n m (rw e at h) n_is)
 
+-- What is skipped of a piece, and what the buffer takes then, comes behind all that was unread before.
 pub fed_skip : (rules : Rules) (s : State) (old new : Skipped) (buffer after unread piece behind : List ℕ) (n m : ℕ) → s ≡ state.Skip old → new.refusal ≡ old.refusal → new.discarded ≡ old.discarded → new.left + n ≡ old.left →
     n ≡ min old.left (length piece) → behind ≡ drop n piece → after ≡ buffer ++ take m behind → Holds rules s buffer unread → IsInSkip rules new.discarded new.refusal new.left after (unread ++ take (n + m) piece)
 fed_skip rules s old new buffer after unread piece behind n m e same gone left n_is behind_is after_is h =
@@ -106,6 +111,7 @@ read_head rules P s buffer after unread long e after_is holds h =
     let first = first_line rules s buffer after unread long e after_is h in
     subst P (sym first.unread_are) (holds first.no_end first.short)
 
+-- Skipping begins with what the buffer has behind the line, as much of it as is to be skipped, and the rest stays.
 pub begun_skip : (rules : Rules) (new : Skipped) (discarded : Option (List ℕ)) (refusal : Refusal) (left : ℕ) (buffer after bytes line : List ℕ) (n : ℕ) → new.refusal ≡ refusal → new.discarded ≡ discarded → new.left + n ≡ left → n ≡ min left (length bytes) → bytes ≡ buffer → after ≡ drop n buffer →
     HasNoEnd line → length line < rules.line_limit → Says (line_says rules line) (Skip discarded refusal left) → IsInSkip rules new.discarded new.refusal new.left after (line ++ 10 ∷ buffer)
 begun_skip rules new discarded refusal left buffer after bytes line n same gone left_is n_is bytes_are after_is none short says =

@@ -64,6 +64,7 @@ line_short rules text line is = let s = is.short in omega (arith, ap length is.t
 with_tail : (rules : Rules) (head line tail text : List ℕ) → IsLine rules head line → text ≡ head ++ tail → text ≡ line ++ 10 ∷ tail
 with_tail rules head line tail text is e = e ∙ (ap (λ xs. xs ++ tail) is.text_is ∙ append_assoc line (10 ∷ []) tail)
 
+-- A text that spells something is a line with what belongs to it, or one that reaches the limit without an end.
 pub reads : (rules : Rules) (text : List ℕ) (entry : Command) → Spells rules text entry → Reads rules text entry
 reads rules text entry (Spells.line line is says) =
     lined line [] (record { text_is = is.text_is; no_end = is.no_end; short = line_short rules text line is; tail_long = rw says refl; entry_is = rw says refl })
@@ -125,6 +126,7 @@ spells_lined rules (Data asked count) text line tail entry says text_is none sho
   by_end true t given = Spells.block (line ++ 10 ∷ []) line (take count tail) asked (is_line rules line none short) (whole (13 ∷ 10 ∷ []) (same_text (drop count tail) (13 ∷ 10 ∷ []) (sym t))) (rw counted says) given
   by_end false t given = Spells.bad_block (line ++ 10 ∷ []) line (take count tail) (drop count tail) asked (is_line rules line none short) (whole (drop count tail) refl) two t (rw counted says) given
 
+-- A line with what belongs to it spells what it says, and one that reaches the limit without an end its refusal.
 pub spells : (rules : Rules) (text : List ℕ) (entry : Command) → Reads rules text entry → Spells rules text entry
 spells rules text entry (lined line tail is) = spells_lined rules (line_says rules line) text line tail entry refl is.text_is is.no_end is.short is.tail_long is.entry_is
 spells rules text entry (endless full none e) = Spells.long full none e

@@ -90,6 +90,7 @@ joins_all capacity done old new behind row count whole within counted first =
       each = λ s shard shard' near here here' there. first.each s shard shard' near (let inside : s < length old = slice_get_within old s shard here in omega arith) here here' there;
     })
 
+-- Where the first shards have a lane to the new seat, and the next gets one, unused and as large, one more has it.
 pub joins_next : (capacity done : ℕ) (old new : List (Ends Far)) (row : List Near) (was next : Ends Far) (near : Near) → slice_get new done ≡ Some was
     → JoinsFirst capacity done old new row → IsUnused near → near.past.lane.capacity ≡ capacity → Joined was next near
     → JoinsFirst capacity (done + 1) old (slice_set new done next) (row ++ near ∷ [])
@@ -169,6 +170,7 @@ shard_before {capacity} {old} {new} {row} joins s shard' here' =
       holds = every_get (λ (e : Near). e.past.lane.capacity ≡ capacity) row s there.0 joins.holds there.1;
     }
 
+-- Once one seat more has a lane to each shard, there is a lane between each shard and each seat, that one too.
 pub lanes_next : (seats shards capacity : ℕ) (near : List (Ends Near)) (old new : List (Ends Far)) (row : List Near) → Joins capacity old new row
     → AreLanes seats shards capacity near old → AreLanes (seats + 1) shards capacity (near ++ record { number = seats; lanes = row } ∷ []) new
 lanes_next seats shards capacity near old new row joins are =

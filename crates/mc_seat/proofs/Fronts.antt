@@ -19,6 +19,7 @@ SpellsFront-more rules before input more (entry ∷ entries) rest h = (
   match_bool (is_last before entry) (λ l. (l.0, ap (λ xs. xs ++ more) l.1)) (λ l. SpellsFront-more rules (before + 1) h.1 more entries rest l) h.4,
 )
 
+-- Commands that a stream begins with, it begins with still when more bytes have come.
 pub begins_more : (rules : Rules) (fed more : List ℕ) (entries : List Command) → BeginCommands rules fed entries → BeginCommands rules (fed ++ more) entries
 begins_more rules fed more entries h = (h.0 ++ more, SpellsFront-more rules 0 fed more entries h.0 h.1)
 
@@ -41,5 +42,6 @@ SpellsFront-length rules before input (entry ∷ entries) rest below h = elim (c
       omega arith
 ]
 
+-- A stream begins with no more commands than a connection may have, which are 2^63.
 pub begins_length : (rules : Rules) (fed : List ℕ) (entries : List Command) → BeginCommands rules fed entries → length entries ≤ 2 ^ 63
 begins_length rules fed entries h = let n = SpellsFront-length rules 0 fed entries h.0 (lit< tt) h.1 in omega arith

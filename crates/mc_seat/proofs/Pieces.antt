@@ -10,15 +10,18 @@ use Rattle.mc_seat.specs.declared.unwritten.Chunk.{Chunk}
 use Rattle.mc_seat.specs.Chunks.{bytes_of}
 use Rattle.mc_seat.specs.Later.{piece_behind}
 
+-- At the place of a chunk, the bytes of that chunk wait.
 pub piece_chunk : (chunks : List Chunk) (tail : List ℕ) (place : ℕ) (chunk : Chunk) → slice_get chunks place ≡ Some chunk → piece_behind chunks tail place ≡ bytes_of chunk
 piece_chunk [] tail place chunk found = absurd cc
 piece_chunk (first ∷ chunks) tail zero chunk found = let same : first ≡ chunk = cc in ap bytes_of same
 piece_chunk (first ∷ chunks) tail (suc place) chunk found = piece_chunk chunks tail place chunk found
 
+-- Right behind the last chunk, the tail waits.
 pub piece_tail : (chunks : List Chunk) (tail : List ℕ) → piece_behind chunks tail (length chunks) ≡ tail
 piece_tail [] tail = refl
 piece_tail (first ∷ chunks) tail = piece_tail chunks tail
 
+-- Behind the tail, nothing waits.
 pub piece_past : (chunks : List Chunk) (tail : List ℕ) (place : ℕ) → length chunks < place → piece_behind chunks tail place ≡ []
 piece_past [] tail zero past = absurd (omega (arith, past))
 piece_past [] tail (suc place) past = refl
@@ -82,10 +85,12 @@ first_offered front chunks tail one two three four is_one is_two is_three is_fou
     let offered : io_slices_bytes (one ∷ two ∷ three ∷ four ∷ []) ≡ offered_front front chunks tail = cc in
     first_of (front ++ (flat_map bytes_of chunks ++ tail)) (io_slices_bytes (one ∷ two ∷ three ∷ four ∷ [])) count (rw offered (begins front chunks tail)) within
 
+-- A write that takes no more than it is offered takes no more than waits in all.
 pub offer_within : {E : Type 0} (result : Result ℕ E) (all offered : List ℕ) → ((count : ℕ) → count ≤ length offered → AreFirst all offered count) → IfOk result (λ count. count ≤ length offered) → IfOk result (λ count. count ≤ length all)
 offer_within (Ok count) all offered first within = (first count within).within
 offer_within (Err fault) all offered first within = within
 
+-- A write that takes a beginning of what it is offered takes that beginning of all that waits.
 pub offer_ok : {E : Type 0} (result : Result ℕ E) (all offered : List ℕ) (old new : Sight) → ((count : ℕ) → count ≤ length offered → AreFirst all offered count) → IfOk result (λ count. count ≤ length offered) → IfOk result (λ count. new ≡ took (take count offered) old) → IfOk result (λ count. new ≡ took (take count all) old)
 offer_ok (Ok count) all offered old new first within wrote = wrote ∙ ap (λ bytes. took bytes old) (first count within).same
 offer_ok (Err fault) all offered old new first within wrote = wrote
@@ -95,6 +100,7 @@ pub record PassesOn (front after : List ℕ) (count left : ℕ) : Type 0 where
   pub within : left ≤ length after
   pub same : drop left after ≡ drop count (front ++ after)
 
+-- To pass more bytes than the front has is to pass the rest of them in what stands behind the front.
 pub passes_on : (front after : List ℕ) (count : ℕ) → length front < count → count ≤ length (front ++ after) → PassesOn front after count (count - length front)
 passes_on front after count more within =
     let left = count - length front in

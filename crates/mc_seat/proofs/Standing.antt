@@ -48,6 +48,7 @@ all_owed_later rules begin commands more texts later reads counted =
       all_written = rw (take-append-le owes.count texts later within) owes.all_written;
     }) reads
 
+-- There are as many commands as were taken.
 pub commands-length : (taken : List Taken) → length (commands_of taken) ≡ length taken
 commands-length taken = length-map taken (λ (one : Taken). one.entry)
 

@@ -11,6 +11,7 @@ use Rattle.mc_serve.specs.Told.{Comes, DoorTold, IsFree, IsNext, Passes, Told, U
 use Rattle.mc_serve.specs.Seats.{AllFit, LineFits, SeatAt, ServesLine, ServesLines}
 use Rattle.mc_command.specs.declared.rules.Rules.{Rules}
 
+-- Where a door is as it was, no line came in and went back.
 pub passes_none : (door : DoorTold) → Passes door [] door
 passes_none Untold = refl
 passes_none (Told None out back over) = (None, refl, ap (λ lines. Told None out lines over) (sym (append-nil back)))

@@ -23,6 +23,7 @@ lines_new : (gone : List (Gone × Unit {0})) → AllByRecursion (λ line. line.b
 lines_new [] = tt
 lines_new (one ∷ gone) = (refl, lines_new gone)
 
+-- Each connection that went back to a seat's door over TCP was new when it came in.
 pub tcp_new : (out : Bool) (gone : List (Gone × Unit {0})) (over : Bool) → BeginsNew (told_tcp out gone over)
 tcp_new true gone over = lines_new gone
 tcp_new false gone over = lines_new gone
@@ -97,5 +98,6 @@ all_connections sizes may_answer told doors back ended count new begins serves c
 pub count_more : (ended next one gone rest left all : ℕ) → next ≡ min (ended + one) (2 ^ 64 - 1) → one ≡ min gone (2 ^ 64 - 1) → left ≡ gone + rest → min (ended + left) (2 ^ 64 - 1) ≡ all → min (next + rest) (2 ^ 64 - 1) ≡ all
 count_more ended next one gone rest left all next_is is left_is same = omega (arith, next_is, is, left_is, same)
 
+-- Where no lines are left to count, a count that is at most 2^64 - 1 is the count of all.
 pub count_all : (ended left all : ℕ) → ended ≤ 2 ^ 64 - 1 → left ≡ 0 → min (ended + left) (2 ^ 64 - 1) ≡ all → ended ≡ all
 count_all ended left all within none same = omega (arith, within, none, same)

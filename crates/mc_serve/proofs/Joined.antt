@@ -8,6 +8,7 @@ use Rattle.mc_core.specs.Desk.{Desk}
 use Rattle.mc_threads.proofs.Orders.{all_append}
 use Rattle.mc_serve.specs.Logs.{AreLogsFrom, IsLogOf, together}
 
+-- Where one property follows from another, all elements of a list that have the other have the one.
 pub all_weaken : {A : Type 0} (P Q : A → Type 0) → ((x : A) → P x → Q x) → (xs : List A) → AllByRecursion P xs → AllByRecursion Q xs
 all_weaken P Q f [] h = tt
 all_weaken P Q f (x ∷ xs) h = (f x h.0, all_weaken P Q f xs h.1)
@@ -35,6 +36,7 @@ own_one sizes shard last desk log below is = all_weaken _ (IsOwned sizes shard l
     let wide : entry.asker < sizes.seats = (let w = is.width in let l = h.1 in omega arith) in
     (omega arith, omega arith, wide))) log is.ran.each
 
+-- The logs of workers in a row, put together, hold only what those shards ran, for seats that are there.
 pub own_all : (sizes : Sizes) (first last : ℕ) (desks : List Desk) (logs : List (List Entry)) → first + length desks ≡ last → AreLogsFrom sizes first desks logs → AllByRecursion (IsOwned sizes first last) (together logs)
 own_all sizes first last [] [] e are = tt
 own_all sizes first last [] (log ∷ logs) e are = absurd are
@@ -54,6 +56,7 @@ pub record IsAt (sizes : Sizes) (shard : ℕ) (i : ℕ) (desks : List Desk) (all
   pub is : IsLogOf sizes shard desk log
   pub its : on_shard shard all ≡ log
 
+-- Each worker of a row has its log, and that is all that the logs put together have of its shard.
 pub worker_at : (sizes : Sizes) (first i : ℕ) (desks : List Desk) (logs : List (List Entry)) → AreLogsFrom sizes first desks logs → i < length desks → IsAt sizes (first + i) i desks (together logs)
 worker_at sizes first i [] [] are lt = absurd (omega arith)
 worker_at sizes first i [] (log ∷ logs) are lt = absurd are

@@ -16,6 +16,7 @@ list_at-map f g [] i = refl
 list_at-map f g (x ∷ xs) zero = refl
 list_at-map f g (x ∷ xs) (suc i) = list_at-map f g xs i
 
+-- To apply two functions to each element in one go is to apply the one to the whole list, and then the other.
 pub map_map : {A B C : Type 0} (f : A → B) (g : B → C) (xs : List A) → map (λ x. g (f x)) xs ≡ map g (map f xs)
 map_map f g [] = refl
 map_map f g (x ∷ xs) = ap (λ ys. g (f x) ∷ ys) (map_map f g xs)
@@ -160,11 +161,13 @@ all_tied seat desks desks' same tied shard desk here =
     let now = was_at desks' desks shard desk (sym same) here in
     tied_same seat seat now.was.ends desk.ends refl now.same (tied shard now.was now.here)
 
+-- A seat keeps its lane to each worker, where the workers' ends and what passed on them are the same.
 pub all_lanes : (seat : Ends Near) (desks desks' : List Desk) → map passed_by desks' ≡ map passed_by desks → HasLanes seat desks → HasLanes seat desks'
 all_lanes seat desks desks' same lanes shard desk here =
     let was = was_at desks desks' shard desk same here in
     lane_same seat seat was.was.ends desk.ends refl was.same (lanes shard was.was was.here)
 
+-- What a function makes of a list with one element set is what it made before, with that element's value set there.
 pub map-slice_set : {A B : Type 0} (f : A → B) (xs : List A) (i : ℕ) (y : A) → map f (slice_set xs i y) ≡ slice_set (map f xs) i (f y)
 map-slice_set f [] i y = refl
 map-slice_set f (x ∷ xs) zero y = refl

@@ -46,12 +46,14 @@ keys_fit sizes ends desks logs taken got some seat count are tied asked =
 abbrev pub entry_for : ℕ → Ran → Entry
 entry_for asker ran = record { shard = ran.shard; asker = asker; piece = ran.piece; answer = ran.answer }
 
+-- A log of what one line asked is the same once who asked was left out and that line put back.
 pub same_asker : (asker : ℕ) (log : List Entry) → AllByRecursion (λ entry. entry.asker ≡ asker) log → map (entry_for asker) (map ran_of log) ≡ log
 same_asker asker [] all = refl
 same_asker asker (entry ∷ log) all =
     let this : entry_for asker (ran_of entry) ≡ entry = λ i. record { shard = entry.shard; asker = sym all.0 i; piece = entry.piece; answer = entry.answer } in
     ap (λ e. e ∷ map (entry_for asker) (map ran_of log)) this ∙ ap (λ es. entry ∷ es) (same_asker asker log all.1)
 
+-- What a log has for a line was asked by that line.
 pub asked_by : (asker : ℕ) (log : List Entry) → AllByRecursion (λ entry. entry.asker ≡ asker) (of_asker asker log)
 asked_by asker [] = tt
 asked_by asker (entry ∷ log) = elim (eqb_tells entry.asker asker) [
@@ -59,6 +61,7 @@ asked_by asker (entry ∷ log) = elim (eqb_tells entry.asker asker) [
   | inr other ↦ rw other.0 (asked_by asker log)
 ]
 
+-- What a log has of a shard was run by that shard.
 pub shard_of : (shard : ℕ) (log : List Entry) → AllByRecursion (λ entry. entry.shard ≡ shard) (on_shard shard log)
 shard_of shard [] = tt
 shard_of shard (entry ∷ log) = elim (eqb_tells entry.shard shard) [
@@ -66,6 +69,7 @@ shard_of shard (entry ∷ log) = elim (eqb_tells entry.shard shard) [
   | inr other ↦ rw other.0 (shard_of shard log)
 ]
 
+-- What holds of all entries of a log holds of those that are picked out of it.
 pub filter_keeps : (P : Entry → Type 0) (p : Entry → Bool) (log : List Entry) → AllByRecursion P log → AllByRecursion P (filter p log)
 filter_keeps P p [] all = tt
 filter_keeps P p (entry ∷ log) all =
@@ -74,6 +78,7 @@ filter_keeps P p (entry ∷ log) all =
       | false ↦ filter_keeps P p log all.1
     ]
 
+-- What a shard ran is the same whether it is picked out before or after it is written down who asked.
 pub map_on_shard : (shard asker : ℕ) (ran : List Ran) → on_shard shard (map (entry_for asker) ran) ≡ map (entry_for asker) (due.on_shard shard ran)
 map_on_shard shard asker [] = refl
 map_on_shard shard asker (one ∷ ran) =
@@ -82,6 +87,7 @@ map_on_shard shard asker (one ∷ ran) =
       | false ↦ map_on_shard shard asker ran
     ]
 
+-- What one shard ran is that shard's, where who asked is left out too.
 pub ran_shards : (shard : ℕ) (log : List Entry) → AllByRecursion (λ entry. entry.shard ≡ shard) log → AllByRecursion (λ (ran : Ran). ran.shard ≡ shard) (map ran_of log)
 ran_shards shard [] all = tt
 ran_shards shard (entry ∷ log) all = (all.0, ran_shards shard log all.1)

@@ -22,16 +22,19 @@ none_read read none [] shard all = refl
 none_read read none (near ∷ lanes) zero all = none near all.0
 none_read read none (near ∷ lanes) (suc shard) all = none_read read none lanes shard all.1
 
+-- Where as many replies were received from each shard as are due there, all that the commands need has come.
 pub all_come : (shards : ℕ) (taken : List Taken) (received : ℕ → List Shown) → ((shard : ℕ) → length (received shard) ≡ length (due.due shards shard taken)) → HasCome shards taken (counts received) (length taken)
 all_come shards taken received answered shard =
     let whole : length (due.due shards shard (take (length taken) taken)) ≡ length (due.due shards shard taken) = ap (λ ts. length (due.due shards shard ts)) (take_all (length taken) taken (omega arith)) in
     let these = answered shard in
     omega (arith, whole, these)
 
+-- What holds of the moments at which commands were taken holds of those that stand in their history.
 pub moments_of : (may_answer : ℕ → Type 0) (history : List Done) → AllByRecursion (λ (one : Taken). may_answer one.moment) (map taken_of history) → AllByRecursion (λ (done : Done). may_answer done.moment) history
 moments_of may_answer [] all = tt
 moments_of may_answer (done ∷ history) all = (all.0, moments_of may_answer history all.1)
 
+-- The commands of a history are those that were taken.
 pub entries_same : (history : List Done) → commands_of (map taken_of history) ≡ entries_of history
 entries_same [] = refl
 entries_same (done ∷ history) = ap (λ es. done.entry ∷ es) (entries_same history)

@@ -6,5 +6,6 @@ use Rattle.mc_serve.proofs.entrance.Way.TheSendSync as way
 use Rattle.mc_serve.proofs.lingering.Lingering.TheSendSync as lingering
 use Rattle.mc_serve.specs.contracts.tcp_door.TcpDoor as door
 
+-- A door over TCP may go to another thread where its clock may.
 pub tcp_send : (R : RattleType) → IsSend R → IsSend (door.the_row R)
 tcp_send R sent = search (way.the_field_send, lingering.the_send, sendable, crosses) depth 20

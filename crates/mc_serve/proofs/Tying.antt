@@ -16,6 +16,7 @@ use Rattle.mc_split.specs.declared.plan.Piece.{Piece}
 use Rattle.mc_serve.specs.Asking.{HasAsked, IsTied}
 use Rattle.mc_serve.specs.Logs.{IsLogOf}
 
+-- the parcels of these pieces, and then End
 abbrev pub to_end : List Piece → List Parcel
 to_end pieces = map parcel.Piece pieces ++ parcel.End ∷ []
 
@@ -43,14 +44,17 @@ same_replies (x ∷ xs) (y ∷ ys) rest e h =
 abbrev pub ran_of : Entry → Ran
 ran_of entry = record { shard = entry.shard; piece = entry.piece; answer = entry.answer }
 
+-- The pieces of a log are the same where who asked is left out.
 pub pieces_ran : (log : List Entry) → map (λ (ran : Ran). ran.piece) (map ran_of log) ≡ pieces_in log
 pieces_ran [] = refl
 pieces_ran (entry ∷ log) = ap (λ ps. entry.piece ∷ ps) (pieces_ran log)
 
+-- The replies of a log are the same where who asked is left out.
 pub replies_ran : (log : List Entry) → map reply_of (map ran_of log) ≡ replies_in log
 replies_ran [] = refl
 replies_ran (entry ∷ log) = ap (λ rs. reply_of (ran_of entry) ∷ rs) (replies_ran log)
 
+-- A log has as many replies as it has pieces.
 pub as_many_replies : (log : List Entry) → length (replies_in log) ≡ length (pieces_in log)
 as_many_replies [] = refl
 as_many_replies (entry ∷ log) = ap suc (as_many_replies log)
@@ -60,6 +64,8 @@ pub record Agrees (shards shard seat : ℕ) (taken : List Taken) (got : List Sho
   pub pieces : due shards shard taken ≡ pieces_in (of_asker seat log)
   pub replies : got ≡ replies_in (of_asker seat log)
 
+-- Where a seat sent a shard all that was due and then End, and received as many replies, and its lane is tied to a
+-- worker that has finished, those pieces are what the worker ran for it, and those replies are theirs.
 pub lane_agrees : (sizes : Sizes) (shard : ℕ) (ends : Ends Near) (desk : Desk) (taken : List Taken) (got : ℕ → List Shown) (log : List Entry)
     → shard < sizes.shards → ends.number < sizes.seats → HasAsked sizes.shards ends taken got → IsLogOf sizes shard desk log → IsTied ends desk.ends
     → Agrees sizes.shards shard ends.number taken (got shard) log

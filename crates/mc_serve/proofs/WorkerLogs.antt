@@ -35,6 +35,7 @@ pub record HaveLogs (sizes : Sizes) (first : ℕ) (ended : List Desk) : Type 0 w
   pub logs : List (List Entry)
   pub are : AreLogsFrom sizes first ended logs
 
+-- Workers that began on new lanes, each over its empty shard, and ran until the End of every lane had come, have logs.
 pub have_logs : (sizes : Sizes) (first capacity : ℕ) (begun ended : List Desk)
     → ((i : ℕ) (desk : Desk) → slice_get begun i ≡ Some desk → AreNewEnds (first + i) sizes.seats capacity desk.ends)
     → AllByRecursion (IsFresh sizes) begun → Zips Finishes begun ended → HaveLogs sizes first ended

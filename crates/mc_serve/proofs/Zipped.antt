@@ -4,6 +4,7 @@ use Rattle.std.specs.List.{AllByRecursion, slice_get}
 use Rattle.std.proofs.lemmas.Option.{same_Some}
 use Rattle.mc_crew.specs.Zips.{Zips}
 
+-- Two lists that are related pair by pair have the same length.
 pub zips_length : {A B : Type 0} (R : A → B → Type 0) (xs : List A) (ys : List B) → Zips R xs ys → length ys ≡ length xs
 zips_length R [] [] zips = refl
 zips_length R [] (y ∷ ys) zips = absurd zips
@@ -24,6 +25,7 @@ zips_map [] (y ∷ ys) P R S f g follows all zips = absurd zips
 zips_map (x ∷ xs) [] P R S f g follows all zips = absurd zips
 zips_map (x ∷ xs) (y ∷ ys) P R S f g follows all zips = (follows x y all.0 zips.0, zips_map xs ys P R S f g follows all.1 zips.1)
 
+-- Where what two functions make of two lists is related pair by pair, so are the lists that they make.
 pub zips_seen : {A B C D : Type 0} (xs : List A) (ys : List B) (S : C → D → Type 0) (f : A → C) (g : B → D) → Zips (λ x y. S (f x) (g y)) xs ys → Zips S (map f xs) (map g ys)
 zips_seen [] [] S f g zips = tt
 zips_seen [] (y ∷ ys) S f g zips = absurd zips
@@ -43,6 +45,7 @@ pub record IsMet {A B : Type 0} (R : A → B → Type 0) (xs : List A) (ys : Lis
   pub here : slice_get xs i ≡ Some one
   pub met : R one y
 
+-- In lists that are related pair by pair, an element of the second is related to the one at its place in the first.
 pub met_at : {A B : Type 0} (R : A → B → Type 0) (xs : List A) (ys : List B) (i : ℕ) (y : B) → Zips R xs ys → slice_get ys i ≡ Some y → IsMet R xs ys i y
 met_at R [] [] i y zips here = absurd (cc)
 met_at R [] (z ∷ ys) i y zips here = absurd zips
@@ -50,16 +53,19 @@ met_at R (x ∷ xs) [] i y zips here = absurd zips
 met_at R (x ∷ xs) (z ∷ ys) zero y zips here = record { one = x; here = refl; met = let P : _ → Type 0 = λ w. R x w in subst P (same_Some z y here) zips.0 }
 met_at R (x ∷ xs) (z ∷ ys) (suc i) y zips here = let rest = met_at R xs ys i y zips.1 here in record { one = rest.one; here = rest.here; met = rest.met }
 
+-- What holds of all elements of a list holds of the one at a place.
 pub all_at : {X : Type 0} (P : X → Type 0) (xs : List X) (i : ℕ) (x : X) → AllByRecursion P xs → slice_get xs i ≡ Some x → P x
 all_at P [] i x all here = absurd (cc)
 all_at P (y ∷ xs) zero x all here = subst P (same_Some y x here) all.0
 all_at P (y ∷ xs) (suc i) x all here = all_at P xs i x all.1 here
 
+-- Where an element stands in a list, the function's value of it stands in the list that the function makes.
 pub get_map : {A B : Type 0} (f : A → B) (xs : List A) (i : ℕ) (x : A) → slice_get xs i ≡ Some x → slice_get (map f xs) i ≡ Some (f x)
 get_map f [] i x here = absurd (cc)
 get_map f (y ∷ xs) zero x here = ap (λ z. Some (f z)) (same_Some y x here)
 get_map f (y ∷ xs) (suc i) x here = get_map f xs i x here
 
+-- What holds of a function's value at each element of a list holds of all values that it has there.
 pub all_map : {A B : Type 0} (P : B → Type 0) (f : A → B) (xs : List A) → AllByRecursion (λ x. P (f x)) xs → AllByRecursion P (map f xs)
 all_map P f [] all = tt
 all_map P f (x ∷ xs) all = (all.0, all_map P f xs all.1)
@@ -73,6 +79,7 @@ zips_set {A} {B} R (x ∷ xs) (y ∷ ys) zero old new here keeps zips =
     (keeps x (subst P (same_Some y old here) zips.0), zips.1)
 zips_set R (x ∷ xs) (y ∷ ys) (suc i) old new here keeps zips = (zips.0, zips_set R xs ys i old new here keeps zips.1)
 
+-- Two lists that are related pair by pair still are with two more behind them that are.
 pub zips_append : {A B : Type 0} (R : A → B → Type 0) (xs : List A) (ys : List B) (more : List A) (more' : List B) → Zips R xs ys → Zips R more more' → Zips R (xs ++ more) (ys ++ more')
 zips_append R [] [] more more' zips rest = rest
 zips_append R [] (y ∷ ys) more more' zips rest = absurd zips

@@ -11,6 +11,7 @@ use Rattle.mc_core.proofs.Lists.{push_cases, set_cases}
 use Rattle.mc_core.proofs.Logs.{Run-push, on_shard-no, on_shard-yes}
 use Rattle.mc_server.specs.internal.Answering.{Backs}
 
+-- Without shards, and with nothing run, each shard is what its part of the log leads to.
 pub Backs-none : (sizes : Sizes) → Backs sizes [] []
 Backs-none sizes shard kept found = absurd cc
 

@@ -58,6 +58,7 @@ answers_take sizes told shards log one conn is answers =
       fits = fits_take told.shards told.taken one told.accepted (replies_on log) answers.fits;
     }
 
+-- When one more command is taken, at a moment that may be, all that holds between turns still holds, and it is counted.
 pub turns_take : (sizes : Sizes) (may_answer : ℕ → Type 0) (begin now : Sight) (unread : List ℕ) (conn new : Conn) (shards : List Shard) (commands later moment : ℕ) (ticket : Ticket) → may_answer moment → TakeSays conn moment (took.Opened ticket) new → later ≡ min (ticket.0 + 1) (2 ^ 64 - 1) →
     Turns sizes may_answer begin now unread conn shards commands → Turns sizes may_answer begin now unread new shards later
 turns_take sizes may_answer begin now unread conn new shards commands later moment ticket may says later_is turns =
@@ -110,6 +111,7 @@ pub record Answered (sizes : Sizes) (may_answer : ℕ → Type 0) (begin now : S
   pub stops : StopsAt stop turns.told
   pub ran : RanAll sizes turns.told shards turns.log
 
+-- Once no further command is taken and the shards answer all that is due, every command taken is answered.
 pub answers_stop : (sizes : Sizes) (may_answer : ℕ → Type 0) (begin now : Sight) (unread : List ℕ) (conn new : Conn) (shards after : List Shard) (commands : ℕ) (stop : Took) → AnswersAll conn shards new after → Stops sizes may_answer begin now unread conn shards commands stop → Answered sizes may_answer begin now unread new after commands stop
 answers_stop sizes may_answer begin now unread conn new shards after commands stop all stops =
     let turns = stops.turns in

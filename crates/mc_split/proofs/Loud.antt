@@ -37,6 +37,7 @@ meta_or_not kind flags value key lenient [] = inl refl
 meta_or_not kind flags value key lenient (answer ∷ answers) =
     coded_or_not kind flags value key (flags.quiet && is_hidden kind value answer) (list_any is_no_memory (answer ∷ answers)) (told answer lenient)
 
+-- The reply to a command is empty, or it is that to the same command without `noreply` and `q`.
 pub empty_or_loud : (command : Command) (answers : List Answer) → (text_of command answers ≡ []) ⊎ (text_of command answers ≡ text_of (loud command) answers)
 unfolding shape_of shape_text
 empty_or_loud (command.Store storage) answers = noreply_or_not storage.noreply (shape_text (shape.Line false storage.lenient) answers)
@@ -52,6 +53,7 @@ empty_or_loud (command.MetaDelete delete) answers = meta_or_not kind.Delete dele
 empty_or_loud (command.MetaArithmetic arithmetic) answers = meta_or_not kind.Arithmetic arithmetic.flags arithmetic.value (shown_key arithmetic.flags arithmetic.key) false answers
 empty_or_loud other answers = inr refl
 
+-- With `noreply` or `q`, a command asks the same of the same shards as without.
 pub asks_as_loud : (shards : ℕ) (command : Command) → pieces_of shards command ≡ pieces_of shards (loud command)
 unfolding pieces_of
 asks_as_loud shards (command.Store storage) = refl

@@ -84,6 +84,7 @@ ordered kind flags others value key lenient answers moved =
     let same : shown_key flags key ≡ shown_key (with_flags flags others) key = ap (λ test. cond test (Some key) None) (list_any-IsPermutation is_key_flag flags.returned others moved) in
     rw (← same) (with_key kind flags others value (shown_key flags key) lenient answers)
 
+-- Returned flags in another order give the same reply, but for the order in which they are returned.
 pub orders_flags : (command : Command) (returned : List ReturnFlag) → IsPermutation (returned_in command) returned → (answers : List Answer) →
     DiffersInOrder (returned_in command) returned (text_of command answers) (text_of (with_returned command returned) answers)
 unfolding shape_of
@@ -93,6 +94,7 @@ orders_flags (command.MetaDelete delete) returned moved answers = ordered kind.D
 orders_flags (command.MetaArithmetic arithmetic) returned moved answers = ordered kind.Arithmetic arithmetic.flags returned arithmetic.value arithmetic.key false answers moved
 orders_flags other returned moved answers = alike [] returned (text_of other answers)
 
+-- Whatever flags it is to return, and in what order, a command asks the same of the same shards.
 pub asks_alike : (shards : ℕ) (command : Command) (returned : List ReturnFlag) → pieces_of shards command ≡ pieces_of shards (with_returned command returned)
 unfolding pieces_of
 asks_alike shards (command.MetaGet get) returned = refl

@@ -109,6 +109,7 @@ pub gives_up : (result : Result Form NoMemory) (ticket : Ticket) (moment : ℕ) 
 gives_up (Ok form) ticket moment shape rest asked old now failed some so_far = absurd cc
 gives_up (Err fault) ticket moment shape rest asked old now failed some so_far = record { form = tt; pieces = tt; front = queued_behind so_far; asks = some }
 
+-- At first no shard is asked, and all of them are left to be asked.
 pub asks_none : (old : List (ℕ × Piece)) (ticket : Ticket) (moment : ℕ) (op : Op) (shards : ℕ) → Queued old old ticket moment (asks_from op 0 (shards - 0)) (asks_from op 0 shards)
 asks_none old ticket moment op shards =
     let all : shards - 0 ≡ shards = omega arith in
@@ -123,20 +124,24 @@ asks_more old now new ticket moment op shard shards below so_far after =
     let count : length now ≡ length old + shard = omega (arith, added so_far, ap length so_far.together, parts, left shard (shards - shard), left 0 shards) in
     queued_more old now new ticket moment shard (ask_of op shard) (asks_from op (shard + 1) (shards - (shard + 1))) (asks_from op 0 shards) (rw (asks_from-next op shard shards below) at so_far) count after
 
+-- Once as many shards are asked as there are, no piece is left to queue.
 pub asks_all : (old now : List (ℕ × Piece)) (ticket : Ticket) (moment : ℕ) (op : Op) (shard shards : ℕ) → shards ≤ shard → Queued old now ticket moment (asks_from op shard (shards - shard)) (asks_from op 0 shards) → Queued old now ticket moment [] (asks_from op 0 shards)
 asks_all old now ticket moment op shard shards all so_far =
     let none : shards - shard ≡ 0 = omega arith in
     rw none at so_far
 
+-- Where there is a shard, what every shard is asked is one piece at least.
 pub asks_some : (op : Op) (shards : ℕ) → 0 < shards → 0 < length (asks_from op 0 shards)
 asks_some op shards some = omega (arith, length-map-range_with_len (ask_of op) 0 shards, some)
 
+-- A command that asks every shard is split once each has its piece and the form, if there was memory, a slot for each.
 pub splits_asks : (result : Result Form NoMemory) (ticket : Ticket) (moment : ℕ) (shape : Shape) (op : Op) (shards : ℕ) (old now : List (ℕ × Piece)) → IfOk result (λ form. form ≡ record { ticket = ticket; kind = kind_of op; shape = shape; slots = replicate shards None }) → 0 < shards → Queued old now ticket moment [] (asks_from op 0 shards) →
     Splits result ticket moment shape (asks_from op 0 shards) old now
 splits_asks result ticket moment shape op shards old now form_is some all =
     let count : shards ≡ length (asks_from op 0 shards) = sym (length-map-range_with_len (ask_of op) 0 shards) in
     splits result ticket moment shape (kind_of op) (asks_from op 0 shards) old now (rw count at form_is) (asks_kind 0 shards op some) (asks_some op shards some) all
 
+-- Once the piece of the first key is queued, those of the other keys are left.
 pub get_first : (old now : List (ℕ × Piece)) (ticket : Ticket) (moment : ℕ) (shards : ℕ) (touch : Option ℤ) (first : List ℕ) (others : List (List ℕ)) → now ≡ old ++ numbered 0 ticket moment (asked_of shards first (op.Fetch first touch)) ∷ [] →
     Queued old now ticket moment (gets_of shards touch others) (gets_of shards touch (first ∷ others))
 get_first old now ticket moment shards touch first others after =
@@ -148,6 +153,7 @@ pub get_more : (old now new : List (ℕ × Piece)) (ticket : Ticket) (moment par
 get_more old now new ticket moment part shards touch key keys others whole keys_are so_far part_is after =
     queued_more old now new ticket moment part (asked_of shards key (op.Fetch key touch)) (gets_of shards touch others) (gets_of shards touch whole) (rw keys_are at so_far) (omega (arith, part_is, added so_far)) after
 
+-- A get is split once no key is left and the form, if there was memory, has a slot for each piece that was queued.
 pub splits_get : (result : Result Form NoMemory) (ticket : Ticket) (moment : ℕ) (shape : Shape) (shards : ℕ) (touch : Option ℤ) (count : ℕ) (first : List ℕ) (others keys left : List (List ℕ)) (old now : List (ℕ × Piece)) → keys ≡ first ∷ others → count ≡ length now - length old → left ≡ [] →
     IfOk result (λ form. form ≡ record { ticket = ticket; kind = Fetch; shape = shape; slots = replicate count None }) → Queued old now ticket moment (gets_of shards touch left) (gets_of shards touch keys) → Splits result ticket moment shape (gets_of shards touch keys) old now
 splits_get result ticket moment shape shards touch count first others keys left old now keys_are count_is none form_is so_far =

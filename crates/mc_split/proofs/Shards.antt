@@ -57,6 +57,7 @@ pub asks_kind : (first count : ℕ) (op : Op) → 0 < count → kind_of op ≡ f
 asks_kind first zero op some = absurd (omega arith)
 asks_kind first (suc count) op some = refl
 
+-- The form of a get of one key or more awaits answers to fetches.
 pub gets_kind : (shards : ℕ) (touch : Option ℤ) (first : List ℕ) (keys : List (List ℕ)) → Fetch ≡ form_kind (map (λ key. asked_of shards key (op.Fetch key touch)) (first ∷ keys))
 unfolding kind_of
 gets_kind shards touch first keys = refl

@@ -131,6 +131,7 @@ asks_silent zero some op plain noreply answers h = absurd (omega arith)
 asks_silent (suc shards) some op plain noreply (given ∷ answers) h = plain_silent (kind_of op) plain noreply false given answers h.0
 asks_silent (suc shards) some op plain noreply [] h = absurd h
 
+-- Where there is a shard, and each piece has a lawful answer, the reply is empty just where the command is silent.
 pub empty_where_silent : (shards : ℕ) → 0 < shards → (asked : Command) (answers : List Answer) → AnswersTo (pieces_of shards asked) answers → (text_of asked answers ≡ []) ↔ IsTrue (is_silent asked answers)
 unfolding pieces_of kind_of shape_of shape_text
 empty_where_silent shards some (command.Store storage) (given ∷ answers) h = plain_silent Store refl storage.noreply storage.lenient given answers h.0

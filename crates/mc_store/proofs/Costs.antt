@@ -37,6 +37,7 @@ get_kept_in m room q = get_retained m (λ other. nat_le (costs (used_since m oth
 AllBelow-retained : (m : Items) (p : List ℕ → Bool) (n : ℕ) → AllBelow m n → AllBelow (retain_keys m p) n
 AllBelow-retained m p n below q u there = below q u (retained_is m p q u there)
 
+-- Where all numbers of last use are below a number, those of the items that eviction leaves are so too.
 pub AllBelow-fitting : (m : Items) (budget : ℕ) (k : List ℕ) (n : ℕ) → AllBelow m n → AllBelow (fitting m budget k) n
 unfolding fitting
 AllBelow-fitting m budget k n below = AllBelow-retained m (λ other. same_key k other || nat_le (costs (used_since m other)) budget) n below
@@ -45,6 +46,7 @@ AllBelow-fitting m budget k n below = AllBelow-retained m (λ other. same_key k 
 pub fitting_key : (m : Items) (budget : ℕ) (k : List ℕ) → get (fitting m budget k) k ≡ get m k
 fitting_key m budget k = rw (get_fitting m budget k k, texts_ties k k, same_self k)
 
+-- Eviction leaves an item as it is, or takes it where it and all used no earlier cost more than the budget.
 pub fitting_other : (m : Items) (budget : ℕ) (k q : List ℕ) →
     (get (fitting m budget k) q ≡ get m q) ⊎ ((get (fitting m budget k) q ≡ None) × (budget < costs (used_since m q)))
 fitting_other m budget k q = elim (cases_Bool (same_key k q || nat_le (costs (used_since m q)) budget)) [
@@ -64,6 +66,7 @@ no_entries = nil (entries nothing) (sym (len-entries nothing) ∙ len-empty (sli
   nil [] h = refl
   nil (e ∷ es) h = absurd (omega arith)
 
+-- Where there are no items, they cost nothing.
 pub costs_nothing : costs nothing ≡ 0
 unfolding costs
 costs_nothing = ap (λ es. sum_by cost_of es) no_entries
@@ -91,6 +94,7 @@ costs_new m k u none = ap (λ es. sum_by cost_of es) (entries-insert nat_list_cm
 pub costs_inserted : (m : Items) (k : List ℕ) (u : Used) → costs (insert m k u) ≡ cost k u.item.value + costs (remove m k)
 costs_inserted m k u = ap costs (sym (insert-remove m k u)) ∙ costs_new (remove m k) k u (get_gone m k)
 
+-- All items together cost what the one under the key and the others do.
 pub costs_with : (m : Items) (k : List ℕ) (u : Used) → get m k ≡ Some u → costs m ≡ cost k u.item.value + costs (remove m k)
 costs_with m k u is = ap costs (sym (insert_same m k u is)) ∙ costs_inserted m k u
 

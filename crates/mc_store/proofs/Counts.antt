@@ -23,6 +23,7 @@ use Rattle.mc_store.proofs.Writes.{Closes, along, met_time}
 use Rattle.mc_store.proofs.Outcomes.{Ends, ends, absent_as, present_as, unchanged_as}
 use Rattle.mc_store.proofs.Stores.{fresh, fresh_of}
 
+-- what counting asks, as the specification writes it
 abbrev pub asked_in : given.Counting → Counting
 asked_in it = counting it.compare it.unique it.direction it.amount it.exptime
 
@@ -40,6 +41,7 @@ counter_is held state key token made reply h =
     let time : (without_dead state (Some key)).time ≡ held.time = met_time state key ∙ h.time in
     subst (λ t. done_with (without_dead state (Some key)) key token (λ unique. fresh (number_text made.initial) 0 (expiry_of made.exptime t) unique) made.initial reply ≡ absent_count (without_dead state (Some key)) key token reply (Some made)) time refl
 
+-- To write a new item with the initial number and its expiry is what counting does where it makes a counter of a miss.
 pub counter_as : (held : Held) (state : State) (key : List ℕ) (token : Option ℕ) (made : Vivify) (item : Item) (reply : Reply) (answer : Answer) (new : Held) → Keeps held state → item ≡ fresh_of (number_text made.initial) 0 (expiry_of made.exptime held.time) →
     Closes (without_dead state (Some key)) (done_with (without_dead state (Some key)) key token (λ unique. record item { unique = unique }) made.initial reply) answer new → Closes (without_dead state (Some key)) (absent_count (without_dead state (Some key)) key token reply (Some made)) answer new
 counter_as held state key token made item reply answer new h is closes =
@@ -47,18 +49,21 @@ counter_as held state key token made item reply answer new h is closes =
     (counter_is held state key token made reply h)
     (written_as (without_dead state (Some key)) key token item (fresh_of (number_text made.initial) 0 (expiry_of made.exptime held.time)) made.initial reply answer new is closes)
 
+-- Where nothing alive is under the key, counting goes as under an absent key.
 pub count_misses : (held : Held) (state : State) (key : List ℕ) (asked : Counting) (vivify : Option Vivify) (reply : Reply) (answer : Answer) (new : Held) → Keeps held state → None ≡ live held.time (lookup (pointwise nat_eq key) held.entries) →
     Closes (without_dead state (Some key)) (absent_count (without_dead state (Some key)) key asked.unique reply vivify) answer new → Closes (without_dead state (Some key)) (count_step (without_dead state (Some key)) key asked reply vivify (get (without_dead state (Some key)).items key)) answer new
 count_misses held state key asked vivify reply answer new h none closes =
     along (without_dead state (Some key)) (absent_count (without_dead state (Some key)) key asked.unique reply vivify) (count_step (without_dead state (Some key)) key asked reply vivify (get (without_dead state (Some key)).items key)) answer new
     (absent_as held state key (λ s o. count_step s key asked reply vivify o) (λ s. absent_count s key asked.unique reply vivify) h none (λ s. refl)) closes
 
+-- Counting an item whose unique isn't the one asked for changes nothing and is answered that it exists.
 pub count_exists : (held : Held) (state : State) (key : List ℕ) (item : Item) (asked : Counting) (vivify : Option Vivify) (reply : Reply) → Keeps held state → Some item ≡ live held.time (lookup (pointwise nat_eq key) held.entries) → is_other asked.compare item.unique ≡ true →
     Closes (without_dead state (Some key)) (count_step (without_dead state (Some key)) key asked reply vivify (get (without_dead state (Some key)).items key)) Exists held
 count_exists held state key item asked vivify reply h is other =
     unchanged_as held state key item (λ s o. count_step s key asked reply vivify o) Exists h is
     (λ s u i. let o : is_other asked.compare u.item.unique ≡ true = rw i other in rw o)
 
+-- Counting an item whose value is no number, at its unique or at none, changes nothing and is answered so.
 pub count_fails : (held : Held) (state : State) (key : List ℕ) (item : Item) (asked : Counting) (vivify : Option Vivify) (reply : Reply) → Keeps held state → Some item ≡ live held.time (lookup (pointwise nat_eq key) held.entries) → is_other asked.compare item.unique ≡ false → None ≡ number_in item.value →
     Closes (without_dead state (Some key)) (count_step (without_dead state (Some key)) key asked reply vivify (get (without_dead state (Some key)).items key)) NonNumeric held
 count_fails held state key item asked vivify reply h is other none =
@@ -96,11 +101,13 @@ counted_by held state key item asked vivify reply number to new_item answer new 
     (made ∙ ap (λ n. counted_item item n asked.exptime held.time item.unique) to_is)
     (subst (λ n. Closes (without_dead state (Some key)) (done_with (without_dead state (Some key)) key asked.unique (λ unique. record new_item { unique = unique }) n reply) answer new) to_is closes)
 
+-- `incr` and `decr` count at no unique, make nothing of a miss and leave the expiry.
 pub classic_count : (settled : State) (key : List ℕ) (direction : Direction) (amount : ℕ) (answer : Answer) (new : Held) →
     Closes settled (count_step settled key (counting None None direction amount None) (λ done. Number done.number) None (get settled.items key)) answer new → Ends settled (Count key direction amount) answer new
 unfolding step_of kind_of is_lawful
 classic_count settled key direction amount answer new closes = ends settled (Count key direction amount) answer new (λ _. refl) closes
 
+-- `ma` counts as its flags ask.
 pub meta_count : (settled : State) (asked : op.MetaCount) (answer : Answer) (new : Held) →
     Closes settled (count_step settled asked.key (counting asked.compare asked.unique asked.direction asked.amount asked.exptime) (λ done. MetaDone done) asked.vivify (get settled.items asked.key)) answer new → Ends settled (MetaCount asked) answer new
 unfolding step_of kind_of is_lawful

@@ -12,6 +12,7 @@ use Rattle.mc_item.specs.declared.item.Item.{Item}
 use Rattle.mc_store.specs.internal.Listed.{Entry, entry_cost, listed_cost, freed_by, within, HaveKeys, IsCounted}
 use Rattle.mc_store.proofs.Lists.{same_is, same_self}
 
+-- A list costs what its first item costs and what the others do.
 pub cost_cons : (e : Entry) (es : List Entry) → listed_cost (e ∷ es) ≡ entry_cost e + listed_cost es
 cost_cons e es = sum_by-cons entry_cost e es
 
@@ -23,6 +24,7 @@ all_within room (e ∷ es) h =
     let whole = cost_cons e es in
     rw (le-leb (entry_cost e) room (omega arith)) (ap (λ l. e ∷ l) (all_within (room - entry_cost e) es (omega arith)))
 
+-- The items within a room cost no more than the room.
 pub cost_within : (room : ℕ) (es : List Entry) → listed_cost (within room es) ≤ room
 cost_within room [] = omega arith
 cost_within room (e ∷ es) = elim (cases_Bool (nat_le (entry_cost e) room)) [
@@ -104,6 +106,7 @@ pub record Evicting (before left : List Entry) (budget left_cost : ℕ) : Type 0
   pub counted : left_cost ≡ listed_cost left
   pub same : within budget left ≡ within budget before
 
+-- While the items cost more than the budget, the last one may go: those that stay in the end are the same.
 pub evicting_one : (before left : List Entry) (budget left_cost : ℕ) (last : Entry) → Evicting before left budget left_cost → budget < left_cost → slice_get left (length left - 1) ≡ Some last →
     (entry_cost last ≤ left_cost) × Evicting before (take (length left - 1) left) budget (left_cost - entry_cost last)
 evicting_one before [] budget left_cost last h more is = absurd cc
@@ -112,6 +115,7 @@ evicting_one before (e ∷ es) budget left_cost last h more is =
     let rest = cost_last e es last (rw count at is) in
     rw count (omega arith, record { counted = omega arith; same = without_last budget e es (omega arith) ∙ h.same })
 
+-- Once the items that are left cost no more than the budget, they are those that fit it.
 pub evicting_all : (before left : List Entry) (budget left_cost : ℕ) → Evicting before left budget left_cost → left_cost ≤ budget → (left ≡ within budget before) × (left_cost ≡ listed_cost (within budget before))
 evicting_all before left budget left_cost h small =
     let whole : left ≡ within budget before = sym (all_within budget left (omega arith)) ∙ h.same in
@@ -131,6 +135,7 @@ evicting_some before (e ∷ es) budget left_cost h more none = let count : lengt
 pub costs_some : (es : List Entry) (key : List ℕ) (item : Item) → lookup (pointwise nat_eq key) es ≡ Some item → entry_cost (key, item) ≤ listed_cost es
 costs_some es key item is = omega (arith, (finds es key item is).cost)
 
+-- When an item goes and what it cost is taken off, the cost of all is still right.
 pub counted_removed : (es : List Entry) (capacity cost budget : ℕ) (key : List ℕ) (item : Item) → IsCounted es capacity cost budget → lookup (pointwise nat_eq key) es ≡ Some item → IsCounted (remove_entry (pointwise nat_eq key) es) capacity (cost - entry_cost (key, item)) budget
 counted_removed es capacity cost budget key item h is =
     let counted : cost - entry_cost (key, item) ≡ listed_cost (remove_entry (pointwise nat_eq key) es) = omega (arith, (finds es key item is).cost) in
@@ -159,6 +164,7 @@ set_counted (e ∷ es) key old item h is keys =
           rw f (omega (arith, rest.0, cost_cons e set), All-cons HasKey e set first rest.1)
     ]
 
+-- When an item changes where it stands and keeps its value, the cost of all is still right.
 pub counted_set : (es : List Entry) (capacity cost budget : ℕ) (key : List ℕ) (old item : Item) → IsCounted es capacity cost budget → lookup (pointwise nat_eq key) es ≡ Some old → item.value ≡ old.value → IsCounted (set_value (pointwise nat_eq key) es item) capacity cost budget
 counted_set es capacity cost budget key old item h is value = let set = set_counted es key old item is value h.keys in assumption (h.counted ∙ sym set.0)
 
@@ -166,6 +172,7 @@ counted_set es capacity cost budget key old item h is value = let set = set_coun
 pub first_is : (es : List Entry) (key : List ℕ) (old item : Item) → lookup (pointwise nat_eq key) es ≡ Some old → set_value (pointwise nat_eq key) (promoted (pointwise nat_eq key) es) item ≡ (key, item) ∷ remove_entry (pointwise nat_eq key) es
 first_is es key old item h = rw ((finds es key old h).entry, texts_ties key key, same_self key)
 
+-- When an item becomes the most recently used one and keeps its value, the cost of all is still right.
 pub counted_first : (es : List Entry) (capacity cost budget : ℕ) (key : List ℕ) (old item : Item) → IsCounted es capacity cost budget → lookup (pointwise nat_eq key) es ≡ Some old → item.value ≡ old.value → IsCounted (set_value (pointwise nat_eq key) (promoted (pointwise nat_eq key) es) item) capacity cost budget
 counted_first es capacity cost budget key old item h is value =
     let found = finds es key old is in
@@ -201,6 +208,7 @@ put_cost es key item cost counted None is =
     let same_list = ap listed_cost (not_found es key is).1 in
     (omega arith, omega arith)
 
+-- When an item is put first under a key that isn't empty, and others go for it, what is left fits the budget.
 pub counted_put : (es : List Entry) (capacity cost budget : ℕ) (key : List ℕ) (item : Item) → IsCounted es capacity cost budget → 0 < length key → IsCounted (within budget ((key, item) ∷ remove_entry (pointwise nat_eq key) es)) capacity (listed_cost (within budget ((key, item) ∷ remove_entry (pointwise nat_eq key) es))) budget
 counted_put es capacity cost budget key item h some =
     let left = remove_entry (pointwise nat_eq key) es in

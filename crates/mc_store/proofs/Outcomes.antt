@@ -33,6 +33,7 @@ ends settled op answer new lawful closes = (closes.0, elim closes.1 [ inl none �
 abbrev pub Stepping : Type 0
 Stepping = State → Option Used → Outcome
 
+-- the outcome of a step on what the settled state has under the key
 abbrev pub here : Stepping → State → List ℕ → Outcome
 here step settled key = step settled (get settled.items key)
 
@@ -95,8 +96,10 @@ some_of (Some item) some = (item, refl)
 pub live_of : (time : ℕ) (o : Option Item) (item : Item) → Some item ≡ o → is_dead item.expiry time ≡ false → Some item ≡ live time o
 live_of time o item is alive = rw (← is, alive)
 
+-- Where the item that is found is dead, it counts as none.
 pub dead_of : (time : ℕ) (o : Option Item) (item : Item) → Some item ≡ o → is_dead item.expiry time ≡ true → None ≡ live time o
 dead_of time o item is dead = rw (← is, dead)
 
+-- Where no item is found, none is alive.
 pub none_of : (time : ℕ) (o : Option Item) → None ≡ o → None ≡ live time o
 none_of time o is = rw (← is)

@@ -97,6 +97,7 @@ of_place old states new gives after =
 uniques_of_place : (old : State) (asked : List Asked) (answers : List Answer) (states : List State) → Runs old asked answers states → AllByRecursion (IsOf old.index old.shards) (uniques_of old states)
 uniques_of_place = of_runs (λ old asked answers states. AllByRecursion (IsOf old.index old.shards) (uniques_of old states)) (λ old. tt) (λ old ask rest answer answers new states step after. of_place old states new (gives_of old new ask.0 ask.1 answer step) after)
 
+-- Two different shards of one number of shards never give the same unique.
 pub runs_share_no_unique : RunsShareNoUnique
 runs_share_no_unique one other asked more answers replies states after run second shards place other_place differ unique there here =
     let first_is = All-contains (IsOf one.index one.shards) (uniques_of one states) unique (All-from_recursion (IsOf one.index one.shards) (uniques_of one states) (uniques_of_place one asked answers states run)) there in
@@ -105,6 +106,7 @@ runs_share_no_unique one other asked more answers replies states after run secon
 
 -- Budget
 
+-- Whatever a shard is asked, its budget stays the same.
 pub same_budget : (old : State) (asked : List Asked) (answers : List Answer) (states : List State) → Runs old asked answers states → (last_of old states).budget ≡ old.budget
 same_budget = of_runs (λ old asked answers states. (last_of old states).budget ≡ old.budget) (λ old. refl) (λ old ask rest answer answers new states step after. after ∙ (same_place old new ask.0 ask.1 answer step).budget)
 
@@ -125,6 +127,7 @@ times_runs = of_runs (λ old asked answers states. NoneBelow old.time (times_of 
 
 -- All of a run
 
+-- Whatever a shard is asked, its answers are lawful, its uniques rise and its time never goes back.
 pub runs_are_orderly : RunsAreOrderly
 runs_are_orderly old asked answers states some run = record {
   lawful = lawful_runs old asked answers states run;
@@ -139,6 +142,7 @@ stays_or_goes why m n k o (inl e) (inl f) = inl (f ∙ e)
 stays_or_goes why m n k o (inr gone) (inl f) = inr (f ∙ gone.0)
 stays_or_goes why m n k o before (inr f) = inr f
 
+-- An item whose key no operation names is at the end as it was, or gone.
 pub runs_leave_others : RunsLeaveOthers
 runs_leave_others = of_runs (λ old asked answers states. (key : List ℕ) → All (λ (ask : Asked). ¬ (key_of ask.0 ≡ Some key)) asked → (get (last_of old states).items key ≡ get old.items key) ⊎ (get (last_of old states).items key ≡ None)) (λ old key apart. inl refl) (λ old ask rest answer answers new states step after key apart.
     let asks_other : Asked → Type 0 = λ a. ¬ (key_of a.0 ≡ Some key) in
@@ -147,6 +151,7 @@ runs_leave_others = of_runs (λ old asked answers states. (key : List ℕ) → A
 
 -- What cas rests on
 
+-- A new shard has no item, so none has a unique that is still to be given.
 pub new_is_given : NewIsGiven
 new_is_given index shards budget given limit key used is = absurd (let h' = rw (get_nothing key) at is in cc)
 
@@ -205,6 +210,7 @@ tell_apart old key before after given is same_unique (inl kept) =
     (kept.2.value ∙ ap (λ u. u.item.value) there, kept.2.flags ∙ ap (λ u. u.item.flags) there)
 tell_apart old key before after given is same_unique (inr later) = absurd (omega (arith, given key before is))
 
+-- Where no client gives a unique, the same unique under a key means the same value and flags: `cas` rests on it.
 pub same_unique_same_item : SameUniqueSameItem
 same_unique_same_item old asked answers states run some given plain =
     let all = traces old asked answers states run some given plain in
@@ -243,6 +249,7 @@ telling_first old new ask answer key step h =
 one_more : (tells before first second after told_after cleared_after last : ℕ) → tells + before ≤ first + (second + after) → told_after + after ≤ cleared_after + last → tells + told_after + before ≤ first + (second + cleared_after) + last
 one_more tells before first second after told_after cleared_after last now then_ = omega arith
 
+-- At most one client is told to recompute an item, and one more for each time that the item's mark has gone.
 pub told_alone : ToldAlone
 told_alone = of_runs (λ old asked answers states. (key : List ℕ) → told key asked answers + one_if (is_sent old.items key) ≤ cleared key old asked states + one_if (is_sent (last_of old states).items key)) (λ old key. omega arith) (λ old ask rest answer answers new states step after key.
     let before = is_sent old.items key in

@@ -33,6 +33,7 @@ some_shards : (shard : Shard) (state : State) → IsShard shard state → 0 < st
 unfolding IsShard
 some_shards shard state h = let place = h.place in omega arith
 
+-- A shard that ran some operations and then does one more has run them all.
 pub ran_more : (old mid new : Shard) (asked : List Asked) (answers : List Answer) (more : Asked) (answer : Answer) → Ran old asked answers mid → Steps mid more.0 more.1 answer new → Ran old (asked ++ more ∷ []) (answers ++ answer ∷ []) new
 ran_more old mid new asked answers more answer ran steps = λ state h.
     let before = ran state h in
@@ -44,6 +45,7 @@ ran_more old mid new asked answers more answer ran steps = λ state h.
       rw (last_more state before.0 step.0) step.2,
     )
 
+-- Whatever a shard ran, it ran in an orderly way.
 pub ran_through : (old new : Shard) (asked : List Asked) (answers : List Answer) → Ran old asked answers new → RunsThrough old asked answers new
 ran_through old new asked answers ran = λ state h.
     let all = ran state h in

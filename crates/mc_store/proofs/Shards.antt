@@ -23,6 +23,7 @@ AllBelow-insert m key item n below = inserted_all m key (used item n) (λ _ v. v
 
 -- Changes of what a shard holds
 
+-- what a shard holds, with these items instead
 abbrev pub with_entries : Held → List (List ℕ × Item) → Held
 with_entries held es = record held { entries = es }
 
@@ -32,6 +33,7 @@ with_put held key item =
     let es = (key, item) ∷ remove_entry (pointwise nat_eq key) held.entries in
     record held { entries = within held.budget es; evicted = (held.evicted + gone held.budget es) % 2 ^ 64 }
 
+-- the item, last accessed at this time
 abbrev pub at_now : Item → ℕ → Item
 at_now item time = record item { last_access = time }
 
@@ -103,6 +105,7 @@ Shows-set_value (e ∷ es) m key u item h is = elim (cases_Bool (same key e.0)) 
       )
 ]
 
+-- When an item changes where it stands and keeps its value, the shard shows the state with the changed one.
 pub set_in_place : (held : Held) (state : State) (key : List ℕ) (u : Used) (item : Item) → Keeps held state → get state.items key ≡ Some u → item.value ≡ u.item.value → Keeps (with_entries held (set_value (pointwise nat_eq key) held.entries item)) (with_items state (insert state.items key (record u { item = item })))
 set_in_place held state key u item h is value =
     let order = Shows-set_value held.entries state.items key u item h.order is in
@@ -116,6 +119,7 @@ costs_less : (m : Items) (key : List ℕ) (o : Option Used) → get m key ≡ o 
 costs_less m key None none = rw (remove_none m key none) (omega arith)
 costs_less m key (Some u) is = omega (arith, costs_with m key u is)
 
+-- When what is under a key is removed, the shard shows the state without it.
 pub take_out : (held : Held) (state : State) (key : List ℕ) → Keeps held state → Keeps (with_entries held (remove_entry (pointwise nat_eq key) held.entries)) (with_items state (remove state.items key))
 take_out held state key h =
     let order = Shows-remove held.entries state.items key h.order in
@@ -128,6 +132,7 @@ abbrev pub giving : Option ℕ → State → State
 giving (Some token) state = state
 giving None state = with_given state
 
+-- Once a unique is given, the shard shows the state in which it is counted, unless it is the client's.
 pub gives : (held : Held) (state : State) (token : Option ℕ) → Keeps held state → Keeps (record held { given = given_after token held.given }) (giving token state)
 gives held state (Some token) h = h
 gives held state None h = assumption (ap (λ (n : ℕ). n + 1) h.given)
@@ -141,6 +146,7 @@ pub record Meets (held : Held) (state : State) (key : List ℕ) (item : Item) : 
   pub item_is : used.item ≡ item
   pub settled : without_dead state (Some key) ≡ state
 
+-- An item that is found alive is there and isn't dead.
 pub live_item : (time : ℕ) (o : Option Item) (item : Item) → Some item ≡ live time o → (o ≡ Some item) × (is_dead item.expiry time ≡ false)
 live_item time None item h = absurd cc
 live_item time (Some other) item h = elim (cases_Bool (is_dead other.expiry time)) [
@@ -152,6 +158,7 @@ used_of : (o : Option Used) (item : Item) → option_map (λ u. u.item) o ≡ So
 used_of None item h = absurd cc
 used_of (Some u) item h = (u, refl, cc)
 
+-- Where a live item is under the key, the state has it too, and settling changes nothing.
 pub meets : (held : Held) (state : State) (key : List ℕ) (item : Item) → Keeps held state → Some item ≡ live held.time (lookup (pointwise nat_eq key) held.entries) → Meets held state key item
 meets held state key item h is =
     let alive = live_item held.time (lookup (pointwise nat_eq key) held.entries) item is in
@@ -173,6 +180,7 @@ dead_or_none time (Some u) h = elim (cases_Bool (is_dead u.item.expiry time)) [
 gone_by : (held : Held) (state : State) (key : List ℕ) → without_dead state (Some key) ≡ with_items state (remove state.items key) → Misses held state key
 gone_by held state key is = record { gone = rw is (get_gone state.items key); settled = is }
 
+-- Where nothing alive is under the key, settling leaves nothing there.
 pub misses : (held : Held) (state : State) (key : List ℕ) → Keeps held state → None ≡ live held.time (lookup (pointwise nat_eq key) held.entries) → Misses held state key
 misses held state key h none = elim (dead_or_none state.time (get state.items key) (rw (h.time, ← lookup-Shows held.entries state.items h.order key) none)) [
   | inl absent ↦ gone_by held state key (rw (absent, remove_none state.items key absent))

@@ -20,16 +20,19 @@ use Rattle.mc_store.proofs.Outcomes.{Ends}
 abbrev pub stats_held : Held → Stats
 stats_held held = record { tally = held.tally; evicted = held.evicted; items = length held.entries; bytes = listed_cost held.entries; budget = held.budget }
 
+-- `stats` shows what the shard counted and holds, and changes nothing.
 pub stats_there : (held : Held) (state : State) (stats : Stats) → Keeps held state → stats ≡ stats_held held → Ends state op.Stats (answer.Stats stats) held
 unfolding Answers step_of
 stats_there held state stats h is =
     let there : stats ≡ stats_of state = rw (h.tally, h.evicted, h.budget, len-Shows held.entries state.items h.order, costs_shown held.entries state.items h.order) is in
     (state, inr (ap (λ s. (answer.Stats s, state)) there), h)
 
+-- `stats` that finds no memory changes nothing.
 pub stats_lack : (held : Held) (state : State) → Keeps held state → Ends state op.Stats NoMemory held
 unfolding Answers kind_of is_lawful
 stats_lack held state h = (state, inl (refl, refl, refl), h)
 
+-- `stats reset` sets all counts to 0 and leaves the items.
 pub stats_reset : (held : Held) (state : State) → Keeps held state → Ends state op.ResetStats Reset (record held { tally = no_counts; evicted = 0 })
 unfolding Answers step_of
 stats_reset held state h = (record state { tally = no_counts; evicted = 0 }, inr refl, assumption)

@@ -466,6 +466,7 @@ step_is old new op moment answer step =
     let settled = settle old (key_of op) moment in
     rw step.2 (noted_follows settled step.0 (kind_of op) (token_of op) (key_of op) op answer (answered_is settled step.0 op answer step.1))
 
+-- An answer is one that its kind of operation may have.
 pub answers_are_lawful : AnswersAreLawful
 answers_are_lawful old new op moment answer step = (step_is old new op moment answer step).lawful
 
@@ -476,6 +477,7 @@ stays_through due flushes evicted a b c k (inl before) (inl after) = inl (after 
 stays_through due flushes evicted a b c k (inr gone) (inl after) = inr (after ∙ gone.0, inl (inl gone.1))
 stays_through due flushes evicted a b c k before (inr gone) = inr (gone.0, elim gone.1 [ inl flush ↦ inl (inr flush) | inr more ↦ inr more ])
 
+-- An operation leaves the item under any other key as it is, unless a flush or eviction for what it stored takes it.
 pub others_stay : OthersStay
 others_stay old new op moment answer step other differ =
     let settled = settle old (key_of op) moment in
@@ -486,11 +488,13 @@ others_stay old new op moment answer step other differ =
 given_through : (a b c : ℕ) → b ≡ a → (c ≡ b) ⊎ (c ≡ b + 1) → (c ≡ a) ⊎ (c ≡ a + 1)
 given_through a b c is more = rw (← is) more
 
+-- A step gives one unique or none.
 pub uniques_rise : UniquesRise
 uniques_rise old new op moment answer step =
     given_through old.given (settle old (key_of op) moment).given new.given (settle_settles old (key_of op) moment).given
     (step_is old new op moment answer step).given
 
+-- A step moves the time to its moment, the latest one at most, and never back.
 pub time_rises : TimeRises
 time_rises old new op moment answer step = (step_is old new op moment answer step).time ∙ (settle_settles old (key_of op) moment).time_is
 
@@ -498,18 +502,22 @@ tells : (old settled new : State) (token : Option ℕ) (key : Option (List ℕ))
 tells old settled new token key time k item settles (inl kept) = inl (kept.0, settles.items k kept.0 kept.1, kept.2)
 tells old settled new token key time k item settles (inr fresh) = inr (rw (settles.place.index, settles.place.shards, settles.given) at fresh)
 
+-- A step gives an item a new unique, the shard's next one or the client's, where it changes its value or its flags.
 pub uniques_tell : UniquesTell
 uniques_tell old new op moment answer step k u h =
     tells old (settle old (key_of op) moment) new (token_of op) (key_of op) (max old.time (min moment latest_moment)) k u.item (settle_settles old (key_of op) moment) ((step_is old new op moment answer step).items k u h)
 
+-- Where the client gives a unique, the shard gives none, and none is wanting.
 pub tokens_are_taken : TokensAreTaken
 tokens_are_taken old new op moment answer token step is =
     let taken = (step_is old new op moment answer step).taken token is in
     (taken.0 ∙ (settle_settles old (key_of op) moment).given, taken.1)
 
+-- The mark that a client was told to recompute stays with its item, unless a storage command or `md` takes it away.
 pub sent_stays : SentStays
 sent_stays old new op moment answer step = (step_is old new op moment answer step).sent
 
+-- A step leaves the number of the shard, how many shards there are and the budget as they are.
 pub same_place : (old new : State) (op : Op) (moment : ℕ) (answer : Answer) → IsStep old op moment answer new → SamePlace old new
 same_place old new op moment answer step =
     let before = (settle_settles old (key_of op) moment).place in
@@ -568,6 +576,7 @@ unfolding Answers
 answer_wins settled new op shown (inl none) won key at = absurd (let answer : MetaHit shown ≡ NoMemory = none.0 in cc)
 answer_wins settled new op shown (inr is) won key at = op_wins settled op shown new is won key at
 
+-- A hit with `W` is of an item that no client was told to recompute until then, and one is told now.
 pub winners_are_first : WinnersAreFirst
 unfolding IsStep
 winners_are_first old new op moment shown step won key at = rw step.2 (answer_wins (settle old (key_of op) moment) step.0 op shown step.1 won key at)
@@ -579,6 +588,7 @@ answers_agree settled one other op answer second (inl none) b had had_too = absu
 answers_agree settled one other op answer second (inr is) (inl none) had had_too = absurd (had_too none.0)
 answers_agree settled one other op answer second (inr is) (inr too) had had_too = is ∙ sym too
 
+-- Where memory isn't wanting, the state, the operation and the moment determine the answer and the new state.
 pub steps_agree : StepsAgree
 unfolding IsStep
 steps_agree old one other op moment answer second a b had had_too =
@@ -592,6 +602,7 @@ same_next shards index given other more place other_place e =
     let both = same_from_place given index more other shards place other_place (omega (arith, mul_comm shards given, mul_comm shards more)) in
     (both.1, both.0)
 
+-- Of one number of shards, two give the same unique next only where they are one and have given as many.
 pub uniques_differ : UniquesDiffer
 uniques_differ one other shards place other_place same_unique =
     same_next one.shards one.index one.given other.index other.given place (rw shards other_place) (rw (← shards) at same_unique)

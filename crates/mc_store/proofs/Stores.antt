@@ -28,9 +28,11 @@ use Rattle.mc_store.proofs.Changes.{settled_live}
 use Rattle.mc_store.proofs.Writes.{Closes, along, met_time, large_there, too_large, writes_is}
 use Rattle.mc_store.proofs.Outcomes.{Ends, ends, absent_as, present_as, unchanged_as, uses_as}
 
+-- what storing asks, as the specification writes it
 abbrev pub asked_in : given.Storing → Storing
 asked_in it = storing it.mode it.compare it.unique it.flags it.exptime it.value
 
+-- a new item of this value, which no client has fetched yet
 abbrev pub fresh : List ℕ → ℕ → Expiry → ℕ → Item
 fresh value flags expiry unique = record { value = value; flags = flags; expiry = expiry; unique = unique; last_access = 0; fetched = false; stale = false; sent = false }
 
@@ -48,6 +50,7 @@ stores_is held state key asked reply h =
     let time : (without_dead state (Some key)).time ≡ held.time = met_time state key ∙ h.time in
     subst (λ t. writes (without_dead state (Some key)) key asked.unique asked.value (λ unique. fresh asked.value asked.flags (expiry_of asked.exptime t) unique) reply ≡ stores (without_dead state (Some key)) key asked reply) time refl
 
+-- To write a new item with the value, flags and expiry asked for is to store what is asked.
 pub stored_as : (held : Held) (state : State) (key : List ℕ) (asked : Storing) (item : Item) (reply : Reply) (answer : Answer) (new : Held) → Keeps held state → item ≡ fresh_of asked.value asked.flags (expiry_of asked.exptime held.time) →
     Closes (without_dead state (Some key)) (writes (without_dead state (Some key)) key asked.unique item.value (λ unique. record item { unique = unique }) reply) answer new → Closes (without_dead state (Some key)) (stores (without_dead state (Some key)) key asked reply) answer new
 stored_as held state key asked item reply answer new h made closes =
@@ -70,21 +73,25 @@ set_stored held state key value flags exptime item answer new h made small close
 
 -- Under an absent key
 
+-- Under an absent key, storing at a unique changes nothing and is answered not found.
 pub absent_compared : (settled : State) (key : List ℕ) (asked : Storing) (reply : Reply) (mode : MetaMode) (compare : Option ℕ) → true ≡ is_some compare → (NotFound, settled) ≡ absent_store settled key asked reply mode compare
 absent_compared settled key asked reply mode None h = absurd cc
 absent_compared settled key asked reply mode (Some unique) h = refl
 
+-- Under an absent key, a set or an add at no unique stores what is asked.
 pub absent_stored : (settled : State) (key : List ℕ) (asked : Storing) (reply : Reply) (mode : MetaMode) (compare : Option ℕ) → false ≡ is_some compare → (mode ≡ Set) ⊎ (mode ≡ Add) → stores settled key asked reply ≡ absent_store settled key asked reply mode compare
 absent_stored settled key asked reply mode None h (inl is) = rw is
 absent_stored settled key asked reply mode None h (inr is) = rw is
 absent_stored settled key asked reply mode (Some unique) h is = absurd cc
 
+-- Under an absent key, a replace, an append or a prepend at no unique changes nothing and isn't stored.
 pub absent_refused : (settled : State) (key : List ℕ) (asked : Storing) (reply : Reply) (mode : MetaMode) (compare : Option ℕ) → false ≡ is_some compare → ¬ (mode ≡ Set) → ¬ (mode ≡ Add) → (NotStored, settled) ≡ absent_store settled key asked reply mode compare
 absent_refused settled key asked reply Set None h s a = absurd (s refl)
 absent_refused settled key asked reply Add None h s a = absurd (a refl)
 absent_refused settled key asked reply mode None h s a = refl
 absent_refused settled key asked reply mode (Some unique) h s a = absurd cc
 
+-- Where nothing alive is under the key, storing goes as under an absent key.
 pub store_misses : (held : Held) (state : State) (key : List ℕ) (asked : Storing) (reply : Reply) → Keeps held state → None ≡ live held.time (lookup (pointwise nat_eq key) held.entries) →
     absent_store (without_dead state (Some key)) key asked reply asked.mode asked.compare ≡ store_step (without_dead state (Some key)) key asked reply (get (without_dead state (Some key)).items key)
 store_misses held state key asked reply h none =
@@ -96,6 +103,7 @@ set_both settled key asked reply Set None t m n None = rw (m, n)
 set_both settled key asked reply Set None t m n (Some u) = rw (m, n)
 set_both settled key asked reply mode compare t m n o = absurd cc
 
+-- A set at no unique stores what is asked, whatever is under the key.
 pub set_is : (settled : State) (key : List ℕ) (asked : Storing) (reply : Reply) → true ≡ is_unconditional asked.mode asked.compare → stores settled key asked reply ≡ store_step settled key asked reply (get settled.items key)
 set_is settled key asked reply t = set_both settled key asked reply asked.mode asked.compare t refl refl (get settled.items key)
 
@@ -105,6 +113,7 @@ differs : (s : State) (key : List ℕ) (asked : Storing) (reply : Reply) (item :
 differs s key asked reply item Add a o = absurd (a refl)
 differs s key asked reply item mode a o = rw o
 
+-- Storing where the item has another unique changes nothing and is answered that it exists, but for an add.
 pub store_exists : (held : Held) (state : State) (key : List ℕ) (item : Item) (asked : Storing) (reply : Reply) → Keeps held state → Some item ≡ live held.time (lookup (pointwise nat_eq key) held.entries) →
     ¬ (asked.mode ≡ Add) → is_other asked.compare item.unique ≡ true → Closes (without_dead state (Some key)) (store_step (without_dead state (Some key)) key asked reply (get (without_dead state (Some key)).items key)) Exists held
 store_exists held state key item asked reply h is not_add other =
@@ -137,6 +146,7 @@ length_joined : (value block : List ℕ) (after : Bool) → length (joined value
 length_joined value block true = length-append value block
 length_joined value block false = omega (arith, length-append block value)
 
+-- An append or a prepend that would make a value too large changes nothing and is answered so.
 pub joined_large : (held : Held) (state : State) (key : List ℕ) (item : Item) (asked : Storing) (reply : Reply) (after : Bool) → Keeps held state → Some item ≡ live held.time (lookup (pointwise nat_eq key) held.entries) →
     Some after ≡ joining asked.mode → is_other asked.compare item.unique ≡ false → (size : ℕ) → size ≡ length item.value + length asked.value → (nat_lt held.limit size || nat_lt held.budget (length key + size + item_overhead)) ≡ true → Closes (without_dead state (Some key)) (store_step (without_dead state (Some key)) key asked reply (get (without_dead state (Some key)).items key)) TooLarge held
 joined_large held state key item asked reply after h is mode other size size_is test =
@@ -146,6 +156,7 @@ joined_large held state key item asked reply after h is mode other size size_is 
     (joined_is held state key item asked reply after h is mode other)
     (too_large settled key asked.unique value (λ unique. record item { value = value; unique = unique; fetched = false; stale = false; sent = false }) reply held (large_there held state key value size true h (length_joined item.value asked.value after ∙ sym size_is) test) (settled_live held state key item h is))
 
+-- To write a new item with the joined value and the old flags and expiry is to append or to prepend.
 pub joined_as : (held : Held) (state : State) (key : List ℕ) (item : Item) (asked : Storing) (reply : Reply) (after : Bool) (made : Item) (answer : Answer) (new : Held) → Keeps held state → Some item ≡ live held.time (lookup (pointwise nat_eq key) held.entries) →
     Some after ≡ joining asked.mode → is_other asked.compare item.unique ≡ false → made ≡ fresh_of (joined item.value asked.value after) item.flags item.expiry →
     Closes (without_dead state (Some key)) (writes (without_dead state (Some key)) key asked.unique made.value (λ unique. record made { unique = unique }) reply) answer new → Closes (without_dead state (Some key)) (store_step (without_dead state (Some key)) key asked reply (get (without_dead state (Some key)).items key)) answer new
@@ -160,6 +171,7 @@ joined_as held state key item asked reply after made answer new h is mode other 
 adds : (s : State) (key : List ℕ) (asked : Storing) (reply : Reply) (u : Used) (mode : MetaMode) → mode ≡ Add → ◌≡◌ {A = Outcome} (NotStored, first s key u.item) (present_store s key asked reply mode u.item)
 adds s key asked reply u mode is = rw is
 
+-- An add under a key that is there isn't stored, but makes the item the most recently used one.
 pub add_refused : (held : Held) (state : State) (key : List ℕ) (item : Item) (asked : Storing) (reply : Reply) → Keeps held state → Some item ≡ live held.time (lookup (pointwise nat_eq key) held.entries) → asked.mode ≡ Add →
     Closes (without_dead state (Some key)) (store_step (without_dead state (Some key)) key asked reply (get (without_dead state (Some key)).items key)) NotStored (with_entries held (set_value (pointwise nat_eq key) (promoted (pointwise nat_eq key) held.entries) (at_now item held.time)))
 add_refused held state key item asked reply h is mode =
@@ -167,6 +179,7 @@ add_refused held state key item asked reply h is mode =
 
 -- From the outcome to the answer of the operation
 
+-- A classic storage command stores in its mode, `cas` at its unique, and the shard gives the item its unique.
 pub classic_store : (settled : State) (key : List ℕ) (mode : StoreMode) (flags : ℕ) (exptime : ℤ) (value : List ℕ) (meta_mode : MetaMode) (compare : Option ℕ) (answer : Answer) (new : Held) → meta_mode ≡ mode_of mode → compare ≡ compare_of mode →
     Closes settled (store_step settled key (storing meta_mode compare None flags exptime value) (λ _. Stored) (get settled.items key)) answer new → Ends settled (Store key mode flags exptime value) answer new
 unfolding step_of kind_of is_lawful
@@ -175,6 +188,7 @@ classic_store settled key mode flags exptime value meta_mode compare answer new 
     (subst (λ v. Closes settled (store_step settled key (storing (mode_of mode) v None flags exptime value) (λ _. Stored) (get settled.items key)) answer new) u
     (subst (λ n. Closes settled (store_step settled key (storing n compare None flags exptime value) (λ _. Stored) (get settled.items key)) answer new) m closes))
 
+-- `set` stores what is asked, whatever is under the key.
 pub set_classic : (settled : State) (key : List ℕ) (mode : StoreMode) (flags : ℕ) (exptime : ℤ) (value : List ℕ) (answer : Answer) (new : Held) → mode ≡ plain.Set →
     Closes settled (stores settled key (storing Set None None flags exptime value) (λ _. Stored)) answer new → Ends settled (Store key mode flags exptime value) answer new
 set_classic settled key mode flags exptime value answer new is closes =
@@ -183,6 +197,7 @@ set_classic settled key mode flags exptime value answer new is closes =
     (along settled (stores settled key asked (λ _. Stored)) (store_step settled key asked (λ _. Stored) (get settled.items key)) answer new
     (set_is settled key asked (λ _. Stored) refl) closes)
 
+-- `ms` stores as its flags ask.
 pub meta_store : (settled : State) (asked : op.MetaStore) (answer : Answer) (new : Held) →
     Closes settled (store_step settled asked.key (storing asked.mode asked.compare asked.unique asked.flags asked.exptime asked.value) (λ done. MetaDone done) (get settled.items asked.key)) answer new → Ends settled (MetaStore asked) answer new
 unfolding step_of kind_of is_lawful

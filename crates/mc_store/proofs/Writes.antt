@@ -31,6 +31,7 @@ by_met P state key stays goes = go (get state.items key) refl where
   go None h = rw h stays
   go (Some u) h = elim (cases_Bool (is_dead u.item.expiry state.time)) [ inl t ↦ rw (h, t) (goes u h) | inr f ↦ rw (h, f) stays ]
 
+-- Settling a key leaves the time as it is.
 pub met_time : (state : State) (key : List ℕ) → (without_dead state (Some key)).time ≡ state.time
 met_time state key = by_met (λ s. s.time ≡ state.time) state key refl (λ _ _. refl)
 
@@ -47,12 +48,14 @@ no_unique : (b : Bool) (next : ℕ) → (if b then Some next else None) ≡ None
 no_unique true next h = absurd cc
 no_unique false next h = refl
 
+-- Where there is a unique to give, what needs one is done with it.
 pub numbered_some : (settled : State) (token : Option ℕ) (unique : ℕ) (outcome : ℕ → State → Outcome) → unique_for token (next_unique settled) ≡ Some unique → numbered settled token outcome ≡ outcome unique (giving token settled)
 numbered_some settled (Some token) unique outcome is = let same_unique : token ≡ unique = cc in ap (λ u. outcome u settled) same_unique
 numbered_some settled None unique outcome is =
     let fits = cond_some (nat_lt (next_unique settled) (2 ^ 64)) (next_unique settled) unique is in
     rw fits.0 (ap (λ u. outcome u (with_given settled)) fits.1)
 
+-- Where there is no unique to give, nothing changes, and the answer tells so.
 pub numbered_none : (settled : State) (token : Option ℕ) (outcome : ℕ → State → Outcome) → unique_for token (next_unique settled) ≡ None → numbered settled token outcome ≡ (NoCas, settled)
 numbered_none settled (Some token) outcome is = absurd cc
 numbered_none settled None outcome is = rw (no_unique (nat_lt (next_unique settled) (2 ^ 64)) (next_unique settled) is)
@@ -61,9 +64,11 @@ numbered_none settled None outcome is = rw (no_unique (nat_lt (next_unique settl
 pub unique_there : (held : Held) (state : State) (key : List ℕ) (token o : Option ℕ) → Keeps held state → o ≡ unique_for token (next_of held) → unique_for token (next_unique (without_dead state (Some key))) ≡ o
 unique_there held state key token o h is = rw (held_unique held state key h) (sym is)
 
+-- What a shard holds tells which unique is to be given, or that there is none.
 pub unique_now : (held : Held) (state : State) (token o : Option ℕ) → Keeps held state → o ≡ unique_for token (next_of held) → unique_for token (next_unique state) ≡ o
 unique_now held state token o h is = rw (h.index, h.shards, h.given) (sym is)
 
+-- A write that finds no unique to give leaves the settled state as it is.
 pub write_refused : (held : Held) (state : State) (key : List ℕ) (new : Held) (token : Option ℕ) (outcome : ℕ → State → Outcome) → Keeps held state → None ≡ unique_for token (next_of held) → Keeps new (without_dead state (Some key)) → Closes (without_dead state (Some key)) (numbered (without_dead state (Some key)) token outcome) NoCas new
 write_refused held state key new token outcome h none after =
     (without_dead state (Some key), inr (sym (numbered_none (without_dead state (Some key)) token outcome (unique_there held state key token None h none))), after)
@@ -83,6 +88,7 @@ giving_keeps : (state : State) (token : Option ℕ) → ((giving token state).ti
 giving_keeps state (Some token) = (refl, refl)
 giving_keeps state None = (refl, refl)
 
+-- A write that fits the budget puts its item first with a new unique, and others go for it.
 pub write_done : (held : Held) (state : State) (key : List ℕ) (item : Item) (token : Option ℕ) (unique : ℕ) (reply : ℕ → Answer) → Keeps held state → cost key item.value ≤ held.budget → Some unique ≡ unique_for token (next_of held) →
     Closes (without_dead state (Some key)) (numbered (without_dead state (Some key)) token (λ number after. (reply number, entered after key (record item { unique = number })))) (reply unique)
     (record (with_put held key (record item { unique = unique; last_access = held.time })) { given = given_after token held.given })
@@ -116,9 +122,11 @@ write_failed held state key outcome h absent =
 
 -- The same outcome by another name
 
+-- What leads to an outcome leads to the same outcome written in another way.
 pub along : (settled : State) (first_outcome second_outcome : Outcome) (answer : Answer) (new : Held) → first_outcome ≡ second_outcome → Closes settled first_outcome answer new → Closes settled second_outcome answer new
 along settled o p answer new is closes = subst (λ q. Closes settled q answer new) is closes
 
+-- What leads to an answer leads to the same answer written in another way.
 pub as_answer : (settled : State) (outcome : Outcome) (one other : Answer) (new : Held) → one ≡ other → Closes settled outcome one new → Closes settled outcome other new
 as_answer settled outcome one other new is closes = subst (λ a. Closes settled outcome a new) is closes
 
@@ -127,6 +135,7 @@ pub large_there : (held : Held) (state : State) (key value : List ℕ) (size : �
 large_there held state key value size test h long is =
     by_met (λ s. is_too_large s key value ≡ test) state key (rw (h.limit, h.budget, long) is) (λ _ _. rw (h.limit, h.budget, long) is)
 
+-- A write of a value that is too large changes nothing and is answered so.
 pub too_large : (settled : State) (key : List ℕ) (token : Option ℕ) (value : List ℕ) (item_of : ℕ → Item) (reply : Reply) (new : Held) → is_too_large settled key value ≡ true → Keeps new settled → Closes settled (writes settled key token value item_of reply) TooLarge new
 too_large settled key token value item_of reply new large h = (settled, inr (rw large), h)
 

@@ -22,12 +22,14 @@ called_last shard called =
 abbrev pub AreCalledBelow : ℕ → List ℕ → List ℕ → Type 0
 AreCalledBelow bound called ways = (shard count : ℕ) → shard < bound → slice_get ways shard ≡ Some count → 0 < count → IsTrue (list_any (λ one. one == shard) called)
 
+-- Once the next shard is called too, of all up to it those of which replies are awaited were called.
 pub below_called : (bound : ℕ) (called ways : List ℕ) → AreCalledBelow bound called ways → AreCalledBelow (bound + 1) (called ++ bound ∷ []) ways
 below_called bound called ways all shard count below found some = elim (cases_lt shard bound) [
   | inl less ↦ called_still shard bound called (all shard count less found some)
   | inr beyond ↦ let is : shard ≡ bound = omega (arith, below, beyond) in rw is (called_last bound called)
 ]
 
+-- The next shard need not be called where no replies are awaited of it.
 pub below_idle : (bound was : ℕ) (called ways : List ℕ) → slice_get ways bound ≡ Some was → was ≤ 0 → AreCalledBelow bound called ways → AreCalledBelow (bound + 1) called ways
 below_idle bound was called ways counted none all shard count below found some = elim (cases_lt shard bound) [
   | inl less ↦ all shard count less found some
@@ -37,6 +39,7 @@ below_idle bound was called ways counted none all shard count below found some =
       absurd (omega (arith, same, none, some))
 ]
 
+-- Once all shards were gone through, each of which replies are awaited was called.
 pub all_below : (bound : ℕ) (called ways : List ℕ) → bound ≡ length ways → AreCalledBelow bound called ways → AreCalled called ways
 all_below bound called ways whole all shard count found some =
     let within : shard < length ways = slice_get_within ways shard count found in

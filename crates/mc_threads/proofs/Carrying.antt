@@ -78,14 +78,17 @@ moves_trans first second both ends ends' last ways ways' left conn conn' new joi
 pub moves_refl : (ends : Ends Near) (ways : List ℕ) (conn : Conn) → MovesOn AnyOut ends ways conn ends ways conn
 moves_refl ends ways conn = record { moves = λ before told received is carries. (on_none before told received ends ways conn conn is is carries, tt) }
 
+-- Where nothing happens no piece leaves the connection.
 pub stays_refl : (ends : Ends Near) (ways : List ℕ) (conn : Conn) → MovesOn NoneOut ends ways conn ends ways conn
 unfolding on_none
 stays_refl ends ways conn = record { moves = λ before told received is carries. (on_none before told received ends ways conn conn is is carries, refl) }
 
+-- Pieces and replies carried on, and then carried on further, were carried on from the first ends to the last.
 pub moves_more : (first second : Told → ℕ → Type 0) (ends ends' last : Ends Near) (ways ways' left : List ℕ) (conn conn' new : Conn) → MovesOn first ends ways conn ends' ways' conn' → MovesOn second ends' ways' conn' last left new → MovesOn AnyOut ends ways conn last left new
 moves_more first second ends ends' last ways ways' left conn conn' new one two =
     moves_trans first second AnyOut ends ends' last ways ways' left conn conn' new (λ told mid lent accepted out a b. tt) one two
 
+-- Where no piece has left in a first step, and none in the next, none has left in both.
 pub stays_more : (ends ends' last : Ends Near) (ways ways' left : List ℕ) (conn conn' new : Conn) → MovesOn NoneOut ends ways conn ends' ways' conn' → MovesOn NoneOut ends' ways' conn' last left new → MovesOn NoneOut ends ways conn last left new
 stays_more ends ends' last ways ways' left conn conn' new one two =
     moves_trans NoneOut NoneOut NoneOut ends ends' last ways ways' left conn conn' new (λ told mid lent accepted out a b. b ∙ a) one two
@@ -110,6 +113,7 @@ moves_unless first so ends last ways left conn new never one = record {
   moves = λ before told received is carries. ((one.moves before told received is carries).0, λ holds. absurd (never holds));
 }
 
+-- Where pieces and replies may be carried, they still may be after whatever was carried.
 pub may_still : (says : Told → ℕ → Type 0) (ends last : Ends Near) (ways left : List ℕ) (conn new : Conn) → MayCarry ends ways conn → MovesOn says ends ways conn last left new → MayCarry last left new
 may_still says ends last ways left conn new may moves =
     let on = (moves.moves may.before may.told may.received may.conn_is may.carries).0 in
@@ -128,6 +132,7 @@ carries_still before ends ends' ways told received still carries =
       serves = carries.serves;
     }
 
+-- Where nothing was sent or received at the ends, the connection goes on, and no piece has left.
 pub stays_still : (ends ends' : Ends Near) (ways : List ℕ) (conn : Conn) → StandsStill ends ends' → MovesOn NoneOut ends ways conn ends' ways conn
 unfolding on_none
 stays_still ends ends' ways conn still = record {
@@ -174,6 +179,7 @@ shard_there told shard piece some here = elim (cases_lt shard told.shards) [
       absurd (cc)
 ]
 
+-- The next piece that leaves is for a shard that has a lane here, and a count of the replies awaited of it.
 pub next_there : (ends : Ends Near) (ways : List ℕ) (conn mid : Conn) (shard : ℕ) (piece : Piece) → MayCarry ends ways conn → Leaves conn shard piece mid → (shard < length ends.lanes) × (shard < length ways)
 next_there ends ways conn mid shard piece may leaves =
     let below = shard_there may.told shard piece (some_shards conn may.told may.conn_is) (leaves may.told may.conn_is).0 in
@@ -211,6 +217,7 @@ back_again so ends ends' ways conn mid new shard piece never still leaves back =
       );
 }
 
+-- A piece that a lane hands back is the one that was to be sent.
 pub same_piece : (item piece : Piece) (back : Parcel) (shard : ℕ) (ends ends' : Ends Near) → AtLane (Sends {Out = Parcel} {In = Shown} {T = Parcel} (λ (sent : Parcel). sent) (parcel.Piece item) (Err back)) shard ends ends' → back ≡ parcel.Piece piece → item ≡ piece
 same_piece item piece back shard ends ends' at is =
     let same : back ≡ parcel.Piece item = at.said.back.0 in
@@ -271,6 +278,7 @@ carries_sent before ends ends' ways told received shard count was piece counted 
       serves = carries.serves;
     }
 
+-- A piece that has left the connection and was sent on its lane is one more of which a reply is awaited there.
 pub sent_one : (so : Type 0) (ends ends' : Ends Near) (ways : List ℕ) (conn mid : Conn) (shard count was : ℕ) (piece : Piece) → (so → ⊥) → slice_get ways shard ≡ Some was → count ≡ was + 1 → AtLane (Sends {Out = Parcel} {In = Shown} {T = Parcel} (λ (sent : Parcel). sent) (parcel.Piece piece) (Ok tt)) shard ends ends' → AreSameEnds ends ends' → Leaves conn shard piece mid → MovesOn (AllOutWhere so) ends ways conn ends' (slice_set ways shard count) mid
 sent_one so ends ends' ways conn mid shard count was piece never counted more at same leaves = record {
   moves = λ before told received is carries.
@@ -371,6 +379,7 @@ carries_received before ends ends' ways told received later accepted shard left 
       serves = serves;
     }
 
+-- A reply received on a lane, be it accepted or a stranger, is one less that is awaited there, and no piece has left.
 pub received_one : (ends ends' : Ends Near) (ways : List ℕ) (conn new : Conn) (shard left was : ℕ) (reply : Reply) (result : Result (Unit {0}) Stranger) → slice_get ways shard ≡ Some was → was ≡ left + 1 → AtLane (ReceivesReply {Out = Parcel} {In = Shown} {T = Reply} shown (Some reply)) shard ends ends' → AreSameEnds ends ends' → Accepts (shown reply) result conn new → MovesOn NoneOut ends ways conn ends' (slice_set ways shard left) new
 received_one ends ends' ways conn new shard left was reply result counted less at same accepts = record {
   moves = λ before told received is carries.

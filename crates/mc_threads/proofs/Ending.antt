@@ -30,9 +30,11 @@ end_sent shard before ends ends' still at same =
       received = λ s. at_lane-kept says (λ (end : Near). end.past.received) shard s ends ends' (λ x y said. ap (λ p. p.received) said.sent) at ∙ still.received s;
     }
 
+-- Before anything happens End was sent on none of the lanes.
 pub ends_none : (ends : Ends Near) → EndsFirst 0 ends ends
 ends_none ends = record { same = same_ends-refl ends; sent = λ s below. absurd (omega (arith, below)); others = λ s from. refl; received = λ s. refl }
 
+-- With End sent on the next lane too, it was sent on one more of the first lanes.
 pub ends_next : (count : ℕ) (before ends ends' : Ends Near) → EndsFirst count before ends → EndsOne count ends ends' → EndsFirst (count + 1) before ends'
 ends_next count before ends ends' first one = record {
   same = same_ends-trans before ends ends' first.same one.same;
@@ -44,6 +46,7 @@ ends_next count before ends ends' first one = record {
   received = λ s. one.received s ∙ first.received s;
 }
 
+-- Once End was sent on as many of the first lanes as there are, it was sent on each.
 pub ends_all : (count : ℕ) (before ends : Ends Near) → length before.lanes ≤ count → EndsFirst count before ends → EndsAll before ends
 ends_all count before ends whole first = record {
   same = first.same;
@@ -51,6 +54,7 @@ ends_all count before ends whole first = record {
   received = first.received;
 }
 
+-- Where nothing was sent or received since, End was sent on as many of the first lanes as before.
 pub ends_still : (count : ℕ) (before ends ends' : Ends Near) → EndsFirst count before ends → StandsStill ends ends' → EndsFirst count before ends'
 ends_still count before ends ends' first still = record {
   same = same_ends-trans before ends ends' first.same still.same;

@@ -3,10 +3,12 @@ use Rattle.std.proofs.Common.{◌≡◌, List, [], ◌∷◌, ◌++◌, length, 
 use Rattle.std.specs.Prelude.{IfOk}
 use Rattle.std.specs.List.{AllByRecursion}
 
+-- What holds of each element of two lists holds of each where they are joined.
 pub all_append : {A : Type 0} (P : A → Type 0) (xs ys : List A) → AllByRecursion P xs → AllByRecursion P ys → AllByRecursion P (xs ++ ys)
 all_append P [] ys h k = k
 all_append P (x ∷ xs) ys h k = (h.0, all_append P xs ys h.1 k)
 
+-- One element more at the end of a list is one more at the end of what the list is mapped to.
 pub map_one : {A B : Type 0} (f : A → B) (xs : List A) (x : A) → map f (xs ++ x ∷ []) ≡ map f xs ++ f x ∷ []
 map_one f [] x = refl
 map_one f (y ∷ xs) x = ap (λ ys. f y ∷ ys) (map_one f xs x)
@@ -21,15 +23,19 @@ pub order_all : {B : Type 0} (done left all : List B) → length left ≡ 0 → 
 order_all done [] all none order = sym (append-nil done) ∙ order
 order_all done (x ∷ left) all none order = absurd (omega (arith, none))
 
+-- What holds of each that was done, and of one that is done next, holds of each that is done then.
 pub all_more : {A : Type 0} (P : A → Type 0) (done done' : List A) (x : A) → done' ≡ done ++ x ∷ [] → AllByRecursion P done → P x → AllByRecursion P done'
 all_more P done done' x grown all this = rw grown (all_append P done (x ∷ []) all (this, tt))
 
+-- What holds of each element of a list holds of the first.
 pub all_first : {A : Type 0} (P : A → Type 0) (all : List A) (x : A) (rest : List A) → all ≡ x ∷ rest → AllByRecursion P all → P x
 all_first P all x rest is holds = (subst (λ (xs : List _). AllByRecursion P xs) is holds).0
 
+-- What holds of each element of a list holds of each behind the first.
 pub all_rest : {A : Type 0} (P : A → Type 0) (all : List A) (x : A) (rest : List A) → all ≡ x ∷ rest → AllByRecursion P all → AllByRecursion P rest
 all_rest P all x rest is holds = (subst (λ (xs : List _). AllByRecursion P xs) is holds).1
 
+-- What holds of the first element of a list and of each behind it holds of each.
 pub all_join : {A : Type 0} (P : A → Type 0) (all : List A) (x : A) (rest : List A) → all ≡ x ∷ rest → P x → AllByRecursion P rest → AllByRecursion P all
 all_join P all x rest is this others = subst (λ (xs : List _). AllByRecursion P xs) (sym is) (this, others)
 

@@ -57,6 +57,7 @@ carries_first ends ways rules window each idle = record {
   serves = serves_none (length ends.lanes);
 }
 
+-- A new connection, at lanes where nothing is under way, stands before the first turn of a line, with no command taken.
 pub turns_first : (may_answer : ℕ → Type 0) (now : Sight) (ends : Ends Near) (ways unread : List ℕ) (conn : Conn) (rules : Rules) (window : ℕ) → length ways ≡ length ends.lanes → IsIdle ways → unread ≡ [] → IsConn conn (told_nothing (length ends.lanes) rules window) → Turns (length ends.lanes) rules may_answer now now ends ends ways unread conn 0
 turns_first may_answer now ends ways unread conn rules window each idle none is = record {
   told = told_nothing (length ends.lanes) rules window;
@@ -112,6 +113,7 @@ carries_take before ends ways told received one conn is carries =
       serves = serves_take told.shards told.taken one told.accepted received carries.serves;
     }
 
+-- What holds between the turns of a line still holds with one command more taken, and that is counted.
 pub turns_take : (shards : ℕ) (rules : Rules) (may_answer : ℕ → Type 0) (begin now : Sight) (before ends : Ends Near) (ways unread : List ℕ) (conn new : Conn) (commands later moment : ℕ) (ticket : Ticket) → may_answer moment → TakeSays conn moment (took.Opened ticket) new → later ≡ min (ticket.0 + 1) (2 ^ 64 - 1) →
     Turns shards rules may_answer begin now before ends ways unread conn commands → Turns shards rules may_answer begin now before ends ways unread new later
 turns_take shards rules may_answer begin now before ends ways unread conn new commands later moment ticket may says later_is turns =
@@ -150,6 +152,7 @@ turns_now shards rules may_answer begin now before ends ways unread conn new com
   counted = turns.counted;
 }
 
+-- Where no command is taken, what holds between the turns of a line still holds, and the reason is the one told.
 pub stops_take : (shards : ℕ) (rules : Rules) (may_answer : ℕ → Type 0) (begin now : Sight) (before ends : Ends Near) (ways unread : List ℕ) (conn new : Conn) (commands moment : ℕ) (stop : Took) → TakeSays conn moment stop new → ((ticket : Ticket) → stop ≡ took.Opened ticket → ⊥) →
     Turns shards rules may_answer begin now before ends ways unread conn commands → Stops shards rules may_answer begin now before ends ways unread new commands stop
 unfolding turns_now
@@ -164,6 +167,7 @@ stops_take shards rules may_answer begin now before ends ways unread conn new co
     let over = says turns.told turns.conn_is in
     record { turns = turns_now shards rules may_answer begin now before ends ways unread conn new commands turns over.1; stops = over.0 }
 
+-- When no further command is taken, pieces and replies may be carried.
 pub can_settle : (shards : ℕ) (rules : Rules) (may_answer : ℕ → Type 0) (begin now : Sight) (before ends : Ends Near) (ways unread : List ℕ) (conn : Conn) (commands : ℕ) (stop : Took) → Stops shards rules may_answer begin now before ends ways unread conn commands stop → MayCarry ends ways conn
 can_settle shards rules may_answer begin now before ends ways unread conn commands stop stops =
     let turns = stops.turns in
@@ -205,6 +209,7 @@ stops_move says shards rules may_answer begin now before ends ends' ways ways' u
     let said = moves.moves before stops.turns.told stops.turns.received stops.turns.conn_is stops.turns.carries in
     stops_on shards rules may_answer begin now before ends ends' ways ways' unread conn new commands stop stops said.0
 
+-- Once every piece has left and no reply is awaited, the commands that were taken are settled.
 pub settles : (shards : ℕ) (rules : Rules) (may_answer : ℕ → Type 0) (begin now : Sight) (before ends ends' : Ends Near) (ways ways' unread : List ℕ) (conn new : Conn) (commands : ℕ) (stop : Took) → MovesOn AllOut ends ways conn ends' ways' new → IsIdle ways' → Stops shards rules may_answer begin now before ends ways unread conn commands stop → Settled shards rules may_answer begin now before ends' ways' unread new commands stop
 unfolding stops_on
 settles shards rules may_answer begin now before ends ends' ways ways' unread conn new commands stop moves idle stops =

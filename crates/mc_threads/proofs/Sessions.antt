@@ -24,6 +24,7 @@ pub record SomeAnd {A : Type 0} (o : Option A) (P : A → Type 0) : Type 0 where
   pub is : o ≡ Some some
   pub holds : P some
 
+-- Where there is something of which this holds, it can be taken out with what holds of it.
 pub some_and : {A : Type 0} (o : Option A) (P : A → Type 0) → IsSomeAnd o P → SomeAnd o P
 some_and (Some x) P holds = record { some = x; is = refl; holds = holds }
 some_and None P holds = absurd holds
@@ -31,6 +32,7 @@ some_and None P holds = absurd holds
 some_so : {A : Type 0} (o : Option A) (x : A) (P : A → Type 0) → o ≡ Some x → P x → IsSomeAnd o P
 some_so {A} o x P is holds = let S : Option A → Type 0 = λ it. IsSomeAnd it P in subst S (sym is) holds
 
+-- What holds of the value that is there holds of the value that it is known to be.
 pub some_is : {A : Type 0} (o : Option A) (x : A) (P : A → Type 0) → o ≡ Some x → IsSomeAnd o P → P x
 some_is {A} o x P is holds = let S : Option A → Type 0 = λ it. IsSomeAnd it P in subst S is holds
 

@@ -35,6 +35,7 @@ pub decoded_ok : (word bytes : List ℕ) → decode_of standard word ≡ Ok byte
 unfolding base64_bytes decoded_of
 decoded_ok word bytes h = rw h
 
+-- A word that decoding refuses stands for no bytes in base64.
 pub decoded_err : (word : List ℕ) (e : DecodeError) → decode_of standard word ≡ Err e → base64_bytes word ≡ None
 unfolding base64_bytes decoded_of
 decoded_err word e h = rw h
@@ -57,6 +58,7 @@ in_limits word some short =
     let second : nat_lt KEY_LIMIT (length word) ≡ false = grind (arith, nat_tests) in
     (rw (first, second), rw (first, second))
 
+-- A word of 1 to 250 bytes that decodes is the base64 text of a key.
 pub decoded_key : (word bytes : List ℕ) → IsBytes word → 0 < length word → length word ≤ KEY_LIMIT → decode_of standard word ≡ Ok bytes → IsKeyWord word bytes
 unfolding base64_of
 decoded_key word bytes octets some short decoded =
@@ -93,5 +95,6 @@ key_text word bytes octets is =
       the_ok (Ok read) is = cc
       the_ok (Err e) is = absurd cc
 
+-- A word of bytes gives a key exactly where it is the base64 text of that key.
 pub base64_is_text : Base64IsText
 base64_is_text word bytes octets = (key_text word bytes octets, text_key word bytes)

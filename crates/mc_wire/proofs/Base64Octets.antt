@@ -97,6 +97,7 @@ outcome_ok : (x : Option DecodeError) (bytes b : List ℕ) → decode_outcome x 
 outcome_ok None bytes b h = (refl, cc h)
 outcome_ok (Some x) bytes b h = absurd (cc h)
 
+-- Decoding a word of bytes gives bytes.
 pub decoded_octets : (word bytes : List ℕ) → IsBytes word → decode_of standard word ≡ Ok bytes → IsBytes bytes
 decoded_octets word bytes octets decoded =
     let dec = standard.decode_table in

@@ -71,10 +71,12 @@ narrowed : (f : ℕ → ℤ) (bound n : ℕ) (digits : Bool) → bound ≤ 2 ^ 6
     option_map f (if digits && nat_lt n bound then Some n else None) ≡ option_and_then (λ m. if nat_lt m bound then Some (f m) else None) (if digits && nat_lt n (2 ^ 64) then Some n else None)
 narrowed f bound n digits small = grind (arith, nat_tests)
 
+-- A word with a minus in front spells the negative of the number behind it, where signed 64 bits have room.
 pub minus_is : (word digits : List ℕ) → starts_with_minus word ≡ true → digits ≡ drop 1 word → integer_of word ≡ option_and_then negative (number_of (2 ^ 64) digits)
 unfolding number_of
 minus_is word digits minus rest = rw (minus, rest) (narrowed (λ n. neg_ℤ (pos n)) (2 ^ 63 + 1) (digits_value 10 (drop 1 word)) (is_digits (drop 1 word)) (lit≤ tt))
 
+-- A word without a minus spells its number, where signed 64 bits have room.
 pub plain_is : (word : List ℕ) → starts_with_minus word ≡ false → integer_of word ≡ option_and_then positive (number_of (2 ^ 64) word)
 unfolding number_of
 plain_is word plain = rw plain (narrowed pos (2 ^ 63) (digits_value 10 word) (is_digits word) (lit≤ tt))
@@ -84,6 +86,7 @@ pub unread : (o : Option ℕ) (f : ℕ → Option ℤ) (e : WireFault) (integer 
 unread None f e integer is h = rw is (cc)
 unread (Some n) f e integer is h = absurd cc
 
+-- Where the digits spell a number, the word spells what the sign makes of it, or no number where that has no room.
 pub read : (o : Option ℕ) (f : ℕ → Option ℤ) (n : ℕ) (integer : Option ℤ) → integer ≡ option_and_then f o → Ok n ≡ ok_or o NotNumber → ok_or (f n) NotNumber ≡ ok_or integer NotNumber
 read None f n integer is h = absurd cc
 read (Some m) f n integer is h = let same : n ≡ m = cc in rw (is, same)

@@ -34,8 +34,10 @@ behind_front text passed within none =
     let len : length (take passed text) ≡ passed = length-take-le passed text within in
     simp (whole, len) at parts
 
+-- Where the front of a text has no space, the first space behind it is the first of the text.
 pub found_behind : (text : List ℕ) (passed at : ℕ) → passed ≤ length text → list_any is_space (take passed text) ≡ false → Some at ≡ position is_space (drop passed text) → Some (passed + at) ≡ position is_space text
 found_behind text passed at within none found = sym (behind_front text passed within none ∙ ap (option_map (λ i. passed + i)) (sym found))
 
+-- Where neither the front of a text nor what is behind it has a space, the text has none.
 pub none_behind : (text : List ℕ) (passed : ℕ) → passed ≤ length text → list_any is_space (take passed text) ≡ false → None ≡ position is_space (drop passed text) → None ≡ position is_space text
 none_behind text passed within none found = sym (behind_front text passed within none ∙ ap (option_map (λ i. passed + i)) (sym found))
