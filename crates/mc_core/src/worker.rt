@@ -1,12 +1,12 @@
 //! The worker of one shard: it takes pieces from the seats' lanes, runs them and gives the replies.
-ghost use Rattle.std.specs.Prelude.{◌≡◌, ◌<◌, ◌↔◌, IsTrue, None, true, length, ℕ, [], IfOk, IfSome};
+ghost use Rattle.std.specs.Prelude.{◌≡◌, ◌<◌, ◌≤◌, ◌↔◌, IsTrue, None, true, length, ℕ, [], IfOk, IfSome};
 ghost use Rattle.std.specs.Bool.{OnFalse, OnTrue};
 ghost use Rattle.std.specs.List.{AllByRecursion};
 ghost use Rattle.std.specs.Option.{option_map};
 ghost use Rattle.mc_ring.specs.Ends.{AreSameEnds};
 ghost use Rattle.mc_ring.specs.Made.{IsLane, IsUnused, LooksAtBoth};
 ghost use Rattle.mc_store.specs.Shard.{IsShard};
-ghost use Rattle.mc_store.specs.State.{State};
+ghost use Rattle.mc_store.specs.State.{State, empty_state};
 ghost use Rattle.mc_core.specs.Desk.{Goes, HasEnded, HasRun, RunsNoMore};
 ghost use Rattle.mc_core.specs.Turns.{FindsNothing, Gives, Grows, Turned};
 ghost use Rattle.mc_core.specs.Marks.{Marks};
@@ -15,9 +15,11 @@ ghost use Rattle.mc_core.specs.Serves.{Serves};
 use crate::gate::Gate;
 use mc_ring::{Parcel, Reply, SeatEnds, ShardEnds, beside};
 use mc_split::{Piece, Ticket};
-use mc_store::Shard;
+use mc_store::{GREATEST_BUDGET, LEAST_BUDGET, Shard};
+use mc_wire::GREATEST_VALUE_LIMIT;
 use std::alloc::{AllocError, Global};
 use std::marker::Model;
+use std::random::RandomSource;
 
 /// So many turns are made for one seat before the worker looks at the next. A piece takes two: it is run, and its reply is given.
 const LANE_TURNS: usize = 64;
@@ -100,6 +102,34 @@ impl Worker {
             hand: None,
             live,
         })
+    }
+
+    /// The same, of an empty shard: one of so many, with this budget of bytes, for values of at most so many bytes each.
+    pub fn start<R: RandomSource>(
+        rt: &R,
+        alloc: Global,
+        ends: ShardEnds,
+        shards: usize,
+        budget: usize,
+        limit: usize,
+    ) -> Result<Worker, AllocError>
+        requires place { ends.number < shards }
+        requires least_budget { LEAST_BUDGET ≤ budget }
+        requires most_budget { budget ≤ GREATEST_BUDGET }
+        requires limit { limit ≤ GREATEST_VALUE_LIMIT }
+        requires unused { AllByRecursion IsUnused ends.lanes }
+        ensures ends { IfOk result (λ worker. worker.ends ≡ ends) }
+        ensures free { IfOk result (λ worker. worker.hand ≡ None) }
+        ensures live { IfOk result (λ worker. AllByRecursion (λ live. live ≡ true) worker.live) }
+        ensures marked { IfOk result (λ worker. length worker.live ≡ length worker.ends.lanes) }
+
+        // It has run nothing.
+        ensures begins { IfOk result (λ worker. HasRun (empty_state ends.number shards budget 0 limit) worker []) }
+    {
+        match Shard::empty(rt, alloc, ends.number(), shards, budget, limit) {
+            Ok(shard) => Worker::new(alloc, shard, ends),
+            Err(_) => Err(AllocError),
+        }
     }
 
     /// Shows its shard to the gate.

@@ -11,7 +11,6 @@ use mc_seat::{Clock, Line, Rooms, Seat, Served, Turn};
 use mc_store::{GREATEST_BUDGET, LEAST_BUDGET, Shard};
 use mc_wire::{GREATEST_LINE_LIMIT, GREATEST_VALUE_LIMIT};
 use std::alloc::{AllocError, Global};
-use std::hash::RandomState;
 use std::random::RandomSource;
 use std::sync::Wait;
 use std::thread;
@@ -76,18 +75,7 @@ fn make_shards<R: RandomSource>(
 {
     let mut shards = Vec::with_capacity(alloc, sizes.shards)?;
     for index in 0..sizes.shards {
-        let Ok(hasher) = RandomState::new(rt) else {
-            return Err(AllocError);
-        };
-        match Shard::new(
-            alloc,
-            hasher,
-            index,
-            sizes.shards,
-            sizes.bytes,
-            0,
-            sizes.value,
-        ) {
+        match Shard::empty(rt, alloc, index, sizes.shards, sizes.bytes, sizes.value) {
             Ok(shard) => shards.push(shard)?,
             Err(_) => return Err(AllocError),
         }

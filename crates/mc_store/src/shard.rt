@@ -25,6 +25,7 @@ use mc_item::{Answer, Asked, Item, MetaDone, Op, PackedExpiry, Status, Tally, Va
 use mc_wire::{GREATEST_VALUE_LIMIT, Key, LATEST_MOMENT};
 use std::alloc::{AllocError, Global};
 use std::hash::RandomState;
+use std::random::RandomSource;
 use thiserror::Error;
 
 /// Why there is no shard.
@@ -100,6 +101,28 @@ impl Shard {
             shards: shards as u64,
             tally: Tally::new(),
         })
+    }
+
+    /// The same, where no unique was given before; the hash of its keys has a secret of its own. It fails too where the system
+    /// gives no random bytes.
+    pub fn empty<R: RandomSource>(
+        rt: &R,
+        alloc: Global,
+        index: usize,
+        shards: usize,
+        budget: usize,
+        limit: usize,
+    ) -> Result<Shard, StoreFault>
+        requires place { index < shards }
+        requires least_budget { LEAST_BUDGET ≤ budget }
+        requires most_budget { budget ≤ GREATEST_BUDGET }
+        requires most_limit { limit ≤ GREATEST_VALUE_LIMIT }
+        ensures { IfOk result (λ shard. IsShard shard (empty_state index shards budget 0 limit)) }
+    {
+        let Ok(hasher) = RandomState::new(rt) else {
+            return Err(StoreFault::Memory);
+        };
+        Shard::new(alloc, hasher, index, shards, budget, 0, limit)
     }
 
     /// Does what it is asked, at the moment: a second since 1970. It is counted.

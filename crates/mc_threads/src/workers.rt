@@ -7,10 +7,9 @@ ghost use Rattle.mc_threads.specs.Workers.{AreFresh, IsFresh, ends_of};
 use mc_core::Worker;
 use mc_ring::ShardEnds;
 use mc_server::Sizes;
-use mc_store::{GREATEST_BUDGET, LEAST_BUDGET, Shard};
+use mc_store::{GREATEST_BUDGET, LEAST_BUDGET};
 use mc_wire::GREATEST_VALUE_LIMIT;
 use std::alloc::{AllocError, Global};
-use std::hash::RandomState;
 use std::random::RandomSource;
 
 /// A worker for the ends of each shard, over an empty shard.
@@ -50,19 +49,5 @@ fn make_worker<R: RandomSource>(
     ensures ends { IfOk result (λ worker. worker.ends ≡ ends) }
     ensures fresh { (seats : ℕ) → IfOk result (IsFresh (sizes_of seats sizes)) }
 {
-    let Ok(hasher) = RandomState::new(rt) else {
-        return Err(AllocError);
-    };
-    match Shard::new(
-        alloc,
-        hasher,
-        ends.number(),
-        sizes.shards,
-        sizes.bytes,
-        0,
-        sizes.value,
-    ) {
-        Ok(shard) => Worker::new(alloc, shard, ends),
-        Err(_) => Err(AllocError),
-    }
+    Worker::start(rt, alloc, ends, sizes.shards, sizes.bytes, sizes.value)
 }

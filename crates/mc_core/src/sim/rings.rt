@@ -17,9 +17,7 @@ use crate::sim::numbers::Numbers;
 use crate::worker::{Turn, Worker};
 use mc_ring::{Parcel, Reply, SeatEnds, ShardEnds, lanes};
 use mc_split::{Piece, Ticket};
-use mc_store::Shard;
 use std::alloc::{AllocError, Global};
-use std::hash::RandomState;
 use std::marker::Model;
 use std::random::RandomSource;
 
@@ -240,19 +238,12 @@ fn worker<R: RandomSource>(
     ensures ends { IfOk result (λ worker. worker.ends ≡ ends) }
     ensures started { IfOk result (λ worker. IsStarted (sizes_of numbers) worker) }
 {
-    let Ok(hasher) = RandomState::new(rt) else {
-        return Err(AllocError);
-    };
-    match Shard::new(
+    Worker::start(
+        rt,
         alloc,
-        hasher,
-        ends.number(),
+        ends,
         numbers.shards,
         numbers.bytes,
-        0,
         numbers.value,
-    ) {
-        Ok(shard) => Worker::new(alloc, shard, ends),
-        Err(_) => Err(AllocError),
-    }
+    )
 }

@@ -10,6 +10,6 @@ pub loop-index-preserved : goal.loop-index-preserved
 loop-index-preserved g c =
     let shards = c.loop-index.shards.items in
     let count = c.loop-index.invariant.0 in
-    let items = c.in_ok-push-in-Ok-new.ensures.items in
-    let longer : length c.push.new.self.items ≡ c.loop-index.index + 1 = omega (arith, ap length items, length-append shards (c.in-Ok-new.shard ∷ [])) in
-    (longer, rw items (Backs-new (line_sizes c.args.sizes) shards c.in-Ok-new.shard c.loop-index.invariant.1 (rw count c.in-Ok-new.ensures)))
+    let items = c.in_ok-push-in-Ok.ensures.items in
+    let longer : length c.push.new.self.items ≡ c.loop-index.index + 1 = omega (arith, ap length items, length-append shards (c.in-Ok.shard ∷ [])) in
+    (longer, rw items (Backs-new (line_sizes c.args.sizes) shards c.in-Ok.shard c.loop-index.invariant.1 (rw count c.in-Ok.ensures)))
