@@ -126,7 +126,7 @@ few_meta_by most rules meta.Delete key asked = tt
 few_meta_by most rules meta.Arithmetic key asked = tt
 
 few_meta : (most : ℕ) (rules : Rules) (name : MetaKind) (word : List ℕ) (words : List (List ℕ)) → FewAsked most (meta_command_of rules name word words)
-few_meta most rules name word words = few_unless most (flags_refusal rules name [] words) (then_of (meta_key_of (has_flag 98 words) word) (λ key. command_by rules name key (asked_of name words))) (few_then most (meta_key_of (has_flag 98 words) word) (λ key. command_by rules name key (asked_of name words)) (λ key. few_meta_by most rules name key (asked_of name words)))
+few_meta most rules name word words = few_unless most (flags_refusal rules name [] words) (then_of (meta_key_of (has_flag 98 words) word) (λ key. command_by rules name key (asked_of rules name words))) (few_then most (meta_key_of (has_flag 98 words) word) (λ key. command_by rules name key (asked_of rules name words)) (λ key. few_meta_by most rules name key (asked_of rules name words)))
 
 few_meta_line : (most : ℕ) (rules : Rules) (name : MetaKind) (words : List (List ℕ)) → FewLine most (meta_line_of rules name words)
 unfolding meta_line_of

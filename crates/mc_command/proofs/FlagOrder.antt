@@ -133,14 +133,14 @@ module _ (words others : List (List ℕ)) (moved : IsPermutation words others) (
   stands : (letter : ℕ) → has_flag letter words ≡ has_flag letter others
   stands letter = list_any-IsPermutation (has_letter letter) words others moved
 
-  asked_is : (name : MetaKind) → asked_of name others ≡ record (asked_of name words) { flags = with_flags (flags_of words) (filter_map shown_flag others) }
-  asked_is name = rw (stands 98, stands 113, found 79, stands 118, stands 73, stands 117, found 84, found 78, found 82, found 67, found 69, found 68, found 74, found 70, found 77) refl
+  asked_is : (rules : Rules) (name : MetaKind) → asked_of rules name others ≡ record (asked_of rules name words) { flags = with_flags (flags_of rules.profile words) (filter_map shown_flag others) }
+  asked_is rules name = rw (stands 98, stands 113, found 79, stands 118, stands 73, stands 117, found 84, found 78, found 82, found 67, found 69, found 68, found 74, found 70, found 77) refl
 
   pub same_keyed : (rules : Rules) (name : MetaKind) (word : List ℕ) →
-      SameAsked (then_of (meta_key_of (has_flag 98 words) word) (λ key. command_by rules name key (asked_of name words))) (then_of (meta_key_of (has_flag 98 others) word) (λ key. command_by rules name key (asked_of name others)))
+      SameAsked (then_of (meta_key_of (has_flag 98 words) word) (λ key. command_by rules name key (asked_of rules name words))) (then_of (meta_key_of (has_flag 98 others) word) (λ key. command_by rules name key (asked_of rules name others)))
   same_keyed rules name word =
-      same_then _ _ (λ key. command_by rules name key (asked_of name words)) (λ key. command_by rules name key (asked_of name others)) (ap (λ base64. meta_key_of base64 word) (stands 98))
-      (λ key. rw (asked_is name) (with_others rules name key (asked_of name words) (filter_map shown_flag others) (IsPermutation-filter_map shown_flag words others moved)))
+      same_then _ _ (λ key. command_by rules name key (asked_of rules name words)) (λ key. command_by rules name key (asked_of rules name others)) (ap (λ base64. meta_key_of base64 word) (stands 98))
+      (λ key. rw (asked_is rules name) (with_others rules name key (asked_of rules name words) (filter_map shown_flag others) (IsPermutation-filter_map shown_flag words others moved)))
 
 same_asked : (rules : Rules) (name : MetaKind) (word : List ℕ) (words others : List (List ℕ)) → IsPermutation words others → SameAsked (meta_command_of rules name word words) (meta_command_of rules name word others)
 same_asked rules name word words others moved =

@@ -10,6 +10,7 @@ use Rattle.mc_command.specs.declared.meta_flags.Asked.{Asked}
 use Rattle.mc_command.specs.declared.meta_flags.Flag.{Flag}
 use Rattle.mc_command.specs.declared.meta_flags.Flag.TheVariants as flag
 use Rattle.mc_command.specs.declared.meta_flags.FlagReader.{FlagReader}
+use Rattle.mc_command.specs.declared.rules.Profile.{Profile}
 use Rattle.mc_command.specs.Meta.{is_among, return_flag}
 use Rattle.mc_command.specs.internal.FlagReading.{IsCounted, seen_count, shown_count, with_flag, with_shown, unseen, nothing_asked}
 
@@ -112,9 +113,9 @@ counted_bare reader letter said asked counted within fresh is shows =
     rw is (rw (← shows) at (counted_more reader letter said counted within fresh))
 
 -- Before the first flag is read no letter was seen and no flag is given back, so the count holds.
-pub counted_first : (reader : FlagReader) → reader.seen ≡ unseen → reader.asked ≡ nothing_asked → IsCounted reader
+pub counted_first : (profile : Profile) (reader : FlagReader) → reader.seen ≡ unseen → reader.asked ≡ nothing_asked profile → IsCounted reader
 unfolding shown_count
-counted_first reader seen asked = record {
+counted_first profile reader seen asked = record {
   wide = rw seen (length-replicate 256 false);
   shown = rw (seen, asked) refl;
 }

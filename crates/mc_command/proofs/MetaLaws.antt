@@ -66,13 +66,13 @@ yields_meta_key false word = yields_key word
 pub meta_given_up : (rules : Rules) (name : MetaKind) (word : List ℕ) (words : List (List ℕ)) → MayBeGivenUp (meta_command_of rules name word words)
 meta_given_up rules name word words =
     given_up_unless (flags_refusal rules name [] words) _ (flags_refusal_of_line rules name [] words)
-    (may_then _ _ (yields_meta_key (has_flag 98 words) word) (λ key. given_up_command rules name key (asked_of name words)))
+    (may_then _ _ (yields_meta_key (has_flag 98 words) word) (λ key. given_up_command rules name key (asked_of rules name words)))
 
-asked_then : (rules : Rules) (name : MetaKind) (word : List ℕ) (words : List (List ℕ)) (asked : Asked) (key : List ℕ) (refusal : Option Refusal) → Ok asked ≡ unless refusal (Ok (asked_of name words)) → meta_key_of asked.flags.base64 word ≡ Ok key →
-    command_by rules name key asked ≡ unless refusal (then_of (meta_key_of (has_flag 98 words) word) (λ bytes. command_by rules name bytes (asked_of name words)))
+asked_then : (rules : Rules) (name : MetaKind) (word : List ℕ) (words : List (List ℕ)) (asked : Asked) (key : List ℕ) (refusal : Option Refusal) → Ok asked ≡ unless refusal (Ok (asked_of rules name words)) → meta_key_of asked.flags.base64 word ≡ Ok key →
+    command_by rules name key asked ≡ unless refusal (then_of (meta_key_of (has_flag 98 words) word) (λ bytes. command_by rules name bytes (asked_of rules name words)))
 asked_then rules name word words asked key (Some refusal) said spelled = absurd cc
 asked_then rules name word words asked key None said spelled =
-    let same : asked ≡ asked_of name words = cc in
+    let same : asked ≡ asked_of rules name words = cc in
     rw (same, rw same at spelled)
 
 reads_same : (asked read : Result Command Refusal) → read ≡ asked → Reads asked read
@@ -80,7 +80,7 @@ reads_same asked (Ok command) same = sym same
 reads_same asked (Err refusal) same = λ other. sym same
 
 -- flags and key as they were read make the command
-pub reads_command : (rules : Rules) (name : MetaKind) (word : List ℕ) (words : List (List ℕ)) (asked : Asked) (key : List ℕ) (read : Result Command Refusal) → Ok asked ≡ unless (flags_refusal rules name [] words) (Ok (asked_of name words)) →
+pub reads_command : (rules : Rules) (name : MetaKind) (word : List ℕ) (words : List (List ℕ)) (asked : Asked) (key : List ℕ) (read : Result Command Refusal) → Ok asked ≡ unless (flags_refusal rules name [] words) (Ok (asked_of rules name words)) →
     meta_key_of asked.flags.base64 word ≡ Ok key → read ≡ command_by rules name key asked → Reads (meta_command_of rules name word words) read
 reads_command rules name word words asked key read said spelled made =
     reads_same (meta_command_of rules name word words) read (made ∙ asked_then rules name word words asked key (flags_refusal rules name [] words) said spelled)

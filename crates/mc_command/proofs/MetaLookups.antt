@@ -12,6 +12,7 @@ use Rattle.mc_wire.specs.Number.{number_of, integer_of}
 use Rattle.mc_command.specs.declared.meta.ReturnFlag.{ReturnFlag}
 use Rattle.mc_command.specs.declared.meta_flags.Asked.{Asked}
 use Rattle.mc_command.specs.declared.meta.MetaKind.{MetaKind}
+use Rattle.mc_command.specs.declared.rules.Rules.{Rules}
 use Rattle.mc_command.specs.Meta.{has_letter, has_flag, token_of, shown_flag, return_flag, asked_of, mode_in, direction_in}
 use Rattle.mc_command.specs.internal.FlagReading.{with_shown}
 
@@ -86,9 +87,9 @@ asked_next name asked first token shown = record {
 }
 
 -- With a flag more, of a letter that none before it has, a meta line asks what it did and what that flag says.
-pub asked_of-append : (name : MetaKind) (before : List (List ℕ)) (first : ℕ) (token : List ℕ) → has_flag first before ≡ false →
-    asked_of name (before ++ (first ∷ token) ∷ []) ≡ asked_next name (asked_of name before) first token (return_flag first)
-asked_of-append name before first token fresh =
+pub asked_of-append : (rules : Rules) (name : MetaKind) (before : List (List ℕ)) (first : ℕ) (token : List ℕ) → has_flag first before ≡ false →
+    asked_of rules name (before ++ (first ∷ token) ∷ []) ≡ asked_next name (asked_of rules name before) first token (return_flag first)
+asked_of-append rules name before first token fresh =
     let flag = λ (letter : ℕ). has_flag-append letter before first token in
     let returned = filter_map-append shown_flag before ((first ∷ token) ∷ []) ∙ more_is (filter_map shown_flag before) (return_flag first) in
     let opaque = read-append (λ o. unwrap_or o []) 79 before first token fresh in

@@ -35,75 +35,75 @@ token_refusal name letter token =
     cond (letter == 79 && nat_lt OPAQUE_LIMIT (length token)) (Some OpaqueTooLong) (cond (is_token name letter token) None (Some BadFormat))
 
 -- what a flag that stands for the first time says
-data Tells (name : MetaKind) (letter : ℕ) (token : List ℕ) (before : List (List ℕ)) : Type 0 where
-  refused : (refusal : Refusal) → token_refusal name letter token ≡ Some refusal → flag_of name letter token ≡ Err refusal → Tells name letter token before
+data Tells (rules : Rules) (name : MetaKind) (letter : ℕ) (token : List ℕ) (before : List (List ℕ)) : Type 0 where
+  refused : (refusal : Refusal) → token_refusal name letter token ≡ Some refusal → flag_of name letter token ≡ Err refusal → Tells rules name letter token before
   said : (flag : Flag) → token_refusal name letter token ≡ None → flag_of name letter token ≡ Ok flag →
-      with_shown (with_flag (asked_of name before) flag) (return_flag letter) ≡ asked_of name (before ++ (letter ∷ token) ∷ []) → Tells name letter token before
+      with_shown (with_flag (asked_of rules name before) flag) (return_flag letter) ≡ asked_of rules name (before ++ (letter ∷ token) ∷ []) → Tells rules name letter token before
 
 -- A flag says what the look-ups give.
-abbrev IsSaid : MetaKind → ℕ → Type 0
-IsSaid name letter = (token : List ℕ) (before : List (List ℕ)) → has_flag letter before ≡ false → Tells name letter token before
+abbrev IsSaid : Rules → MetaKind → ℕ → Type 0
+IsSaid rules name letter = (token : List ℕ) (before : List (List ℕ)) → has_flag letter before ≡ false → Tells rules name letter token before
 
 -- a flag without a token
-said_plain : (name : MetaKind) (letter : ℕ) (flag : Flag) → ((token : List ℕ) → token_refusal name letter token ≡ None) → ((token : List ℕ) → flag_of name letter token ≡ Ok flag) →
-    ((asked : Asked) (token : List ℕ) → with_shown (with_flag asked flag) (return_flag letter) ≡ asked_next name asked letter token (return_flag letter)) → IsSaid name letter
-said_plain name letter flag refusal is agrees token before fresh =
-    said flag (refusal token) (is token) (agrees (asked_of name before) token ∙ sym (asked_of-append name before letter token fresh))
+said_plain : (rules : Rules) (name : MetaKind) (letter : ℕ) (flag : Flag) → ((token : List ℕ) → token_refusal name letter token ≡ None) → ((token : List ℕ) → flag_of name letter token ≡ Ok flag) →
+    ((asked : Asked) (token : List ℕ) → with_shown (with_flag asked flag) (return_flag letter) ≡ asked_next name asked letter token (return_flag letter)) → IsSaid rules name letter
+said_plain rules name letter flag refusal is agrees token before fresh =
+    said flag (refusal token) (is token) (agrees (asked_of rules name before) token ∙ sym (asked_of-append rules name before letter token fresh))
 
-said_opaque : (name : MetaKind) → IsSaid name 79
+said_opaque : (rules : Rules) (name : MetaKind) → IsSaid rules name 79
 unfolding token_refusal
-said_opaque name token before fresh = elim (cases_Bool (nat_lt OPAQUE_LIMIT (length token))) [
+said_opaque rules name token before fresh = elim (cases_Bool (nat_lt OPAQUE_LIMIT (length token))) [
   | inl t ↦ refused OpaqueTooLong (rw t) (rw t)
-  | inr t ↦ said (flag.Opaque token) (rw t) (rw t) (sym (asked_of-append name before 79 token fresh))
+  | inr t ↦ said (flag.Opaque token) (rw t) (rw t) (sym (asked_of-append rules name before 79 token fresh))
 ]
 
 -- a flag whose token is read, or refused
-said_read : {A : Type 0} (name : MetaKind) (letter : ℕ) (read : List ℕ → Option A) (make : A → Flag) → ((token : List ℕ) → token_refusal name letter token ≡ cond (is_some (read token)) None (Some BadFormat)) →
+said_read : {A : Type 0} (rules : Rules) (name : MetaKind) (letter : ℕ) (read : List ℕ → Option A) (make : A → Flag) → ((token : List ℕ) → token_refusal name letter token ≡ cond (is_some (read token)) None (Some BadFormat)) →
     ((token : List ℕ) → flag_of name letter token ≡ ok_or (option_map make (read token)) BadFormat) →
-    ((before : List (List ℕ)) (token : List ℕ) (value : A) → read token ≡ Some value → with_shown (with_flag (asked_of name before) (make value)) (return_flag letter) ≡ asked_next name (asked_of name before) letter token (return_flag letter)) → IsSaid name letter
-said_read {A = A} name letter read make refusal is agrees token before fresh = by_value (read token) refl where
-  by_value : (found : Option A) → read token ≡ found → Tells name letter token before
+    ((before : List (List ℕ)) (token : List ℕ) (value : A) → read token ≡ Some value → with_shown (with_flag (asked_of rules name before) (make value)) (return_flag letter) ≡ asked_next name (asked_of rules name before) letter token (return_flag letter)) → IsSaid rules name letter
+said_read {A = A} rules name letter read make refusal is agrees token before fresh = by_value (read token) refl where
+  by_value : (found : Option A) → read token ≡ found → Tells rules name letter token before
   by_value None none = refused BadFormat (refusal token ∙ rw none) (is token ∙ rw none)
-  by_value (Some value) some = said (make value) (refusal token ∙ rw some) (is token ∙ rw some) (agrees before token value some ∙ sym (asked_of-append name before letter token fresh))
+  by_value (Some value) some = said (make value) (refusal token ∙ rw some) (is token ∙ rw some) (agrees before token value some ∙ sym (asked_of-append rules name before letter token fresh))
 
-said_mode : (name : MetaKind) → IsSaid name 77
+said_mode : (rules : Rules) (name : MetaKind) → IsSaid rules name 77
 unfolding token_refusal
-said_mode Get token before fresh = refused BadFormat refl refl
-said_mode Delete token before fresh = refused BadFormat refl refl
-said_mode Set token before fresh = said_read Set 77 mode_of flag.Mode (λ _. refl) (λ _. refl) (λ _ _ _ is. rw is refl) token before fresh
-said_mode Arithmetic token before fresh = said_read Arithmetic 77 direction_of flag.Direction (λ _. refl) (λ _. refl) (λ _ _ _ is. rw is refl) token before fresh
+said_mode rules Get token before fresh = refused BadFormat refl refl
+said_mode rules Delete token before fresh = refused BadFormat refl refl
+said_mode rules Set token before fresh = said_read rules Set 77 mode_of flag.Mode (λ _. refl) (λ _. refl) (λ _ _ _ is. rw is refl) token before fresh
+said_mode rules Arithmetic token before fresh = said_read rules Arithmetic 77 direction_of flag.Direction (λ _. refl) (λ _. refl) (λ _ _ _ is. rw is refl) token before fresh
 
-said_bare : (name : MetaKind) (letter : ℕ) → (letter == 98) ≡ false → (letter == 113) ≡ false → (letter == 118) ≡ false → (letter == 73) ≡ false → (letter == 117) ≡ false → (letter == 79) ≡ false → (letter == 77) ≡ false → (letter == 84) ≡ false → (letter == 78) ≡ false → (letter == 82) ≡ false → (letter == 67) ≡ false → (letter == 69) ≡ false → (letter == 68) ≡ false → (letter == 74) ≡ false → (letter == 70) ≡ false → IsSaid name letter
+said_bare : (rules : Rules) (name : MetaKind) (letter : ℕ) → (letter == 98) ≡ false → (letter == 113) ≡ false → (letter == 118) ≡ false → (letter == 73) ≡ false → (letter == 117) ≡ false → (letter == 79) ≡ false → (letter == 77) ≡ false → (letter == 84) ≡ false → (letter == 78) ≡ false → (letter == 82) ≡ false → (letter == 67) ≡ false → (letter == 69) ≡ false → (letter == 68) ≡ false → (letter == 74) ≡ false → (letter == 70) ≡ false → IsSaid rules name letter
 unfolding token_refusal
-said_bare name letter t98 t113 t118 t73 t117 t79 t77 t84 t78 t82 t67 t69 t68 t74 t70 token before fresh =
+said_bare rules name letter t98 t113 t118 t73 t117 t79 t77 t84 t78 t82 t67 t69 t68 t74 t70 token before fresh =
     said flag.Bare
     (rw (eq_comm 84 letter, eq_comm 78 letter, eq_comm 82 letter, eq_comm 67 letter, eq_comm 69 letter, eq_comm 68 letter, eq_comm 74 letter, t79, t84, t78, t82, t67, t69, t68, t74, t70, t77) refl)
     (rw (t98, t113, t118, t73, t117, t79, t77, t84, t78, t82, t67, t69, t68, t74, t70) refl)
-    (with_shown_is (asked_of name before) (return_flag letter) ∙ sym (asked_of-append name before letter token fresh ∙ rw (t98, t113, t118, t73, t117, t79, t77, t84, t78, t82, t67, t69, t68, t74, t70) refl))
+    (with_shown_is (asked_of rules name before) (return_flag letter) ∙ sym (asked_of-append rules name before letter token fresh ∙ rw (t98, t113, t118, t73, t117, t79, t77, t84, t78, t82, t67, t69, t68, t74, t70) refl))
 
 -- what holds of one letter, and of all others, holds of every letter
-by_letter : (name : MetaKind) (one letter : ℕ) → IsSaid name one → ((letter == one) ≡ false → IsSaid name letter) → IsSaid name letter
-by_letter name one letter here others = elim (eqb_tells letter one) [ inl w ↦ rw w.1 here | inr w ↦ others w.0 ]
+by_letter : (rules : Rules) (name : MetaKind) (one letter : ℕ) → IsSaid rules name one → ((letter == one) ≡ false → IsSaid rules name letter) → IsSaid rules name letter
+by_letter rules name one letter here others = elim (eqb_tells letter one) [ inl w ↦ rw w.1 here | inr w ↦ others w.0 ]
 
-every_letter : (name : MetaKind) (letter : ℕ) → IsSaid name letter
+every_letter : (rules : Rules) (name : MetaKind) (letter : ℕ) → IsSaid rules name letter
 unfolding token_refusal
-every_letter name letter =
-    by_letter name 98 letter (said_plain name 98 flag.Base64 (λ _. refl) (λ _. refl) (λ _ _. refl)) (λ t98.
-    by_letter name 113 letter (said_plain name 113 flag.Quiet (λ _. refl) (λ _. refl) (λ _ _. refl)) (λ t113.
-    by_letter name 118 letter (said_plain name 118 flag.Value (λ _. refl) (λ _. refl) (λ _ _. refl)) (λ t118.
-    by_letter name 73 letter (said_plain name 73 flag.Invalidate (λ _. refl) (λ _. refl) (λ _ _. refl)) (λ t73.
-    by_letter name 117 letter (said_plain name 117 flag.Unnoted (λ _. refl) (λ _. refl) (λ _ _. refl)) (λ t117.
-    by_letter name 79 letter (said_opaque name) (λ t79.
-    by_letter name 77 letter (said_mode name) (λ t77.
-    by_letter name 84 letter (said_read name 84 integer_of flag.Exptime (λ _. refl) (λ _. refl) (λ _ _ _ is. rw is refl)) (λ t84.
-    by_letter name 78 letter (said_read name 78 integer_of flag.Vivify (λ _. refl) (λ _. refl) (λ _ _ _ is. rw is refl)) (λ t78.
-    by_letter name 82 letter (said_read name 82 integer_of flag.Recache (λ _. refl) (λ _. refl) (λ _ _ _ is. rw is refl)) (λ t82.
-    by_letter name 67 letter (said_read name 67 (number_of (2 ^ 64)) flag.Compare (λ _. refl) (λ _. refl) (λ _ _ _ is. rw is refl)) (λ t67.
-    by_letter name 69 letter (said_read name 69 (number_of (2 ^ 64)) flag.Unique (λ _. refl) (λ _. refl) (λ _ _ _ is. rw is refl)) (λ t69.
-    by_letter name 68 letter (said_read name 68 (number_of (2 ^ 64)) flag.Amount (λ _. refl) (λ _. refl) (λ _ _ _ is. rw is refl)) (λ t68.
-    by_letter name 74 letter (said_read name 74 (number_of (2 ^ 64)) flag.Initial (λ _. refl) (λ _. refl) (λ _ _ _ is. rw is refl)) (λ t74.
-    by_letter name 70 letter (said_read name 70 (number_of (2 ^ 32)) flag.ClientFlags (λ _. refl) (λ _. refl) (λ _ _ _ is. rw is refl)) (λ t70.
-    said_bare name letter t98 t113 t118 t73 t117 t79 t77 t84 t78 t82 t67 t69 t68 t74 t70)))))))))))))))
+every_letter rules name letter =
+    by_letter rules name 98 letter (said_plain rules name 98 flag.Base64 (λ _. refl) (λ _. refl) (λ _ _. refl)) (λ t98.
+    by_letter rules name 113 letter (said_plain rules name 113 flag.Quiet (λ _. refl) (λ _. refl) (λ _ _. refl)) (λ t113.
+    by_letter rules name 118 letter (said_plain rules name 118 flag.Value (λ _. refl) (λ _. refl) (λ _ _. refl)) (λ t118.
+    by_letter rules name 73 letter (said_plain rules name 73 flag.Invalidate (λ _. refl) (λ _. refl) (λ _ _. refl)) (λ t73.
+    by_letter rules name 117 letter (said_plain rules name 117 flag.Unnoted (λ _. refl) (λ _. refl) (λ _ _. refl)) (λ t117.
+    by_letter rules name 79 letter (said_opaque rules name) (λ t79.
+    by_letter rules name 77 letter (said_mode rules name) (λ t77.
+    by_letter rules name 84 letter (said_read rules name 84 integer_of flag.Exptime (λ _. refl) (λ _. refl) (λ _ _ _ is. rw is refl)) (λ t84.
+    by_letter rules name 78 letter (said_read rules name 78 integer_of flag.Vivify (λ _. refl) (λ _. refl) (λ _ _ _ is. rw is refl)) (λ t78.
+    by_letter rules name 82 letter (said_read rules name 82 integer_of flag.Recache (λ _. refl) (λ _. refl) (λ _ _ _ is. rw is refl)) (λ t82.
+    by_letter rules name 67 letter (said_read rules name 67 (number_of (2 ^ 64)) flag.Compare (λ _. refl) (λ _. refl) (λ _ _ _ is. rw is refl)) (λ t67.
+    by_letter rules name 69 letter (said_read rules name 69 (number_of (2 ^ 64)) flag.Unique (λ _. refl) (λ _. refl) (λ _ _ _ is. rw is refl)) (λ t69.
+    by_letter rules name 68 letter (said_read rules name 68 (number_of (2 ^ 64)) flag.Amount (λ _. refl) (λ _. refl) (λ _ _ _ is. rw is refl)) (λ t68.
+    by_letter rules name 74 letter (said_read rules name 74 (number_of (2 ^ 64)) flag.Initial (λ _. refl) (λ _. refl) (λ _ _ _ is. rw is refl)) (λ t74.
+    by_letter rules name 70 letter (said_read rules name 70 (number_of (2 ^ 32)) flag.ClientFlags (λ _. refl) (λ _. refl) (λ _ _ _ is. rw is refl)) (λ t70.
+    said_bare rules name letter t98 t113 t118 t73 t117 t79 t77 t84 t78 t82 t67 t69 t68 t74 t70)))))))))))))))
 
 small_by : (profile : Profile) (name : MetaKind) (letter : ℕ) → is_among (letters_by profile name) letter ≡ true → letter < 256
 small_by Own Get letter among = small_among letter (letters_by Own Get) refl among
@@ -119,20 +119,20 @@ small_letter : (rules : Rules) (name : MetaKind) (letter : ℕ) → is_among (le
 small_letter rules name letter among = small_by rules.profile name letter among
 
 -- The reader has read these flags.
-record HasRead (name : MetaKind) (reader : FlagReader) (before : List (List ℕ)) : Type 0 where
+record HasRead (rules : Rules) (name : MetaKind) (reader : FlagReader) (before : List (List ℕ)) : Type 0 where
   wide : length reader.seen ≡ 256
   seen : (letter : ℕ) → letter < 256 → get_or reader.seen letter false ≡ has_flag letter before
-  asked : reader.asked ≡ asked_of name before
+  asked : reader.asked ≡ asked_of rules name before
 
 -- what one flag more gives
 data Step (rules : Rules) (name : MetaKind) (reader : FlagReader) (before : List (List ℕ)) (word : List ℕ) : Type 0 where
   stops : (refusal : Refusal) → flag_refusal rules name before word ≡ Some refusal → with_word rules name reader word ≡ Err refusal → Step rules name reader before word
-  goes : (more : FlagReader) → flag_refusal rules name before word ≡ None → with_word rules name reader word ≡ Ok more → HasRead name more (before ++ word ∷ []) → Step rules name reader before word
+  goes : (more : FlagReader) → flag_refusal rules name before word ≡ None → with_word rules name reader word ≡ Ok more → HasRead rules name more (before ++ word ∷ []) → Step rules name reader before word
 
-has_read_more : (name : MetaKind) (reader : FlagReader) (before : List (List ℕ)) (letter : ℕ) (token : List ℕ) (flag : Flag) → HasRead name reader before → letter < 256 →
-    with_shown (with_flag (asked_of name before) flag) (return_flag letter) ≡ asked_of name (before ++ (letter ∷ token) ∷ []) →
-    HasRead name (record { seen = set reader.seen letter true; asked = with_shown (with_flag reader.asked flag) (return_flag letter) }) (before ++ (letter ∷ token) ∷ [])
-has_read_more name reader before letter token flag read small agrees =
+has_read_more : (rules : Rules) (name : MetaKind) (reader : FlagReader) (before : List (List ℕ)) (letter : ℕ) (token : List ℕ) (flag : Flag) → HasRead rules name reader before → letter < 256 →
+    with_shown (with_flag (asked_of rules name before) flag) (return_flag letter) ≡ asked_of rules name (before ++ (letter ∷ token) ∷ []) →
+    HasRead rules name (record { seen = set reader.seen letter true; asked = with_shown (with_flag reader.asked flag) (return_flag letter) }) (before ++ (letter ∷ token) ∷ [])
+has_read_more rules name reader before letter token flag read small agrees =
     let wide = read.wide in
     let within : letter < length reader.seen = omega arith in
     record {
@@ -144,7 +144,7 @@ has_read_more name reader before letter token flag read small agrees =
       asked = rw read.asked agrees;
     }
 
-step : (rules : Rules) (name : MetaKind) (reader : FlagReader) (before : List (List ℕ)) (word : List ℕ) → HasRead name reader before → Step rules name reader before word
+step : (rules : Rules) (name : MetaKind) (reader : FlagReader) (before : List (List ℕ)) (word : List ℕ) → HasRead rules name reader before → Step rules name reader before word
 unfolding token_refusal
 step rules name reader before [] read = stops InvalidFlag refl refl
 step rules name reader before (letter ∷ token) read =
@@ -156,51 +156,51 @@ step rules name reader before (letter ∷ token) read =
             stops DuplicateFlag (rw (t, stands) refl) (rw (t, seen) refl)
         | inr fresh ↦
             let seen : get_or reader.seen letter false ≡ false = read.seen letter (small_letter rules name letter t) ∙ fresh in
-            elim (every_letter name letter token before fresh) [
+            elim (every_letter rules name letter token before fresh) [
               | refused refusal token_is flag_is ↦ stops refusal (rw (t, fresh) token_is) (rw (t, seen, flag_is) refl)
               | said flag token_is flag_is agrees ↦
                   goes (record { seen = set reader.seen letter true; asked = with_shown (with_flag reader.asked flag) (return_flag letter) })
                   (rw (t, fresh) token_is) (rw (t, seen, flag_is) refl)
-                  (has_read_more name reader before letter token flag read (small_letter rules name letter t) agrees)
+                  (has_read_more rules name reader before letter token flag read (small_letter rules name letter t) agrees)
             ]
       ]
     ]
 
-read_on : (rules : Rules) (name : MetaKind) (reader : FlagReader) (before words : List (List ℕ)) → HasRead name reader before →
-    read_from rules name reader words ≡ unless (flags_refusal rules name before words) (Ok (asked_of name (before ++ words)))
-read_on rules name reader before [] read = ap Ok (read.asked ∙ ap (asked_of name) (sym (append-nil before)))
+read_on : (rules : Rules) (name : MetaKind) (reader : FlagReader) (before words : List (List ℕ)) → HasRead rules name reader before →
+    read_from rules name reader words ≡ unless (flags_refusal rules name before words) (Ok (asked_of rules name (before ++ words)))
+read_on rules name reader before [] read = ap Ok (read.asked ∙ ap (asked_of rules name) (sym (append-nil before)))
 read_on rules name reader before (word ∷ words) read =
     elim (step rules name reader before word read) [
       | stops refusal refusal_is word_is ↦ rw (refusal_is, word_is) refl
       | goes more refusal_is word_is has_read ↦
           rw (refusal_is, word_is)
           (read_on rules name more (before ++ word ∷ []) words has_read ∙
-          ap (λ ws. unless (flags_refusal rules name (before ++ word ∷ []) words) (Ok (asked_of name ws))) (append_assoc before (word ∷ []) words))
+          ap (λ ws. unless (flags_refusal rules name (before ++ word ∷ []) words) (Ok (asked_of rules name ws))) (append_assoc before (word ∷ []) words))
     ]
 
-nothing_is : (name : MetaKind) → nothing_asked ≡ asked_of name []
-nothing_is Get = refl
-nothing_is Set = refl
-nothing_is Delete = refl
-nothing_is Arithmetic = refl
+nothing_is : (rules : Rules) (name : MetaKind) → nothing_asked rules.profile ≡ asked_of rules name []
+nothing_is rules Get = refl
+nothing_is rules Set = refl
+nothing_is rules Delete = refl
+nothing_is rules Arithmetic = refl
 
-pub read_from_is : (rules : Rules) (name : MetaKind) (reader : FlagReader) (words : List (List ℕ)) → reader.seen ≡ unseen → reader.asked ≡ nothing_asked → read_from rules name reader words ≡ unless (flags_refusal rules name [] words) (Ok (asked_of name words))
+pub read_from_is : (rules : Rules) (name : MetaKind) (reader : FlagReader) (words : List (List ℕ)) → reader.seen ≡ unseen → reader.asked ≡ nothing_asked rules.profile → read_from rules name reader words ≡ unless (flags_refusal rules name [] words) (Ok (asked_of rules name words))
 read_from_is rules name reader words seen asked = read_on rules name reader [] words (record {
   wide = rw seen (length-replicate 256 false);
   seen = λ letter below. rw seen (get_or-replicate 256 letter false false below);
-  asked = asked ∙ nothing_is name;
+  asked = asked ∙ nothing_is rules name;
 })
 
 -- no word is left
-pub read_whole : (rules : Rules) (name : MetaKind) (reader first : FlagReader) (left words : List (List ℕ)) → first.seen ≡ unseen → first.asked ≡ nothing_asked →
-    read_from rules name reader left ≡ read_from rules name first words → left ≡ [] → Ok reader.asked ≡ unless (flags_refusal rules name [] words) (Ok (asked_of name words))
+pub read_whole : (rules : Rules) (name : MetaKind) (reader first : FlagReader) (left words : List (List ℕ)) → first.seen ≡ unseen → first.asked ≡ nothing_asked rules.profile →
+    read_from rules name reader left ≡ read_from rules name first words → left ≡ [] → Ok reader.asked ≡ unless (flags_refusal rules name [] words) (Ok (asked_of rules name words))
 read_whole rules name reader first left words seen asked same_rest ended =
     let e : read_from rules name reader [] ≡ read_from rules name first words = rw ended at same_rest in
     e ∙ read_from_is rules name first words seen asked
 
 -- the next word is refused
-pub read_refused : (rules : Rules) (name : MetaKind) (reader first : FlagReader) (left words : List (List ℕ)) (word : List ℕ) (later : List (List ℕ)) (refusal : Refusal) → first.seen ≡ unseen → first.asked ≡ nothing_asked →
-    read_from rules name reader left ≡ read_from rules name first words → left ≡ word ∷ later → with_word rules name reader word ≡ Err refusal → Err refusal ≡ unless (flags_refusal rules name [] words) (Ok (asked_of name words))
+pub read_refused : (rules : Rules) (name : MetaKind) (reader first : FlagReader) (left words : List (List ℕ)) (word : List ℕ) (later : List (List ℕ)) (refusal : Refusal) → first.seen ≡ unseen → first.asked ≡ nothing_asked rules.profile →
+    read_from rules name reader left ≡ read_from rules name first words → left ≡ word ∷ later → with_word rules name reader word ≡ Err refusal → Err refusal ≡ unless (flags_refusal rules name [] words) (Ok (asked_of rules name words))
 read_refused rules name reader first left words word later refusal seen asked same_rest next stops_there =
     let e : read_from rules name reader (word ∷ later) ≡ read_from rules name first words = rw next at same_rest in
     let f = rw stops_there at e in

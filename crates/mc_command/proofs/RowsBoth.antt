@@ -184,9 +184,9 @@ joins : AreSo (
 unfolding line_of words_of name_of is_key number_of int_wrap
 joins = (refl, refl)
 
--- `ms` in this mode that compares with this unique, with this exptime and a block of one byte, lenient or not
-abbrev ms_until : Profile → ℤ → MetaMode → Option ℕ → Bool → Line
-ms_until profile exptime mode compare lenient =
+-- `ms` in this mode that compares with this unique, with this exptime and a block of one byte
+abbrev ms_until : Profile → ℤ → MetaMode → Option ℕ → Line
+ms_until profile exptime mode compare =
     Data (command.MetaSet (record {
       key = a;
       flags = record { base64 = false; quiet = false; profile = profile; returned = []; opaque = [] };
@@ -195,30 +195,26 @@ ms_until profile exptime mode compare lenient =
       unique = None;
       client_flags = 0;
       exptime = exptime;
-      lenient = lenient;
       block = [];
     })) 1
 
 abbrev own_ms : MetaMode → Option ℕ → Line
-own_ms mode compare = ms_until Own (pos 0) mode compare false
+own_ms mode compare = ms_until Own (pos 0) mode compare
 
 abbrev ms : MetaMode → Option ℕ → Line
-ms mode compare = ms_until DropIn (pos 0) mode compare false
-
-abbrev lenient_ms : MetaMode → Option ℕ → Line
-lenient_ms mode compare = ms_until DropIn (pos 0) mode compare true
+ms mode compare = ms_until DropIn (pos 0) mode compare
 
 -- `C` with a mode other than S, and modes that join
 compares : AreSo (
     (codes "ms a 1 C1", own_ms mode.Set (Some 1), ms mode.Set (Some 1))
-    ∷ (codes "ms a 1 MA", own_ms mode.Append None, lenient_ms mode.Append None)
-    ∷ (codes "ms a 1 MP", own_ms mode.Prepend None, lenient_ms mode.Prepend None)
+    ∷ (codes "ms a 1 MA", own_ms mode.Append None, ms mode.Append None)
+    ∷ (codes "ms a 1 MP", own_ms mode.Prepend None, ms mode.Prepend None)
     ∷ (codes "ms a 1 ME", own_ms mode.Add None, ms mode.Add None)
     ∷ (codes "ms a 1 C0", own_ms mode.Set (Some 0), ms mode.Set (Some 0))
     ∷ (codes "ms a 1 C1 MR", Skip None BadFormat 3, ms mode.Replace (Some 1))
-    ∷ (codes "ms a 1 C1 MA", Skip None BadFormat 3, lenient_ms mode.Append (Some 1))
-    ∷ (codes "ms a 1 C0 MA", Skip None BadFormat 3, lenient_ms mode.Append None)
-    ∷ (codes "ms a 1 C0 MP", Skip None BadFormat 3, lenient_ms mode.Prepend None)
+    ∷ (codes "ms a 1 C1 MA", Skip None BadFormat 3, ms mode.Append (Some 1))
+    ∷ (codes "ms a 1 C0 MA", Skip None BadFormat 3, ms mode.Append None)
+    ∷ (codes "ms a 1 C0 MP", Skip None BadFormat 3, ms mode.Prepend None)
     ∷ (codes "ms a 1 C1 ME", Skip None BadFormat 3, ms mode.Add None)
     ∷ []
     )
@@ -249,7 +245,7 @@ unnoted = (refl, refl)
 flags : AreSo (
     (codes "ms a 1 I N30 Pto Lb", Skip None InvalidFlag 3, ms mode.Set None)
     ∷ (codes "ms a 1 N", Skip None InvalidFlag 3, Skip None BadFormat 3)
-    ∷ (codes "ms a 1 T4294967295", ms_until Own (pos 4294967295) mode.Set None false, ms_until DropIn (negsuc 0) mode.Set None false)
+    ∷ (codes "ms a 1 T4294967295", ms_until Own (pos 4294967295) mode.Set None, ms_until DropIn (negsuc 0) mode.Set None)
     ∷ (codes "md a P P", Refused InvalidFlag, Refused DuplicateFlag)
     ∷ (codes "mg a P Q", Refused InvalidFlag, Refused InvalidFlag)
     ∷ (codes "ma a L D", Refused InvalidFlag, Refused BadFormat)

@@ -105,7 +105,7 @@ line_limits : map (λ text. line_of (own LEAST_VALUE_LIMIT) (words_of text)) (ma
 unfolding line_of name_of meta_line_of words_of number_of is_key word_count_refusal
 line_limits = refl
 
-largest_value : ms (codes "a 1048576") ≡ Data (MetaSet (record { key = codes "a"; flags = no_flags; mode = mode.Set; compare = None; unique = None; client_flags = 0; exptime = pos 0; lenient = false; block = [] })) 1048576
+largest_value : ms (codes "a 1048576") ≡ Data (MetaSet (record { key = codes "a"; flags = no_flags; mode = mode.Set; compare = None; unique = None; client_flags = 0; exptime = pos 0; block = [] })) 1048576
 unfolding meta_line_of words_of number_of is_key word_count_refusal
 largest_value = refl
 
@@ -179,7 +179,6 @@ whole_set : ms (codes "a 5 T30 s F7 C9 E77 c q Oxy MS")
       unique = Some 77;
       client_flags = 7;
       exptime = pos 30;
-      lenient = false;
       block = [];
     })) 5
 unfolding meta_line_of words_of number_of is_key word_count_refusal

@@ -156,12 +156,6 @@ compared_in mode compare = compare
 abbrev pub compare_by : Rules → MetaMode → Option ℕ → Option ℕ
 compare_by rules mode compare = if is_drop_in rules then compared_in mode compare else compare
 
--- the same of `ms` as of append and prepend (`is_lenient`)
-abbrev pub is_lenient_in : Rules → MetaMode → Bool
-is_lenient_in rules mode.Append = is_drop_in rules
-is_lenient_in rules mode.Prepend = is_drop_in rules
-is_lenient_in rules other = false
-
 -- the exptime, or the seconds, that a token gives
 abbrev pub exptime_in : Rules → Option ℤ → Option ℤ
 exptime_in rules token = option_map (exptime_by rules) token
@@ -184,12 +178,12 @@ abbrev pub shown_flag : List ℕ → Option ReturnFlag
 shown_flag [] = None
 shown_flag (letter ∷ token) = return_flag letter
 
--- what the flags of every command ask; whose rules their reply follows comes with the command (`flags_by`)
-abbrev pub flags_of : List (List ℕ) → MetaFlags
-flags_of words = record {
+-- what the flags of every command ask; the reply follows the rules of this profile
+abbrev pub flags_of : Profile → List (List ℕ) → MetaFlags
+flags_of profile words = record {
   base64 = has_flag (byte "b") words;
   quiet = has_flag (byte "q") words;
-  profile = Own;
+  profile = profile;
   returned = filter_map shown_flag words;
   opaque = unwrap_or (token_of (byte "O") words) [];
 }
@@ -205,9 +199,9 @@ direction_in Arithmetic token = option_and_then direction_of token
 direction_in other token = None
 
 -- all that the flags of a line may ask, each by a look-up
-abbrev pub asked_of : MetaKind → List (List ℕ) → Asked
-asked_of name words = record {
-  flags = flags_of words;
+abbrev pub asked_of : Rules → MetaKind → List (List ℕ) → Asked
+asked_of rules name words = record {
+  flags = flags_of rules.profile words;
   value = has_flag (byte "v") words;
   invalidate = has_flag (byte "I") words;
   unnoted = has_flag (byte "u") words;
@@ -225,13 +219,10 @@ asked_of name words = record {
 
 -- what each command makes of them, with the defaults of flags that do not stand there
 
-abbrev pub flags_by : Rules → Asked → MetaFlags
-flags_by rules asked = record asked.flags { profile = rules.profile }
-
 abbrev pub get_by : Rules → List ℕ → Asked → MetaGet
 get_by rules key asked = record {
   key = key;
-  flags = flags_by rules asked;
+  flags = asked.flags;
   value = asked.value;
   touch = exptime_in rules asked.exptime;
   vivify = exptime_in rules asked.vivify;
@@ -242,20 +233,19 @@ get_by rules key asked = record {
 abbrev pub set_by : Rules → List ℕ → Asked → MetaSet
 set_by rules key asked = record {
   key = key;
-  flags = flags_by rules asked;
+  flags = asked.flags;
   mode = unwrap_or asked.mode mode.Set;
   compare = compare_by rules (unwrap_or asked.mode mode.Set) asked.compare;
   unique = asked.unique;
   client_flags = unwrap_or asked.client_flags 0;
   exptime = unwrap_or (exptime_in rules asked.exptime) (pos 0);
-  lenient = is_lenient_in rules (unwrap_or asked.mode mode.Set);
   block = [];
 }
 
 abbrev pub delete_by : Rules → List ℕ → Asked → MetaDelete
 delete_by rules key asked = record {
   key = key;
-  flags = flags_by rules asked;
+  flags = asked.flags;
   compare = asked.compare;
   unique = asked.unique;
   invalidate = asked.invalidate;
@@ -265,7 +255,7 @@ delete_by rules key asked = record {
 abbrev pub arithmetic_by : Rules → List ℕ → Asked → MetaArithmetic
 arithmetic_by rules key asked = record {
   key = key;
-  flags = flags_by rules asked;
+  flags = asked.flags;
   value = asked.value;
   compare = asked.compare;
   unique = asked.unique;
@@ -297,7 +287,7 @@ as_meta_set (Err refusal) = Err refusal
 abbrev pub meta_command_of : Rules → MetaKind → List ℕ → List (List ℕ) → Result Command Refusal
 meta_command_of rules name word words =
     unless (flags_refusal rules name [] words)
-    (then_of (meta_key_of (has_flag (byte "b") words) word) (λ key. command_by rules name key (asked_of name words)))
+    (then_of (meta_key_of (has_flag (byte "b") words) word) (λ key. command_by rules name key (asked_of rules name words)))
 
 abbrev pub line_without_block : Rules → MetaKind → List (List ℕ) → Line
 line_without_block rules name [] = Refused (word_count_refusal rules)

@@ -216,9 +216,6 @@ pub struct MetaSet {
     pub client_flags: u32,
     /// `T`: the exptime, 0 where none is given.
     pub exptime: i64,
-    /// A joined value that is too large counts as not stored, and that is no error: the modes `A` and `P` by memcached's
-    /// rules.
-    pub lenient: bool,
     pub block: Block,
 }
 

@@ -88,9 +88,9 @@ enum Flag {
 /// Reads the flags of a line, its words behind the key and the count. The first flag that is refused
 /// decides.
 pub(crate) fn read_flags(rules: Rules, name: MetaKind, walk: WordWalk<'_>) -> Result<Asked, Refusal>
-    ensures { result ≡ unless (flags_refusal rules name [] (words_left walk.entry)) (Ok (asked_of name (words_left walk.entry))) }
+    ensures { result ≡ unless (flags_refusal rules name [] (words_left walk.entry)) (Ok (asked_of rules name (words_left walk.entry))) }
 {
-    let mut reader = FlagReader::new();
+    let mut reader = FlagReader::new(rules.profile);
     for word in walk {
         reader.read(rules, name, word)?;
     }
@@ -106,13 +106,13 @@ struct FlagReader {
 }
 
 impl FlagReader {
-    fn new() -> FlagReader
+    fn new(profile: Profile) -> FlagReader
         ensures seen { result.seen ≡ unseen }
-        ensures asked { result.asked ≡ nothing_asked }
+        ensures asked { result.asked ≡ nothing_asked profile }
     {
         FlagReader {
             seen: [false; 256],
-            asked: Asked::nothing(),
+            asked: Asked::nothing(profile),
         }
     }
 
@@ -144,15 +144,15 @@ impl FlagReader {
 }
 
 impl Asked {
-    /// What no flags ask.
-    fn nothing() -> Asked
-        ensures { result ≡ nothing_asked }
+    /// What no flags ask, where the reply follows the rules of this profile.
+    fn nothing(profile: Profile) -> Asked
+        ensures { result ≡ nothing_asked profile }
     {
         Asked {
             flags: MetaFlags {
                 base64: false,
                 quiet: false,
-                profile: Profile::Own,
+                profile,
                 returned: Returned::new(),
                 opaque: Opaque::empty(),
             },

@@ -158,7 +158,7 @@ impl Asked {
     {
         MetaGet {
             key,
-            flags: rules.reply_flags(self.flags),
+            flags: self.flags,
             value: self.value,
             touch: rules.exptime_in(self.exptime),
             vivify: rules.exptime_in(self.vivify),
@@ -173,13 +173,12 @@ impl Asked {
         let mode = self.mode.unwrap_or(MetaMode::Set);
         MetaSet {
             key,
-            flags: rules.reply_flags(self.flags),
+            flags: self.flags,
             mode,
             compare: rules.compared(mode, self.compare),
             unique: self.unique,
             client_flags: self.client_flags.unwrap_or(0),
             exptime: rules.exptime_in(self.exptime).unwrap_or(0),
-            lenient: rules.is_lenient_in(mode),
             block: Block::empty(alloc),
         }
     }
@@ -189,7 +188,7 @@ impl Asked {
     {
         MetaDelete {
             key,
-            flags: rules.reply_flags(self.flags),
+            flags: self.flags,
             compare: self.compare,
             unique: self.unique,
             invalidate: self.invalidate,
@@ -202,7 +201,7 @@ impl Asked {
     {
         MetaArithmetic {
             key,
-            flags: rules.reply_flags(self.flags),
+            flags: self.flags,
             value: self.value,
             compare: self.compare,
             unique: self.unique,

@@ -3,7 +3,7 @@ ghost use Rattle.std.specs.Prelude.{◌≡◌, ◌≤◌, ◌^◌};
 ghost use Rattle.std.specs.Int.{int_wrap, w32};
 
 use crate::command::StoreMode;
-use crate::meta::{MetaFlags, MetaMode};
+use crate::meta::MetaMode;
 use crate::refusal::Refusal;
 use mc_wire::DEFAULT_LINE_LIMIT;
 
@@ -31,7 +31,7 @@ impl Rules {
     ghost use Rattle.mc_command.specs.Blocks.{count_bound};
     ghost use Rattle.mc_command.specs.Classic.{is_lenient};
     ghost use Rattle.mc_command.specs.Field.{exptime_by, word_count_refusal};
-    ghost use Rattle.mc_command.specs.Meta.{compare_by, exptime_in, is_lenient_in};
+    ghost use Rattle.mc_command.specs.Meta.{compare_by, exptime_in};
     ghost use Rattle.mc_command.specs.Rules.{is_drop_in, own};
 
     /// This server's own rules, for values of at most so many bytes and lines of the default limit.
@@ -59,17 +59,6 @@ impl Rules {
         match self.profile {
             Profile::Own => number,
             Profile::DropIn => low_half(number),
-        }
-    }
-
-    /// The flags of a command whose reply follows these rules.
-    #[inline(always)]
-    pub(crate) fn reply_flags(self, flags: MetaFlags) -> MetaFlags
-        ensures { result ≡ record flags { profile = self.profile } }
-    {
-        MetaFlags {
-            profile: self.profile,
-            ..flags
         }
     }
 
@@ -124,13 +113,6 @@ impl Rules {
         ensures { result ≡ is_lenient self mode }
     {
         matches!(mode, StoreMode::Append | StoreMode::Prepend) && self.is_drop_in()
-    }
-
-    /// Whether a value that `ms` joins counts as not stored where it is too large.
-    pub(crate) fn is_lenient_in(self, mode: MetaMode) -> bool
-        ensures { result ≡ is_lenient_in self mode }
-    {
-        matches!(mode, MetaMode::Append | MetaMode::Prepend) && self.is_drop_in()
     }
 }
 

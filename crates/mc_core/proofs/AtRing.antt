@@ -50,18 +50,23 @@ drop_first (suc n) (y ∷ xs) x rest e =
     let at : suc n + 1 ≡ suc (n + 1) = omega arith in (deeper.0, ap (λ m. drop m (y ∷ xs)) at ∙ deeper.1)
 
 module _ {X : Type 0} where
+  -- A lane that was set holds what it was set to.
   pub with_here : (old : ℕ → ℕ → X) (c t s : ℕ) (x : X) → s ≡ t → with_lane old c t x c s ≡ x
   with_here old c t s x same = ap (λ b. cond b (cond (s == t) x (old c s)) (old c s)) (eq-eqb c c refl) ∙ ap (λ b. cond b x (old c s)) (eq-eqb s t same)
 
+  -- Setting a lane leaves those of the same connection to other shards.
   pub with_not : (old : ℕ → ℕ → X) (c t s : ℕ) (x : X) → s ≢ t → with_lane old c t x c s ≡ old c s
   with_not old c t s x other = ap (λ b. cond b (cond (s == t) x (old c s)) (old c s)) (eq-eqb c c refl) ∙ ap (λ b. cond b x (old c s)) (ne_eqb s t other)
 
+  -- Setting a lane leaves those of other connections.
   pub with_far : (old : ℕ → ℕ → X) (c t d s : ℕ) (x : X) → d ≢ c → with_lane old c t x d s ≡ old d s
   with_far old c t d s x other = ap (λ b. cond b (cond (s == t) x (old d s)) (old d s)) (ne_eqb d c other)
 
+  -- A shard that was set holds what it was set to.
   pub shard_here : (old : ℕ → X) (t s : ℕ) (x : X) → s ≡ t → with_shard old t x s ≡ x
   shard_here old t s x same = ap (λ b. cond b x (old s)) (eq-eqb s t same)
 
+  -- Setting a shard leaves the others.
   pub shard_not : (old : ℕ → X) (t s : ℕ) (x : X) → s ≢ t → with_shard old t x s ≡ old s
   shard_not old t s x other = ap (λ b. cond b x (old s)) (ne_eqb s t other)
 

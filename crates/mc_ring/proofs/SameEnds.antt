@@ -13,6 +13,7 @@ read_here read (z ∷ xs) zero x y is here = ap Some (sym is)
 read_here read (z ∷ xs) (suc i) x y is here = read_here read xs i x y is here
 
 module _ {Out In : Type 0} where
+  -- Ends are the same where one lane changed that stays the lane it was.
   pub same_ends_here : (number : ℕ) (ends : List (Side Out In)) (place : ℕ) (before after : Side Out In) → slice_get ends place ≡ Some before → after.past.lane ≡ before.past.lane
       → AreSameEnds (record { number = number; lanes = ends }) (record { number = number; lanes = slice_set ends place after })
   same_ends_here number ends place before after here same = record {
@@ -21,6 +22,7 @@ module _ {Out In : Type 0} where
     lanes = map-set (λ end. end.past.lane) ends place before after here same;
   }
 
+  -- The same, where the lane is named by its place among the ends.
   pub same_ends : (number : ℕ) (ends : List (Side Out In)) (place : ℕ) (before after : Side Out In) → place < length ends → before ≡ slice_index_or ends place before → after.past.lane ≡ before.past.lane
       → AreSameEnds (record { number = number; lanes = ends }) (record { number = number; lanes = slice_set ends place after })
   same_ends number ends place before after within read same =

@@ -147,6 +147,7 @@ module _ {S W D : Type 0} (sizes : Sizes) (may_answer : ℕ → Type 0) (sitting
       let A : List (Ends Near) → Type 0 = λ near. AreLanes sizes.seats sizes.shards sizes.ring near (map ends_of (map desk_of working)) in
       record { lanes = subst A (map_map at (λ (sat : SeatAt). sat.ends) sitting) known.lanes; fresh = known.fresh }
 
+  -- Each seat has a lane to each worker.
   pub lanes_are : AreJoined → AllByRecursion (λ seat. HasLanes (at seat).ends (map desk_of workers)) seats
   lanes_are known =
       all_unmap (λ (rose : SeatAt). HasLanes rose.ends (map desk_of workers)) at seats
@@ -156,6 +157,7 @@ module _ {S W D : Type 0} (sizes : Sizes) (may_answer : ℕ → Type 0) (sitting
   seen_all known [] = refl
   seen_all known (seat ∷ seats) = ap (λ d. d ∷ map (λ (s : SeatAt). s.door) (map at seats)) (sym (known.seen seat)) ∙ ap (λ ds. told (door_of seat) ∷ ds) (seen_all known seats)
 
+  -- All doors are served where each seat served its own, its ends are tied to the workers, and the doors came back.
   pub all_doors : 0 < sizes.shards → AreJoined → AllByRecursion (λ seat. AreTied (at seat).ends (map desk_of workers)) seats → back ≡ map door_of seats → ServesDoors sizes may_answer (map told doors) (map told back)
   all_doors some known tied reported =
       let before : map (λ (sat : SeatAt). sat.door) (map at sitting) ≡ map told doors = seen_all known sitting ∙ ap (map told) known.doors_are in

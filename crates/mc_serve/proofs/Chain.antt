@@ -57,6 +57,7 @@ passes_more (Told coming out told over) now accepted last lines line free passes
     )
 
 module _ (shards : ℕ) (rules : Rules) (may_answer : ℕ → Type 0) where
+  -- Serving lines one after another leaves a seat with the same ends.
   pub lines_same : (lines : List LineTold) (before after : Ends Near) → ServesLines shards rules may_answer lines before after → AreSameEnds before after
   lines_same [] before after are = let P : Ends Near → Type 0 = λ ends. AreSameEnds before ends in subst P (sym are) (same_ends-refl before)
   lines_same (line ∷ lines) before after are = same_ends-trans before are.0 after are.1.served.exchanges.same (lines_same lines are.0 after are.2)
@@ -86,6 +87,7 @@ module _ (shards : ℕ) (rules : Rules) (may_answer : ℕ → Type 0) where
     pub lines_are : ServesLines shards rules may_answer lines sat.ends rose.ends
     pub stops : another ≡ false → AllFit shards rules may_answer lines sat.ends rose.ends lines_are → ⊥
 
+  -- A line that is served once those before it were, and then taken back, is one more line that the seat served.
   pub one_more : (sat rose : SeatAt) (lines : List LineTold) (line : LineTold) (before door : DoorTold) (ends : Ends Near) (another : Bool) → IsFree sat.door → Passes sat.door lines before → IsNext line.begin before → door ≡ let_in line.begin before
       → rose.door ≡ took_back line.now line.commands line.broke door → ServesLines shards rules may_answer lines sat.ends ends
       → (this : ServesLine shards rules may_answer line ends rose.ends) → (another ≡ false → LineFits shards rules may_answer line ends rose.ends this → ⊥) → OneMore sat rose another

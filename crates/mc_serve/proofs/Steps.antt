@@ -135,6 +135,7 @@ module _ (shards : ℕ) (rules : Rules) (may_answer : ℕ → Type 0) where
     wide : length session'.courier.ends.lanes ≡ shards
     wide = by.holds.served.exchanges.same.count ∙ sits.width
 
+    -- Where the door lets in more, the seat is free for its next line.
     pub serves_another : another ≡ true → SitsFree shards rules may_answer sat door' last
     serves_another is =
         let served = by.holds.served in
@@ -149,6 +150,7 @@ module _ (shards : ℕ) (rules : Rules) (may_answer : ℕ → Type 0) where
           vacant = subst V served.rules_are (renews.vacant is by.some served.told by.is served.conn_is (served.shards_is ∙ sym wide) by.holds.idle);
         }
 
+    -- Where the door lets in no more, the seat begins to close its lanes.
     pub serves_no_more : another ≡ false → SitsClosing shards rules may_answer 0 sat door' last.courier.ends
     serves_no_more is = record {
       served = last.courier.ends;

@@ -9,7 +9,7 @@ use Rattle.mc_command.specs.declared.meta.MetaKind.{MetaKind}
 use Rattle.mc_command.specs.declared.meta.MetaKind.TheVariants as kind
 use Rattle.mc_split.specs.declared.form.Shape.TheVariants as shape
 use Rattle.mc_split.specs.Pieces.{pieces_of}
-use Rattle.mc_split.specs.Shape.{shape_of, shown_key}
+use Rattle.mc_split.specs.Shape.{is_lenient_in, shape_of, shown_key}
 use Rattle.mc_split.specs.Text.{coded_text, is_hidden, is_no_memory, memory_line, shape_text, text_of, told}
 use Rattle.mc_split.specs.TextLaws.{loud, without_quiet}
 
@@ -48,7 +48,7 @@ empty_or_loud (command.FlushAll delay noreply) answers = noreply_or_not noreply 
 empty_or_loud (command.Verbosity true) answers = inl refl
 empty_or_loud command.Quit answers = inl refl
 empty_or_loud (command.MetaGet get) answers = meta_or_not kind.Get get.flags get.value (shown_key get.flags get.key) false answers
-empty_or_loud (command.MetaSet set) answers = meta_or_not kind.Set set.flags false (shown_key set.flags set.key) set.lenient answers
+empty_or_loud (command.MetaSet set) answers = meta_or_not kind.Set set.flags false (shown_key set.flags set.key) (is_lenient_in set.flags.profile set.mode) answers
 empty_or_loud (command.MetaDelete delete) answers = meta_or_not kind.Delete delete.flags false (shown_key delete.flags delete.key) false answers
 empty_or_loud (command.MetaArithmetic arithmetic) answers = meta_or_not kind.Arithmetic arithmetic.flags arithmetic.value (shown_key arithmetic.flags arithmetic.key) false answers
 empty_or_loud other answers = inr refl

@@ -15,7 +15,7 @@ use Rattle.mc_command.specs.declared.meta.MetaKind.{MetaKind}
 use Rattle.mc_command.specs.declared.meta.MetaKind.TheVariants as kind
 use Rattle.mc_split.specs.declared.form.Shape.TheVariants as shape
 use Rattle.mc_split.specs.Pieces.{pieces_of}
-use Rattle.mc_split.specs.Shape.{is_key_flag, shape_of, shown_key}
+use Rattle.mc_split.specs.Shape.{is_key_flag, is_lenient_in, shape_of, shown_key}
 use Rattle.mc_split.specs.Text.{answer_line, coded_text, failed_flag, flag_text, is_hidden, is_no_memory, marks_text, memory_line, shape_text, text_of, told}
 use Rattle.mc_command.specs.FlagOrder.{returned_in, with_flags, with_returned}
 use Rattle.mc_split.specs.TextLaws.{DiffersInOrder}
@@ -89,7 +89,7 @@ pub orders_flags : (command : Command) (returned : List ReturnFlag) → IsPermut
     DiffersInOrder (returned_in command) returned (text_of command answers) (text_of (with_returned command returned) answers)
 unfolding shape_of
 orders_flags (command.MetaGet get) returned moved answers = ordered kind.Get get.flags returned get.value get.key false answers moved
-orders_flags (command.MetaSet set) returned moved answers = ordered kind.Set set.flags returned false set.key set.lenient answers moved
+orders_flags (command.MetaSet set) returned moved answers = ordered kind.Set set.flags returned false set.key (is_lenient_in set.flags.profile set.mode) answers moved
 orders_flags (command.MetaDelete delete) returned moved answers = ordered kind.Delete delete.flags returned false delete.key false answers moved
 orders_flags (command.MetaArithmetic arithmetic) returned moved answers = ordered kind.Arithmetic arithmetic.flags returned arithmetic.value arithmetic.key false answers moved
 orders_flags other returned moved answers = alike [] returned (text_of other answers)

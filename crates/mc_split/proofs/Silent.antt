@@ -22,7 +22,7 @@ use Rattle.mc_command.specs.declared.meta.MetaKind.{MetaKind}
 use Rattle.mc_command.specs.declared.meta.MetaKind.TheVariants as kind
 use Rattle.mc_split.specs.declared.form.Shape.TheVariants as shape
 use Rattle.mc_split.specs.Pieces.{asked_of_all, pieces_of}
-use Rattle.mc_split.specs.Shape.{shape_of, shown_key}
+use Rattle.mc_split.specs.Shape.{is_lenient_in, shape_of, shown_key}
 use Rattle.mc_split.specs.Text.{answer_line, coded_text, is_hidden, is_no_memory, memory_line, item_text, refusal_line, shape_text, text_of, told, version_line}
 use Rattle.mc_split.specs.TextLaws.{AnswersTo, is_hidden_refusal, is_silent}
 
@@ -144,7 +144,7 @@ empty_where_silent shards some (command.Stats request.Reset) answers h = asks_si
 empty_where_silent shards some (command.Get retrieval) answers h =
     values_shown (list_any is_no_memory answers) (flat_map (λ (pair : List ℕ × Answer). item_text retrieval.with_unique pair.0 pair.1) (zip retrieval.keys answers))
 empty_where_silent shards some (command.MetaGet get) (given ∷ []) h = meta_silent MetaGet refl kind.Get get.flags get.value (shown_key get.flags get.key) false given h.0
-empty_where_silent shards some (command.MetaSet set) (given ∷ []) h = meta_silent MetaStore refl kind.Set set.flags false (shown_key set.flags set.key) set.lenient given h.0
+empty_where_silent shards some (command.MetaSet set) (given ∷ []) h = meta_silent MetaStore refl kind.Set set.flags false (shown_key set.flags set.key) (is_lenient_in set.flags.profile set.mode) given h.0
 empty_where_silent shards some (command.MetaDelete delete) (given ∷ []) h = meta_silent MetaDelete refl kind.Delete delete.flags false (shown_key delete.flags delete.key) false given h.0
 empty_where_silent shards some (command.MetaArithmetic arithmetic) (given ∷ []) h = meta_silent MetaCount refl kind.Arithmetic arithmetic.flags arithmetic.value (shown_key arithmetic.flags arithmetic.key) false given h.0
 empty_where_silent shards some (command.Refused refused) answers h = refused_shown refused

@@ -1,12 +1,13 @@
 -- Worked replies, each computed from the command and its answers.
-use Rattle.std.proofs.Common.{◌≡◌, ℕ, Bool, true, false, List, [], ◌∷◌, ◌++◌, Option, Some, None, refl}
-use Rattle.std.specs.Prelude.{codes, pos}
+use Rattle.std.proofs.Common.{◌≡◌, ℕ, Bool, true, false, List, [], ◌∷◌, ◌++◌, Option, Some, None, refl, replicate}
+use Rattle.std.specs.Prelude.{codes, map, pos}
 use Rattle.std.specs.Fmt.{digits}
 use Rattle.mc_command.specs.declared.command.Command.{Command}
 use Rattle.mc_command.specs.declared.command.Command.TheVariants as command
 use Rattle.mc_command.specs.declared.command.Direction.TheVariants as direction
 use Rattle.mc_command.specs.declared.command.StoreMode.{StoreMode}
 use Rattle.mc_command.specs.declared.command.StoreMode.TheVariants as store
+use Rattle.mc_command.specs.declared.meta.MetaMode.{MetaMode}
 use Rattle.mc_command.specs.declared.meta.MetaMode.TheVariants as mode
 use Rattle.mc_command.specs.declared.meta.MetaFlags.{MetaFlags}
 use Rattle.mc_command.specs.declared.meta.ReturnFlag.{ReturnFlag}
@@ -55,7 +56,7 @@ abbrev meta_get : List ℕ → MetaFlags → Bool → Command
 meta_get key flags value = command.MetaGet (record { key = key; flags = flags; value = value; touch = None; vivify = None; recache = None; unnoted = false })
 
 abbrev meta_set : List ℕ → MetaFlags → Command
-meta_set key flags = command.MetaSet (record { key = key; flags = flags; mode = mode.Set; compare = None; unique = None; client_flags = 0; exptime = pos 0; lenient = false; block = codes "x" })
+meta_set key flags = command.MetaSet (record { key = key; flags = flags; mode = mode.Set; compare = None; unique = None; client_flags = 0; exptime = pos 0; block = codes "x" })
 
 abbrev meta_hit : List ℕ → ℕ → Option ℕ → Bool → Bool → Bool → Answer
 meta_hit value unique left won stale sent = answer.MetaHit (record { value = value; flags = 0; unique = unique; fetched = true; idle = 2; left = left; marks = record { won = won; stale = stale; sent = sent } })
@@ -103,8 +104,9 @@ by_memcached flags = record flags { profile = DropIn }
 abbrev joined : StoreMode → Bool → Bool → Command
 joined mode noreply lenient = command.Store (record { key = codes "a"; mode = mode; flags = 0; exptime = pos 0; noreply = noreply; lenient = lenient; block = codes "x" })
 
-abbrev joined_by_ms : MetaFlags → Bool → Command
-joined_by_ms flags lenient = command.MetaSet (record { key = codes "a"; flags = flags; mode = mode.Append; compare = None; unique = None; client_flags = 0; exptime = pos 0; lenient = lenient; block = codes "x" })
+-- the reply to `ms` with these flags in this mode, whose value is too large
+abbrev ms_too_large : MetaFlags → MetaMode → List ℕ
+ms_too_large flags mode = text_of (command.MetaSet (record { key = codes "a"; flags = flags; mode = mode; compare = None; unique = None; client_flags = 0; exptime = pos 0; block = codes "x" })) (answer.TooLarge ∷ [])
 
 memcached_marks : (text_of (meta_get (codes "a") (by_memcached (flags_of false false (flag.Unique ∷ []) [])) true) (meta_hit (codes "x") 5 None false true true ∷ []) ≡ codes "VA 1 c5 Z X\r\nx\r\n")
     × (text_of (meta_get (codes "a") (by_memcached (flags_of false false [] [])) false) (meta_hit (codes "x") 5 None true true false ∷ []) ≡ codes "HD X W\r\n")
@@ -123,10 +125,18 @@ memcached_zero = (refl, refl, refl, refl, refl)
 joined_too_large : (text_of (joined store.Append false true) (answer.TooLarge ∷ []) ≡ codes "NOT_STORED\r\n")
     × (text_of (joined store.Append true true) (answer.TooLarge ∷ []) ≡ [])
     × (text_of (joined store.Append false false) (answer.TooLarge ∷ []) ≡ codes "SERVER_ERROR object too large for cache\r\n")
-    × (text_of (joined_by_ms (by_memcached (flags_of false true (flag.Unique ∷ flag.Key ∷ []) [])) true) (answer.TooLarge ∷ []) ≡ codes "NS c0 ka\r\n")
-    × (text_of (joined_by_ms (flags_of false true (flag.Unique ∷ flag.Key ∷ []) []) false) (answer.TooLarge ∷ []) ≡ codes "SERVER_ERROR object too large for cache\r\n")
 unfolding shape_of shape_text digits
-joined_too_large = (refl, refl, refl, refl, refl)
+joined_too_large = (refl, refl, refl)
+
+abbrev quiet_flags : MetaFlags
+quiet_flags = flags_of false true (flag.Unique ∷ flag.Key ∷ []) []
+
+-- It counts so in the modes that join alone, and by memcached's rules alone.
+ms_joined_too_large : (map (ms_too_large (by_memcached quiet_flags)) (mode.Append ∷ mode.Prepend ∷ []) ≡ replicate 2 (codes "NS c0 ka\r\n"))
+    × (map (ms_too_large (by_memcached quiet_flags)) (mode.Set ∷ mode.Add ∷ mode.Replace ∷ []) ≡ replicate 3 (codes "SERVER_ERROR object too large for cache\r\n"))
+    × (map (ms_too_large quiet_flags) (mode.Append ∷ mode.Prepend ∷ []) ≡ replicate 2 (codes "SERVER_ERROR object too large for cache\r\n"))
+unfolding shape_of shape_text digits
+ms_joined_too_large = (refl, refl, refl)
 
 -- a shard that was asked for two items and had one of them, and another that had one, stored one with a unique, and let the most
 -- items go that can be counted

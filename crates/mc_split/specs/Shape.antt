@@ -5,8 +5,12 @@ use Rattle.mc_command.specs.declared.command.Command.{Command}
 use Rattle.mc_command.specs.declared.command.Command.TheVariants as command
 use Rattle.mc_command.specs.declared.command.StatsRequest.TheVariants as request
 use Rattle.mc_command.specs.declared.meta.MetaFlags.{MetaFlags}
+use Rattle.mc_command.specs.declared.meta.MetaMode.{MetaMode}
+use Rattle.mc_command.specs.declared.meta.MetaMode.TheVariants.{Append, Prepend}
 use Rattle.mc_command.specs.declared.meta.ReturnFlag.{ReturnFlag}
 use Rattle.mc_command.specs.declared.meta.ReturnFlag.TheVariants.{Unique, ClientFlags, Fetched, Key, LastAccess, Opaque, Size, TimeLeft}
+use Rattle.mc_command.specs.declared.rules.Profile.{Profile}
+use Rattle.mc_command.specs.declared.rules.Profile.TheVariants.{DropIn}
 use Rattle.mc_split.specs.declared.form.Shape.{Shape}
 use Rattle.mc_split.specs.declared.form.Shape.TheVariants.{Fixed, Line, Values, Stats, Meta}
 use Rattle.mc_split.specs.declared.form.Fixed.TheVariants as fixed
@@ -27,6 +31,12 @@ is_key_flag TimeLeft = false
 abbrev pub shown_key : MetaFlags → List ℕ → Option (List ℕ)
 shown_key flags key = if list_any is_key_flag flags.returned then Some key else None
 
+-- By memcached's rules a value that `ms` joins counts as not stored where it is too large, and that is no error.
+abbrev pub is_lenient_in : Profile → MetaMode → Bool
+is_lenient_in DropIn Append = true
+is_lenient_in DropIn Prepend = true
+is_lenient_in profile mode = false
+
 -- the shape of the reply to a command
 unfoldable pub shape_of : Command → Shape
 shape_of (command.Store storage) = Line storage.noreply storage.lenient
@@ -43,7 +53,7 @@ shape_of (command.Stats request.Empty) = Fixed fixed.End
 shape_of command.Quit = Fixed fixed.Nothing
 shape_of command.MetaNoop = Fixed fixed.MetaNoop
 shape_of (command.MetaGet get) = Meta kind.Get get.flags get.value (shown_key get.flags get.key) false
-shape_of (command.MetaSet set) = Meta kind.Set set.flags false (shown_key set.flags set.key) set.lenient
+shape_of (command.MetaSet set) = Meta kind.Set set.flags false (shown_key set.flags set.key) (is_lenient_in set.flags.profile set.mode)
 shape_of (command.MetaDelete delete) = Meta kind.Delete delete.flags false (shown_key delete.flags delete.key) false
 shape_of (command.MetaArithmetic arithmetic) =
     Meta kind.Arithmetic arithmetic.flags arithmetic.value (shown_key arithmetic.flags arithmetic.key) false

@@ -2,7 +2,7 @@
 ghost use Rattle.std.specs.Prelude.{◌≡◌, ◌<◌, IfOk};
 ghost use Rattle.std.specs.List.{list_any};
 ghost use Rattle.mc_split.specs.Pieces.{pieces_of};
-ghost use Rattle.mc_split.specs.Shape.{shape_of, shown_key, is_key_flag};
+ghost use Rattle.mc_split.specs.Shape.{is_key_flag, is_lenient_in, shape_of, shown_key};
 ghost use Rattle.mc_split.specs.internal.Splits.{Splits};
 
 use crate::classic::value_of;
@@ -10,7 +10,8 @@ use crate::form::{Form, Shape};
 use crate::plan::Piece;
 use crate::splitter::Splitter;
 use mc_command::{
-    Command, MetaArithmetic, MetaDelete, MetaFlags, MetaGet, MetaKind, MetaSet, ReturnFlag,
+    Command, MetaArithmetic, MetaDelete, MetaFlags, MetaGet, MetaKind, MetaMode, MetaSet, Profile,
+    ReturnFlag,
 };
 use mc_item::{NoMemory, Op, Vivify};
 use mc_wire::Key;
@@ -40,6 +41,13 @@ fn copy_shown(flags: &MetaFlags, key: &Key) -> Result<Option<Key>, AllocError>
     }
     let copy = key.clone()?;
     Ok(Some(copy))
+}
+
+/// Whether a value that `ms` joins in this mode counts as not stored where it is too large.
+fn is_lenient_in(profile: Profile, mode: MetaMode) -> bool
+    ensures { result ≡ is_lenient_in profile mode }
+{
+    matches!(profile, Profile::DropIn) && matches!(mode, MetaMode::Append | MetaMode::Prepend)
 }
 
 impl Splitter {
@@ -85,8 +93,8 @@ impl Splitter {
             kind: MetaKind::Set,
             value: false,
             key: copy_shown(&set.flags, &set.key)?,
+            lenient: is_lenient_in(set.flags.profile, set.mode),
             flags: set.flags,
-            lenient: set.lenient,
         };
         let shard = set.key.place(self.shards);
         let op = Op::MetaStore(mc_item::MetaStore {

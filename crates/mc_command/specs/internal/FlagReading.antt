@@ -13,15 +13,15 @@ use Rattle.mc_command.specs.declared.meta.MetaKind.{MetaKind}
 use Rattle.mc_command.specs.declared.meta.MetaKind.TheVariants.{Set, Arithmetic}
 use Rattle.mc_command.specs.declared.refusal.Refusal.{Refusal}
 use Rattle.mc_command.specs.declared.refusal.Refusal.TheVariants.{BadFormat, InvalidFlag, DuplicateFlag, OpaqueTooLong}
-use Rattle.mc_command.specs.declared.rules.Profile.TheVariants.{Own}
+use Rattle.mc_command.specs.declared.rules.Profile.{Profile}
 use Rattle.mc_command.specs.declared.rules.Rules.{Rules}
 use Rattle.mc_command.specs.Field.{then_of}
 use Rattle.mc_command.specs.Meta.{letters_of, is_among, mode_of, direction_of, return_flag}
 
--- what no flags ask
-abbrev pub nothing_asked : Asked
-nothing_asked = record {
-  flags = record { base64 = false; quiet = false; profile = Own; returned = []; opaque = [] };
+-- what no flags ask, where the reply follows the rules of this profile
+abbrev pub nothing_asked : Profile → Asked
+nothing_asked profile = record {
+  flags = record { base64 = false; quiet = false; profile = profile; returned = []; opaque = [] };
   value = false;
   invalidate = false;
   unnoted = false;

@@ -9,7 +9,7 @@ pub loop-word-init : goal.loop-word-init
 loop-word-init c = record {
   can_next = tt;
   is_finite = tt;
-  counted = counted_first c.new-reader.result c.new-reader.ensures.seen c.new-reader.ensures.asked;
+  counted = counted_first c.args.rules.profile c.new-reader.result c.new-reader.ensures.seen c.new-reader.ensures.asked;
   left = refl;
 }
 
