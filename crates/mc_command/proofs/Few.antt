@@ -9,7 +9,7 @@ use Rattle.mc_command.specs.declared.command.StoreMode.{StoreMode}
 use Rattle.mc_command.specs.declared.command.Direction.{Direction}
 use Rattle.mc_command.specs.declared.meta.MetaKind.{MetaKind}
 use Rattle.mc_command.specs.declared.meta.MetaKind.TheVariants as meta
-use Rattle.mc_command.specs.declared.meta_flags.Asked.{Asked}
+use Rattle.mc_command.specs.declared.meta_flags.FlagsRead.{FlagsRead}
 use Rattle.mc_command.specs.declared.name.CommandName.{CommandName}
 use Rattle.mc_command.specs.declared.name.CommandName.TheVariants as name
 use Rattle.mc_command.specs.declared.refusal.Refusal.{Refusal}
@@ -119,7 +119,7 @@ few_stats : (most : ℕ) (rules : Rules) (words : List (List ℕ)) → FewAsked 
 few_stats most rules words =
     few_cond most (is_drop_in rules) (then_of (ok_or (request_of words) Unknown) (λ request. Ok (command.Stats request))) (Err Unknown) (few_then most (ok_or (request_of words) Unknown) (λ request. Ok (command.Stats request)) (λ asked. tt)) tt
 
-few_meta_by : (most : ℕ) (rules : Rules) (name : MetaKind) (key : List ℕ) (asked : Asked) → FewAsked most (command_by rules name key asked)
+few_meta_by : (most : ℕ) (rules : Rules) (name : MetaKind) (key : List ℕ) (asked : FlagsRead) → FewAsked most (command_by rules name key asked)
 few_meta_by most rules meta.Get key asked = tt
 few_meta_by most rules meta.Set key asked = few_unless most (compare_refusal rules (set_by rules key asked)) (Ok (command.MetaSet (set_by rules key asked))) tt
 few_meta_by most rules meta.Delete key asked = tt

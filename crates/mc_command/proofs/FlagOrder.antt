@@ -10,7 +10,7 @@ use Rattle.mc_command.specs.declared.command.Command.TheVariants as command
 use Rattle.mc_command.specs.declared.line.Line.{Line}
 use Rattle.mc_command.specs.declared.line.Line.TheVariants.{Whole, Data, Refused, Skip}
 use Rattle.mc_command.specs.declared.meta.ReturnFlag.{ReturnFlag}
-use Rattle.mc_command.specs.declared.meta_flags.Asked.{Asked}
+use Rattle.mc_command.specs.declared.meta_flags.FlagsRead.{FlagsRead}
 use Rattle.mc_command.specs.declared.meta.MetaKind.{MetaKind}
 use Rattle.mc_command.specs.declared.meta.MetaKind.TheVariants.{Set}
 use Rattle.mc_command.specs.declared.refusal.Refusal.{Refusal}
@@ -123,7 +123,7 @@ same_then : (read again : Result (List ℕ) Refusal) (one two : List ℕ → Res
 same_then (Ok key) again one two is same = rw (← is) (same key)
 same_then (Err refusal) again one two is same = rw (← is) tt
 
-with_others : (rules : Rules) (name : MetaKind) (key : List ℕ) (asked : Asked) (returned : List ReturnFlag) → IsPermutation asked.flags.returned returned →
+with_others : (rules : Rules) (name : MetaKind) (key : List ℕ) (asked : FlagsRead) (returned : List ReturnFlag) → IsPermutation asked.flags.returned returned →
     SameAsked (command_by rules name key asked) (command_by rules name key (record asked { flags = with_flags asked.flags returned }))
 with_others rules Set key asked returned moved =
     same_unless (compare_refusal rules (set_by rules key asked)) (compare_refusal rules (set_by rules key asked)) _ _ (λ none. (none, record { same = refl; moved = moved })) (λ none. none)

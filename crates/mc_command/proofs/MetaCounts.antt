@@ -6,13 +6,13 @@ use Rattle.std.specs.List.{list_all}
 use Rattle.std.proofs.Math.ListN.{length-set}
 use Rattle.std.proofs.lemmas.List.{length-replicate}
 use Rattle.mc_command.specs.declared.meta.ReturnFlag.{ReturnFlag}
-use Rattle.mc_command.specs.declared.meta_flags.Asked.{Asked}
+use Rattle.mc_command.specs.declared.meta_flags.FlagsRead.{FlagsRead}
 use Rattle.mc_command.specs.declared.meta_flags.Flag.{Flag}
 use Rattle.mc_command.specs.declared.meta_flags.Flag.TheVariants as flag
 use Rattle.mc_command.specs.declared.meta_flags.FlagReader.{FlagReader}
 use Rattle.mc_command.specs.declared.rules.Profile.{Profile}
 use Rattle.mc_command.specs.Meta.{is_among, return_flag}
-use Rattle.mc_command.specs.internal.FlagReading.{IsCounted, seen_count, shown_count, with_flag, with_shown, unseen, nothing_asked}
+use Rattle.mc_command.specs.internal.FlagReading.{CountsFlags, seen_count, shown_count, with_flag, with_shown, unseen, nothing_asked}
 
 seen_count-other : (seen : List Bool) (letter : ℕ) (letters : List ℕ) → is_among letters letter ≡ false → seen_count (set seen letter true) letters ≡ seen_count seen letters
 seen_count-other seen letter [] absent = refl
@@ -68,12 +68,12 @@ shown_among letter =
     (some_if (letter == 99) _ _ _ (some_if (letter == 102) _ _ _ (some_if (letter == 104) _ _ _ (some_if (letter == 107) _ _ _
     (some_if (letter == 108) _ _ _ (some_if (letter == 79) _ _ _ (some_if (letter == 115) _ _ _ (some_if (letter == 116) _ _ _ refl))))))))
 
-with_flag-returned : (asked : Asked) (said : Flag) → (with_flag asked said).flags.returned ≡ asked.flags.returned
+with_flag-returned : (asked : FlagsRead) (said : Flag) → (with_flag asked said).flags.returned ≡ asked.flags.returned
 with_flag-returned asked flag.Base64 = refl
 with_flag-returned asked any = refl
 
 -- there is room for the flag of a letter that was not seen
-pub room : (reader : FlagReader) (letter : ℕ) (said : Flag) (shown : ReturnFlag) → IsCounted reader → get_or reader.seen letter false ≡ false → return_flag letter ≡ Some shown → length (with_flag reader.asked said).flags.returned < 8
+pub room : (reader : FlagReader) (letter : ℕ) (said : Flag) (shown : ReturnFlag) → CountsFlags reader → get_or reader.seen letter false ≡ false → return_flag letter ≡ Some shown → length (with_flag reader.asked said).flags.returned < 8
 unfolding shown_count
 room reader letter said shown counted fresh is =
     let among : is_among (codes "cfhklOst") letter ≡ true = sym (shown_among letter) ∙ ap is_some is in
@@ -82,14 +82,14 @@ room reader letter said shown counted fresh is =
     let more = seen_count-new reader.seen letter (codes "cfhklOst") refl among (omega arith) fresh in
     rw (with_flag-returned reader.asked said) (omega (arith, counted.shown, more, seen_count-most (set reader.seen letter true) (codes "cfhklOst")))
 
-counted_by : (seen : List Bool) (letter : ℕ) (asked : Asked) (shown : Option ReturnFlag) → is_among (codes "cfhklOst") letter ≡ is_some shown → letter < length seen → get_or seen letter false ≡ false → length asked.flags.returned ≡ seen_count seen (codes "cfhklOst") → length (with_shown asked shown).flags.returned ≡ seen_count (set seen letter true) (codes "cfhklOst")
+counted_by : (seen : List Bool) (letter : ℕ) (asked : FlagsRead) (shown : Option ReturnFlag) → is_among (codes "cfhklOst") letter ≡ is_some shown → letter < length seen → get_or seen letter false ≡ false → length asked.flags.returned ≡ seen_count seen (codes "cfhklOst") → length (with_shown asked shown).flags.returned ≡ seen_count (set seen letter true) (codes "cfhklOst")
 counted_by seen letter asked None among within fresh was = was ∙ sym (seen_count-other seen letter (codes "cfhklOst") among)
 counted_by seen letter asked (Some shown) among within fresh was =
     rw (seen_count-new seen letter (codes "cfhklOst") refl among within fresh) (omega (arith, length-append asked.flags.returned (shown ∷ []), was))
 
 -- the count still holds with one flag more
-pub counted_more : (reader : FlagReader) (letter : ℕ) (said : Flag) → IsCounted reader → letter < 256 → get_or reader.seen letter false ≡ false →
-    IsCounted (record { seen = set reader.seen letter true; asked = with_shown (with_flag reader.asked said) (return_flag letter) })
+pub counted_more : (reader : FlagReader) (letter : ℕ) (said : Flag) → CountsFlags reader → letter < 256 → get_or reader.seen letter false ≡ false →
+    CountsFlags (record { seen = set reader.seen letter true; asked = with_shown (with_flag reader.asked said) (return_flag letter) })
 unfolding shown_count
 counted_more reader letter said counted within fresh =
     let wide = counted.wide in
@@ -100,20 +100,20 @@ counted_more reader letter said counted within fresh =
     }
 
 -- The count still holds where a letter that was not seen before adds a flag that is given back.
-pub counted_shown : (reader : FlagReader) (letter : ℕ) (said : Flag) (asked : Asked) (shown : ReturnFlag) (returned : List ReturnFlag) → IsCounted reader → letter < 256 → get_or reader.seen letter false ≡ false →
+pub counted_shown : (reader : FlagReader) (letter : ℕ) (said : Flag) (asked : FlagsRead) (shown : ReturnFlag) (returned : List ReturnFlag) → CountsFlags reader → letter < 256 → get_or reader.seen letter false ≡ false →
     asked ≡ with_flag reader.asked said → Some shown ≡ return_flag letter → returned ≡ asked.flags.returned ++ shown ∷ [] →
-    IsCounted (record { seen = set reader.seen letter true; asked = record asked { flags = record asked.flags { returned = returned } } })
+    CountsFlags (record { seen = set reader.seen letter true; asked = record asked { flags = record asked.flags { returned = returned } } })
 counted_shown reader letter said asked shown returned counted within fresh is shows more =
     rw (more, is) (rw (← shows) at (counted_more reader letter said counted within fresh))
 
 -- The count still holds where a letter that was not seen before is of no flag that is given back.
-pub counted_bare : (reader : FlagReader) (letter : ℕ) (said : Flag) (asked : Asked) → IsCounted reader → letter < 256 → get_or reader.seen letter false ≡ false →
-    asked ≡ with_flag reader.asked said → None ≡ return_flag letter → IsCounted (record { seen = set reader.seen letter true; asked = asked })
+pub counted_bare : (reader : FlagReader) (letter : ℕ) (said : Flag) (asked : FlagsRead) → CountsFlags reader → letter < 256 → get_or reader.seen letter false ≡ false →
+    asked ≡ with_flag reader.asked said → None ≡ return_flag letter → CountsFlags (record { seen = set reader.seen letter true; asked = asked })
 counted_bare reader letter said asked counted within fresh is shows =
     rw is (rw (← shows) at (counted_more reader letter said counted within fresh))
 
 -- Before the first flag is read no letter was seen and no flag is given back, so the count holds.
-pub counted_first : (profile : Profile) (reader : FlagReader) → reader.seen ≡ unseen → reader.asked ≡ nothing_asked profile → IsCounted reader
+pub counted_first : (profile : Profile) (reader : FlagReader) → reader.seen ≡ unseen → reader.asked ≡ nothing_asked profile → CountsFlags reader
 unfolding shown_count
 counted_first profile reader seen asked = record {
   wide = rw seen (length-replicate 256 false);

@@ -15,7 +15,7 @@ use Rattle.mc_command.proofs.Lines.{Yields, may_then, yields_key, yields_or}
 use Rattle.mc_command.specs.Command.{refusal_takes_memory}
 use Rattle.mc_command.specs.Field.{Reads, then_of}
 use Rattle.mc_command.specs.Meta.{letters_of, is_among, has_flag, is_set, is_token, flag_refusal, flags_refusal, unless, decoded_key, meta_key_of, compare_refusal, set_by, asked_of, command_by, meta_command_of}
-use Rattle.mc_command.specs.declared.meta_flags.Asked.{Asked}
+use Rattle.mc_command.specs.declared.meta_flags.FlagsRead.{FlagsRead}
 use Rattle.mc_command.specs.Rules.{is_drop_in}
 use Rattle.mc_command.specs.declared.rules.Rules.{Rules}
 
@@ -49,7 +49,7 @@ given_up_unless : (refusal : Option Refusal) (asked : Result Command Refusal) �
 given_up_unless None asked of_line may = may
 given_up_unless (Some refusal) asked of_line may = of_line
 
-given_up_command : (rules : Rules) (name : MetaKind) (key : List ℕ) (asked : Asked) → MayBeGivenUp (command_by rules name key asked)
+given_up_command : (rules : Rules) (name : MetaKind) (key : List ℕ) (asked : FlagsRead) → MayBeGivenUp (command_by rules name key asked)
 given_up_command rules Get key asked = refl
 given_up_command rules Set key asked =
     let set = set_by rules key asked in
@@ -68,7 +68,7 @@ meta_given_up rules name word words =
     given_up_unless (flags_refusal rules name [] words) _ (flags_refusal_of_line rules name [] words)
     (may_then _ _ (yields_meta_key (has_flag 98 words) word) (λ key. given_up_command rules name key (asked_of rules name words)))
 
-asked_then : (rules : Rules) (name : MetaKind) (word : List ℕ) (words : List (List ℕ)) (asked : Asked) (key : List ℕ) (refusal : Option Refusal) → Ok asked ≡ unless refusal (Ok (asked_of rules name words)) → meta_key_of asked.flags.base64 word ≡ Ok key →
+asked_then : (rules : Rules) (name : MetaKind) (word : List ℕ) (words : List (List ℕ)) (asked : FlagsRead) (key : List ℕ) (refusal : Option Refusal) → Ok asked ≡ unless refusal (Ok (asked_of rules name words)) → meta_key_of asked.flags.base64 word ≡ Ok key →
     command_by rules name key asked ≡ unless refusal (then_of (meta_key_of (has_flag 98 words) word) (λ bytes. command_by rules name bytes (asked_of rules name words)))
 asked_then rules name word words asked key (Some refusal) said spelled = absurd cc
 asked_then rules name word words asked key None said spelled =
@@ -80,7 +80,7 @@ reads_same asked (Ok command) same = sym same
 reads_same asked (Err refusal) same = λ other. sym same
 
 -- flags and key as they were read make the command
-pub reads_command : (rules : Rules) (name : MetaKind) (word : List ℕ) (words : List (List ℕ)) (asked : Asked) (key : List ℕ) (read : Result Command Refusal) → Ok asked ≡ unless (flags_refusal rules name [] words) (Ok (asked_of rules name words)) →
+pub reads_command : (rules : Rules) (name : MetaKind) (word : List ℕ) (words : List (List ℕ)) (asked : FlagsRead) (key : List ℕ) (read : Result Command Refusal) → Ok asked ≡ unless (flags_refusal rules name [] words) (Ok (asked_of rules name words)) →
     meta_key_of asked.flags.base64 word ≡ Ok key → read ≡ command_by rules name key asked → Reads (meta_command_of rules name word words) read
 reads_command rules name word words asked key read said spelled made =
     reads_same (meta_command_of rules name word words) read (made ∙ asked_then rules name word words asked key (flags_refusal rules name [] words) said spelled)

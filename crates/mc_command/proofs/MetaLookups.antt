@@ -10,7 +10,7 @@ use Rattle.std.proofs.lemmas.List.Elements.{filter_map-append}
 use Rattle.std.proofs.lemmas.List.Folds.{find-append, list_any-append}
 use Rattle.mc_wire.specs.Number.{number_of, integer_of}
 use Rattle.mc_command.specs.declared.meta.ReturnFlag.{ReturnFlag}
-use Rattle.mc_command.specs.declared.meta_flags.Asked.{Asked}
+use Rattle.mc_command.specs.declared.meta_flags.FlagsRead.{FlagsRead}
 use Rattle.mc_command.specs.declared.meta.MetaKind.{MetaKind}
 use Rattle.mc_command.specs.declared.rules.Rules.{Rules}
 use Rattle.mc_command.specs.Meta.{has_letter, has_flag, token_of, shown_flag, return_flag, asked_of, mode_in, direction_in}
@@ -62,7 +62,7 @@ more_is flags None = append-nil flags
 more_is flags (Some last) = refl
 
 -- what a flag more makes of what was asked
-abbrev pub asked_next : MetaKind → Asked → ℕ → List ℕ → Option ReturnFlag → Asked
+abbrev pub asked_next : MetaKind → FlagsRead → ℕ → List ℕ → Option ReturnFlag → FlagsRead
 asked_next name asked first token shown = record {
   flags = record {
     base64 = (first == 98) || asked.flags.base64;
@@ -101,6 +101,6 @@ asked_of-append rules name before first token fresh =
     (rw (unsigned (2 ^ 64) 67, unsigned (2 ^ 64) 69, unsigned (2 ^ 64) 68, unsigned (2 ^ 64) 74, unsigned (2 ^ 32) 70, mode, direction))
 
 -- A flag more that is given back, where there is one, comes last of these, and all else that is asked stays.
-pub with_shown_is : (asked : Asked) (shown : Option ReturnFlag) → with_shown asked shown ≡ record asked { flags = record asked.flags { returned = more_shown asked.flags.returned shown } }
+pub with_shown_is : (asked : FlagsRead) (shown : Option ReturnFlag) → with_shown asked shown ≡ record asked { flags = record asked.flags { returned = more_shown asked.flags.returned shown } }
 with_shown_is asked None = refl
 with_shown_is asked (Some shown) = refl

@@ -7,7 +7,7 @@ use Rattle.std.proofs.lemmas.Bool.Decides.{eqb_tells}
 use Rattle.std.specs.Option.{ok_or, option_map}
 use Rattle.mc_wire.specs.Number.{number_of, integer_of}
 use Rattle.mc_wire.specs.declared.TheConstants.{OPAQUE_LIMIT}
-use Rattle.mc_command.specs.declared.meta_flags.Asked.{Asked}
+use Rattle.mc_command.specs.declared.meta_flags.FlagsRead.{FlagsRead}
 use Rattle.mc_command.specs.declared.meta_flags.Flag.{Flag}
 use Rattle.mc_command.specs.declared.meta_flags.Flag.TheVariants as flag
 use Rattle.mc_command.specs.declared.meta_flags.FlagReader.{FlagReader}
@@ -25,7 +25,7 @@ use Rattle.mc_command.proofs.MetaCounts.{eq_comm, small_among}
 use Rattle.mc_command.proofs.MetaLookups.{asked_next, asked_of-append, has_flag-append, with_shown_is}
 
 -- what is read from here on
-abbrev pub read_from : Rules → MetaKind → FlagReader → List (List ℕ) → Result Asked Refusal
+abbrev pub read_from : Rules → MetaKind → FlagReader → List (List ℕ) → Result FlagsRead Refusal
 read_from rules name reader [] = Ok reader.asked
 read_from rules name reader (word ∷ words) = then_of (with_word rules name reader word) (λ more. read_from rules name more words)
 
@@ -46,7 +46,7 @@ IsSaid rules name letter = (token : List ℕ) (before : List (List ℕ)) → has
 
 -- a flag without a token
 said_plain : (rules : Rules) (name : MetaKind) (letter : ℕ) (flag : Flag) → ((token : List ℕ) → token_refusal name letter token ≡ None) → ((token : List ℕ) → flag_of name letter token ≡ Ok flag) →
-    ((asked : Asked) (token : List ℕ) → with_shown (with_flag asked flag) (return_flag letter) ≡ asked_next name asked letter token (return_flag letter)) → IsSaid rules name letter
+    ((asked : FlagsRead) (token : List ℕ) → with_shown (with_flag asked flag) (return_flag letter) ≡ asked_next name asked letter token (return_flag letter)) → IsSaid rules name letter
 said_plain rules name letter flag refusal is agrees token before fresh =
     said flag (refusal token) (is token) (agrees (asked_of rules name before) token ∙ sym (asked_of-append rules name before letter token fresh))
 

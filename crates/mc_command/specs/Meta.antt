@@ -23,7 +23,7 @@ use Rattle.mc_command.specs.declared.meta.MetaMode.TheVariants as mode
 use Rattle.mc_command.specs.declared.meta.MetaSet.{MetaSet}
 use Rattle.mc_command.specs.declared.meta.ReturnFlag.{ReturnFlag}
 use Rattle.mc_command.specs.declared.meta.ReturnFlag.TheVariants as shows
-use Rattle.mc_command.specs.declared.meta_flags.Asked.{Asked}
+use Rattle.mc_command.specs.declared.meta_flags.FlagsRead.{FlagsRead}
 use Rattle.mc_command.specs.declared.meta.MetaKind.{MetaKind}
 use Rattle.mc_command.specs.declared.meta.MetaKind.TheVariants.{Get, Set, Delete, Arithmetic}
 use Rattle.mc_command.specs.declared.refusal.Refusal.{Refusal}
@@ -199,7 +199,7 @@ direction_in Arithmetic token = option_and_then direction_of token
 direction_in other token = None
 
 -- all that the flags of a line may ask, each by a look-up
-abbrev pub asked_of : Rules → MetaKind → List (List ℕ) → Asked
+abbrev pub asked_of : Rules → MetaKind → List (List ℕ) → FlagsRead
 asked_of rules name words = record {
   flags = flags_of rules.profile words;
   value = has_flag (byte "v") words;
@@ -219,7 +219,7 @@ asked_of rules name words = record {
 
 -- what each command makes of them, with the defaults of flags that do not stand there
 
-abbrev pub get_by : Rules → List ℕ → Asked → MetaGet
+abbrev pub get_by : Rules → List ℕ → FlagsRead → MetaGet
 get_by rules key asked = record {
   key = key;
   flags = asked.flags;
@@ -230,7 +230,7 @@ get_by rules key asked = record {
   unnoted = asked.unnoted;
 }
 
-abbrev pub set_by : Rules → List ℕ → Asked → MetaSet
+abbrev pub set_by : Rules → List ℕ → FlagsRead → MetaSet
 set_by rules key asked = record {
   key = key;
   flags = asked.flags;
@@ -242,7 +242,7 @@ set_by rules key asked = record {
   block = [];
 }
 
-abbrev pub delete_by : Rules → List ℕ → Asked → MetaDelete
+abbrev pub delete_by : Rules → List ℕ → FlagsRead → MetaDelete
 delete_by rules key asked = record {
   key = key;
   flags = asked.flags;
@@ -252,7 +252,7 @@ delete_by rules key asked = record {
   exptime = exptime_in rules asked.exptime;
 }
 
-abbrev pub arithmetic_by : Rules → List ℕ → Asked → MetaArithmetic
+abbrev pub arithmetic_by : Rules → List ℕ → FlagsRead → MetaArithmetic
 arithmetic_by rules key asked = record {
   key = key;
   flags = asked.flags;
@@ -267,7 +267,7 @@ arithmetic_by rules key asked = record {
 }
 
 -- the command of this key and these flags
-abbrev pub command_by : Rules → MetaKind → List ℕ → Asked → Result Command Refusal
+abbrev pub command_by : Rules → MetaKind → List ℕ → FlagsRead → Result Command Refusal
 command_by rules Get key asked = Ok (command.MetaGet (get_by rules key asked))
 command_by rules Set key asked = unless (compare_refusal rules (set_by rules key asked)) (Ok (command.MetaSet (set_by rules key asked)))
 command_by rules Delete key asked = Ok (command.MetaDelete (delete_by rules key asked))

@@ -28,7 +28,8 @@ pub fn announced_bytes(line: &[u8]) -> u64
 /// line as `read_line_under` does, whatever the value limit is, and takes no memory.
 #[tactic(auto, unfolding(crate::specs::Table::line_of), using(crate::proofs::Behind::behind_shown))]
 pub fn announced_bytes_under(line: &[u8], rules: Rules) -> u64
-    ensures { (limit : ℕ) → result ≡ bytes_behind (line_of (record rules { value_limit = limit }) (words_of line.now)) }
+    ensures { (limit : ℕ) →
+        result ≡ bytes_behind (line_of (record rules { value_limit = limit }) (words_of line.now)) }
 {
     let mut walk = words(line);
     match walk.next().and_then(read_name) {

@@ -44,7 +44,8 @@ pub enum Line {
 /// Reads a line, without its end, by this server's own rules. A value has at most so many bytes as the limit says.
 pub fn read_line(alloc: Global, line: &[u8], limit: usize) -> Line
     ensures says { Says (line_of (own limit) (words_of line.now)) result }
-    ensures told { may_take_memory (words_of line.now) ≡ false → result ≡ line_of (own limit) (words_of line.now) }
+    ensures told { may_take_memory (words_of line.now) ≡ false →
+        result ≡ line_of (own limit) (words_of line.now) }
 {
     read_line_under(alloc, line, Rules::own(limit))
 }
@@ -54,7 +55,8 @@ pub fn read_line(alloc: Global, line: &[u8], limit: usize) -> Line
 pub fn read_line_under(alloc: Global, line: &[u8], rules: Rules) -> Line
     ensures says { Says (line_of rules (words_of line.now)) result }
     // A line without keys is never given up.
-    ensures told { may_take_memory (words_of line.now) ≡ false → result ≡ line_of rules (words_of line.now) }
+    ensures told { may_take_memory (words_of line.now) ≡ false →
+        result ≡ line_of rules (words_of line.now) }
 {
     let mut walk = words(line);
     let Some(name) = walk.next().and_then(read_name) else {
@@ -70,7 +72,8 @@ pub fn read_line_under(alloc: Global, line: &[u8], rules: Rules) -> Line
 #[tactic(auto, using(crate::proofs::GivingUp::says_whole, crate::proofs::Lines::get_may, crate::proofs::Lines::gat_may, crate::proofs::Lines::delete_may, crate::proofs::Lines::count_may, crate::proofs::Lines::touch_may, crate::proofs::Lines::flush_may, crate::proofs::Told::verbosity_told, crate::proofs::Told::stats_told, crate::proofs::Told::says_told))]
 fn read_named(alloc: Global, name: CommandName, walk: WordWalk<'_>, rules: Rules) -> Line
     ensures says { Says (line_named rules name (words_left walk.entry)) result }
-    ensures told { takes_memory name ≡ false → result ≡ line_named rules name (words_left walk.entry) }
+    ensures told { takes_memory name ≡ false →
+        result ≡ line_named rules name (words_left walk.entry) }
 {
     match name {
         CommandName::Store(mode) => read_storage(alloc, mode, walk, rules),

@@ -4,7 +4,7 @@ ghost use Rattle.mc_wire.specs.Words.{words_left};
 ghost use Rattle.mc_command.specs.Meta.{flags_refusal, unless};
 ghost use Rattle.mc_command.specs.Meta as table;
 ghost use Rattle.mc_command.specs.Meta.{asked_of};
-ghost use Rattle.mc_command.specs.internal.FlagReading.{IsCounted, nothing_asked, unseen, with_flag, with_word};
+ghost use Rattle.mc_command.specs.internal.FlagReading.{CountsFlags, nothing_asked, unseen, with_flag, with_word};
 ghost use Rattle.mc_command.specs.internal.FlagReading as spec;
 
 use crate::command::Direction;
@@ -16,7 +16,7 @@ use mc_wire::WordWalk;
 
 /// What the flags of a line ask; nothing where a flag is not there.
 #[derive(Drop)]
-pub(crate) struct Asked {
+pub(crate) struct FlagsRead {
     pub(crate) flags: MetaFlags,
     /// `v`.
     pub(crate) value: bool,
@@ -87,8 +87,14 @@ enum Flag {
 
 /// Reads the flags of a line, its words behind the key and the count. The first flag that is refused
 /// decides.
-pub(crate) fn read_flags(rules: Rules, name: MetaKind, walk: WordWalk<'_>) -> Result<Asked, Refusal>
-    ensures { result ≡ unless (flags_refusal rules name [] (words_left walk.entry)) (Ok (asked_of rules name (words_left walk.entry))) }
+pub(crate) fn read_flags(
+    rules: Rules,
+    name: MetaKind,
+    walk: WordWalk<'_>,
+) -> Result<FlagsRead, Refusal>
+    ensures { result ≡
+        unless (flags_refusal rules name [] (words_left walk.entry))
+        (Ok (asked_of rules name (words_left walk.entry))) }
 {
     let mut reader = FlagReader::new(rules.profile);
     for word in walk {
@@ -102,7 +108,7 @@ pub(crate) fn read_flags(rules: Rules, name: MetaKind, walk: WordWalk<'_>) -> Re
 struct FlagReader {
     /// For each byte, whether it was the letter of a flag.
     seen: [bool; 256],
-    asked: Asked,
+    asked: FlagsRead,
 }
 
 impl FlagReader {
@@ -112,16 +118,17 @@ impl FlagReader {
     {
         FlagReader {
             seen: [false; 256],
-            asked: Asked::nothing(profile),
+            asked: FlagsRead::nothing(profile),
         }
     }
 
     /// Reads one flag more. Where it is refused nothing is changed.
     fn read(&mut self, rules: Rules, name: MetaKind, word: &[u8]) -> Result<(), Refusal>
-        requires { IsCounted self.old }
-        ensures counted { OnOk result (IsCounted self.new) }
+        requires { CountsFlags self.old }
+        ensures counted { OnOk result (CountsFlags self.new) }
         ensures ok { OnOk result (with_word rules name self.old word.now ≡ Ok self.new) }
-        ensures err { IfErr result (λ refusal. with_word rules name self.old word.now ≡ Err refusal) }
+        ensures err { IfErr result
+            (λ refusal. with_word rules name self.old word.now ≡ Err refusal) }
     {
         let Some((letter, token)) = word.split_first() else {
             return Err(Refusal::InvalidFlag);
@@ -143,12 +150,12 @@ impl FlagReader {
     }
 }
 
-impl Asked {
+impl FlagsRead {
     /// What no flags ask, where the reply follows the rules of this profile.
-    fn nothing(profile: Profile) -> Asked
+    fn nothing(profile: Profile) -> FlagsRead
         ensures { result ≡ nothing_asked profile }
     {
-        Asked {
+        FlagsRead {
             flags: MetaFlags {
                 base64: false,
                 quiet: false,

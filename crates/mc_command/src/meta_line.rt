@@ -12,7 +12,7 @@ use crate::command::{Command, Direction};
 use crate::field::read_key;
 use crate::line::{Line, block_line, whole_line};
 use crate::meta::{MetaArithmetic, MetaDelete, MetaGet, MetaKind, MetaMode, MetaSet};
-use crate::meta_flags::{Asked, read_flags};
+use crate::meta_flags::{FlagsRead, read_flags};
 use crate::refusal::Refusal;
 use crate::rules::Rules;
 use mc_wire::{Key, WordWalk};
@@ -81,7 +81,8 @@ pub fn read_meta_get(
     word: &[u8],
     flags: WordWalk<'_>,
 ) -> Result<MetaGet, Refusal>
-    ensures { Reads (meta_command_of rules MetaKind.Get word.now (words_left flags.entry)) (as_meta_get result) }
+    ensures { Reads (meta_command_of rules MetaKind.Get word.now (words_left flags.entry))
+        (as_meta_get result) }
 {
     let asked = read_flags(rules, MetaKind::Get, flags)?;
     let key = read_meta_key(alloc, asked.flags.base64, word)?;
@@ -96,7 +97,8 @@ pub fn read_meta_set(
     word: &[u8],
     flags: WordWalk<'_>,
 ) -> Result<MetaSet, Refusal>
-    ensures { Reads (meta_command_of rules MetaKind.Set word.now (words_left flags.entry)) (as_meta_set result) }
+    ensures { Reads (meta_command_of rules MetaKind.Set word.now (words_left flags.entry))
+        (as_meta_set result) }
 {
     let asked = read_flags(rules, MetaKind::Set, flags)?;
     let key = read_meta_key(alloc, asked.flags.base64, word)?;
@@ -123,7 +125,7 @@ fn read_base64_key(alloc: Global, word: &[u8]) -> Result<Key, Refusal>
     Ok(key)
 }
 
-impl Asked {
+impl FlagsRead {
     /// The command of this name and key, with the defaults of flags that are not there.
     fn into_command(
         self,

@@ -79,7 +79,9 @@ fn storage(
     exptime: &[u8],
     noreply: Option<&[u8]>,
 ) -> Result<Command, Refusal>
-    ensures { Reads (spec.storage_of rules mode key.now flags.now exptime.now (option_copied noreply.entry)) result }
+    ensures { Reads
+        (spec.storage_of rules mode key.now flags.now exptime.now (option_copied noreply.entry))
+        result }
 {
     let key = read_key(alloc, key)?;
     let flags = read_u32(flags)?;
@@ -106,7 +108,9 @@ fn guarded(
     unique: &[u8],
     noreply: Option<&[u8]>,
 ) -> Result<Command, Refusal>
-    ensures { Reads (spec.cas_of rules key.now flags.now exptime.now unique.now (option_copied noreply.entry)) result }
+    ensures { Reads
+        (spec.cas_of rules key.now flags.now exptime.now unique.now
+        (option_copied noreply.entry)) result }
 {
     let key = read_key(alloc, key)?;
     let flags = read_u32(flags)?;

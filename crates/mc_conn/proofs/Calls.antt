@@ -20,7 +20,7 @@ use Rattle.mc_join.proofs.Joins.{opened_length, slice_get-drop}
 use Rattle.mc_conn.specs.declared.conn.Conn.{Conn}
 use Rattle.mc_conn.specs.internal.Inside.{HasBeenTold, put_first}
 use Rattle.mc_join.specs.Expects.{Expects}
-use Rattle.mc_conn.specs.Told.{Told, IsAllTaken, IsAtRest, IsOver, IsShut, IsSkipping, LeavesUnread, all_forms, all_pieces, all_texts}
+use Rattle.mc_conn.specs.Told.{Told, IsAllTaken, IsAtRest, IsOver, IsShut, EndsAmidSkipped, LeavesUnread, all_forms, all_pieces, all_texts}
 use Rattle.mc_conn.proofs.Forms.{length-forms}
 use Rattle.mc_command.specs.declared.rules.Rules.{Rules}
 
@@ -231,7 +231,7 @@ rest_unread told whole unbroken unread says = (
 )
 
 -- What is skipped behind the commands taken is skipped behind those that the reader gave.
-pub amid_skipped : (conn : Conn) (told : Told) (h : HasBeenTold conn told) → IsSkipping told → IsAmidSkipped told.rules told.fed h.given
+pub amid_skipped : (conn : Conn) (told : Told) (h : HasBeenTold conn told) → EndsAmidSkipped told → IsAmidSkipped told.rules told.fed h.given
 amid_skipped conn told h skips =
     let Front : List Command → Type 0 = λ entries. SpellsFront told.rules 0 told.fed entries (skips.line ++ 10 ∷ skips.skipped) in
     let On : List Command → Type 0 = λ entries. is_closed entries ≡ false in

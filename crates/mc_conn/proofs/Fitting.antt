@@ -16,7 +16,7 @@ use Rattle.mc_join.proofs.Answered.{answer_to-fresh, answer_to-none, answer_to-o
 use Rattle.mc_conn.specs.History.{Taken, planned}
 use Rattle.mc_conn.specs.Due.{due, forms_of, lane, pieces, pieces_at, pieces_from, ticket_at}
 use Rattle.mc_join.specs.Expects.{Expects}
-use Rattle.mc_conn.specs.Fits.{Fits, IsReplyTo, Receives}
+use Rattle.mc_conn.specs.Fits.{Fits, IsReplyTo, ReceivesFromShard}
 use Rattle.mc_conn.proofs.Gets.{all_more, all_push, get_cases}
 use Rattle.mc_conn.proofs.Places.{lane_at, lane-append, one_place, piece_at}
 use Rattle.mc_conn.proofs.Forms.{form_at, kind_at, slot_at}
@@ -114,7 +114,7 @@ next_expected shards s taken accepted old p reply fits next to =
     }
 
 -- no more was received from any shard than is due there
-pub within_more : (shards s : ℕ) (taken : List Taken) (old new : ℕ → List Shown) (reply : Shown) → ((t : ℕ) → length (old t) ≤ length (due shards t taken)) → length (old s) < length (due shards s taken) → Receives old s reply new → (t : ℕ) → length (new t) ≤ length (due shards t taken)
+pub within_more : (shards s : ℕ) (taken : List Taken) (old new : ℕ → List Shown) (reply : Shown) → ((t : ℕ) → length (old t) ≤ length (due shards t taken)) → length (old s) < length (due shards s taken) → ReceivesFromShard old s reply new → (t : ℕ) → length (new t) ≤ length (due shards t taken)
 within_more shards s taken old new reply within owed receives t = elim (cases_eq t s) [
   | inl same ↦
       let grown = ap length receives.here in
@@ -123,7 +123,7 @@ within_more shards s taken old new reply within owed receives t = elim (cases_eq
 ]
 
 -- and fits where it is accepted
-pub next_fits : (shards s : ℕ) (taken : List Taken) (accepted : List Shown) (old new : ℕ → List Shown) (p : Piece) (reply : Shown) → Fits shards taken accepted old → slice_get (due shards s taken) (length (old s)) ≡ Some p → IsReplyTo p reply → Receives old s reply new → Fits shards taken (accepted ++ reply ∷ []) new
+pub next_fits : (shards s : ℕ) (taken : List Taken) (accepted : List Shown) (old new : ℕ → List Shown) (p : Piece) (reply : Shown) → Fits shards taken accepted old → slice_get (due shards s taken) (length (old s)) ≡ Some p → IsReplyTo p reply → ReceivesFromShard old s reply new → Fits shards taken (accepted ++ reply ∷ []) new
 next_fits shards s taken accepted old new p reply fits next to receives =
     let on = lane_at s (pieces shards taken) (length (old s)) p next in
     let of = piece_at shards 0 taken on.place (s, p) on.here in

@@ -6,7 +6,7 @@ use Rattle.mc_command.specs.declared.command.Command.{Command}
 use Rattle.mc_item.specs.Kind.{kind_of}
 use Rattle.mc_ring.specs.Reply.{Shown}
 use Rattle.mc_split.specs.declared.plan.Ticket.{Ticket}
-use Rattle.mc_split.specs.Pieces.{Asked, pieces_of}
+use Rattle.mc_split.specs.Pieces.{ShardOp, pieces_of}
 use Rattle.mc_split.specs.Plan.{form_kind, form_of, no_answers}
 use Rattle.mc_split.proofs.Shards.{pieces_alike}
 use Rattle.mc_join.specs.Replies.{answer_to, slots_after}
@@ -15,7 +15,7 @@ use Rattle.mc_conn.specs.Due.{forms_from, ticket_at}
 use Rattle.mc_conn.proofs.Gets.{all_at}
 
 -- The form of a command is of the kind of each of its pieces.
-pub kind_at : (shards : ℕ) (command : Command) (part : ℕ) (asked : Asked) → slice_get (pieces_of shards command) part ≡ Some asked → form_kind (pieces_of shards command) ≡ kind_of asked.op
+pub kind_at : (shards : ℕ) (command : Command) (part : ℕ) (asked : ShardOp) → slice_get (pieces_of shards command) part ≡ Some asked → form_kind (pieces_of shards command) ≡ kind_of asked.op
 kind_at shards command part asked here =
     sym (all_at (λ one. kind_of one.op ≡ form_kind (pieces_of shards command)) (pieces_of shards command) part asked (pieces_alike shards command) here)
 
@@ -36,7 +36,7 @@ length-forms shards number [] = refl
 length-forms shards number (one ∷ taken) = ap suc (length-forms shards (number + 1) taken)
 
 -- a slot holds what was accepted for its part
-pub slot_at : (accepted : List Shown) (ticket : Ticket) (first : ℕ) (asked : List Asked) (i : ℕ) (one : Asked) → slice_get asked i ≡ Some one → slice_get (slots_after accepted ticket first (no_answers asked)) i ≡ Some (answer_to accepted ticket (first + i))
+pub slot_at : (accepted : List Shown) (ticket : Ticket) (first : ℕ) (asked : List ShardOp) (i : ℕ) (one : ShardOp) → slice_get asked i ≡ Some one → slice_get (slots_after accepted ticket first (no_answers asked)) i ≡ Some (answer_to accepted ticket (first + i))
 slot_at accepted ticket first [] i one here = absurd (cc)
 slot_at accepted ticket first (a ∷ asked) zero one here =
     let at : first ≡ first + 0 = omega arith in ap (λ k. Some (answer_to accepted ticket k)) at

@@ -10,7 +10,7 @@ use Rattle.mc_split.specs.declared.plan.Piece.{Piece}
 use Rattle.mc_conn.specs.History.{Taken}
 use Rattle.mc_conn.specs.Due.{Ran, due, forms_of, lane, pieces_from}
 use Rattle.mc_join.specs.Expects.{Expects}
-use Rattle.mc_conn.specs.Fits.{CameFrom, IsReplyTo, KeysFit, Receives, Serves, reply_of}
+use Rattle.mc_conn.specs.Fits.{CameFrom, IsReplyTo, KeysFit, ReceivesFromShard, Serves, reply_of}
 use Rattle.mc_conn.proofs.Gets.{get_below, get_front}
 use Rattle.mc_conn.proofs.Fitting.{due-append, fits_none, fits_take, next_expected, next_fits, push_here, within_more}
 
@@ -32,7 +32,7 @@ serves_take shards taken one accepted received serves =
     }
 
 -- what was received stays where it is
-kept : (old new : ℕ → List Shown) (s : ℕ) (reply : Shown) → Receives old s reply new → (t i : ℕ) (r : Shown) → slice_get (old t) i ≡ Some r → slice_get (new t) i ≡ Some r
+kept : (old new : ℕ → List Shown) (s : ℕ) (reply : Shown) → ReceivesFromShard old s reply new → (t i : ℕ) (r : Shown) → slice_get (old t) i ≡ Some r → slice_get (new t) i ≡ Some r
 kept old new s reply receives t i r came = elim (cases_eq t s) [
   | inl same ↦
       let here : slice_get (old s) i ≡ Some r = ap (λ k. slice_get (old k) i) (sym same) ∙ came in
@@ -41,14 +41,14 @@ kept old new s reply receives t i r came = elim (cases_eq t s) [
 ]
 
 -- where the keys fit, the next reply is to the next piece that is due
-pub next_of : (shards s : ℕ) (taken : List Taken) (old new : ℕ → List Shown) (reply : Shown) (p : Piece) → slice_get (due shards s taken) (length (old s)) ≡ Some p → Receives old s reply new → KeysFit shards taken new → KeysFit shards taken old × IsReplyTo p reply
+pub next_of : (shards s : ℕ) (taken : List Taken) (old new : ℕ → List Shown) (reply : Shown) (p : Piece) → slice_get (due shards s taken) (length (old s)) ≡ Some p → ReceivesFromShard old s reply new → KeysFit shards taken new → KeysFit shards taken old × IsReplyTo p reply
 next_of shards s taken old new reply p next receives keys = (
   λ t i q r asked came. keys t i q r asked (kept old new s reply receives t i r came),
   keys s (length (old s)) p reply next (ap (λ xs. slice_get xs (length (old s))) receives.here ∙ push_here (old s) reply),
 )
 
 -- A reply accepted from a shard that owes one leaves the answers in their places, as long as the keys fit.
-pub serves_accept : (shards s : ℕ) (taken : List Taken) (accepted : List Shown) (old new : ℕ → List Shown) (reply : Shown) → Serves shards taken accepted old → length (old s) < length (due shards s taken) → Receives old s reply new → Serves shards taken (accepted ++ reply ∷ []) new
+pub serves_accept : (shards s : ℕ) (taken : List Taken) (accepted : List Shown) (old new : ℕ → List Shown) (reply : Shown) → Serves shards taken accepted old → length (old s) < length (due shards s taken) → ReceivesFromShard old s reply new → Serves shards taken (accepted ++ reply ∷ []) new
 serves_accept shards s taken accepted old new reply serves owed receives = record {
   within = within_more shards s taken old new reply serves.within owed receives;
   fits = λ keys.
@@ -58,7 +58,7 @@ serves_accept shards s taken accepted old new reply serves owed receives = recor
 }
 
 -- a reply that is not expected shows that the keys do not fit
-pub serves_stranger : (shards s : ℕ) (taken : List Taken) (accepted : List Shown) (old new : ℕ → List Shown) (reply : Shown) → Serves shards taken accepted old → length (old s) < length (due shards s taken) → Receives old s reply new → (Expects (forms_of shards taken) accepted reply → ⊥) → Serves shards taken accepted new
+pub serves_stranger : (shards s : ℕ) (taken : List Taken) (accepted : List Shown) (old new : ℕ → List Shown) (reply : Shown) → Serves shards taken accepted old → length (old s) < length (due shards s taken) → ReceivesFromShard old s reply new → (Expects (forms_of shards taken) accepted reply → ⊥) → Serves shards taken accepted new
 serves_stranger shards s taken accepted old new reply serves owed receives unexpected = record {
   within = within_more shards s taken old new reply serves.within owed receives;
   fits = λ keys.

@@ -8,7 +8,7 @@ use Rattle.mc_split.specs.declared.plan.Piece.{Piece}
 use Rattle.mc_split.specs.declared.plan.Ticket.{Ticket}
 use Rattle.mc_split.specs.Pieces.{pieces_of}
 use Rattle.mc_split.specs.Plan.{form_of, no_answers, parts_from}
-use Rattle.mc_conn.specs.History.{Taken, Done, planned, taken_of}
+use Rattle.mc_conn.specs.History.{Taken, AnsweredCommand, planned, taken_of}
 
 -- the ticket of this number
 abbrev pub ticket_at : ℕ → Ticket
@@ -43,16 +43,16 @@ abbrev pub forms_of : ℕ → List Taken → List Form
 forms_of shards taken = forms_from shards 0 taken
 
 -- a command with the answers accepted for its pieces
-abbrev pub done_at : ℕ → List Shown → ℕ → Taken → Done
+abbrev pub done_at : ℕ → List Shown → ℕ → Taken → AnsweredCommand
 done_at shards accepted number one =
     record { entry = one.entry; moment = one.moment; given_up = one.given_up; answers = answers_of (slots_after accepted (ticket_at number) 0 (no_answers (pieces_of shards (planned one)))) }
 
-abbrev pub history_from : ℕ → List Shown → ℕ → List Taken → List Done
+abbrev pub history_from : ℕ → List Shown → ℕ → List Taken → List AnsweredCommand
 history_from shards accepted number [] = []
 history_from shards accepted number (one ∷ later) = done_at shards accepted number one ∷ history_from shards accepted (number + 1) later
 
 -- the history of these commands whose answers are those accepted
-abbrev pub history_of : ℕ → List Shown → List Taken → List Done
+abbrev pub history_of : ℕ → List Shown → List Taken → List AnsweredCommand
 history_of shards accepted taken = history_from shards accepted 0 taken
 
 -- a piece that a shard ran, and its answer
@@ -68,11 +68,11 @@ ran_by (piece ∷ rest) [] = []
 ran_by (piece ∷ rest) (answer ∷ answers) = record { shard = piece.0; piece = piece.1; answer = answer } ∷ ran_by rest answers
 
 -- what was run for these commands, the first of which has this number
-abbrev pub log_from : ℕ → ℕ → List Done → List Ran
+abbrev pub log_from : ℕ → ℕ → List AnsweredCommand → List Ran
 log_from shards number [] = []
 log_from shards number (done ∷ history) = ran_by (pieces_at shards number (taken_of done)) done.answers ++ log_from shards (number + 1) history
 
-abbrev pub log_of : ℕ → List Done → List Ran
+abbrev pub log_of : ℕ → List AnsweredCommand → List Ran
 log_of shards history = log_from shards 0 history
 
 abbrev pub on_shard : ℕ → List Ran → List Ran

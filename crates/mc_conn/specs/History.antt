@@ -27,29 +27,29 @@ abbrev pub MayBeTaken : Taken → Type 0
 MayBeTaken taken = IsTrue taken.given_up → IsTrue (can_give_up taken.entry)
 
 -- a command that was taken, with its answers
-pub record Done : Type 0 where
+pub record AnsweredCommand : Type 0 where
   pub entry : Command
   pub moment : ℕ
   pub given_up : Bool
   -- what the shards answered to its pieces, in their order; none where it was given up
   pub answers : List Answer
 
-abbrev pub taken_of : Done → Taken
+abbrev pub taken_of : AnsweredCommand → Taken
 taken_of done = record { entry = done.entry; moment = done.moment; given_up = done.given_up }
 
-abbrev pub entries_of : List Done → List Command
+abbrev pub entries_of : List AnsweredCommand → List Command
 entries_of history = map (λ done. done.entry) history
 
 -- the reply to a command that was taken; to one that was given up it is the line "out of memory", also where the command is
 -- itself a refusal (protocol.txt, "Error strings")
-abbrev pub text_done : Done → List ℕ
+abbrev pub text_done : AnsweredCommand → List ℕ
 text_done done = if done.given_up then memory_line else text_of done.entry done.answers
 
-abbrev pub texts_of : List Done → List ℕ
+abbrev pub texts_of : List AnsweredCommand → List ℕ
 texts_of history = flat_map text_done history
 
 -- A command that was given up may be, and asks no shard; each piece of any other has its answer.
-abbrev pub IsAnswered : ℕ → Done → Type 0
+abbrev pub IsAnswered : ℕ → AnsweredCommand → Type 0
 IsAnswered shards done =
     MatchBool done.given_up
     (IsTrue (can_give_up done.entry) × (done.answers ≡ []))

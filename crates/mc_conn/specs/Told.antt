@@ -100,7 +100,7 @@ abbrev pub IsUsedUp : Told → Type 0
 IsUsedUp told = LeavesUnread told []
 
 -- The bytes fed end amid a data block that is skipped: its line is refused, and more of it is to come.
-pub record IsSkipping (told : Told) : Type 0 where
+pub record EndsAmidSkipped (told : Told) : Type 0 where
   pub line : List ℕ
   pub skipped : List ℕ
   pub discarded : Option (List ℕ)

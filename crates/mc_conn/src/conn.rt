@@ -7,7 +7,7 @@ ghost use Rattle.mc_command.specs.Rules.{own};
 ghost use Rattle.mc_reader.specs.Spelling.{HasNoEnd, most_commands};
 ghost use Rattle.mc_join.specs.Length.{capped};
 ghost use Rattle.mc_join.specs.Expects.{Expects};
-ghost use Rattle.mc_conn.specs.Told.{Told, IsAtRest, IsNotAllTaken, IsAllTaken, IsOpen, IsOver, IsShut, IsSkipping, IsUsedUp, LeavesUnread, all_forms, all_pieces, all_texts, told_nothing, waiting_text};
+ghost use Rattle.mc_conn.specs.Told.{Told, IsAtRest, IsNotAllTaken, IsAllTaken, IsOpen, IsOver, IsShut, EndsAmidSkipped, IsUsedUp, LeavesUnread, all_forms, all_pieces, all_texts, told_nothing, waiting_text};
 
 use crate::dispatcher::Dispatcher;
 use mc_command::Rules;
@@ -93,13 +93,14 @@ impl Conn {
         ensures fed { (told : Told) → IsConn self.old told →
             IsConn self.new (record told { fed = told.fed ++ take result piece.now }) }
         // Some byte is taken right after `take` answered `NeedMore`.
-        ensures progress { (told : Told) → IsConn self.old told → IsOpen told → IsAllTaken told → IsAwaiting self.old →
-            0 < length piece.now → 0 < result }
+        ensures progress { (told : Told) → IsConn self.old told → IsOpen told → IsAllTaken told →
+            IsAwaiting self.old → 0 < length piece.now → 0 < result }
         // The whole of a piece that isn't too long is taken where every byte before it is part of a command taken.
         ensures whole { (told : Told) → IsConn self.old told → IsOpen told → IsUsedUp told →
             length piece.now ≤ told.rules.line_limit → result ≡ length piece.now }
         // After the last command everything is taken, and dropped.
-        ensures shut { (told : Told) → IsConn self.old told → IsOpen told → IsShut told → result ≡ length piece.now }
+        ensures shut { (told : Told) → IsConn self.old told → IsOpen told → IsShut told →
+            result ≡ length piece.now }
         ensures ended { (told : Told) → IsConn self.old told → IsTrue told.ended → result ≡ 0 }
         ensures broken { (told : Told) → IsConn self.old told → IsTrue told.broken → result ≡ 0 }
     {
@@ -112,7 +113,8 @@ impl Conn {
     /// Tells that no more bytes come. It takes no memory.
     #[tactic(auto, unfolding(crate::specs::Conn::IsConn))]
     pub fn end(&mut self)
-        ensures { (told : Told) → IsConn self.old told → IsConn self.new (record told { ended = true }) }
+        ensures { (told : Told) → IsConn self.old told →
+            IsConn self.new (record told { ended = true }) }
     {
         self.reader.end();
     }
@@ -122,7 +124,8 @@ impl Conn {
     pub fn is_over(&self) -> bool
         ensures over { (told : Told) → IsConn self.now told → IsTrue result ↔ IsOver told }
         // A stream has only so many commands.
-        ensures most { (told : Told) → IsConn self.now told → told.broken ≡ false → length told.taken ≤ most_commands }
+        ensures most { (told : Told) → IsConn self.now told → told.broken ≡ false →
+            length told.taken ≤ most_commands }
     {
         if self.broken {
             return true;
@@ -159,8 +162,10 @@ impl Conn {
     /// Takes out the oldest piece that has not left, with its shard. It takes no memory.
     #[tactic(auto, unfolding(crate::specs::Conn::IsConn))]
     pub fn next_piece(&mut self) -> Option<(usize, Piece)>
-        ensures some { IfSome result (λ piece. (told : Told) → IsConn self.old told →
-            (slice_get (all_pieces told) told.out ≡ Some piece) × IsConn self.new (record told { out = told.out + 1; lent = true })) }
+        ensures some { IfSome result (λ piece.
+            (told : Told) → IsConn self.old told →
+            (slice_get (all_pieces told) told.out ≡ Some piece) ×
+            IsConn self.new (record told { out = told.out + 1; lent = true })) }
         ensures none { IfNone result ((told : Told) → IsConn self.old told →
             (told.out ≡ length (all_pieces told)) × IsConn self.new told) }
     {
@@ -173,8 +178,8 @@ impl Conn {
     /// Puts the piece that was taken out last back in front, with its shard. It takes no memory.
     #[tactic(auto, unfolding(crate::specs::Conn::IsConn))]
     pub fn not_sent(&mut self, shard: usize, piece: Piece)
-        ensures { (told : Told) (before : ℕ) → IsConn self.old told → IsTrue told.lent → told.out ≡ before + 1 →
-            slice_get (all_pieces told) before ≡ Some (shard, piece) →
+        ensures { (told : Told) (before : ℕ) → IsConn self.old told → IsTrue told.lent →
+            told.out ≡ before + 1 → slice_get (all_pieces told) before ≡ Some (shard, piece) →
             IsConn self.new (record told { out = before; lent = false }) }
     {
         self.put_back = Some((shard, piece));
@@ -184,8 +189,10 @@ impl Conn {
     /// `Stranger`: no such answer is awaited, and the reply is handed back unchanged. It takes no memory.
     #[tactic(auto, unfolding(crate::specs::Conn::IsConn))]
     pub fn accept(&mut self, reply: Reply) -> Result<(), Stranger>
-        ensures ok { OnOk result ((told : Told) → IsConn self.old told →
-            Expects (all_forms told) told.accepted (shown reply) × IsConn self.new (record told { accepted = told.accepted ++ shown reply ∷ [] })) }
+        ensures ok { OnOk result
+            ((told : Told) → IsConn self.old told →
+            Expects (all_forms told) told.accepted (shown reply) ×
+            IsConn self.new (record told { accepted = told.accepted ++ shown reply ∷ [] })) }
         ensures stranger { IfErr result (λ stranger. shown stranger.reply ≡ shown reply) }
         ensures err { OnErr result ((told : Told) → IsConn self.old told →
             (¬ Expects (all_forms told) told.accepted (shown reply)) × IsConn self.new told) }
@@ -196,7 +203,8 @@ impl Conn {
     /// How many bytes `hand` would write, `u64::MAX` where they are more; of a broken connection 0. It takes no memory.
     #[tactic(auto, unfolding(crate::specs::Conn::IsConn))]
     pub fn ready(&self) -> u64
-        ensures whole { (told : Told) → IsConn self.now told → told.broken ≡ false → result ≡ capped (length (waiting_text told)) }
+        ensures whole { (told : Told) → IsConn self.now told → told.broken ≡ false →
+            result ≡ capped (length (waiting_text told)) }
         ensures broken { (told : Told) → IsConn self.now told → IsTrue told.broken → result ≡ 0 }
     {
         if self.broken {
@@ -209,7 +217,8 @@ impl Conn {
     /// no memory.
     #[tactic(auto, unfolding(crate::specs::Conn::IsConn))]
     pub fn passes(&self) -> usize
-        ensures whole { (told : Told) → IsConn self.now told → told.broken ≡ false → told.handed + result ≡ length (all_texts told) }
+        ensures whole { (told : Told) → IsConn self.now told → told.broken ≡ false →
+            told.handed + result ≡ length (all_texts told) }
         ensures broken { (told : Told) → IsConn self.now told → IsTrue told.broken → result ≡ 0 }
     {
         if self.broken {
@@ -223,11 +232,13 @@ impl Conn {
     /// connection is broken.
     #[tactic(auto, using(crate::proofs::Handing::none_waits, crate::proofs::Handing::all_together), unfolding(crate::specs::Conn::IsConn))]
     pub fn hand<O: Outlet>(&mut self, out: &mut O) -> Result<u64, Gone>
-        ensures ok { IfOk result (λ count. (told : Told) → IsConn self.old told → told.broken ≡ false →
+        ensures ok { IfOk result (λ count.
+            (told : Told) → IsConn self.old told → told.broken ≡ false →
             HandsOut told count self.new (O.sight out.old) (O.sight out.new)) }
         ensures gone { OnErr result ((told : Told) → IsConn self.old told →
             BreaksOff told self.new (O.sight out.old) (O.sight out.new)) }
-        ensures silent { IfOk result (λ count. (told : Told) → IsConn self.old told → IsTrue told.broken →
+        ensures silent { IfOk result (λ count.
+            (told : Told) → IsConn self.old told → IsTrue told.broken →
             StaysSilent told count self.new (O.sight out.old) (O.sight out.new)) }
     {
         if self.broken {
@@ -242,7 +253,8 @@ impl Conn {
     /// their answers are accepted. It takes no memory.
     #[tactic(auto, unfolding(crate::specs::Conn::IsConn))]
     pub fn broken(&mut self)
-        ensures { (told : Told) → IsConn self.old told → IsConn self.new (record told { broken = true }) }
+        ensures { (told : Told) → IsConn self.old told →
+            IsConn self.new (record told { broken = true }) }
     {
         self.broken = true;
     }
@@ -261,14 +273,17 @@ impl Conn {
     #[tactic(auto, unfolding(crate::specs::Conn::IsConn, crate::specs::Conn::held_bytes, crate::specs::Conn::SkipsBytes))]
     pub fn held(&self) -> usize
         ensures value { result ≡ held_bytes self.now }
-        ensures most { (told : Told) → IsConn self.now told → result ≤ told.rules.line_limit + told.rules.value_limit + 2 }
+        ensures most { (told : Told) → IsConn self.now told →
+            result ≤ told.rules.line_limit + told.rules.value_limit + 2 }
         // No more than the bytes fed that are not part of a command taken, until the last command is taken.
-        ensures unread { (told : Told) (unread : List ℕ) → IsConn self.now told → LeavesUnread told unread → result ≤ length unread }
+        ensures unread { (told : Told) (unread : List ℕ) → IsConn self.now told →
+            LeavesUnread told unread → result ≤ length unread }
         // A line whose end has not come is held whole.
-        ensures line { (told : Told) (unread : List ℕ) → IsConn self.now told → LeavesUnread told unread → HasNoEnd unread →
-            result ≡ length unread }
+        ensures line { (told : Told) (unread : List ℕ) → IsConn self.now told →
+            LeavesUnread told unread → HasNoEnd unread → result ≡ length unread }
         // A block that is skipped is not held.
-        ensures skipping { (told : Told) → IsConn self.now told → IsSkipping told → result ≤ told.rules.line_limit }
+        ensures skipping { (told : Told) → IsConn self.now told → EndsAmidSkipped told →
+            result ≤ told.rules.line_limit }
         // Nor is one that memory ran out for.
         ensures skipped { SkipsBytes self.now → result ≤ self.now.reader.rules.line_limit }
     {
@@ -294,8 +309,10 @@ impl Conn {
     /// else nothing changes. It takes no memory.
     #[tactic(auto, unfolding(crate::specs::Conn::IsConn))]
     pub fn renew(&mut self) -> bool
-        ensures when { (told : Told) → IsConn self.old told → IsTrue result ↔ (IsAtRest told × IsOver told) }
-        ensures new { IsTrue result → (told : Told) → IsConn self.old told → IsConn self.new (told_nothing told.shards told.rules told.window) }
+        ensures when { (told : Told) → IsConn self.old told →
+            IsTrue result ↔ (IsAtRest told × IsOver told) }
+        ensures new { IsTrue result → (told : Told) → IsConn self.old told →
+            IsConn self.new (told_nothing told.shards told.rules told.window) }
         ensures same { result ≡ false → self.new ≡ self.old }
     {
         if !self.is_at_rest() || !self.is_over() {

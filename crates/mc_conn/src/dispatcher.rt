@@ -40,9 +40,11 @@ impl Dispatcher {
     fn open(&mut self, form: Form)
         requires room { length self.old.joiner.forms < self.old.joiner.window }
         requires number { form.ticket.0 ≡ opened_count self.old.joiner }
-        ensures joiner { self.new.joiner ≡ record self.old.joiner { forms = self.old.joiner.forms ++ form ∷ [] } }
+        ensures joiner { self.new.joiner ≡
+            record self.old.joiner { forms = self.old.joiner.forms ++ form ∷ [] } }
         ensures joins { (opened : List Form) (accepted : List Shown) (handed : List (List ℕ)) →
-            IsJoiner self.old.joiner opened accepted handed → IsJoiner self.new.joiner (opened ++ form ∷ []) accepted handed }
+            IsJoiner self.old.joiner opened accepted handed →
+            IsJoiner self.new.joiner (opened ++ form ∷ []) accepted handed }
         ensures unsent { self.new.unsent ≡ self.old.unsent }
         ensures shards { self.new.shards ≡ self.old.shards }
     {
@@ -57,9 +59,11 @@ impl Dispatcher {
     #[inline(never)]
     fn open_refusal(&mut self)
         requires { CanOpen self.old }
-        ensures joiner { self.new.joiner ≡ record self.old.joiner { forms = self.old.joiner.forms ++ refusal_of self.old ∷ [] } }
+        ensures joiner { self.new.joiner ≡
+            record self.old.joiner { forms = self.old.joiner.forms ++ refusal_of self.old ∷ [] } }
         ensures joins { (opened : List Form) (accepted : List Shown) (handed : List (List ℕ)) →
-            IsJoiner self.old.joiner opened accepted handed → IsJoiner self.new.joiner (opened ++ refusal_of self.old ∷ []) accepted handed }
+            IsJoiner self.old.joiner opened accepted handed →
+            IsJoiner self.new.joiner (opened ++ refusal_of self.old ∷ []) accepted handed }
         ensures unsent { self.new.unsent ≡ self.old.unsent }
         ensures shards { self.new.shards ≡ self.old.shards }
     {

@@ -11,7 +11,7 @@ ghost use Rattle.mc_join.specs.Expects.{Expects};
 ghost use Rattle.mc_conn.specs.declared.conn.Conn.{Conn};
 ghost use Rattle.mc_conn.specs.Conn.{IsConn};
 ghost use Rattle.mc_conn.specs.Told.{Told, IsSound, KeepsHanded, all_forms};
-ghost use Rattle.mc_conn.specs.Fits.{CameFrom, Fits, HasCome, IsReplyTo, KeysFit, Receives, Serves, Tells, counts, reply_of};
+ghost use Rattle.mc_conn.specs.Fits.{CameFrom, Fits, HasCome, IsReplyTo, KeysFit, ReceivesFromShard, Serves, Tells, counts, reply_of};
 
 /// What holds of every connection, whatever it was told.
 pub fn connections_are_sound()
@@ -21,7 +21,8 @@ pub fn connections_are_sound()
 /// The replies that were handed out begin all replies, and still do when a reply is accepted and when a command is taken. So
 /// the bytes of several hands, one after another, are one beginning of the texts, and no text is begun twice.
 pub fn handed_replies_stay()
-    ensures accept { (conn : Conn) (told : Told) (reply : Shown) → IsConn conn told → Expects (all_forms told) told.accepted reply →
+    ensures accept { (conn : Conn) (told : Told) (reply : Shown) → IsConn conn told →
+        Expects (all_forms told) told.accepted reply →
         KeepsHanded told (record told { accepted = told.accepted ++ reply ∷ [] }) }
     ensures take { (conn : Conn) (told : Told) (one : Taken) → IsConn conn told →
         KeepsHanded told (record told { taken = told.taken ++ one ∷ [] }) }
@@ -36,7 +37,8 @@ pub fn keys_name_one_place()
 
 /// Nothing is due at a shard that doesn't exist.
 pub fn only_shards_are_asked()
-    ensures { (shards s : ℕ) (taken : List Taken) → 0 < shards → shards ≤ s → due shards s taken ≡ [] }
+    ensures { (shards s : ℕ) (taken : List Taken) → 0 < shards → shards ≤ s →
+        due shards s taken ≡ [] }
 {}
 
 /// Before any command is taken nothing is due, and nothing was received.
@@ -46,43 +48,51 @@ pub fn answers_fit_before_any_command()
 
 /// Where a command is taken, the answers so far stay in their places.
 pub fn more_commands_fit()
-    ensures { (shards : ℕ) (taken : List Taken) (one : Taken) (accepted : List Shown) (received : ℕ → List Shown) →
-        Fits shards taken accepted received → Fits shards (taken ++ one ∷ []) accepted received }
+    ensures { (shards : ℕ) (taken : List Taken) (one : Taken) (accepted : List Shown)
+        (received : ℕ → List Shown) → Fits shards taken accepted received →
+        Fits shards (taken ++ one ∷ []) accepted received }
 {}
 
 /// A reply to the next piece that is due at its shard is expected, and where it is accepted it stands in its place.
 pub fn accepted_answers_fit()
-    ensures { (shards s : ℕ) (taken : List Taken) (accepted : List Shown) (old new : ℕ → List Shown) (p : Piece) (reply : Shown) →
-        Fits shards taken accepted old → slice_get (due shards s taken) (length (old s)) ≡ Some p → IsReplyTo p reply →
-        Receives old s reply new →
-        Expects (forms_of shards taken) accepted reply × Fits shards taken (accepted ++ reply ∷ []) new }
+    ensures { (shards s : ℕ) (taken : List Taken) (accepted : List Shown) (old new : ℕ → List Shown)
+        (p : Piece) (reply : Shown) → Fits shards taken accepted old →
+        slice_get (due shards s taken) (length (old s)) ≡ Some p → IsReplyTo p reply →
+        ReceivesFromShard old s reply new →
+        Expects (forms_of shards taken) accepted reply ×
+        Fits shards taken (accepted ++ reply ∷ []) new }
 {}
 
 /// The first commands have their replies exactly where everything that is due for them was received.
 pub fn come_answers_complete_the_first_commands()
-    ensures { (shards count : ℕ) (taken : List Taken) (accepted : List Shown) (received : ℕ → List Shown) →
-        count ≤ length taken → Fits shards taken accepted received →
-        (count ≤ length (replies (forms_of shards taken) accepted)) ↔ HasCome shards taken (counts received) count }
+    ensures { (shards count : ℕ) (taken : List Taken) (accepted : List Shown)
+        (received : ℕ → List Shown) → count ≤ length taken → Fits shards taken accepted received →
+        (count ≤ length (replies (forms_of shards taken) accepted)) ↔
+        HasCome shards taken (counts received) count }
 {}
 
 /// The replies are the texts of the history whose answers are those received.
 pub fn received_answers_tell_the_history()
-    ensures { (shards count : ℕ) (taken : List Taken) (accepted : List Shown) (received : ℕ → List Shown) →
-        count ≤ length taken → AllByRecursion MayBeTaken taken → Fits shards taken accepted received →
-        HasCome shards taken (counts received) count → Tells shards taken accepted received count }
+    ensures { (shards count : ℕ) (taken : List Taken) (accepted : List Shown)
+        (received : ℕ → List Shown) → count ≤ length taken → AllByRecursion MayBeTaken taken →
+        Fits shards taken accepted received → HasCome shards taken (counts received) count →
+        Tells shards taken accepted received count }
 {}
 
 /// A connection that doesn't know what the shards send back knows this much of its answers, whether a command is taken, a
 /// reply is accepted or a reply is handed back: they fit, should the keys of what was received fit.
 pub fn serving_keeps_answers()
     ensures begin { (shards : ℕ) → Serves shards [] [] (λ s. []) }
-    ensures take { (shards : ℕ) (taken : List Taken) (one : Taken) (accepted : List Shown) (received : ℕ → List Shown) →
-        Serves shards taken accepted received → Serves shards (taken ++ one ∷ []) accepted received }
-    ensures accept { (shards s : ℕ) (taken : List Taken) (accepted : List Shown) (old new : ℕ → List Shown) (reply : Shown) →
-        Serves shards taken accepted old → length (old s) < length (due shards s taken) → Receives old s reply new →
+    ensures take { (shards : ℕ) (taken : List Taken) (one : Taken) (accepted : List Shown)
+        (received : ℕ → List Shown) → Serves shards taken accepted received →
+        Serves shards (taken ++ one ∷ []) accepted received }
+    ensures accept { (shards s : ℕ) (taken : List Taken) (accepted : List Shown)
+        (old new : ℕ → List Shown) (reply : Shown) → Serves shards taken accepted old →
+        length (old s) < length (due shards s taken) → ReceivesFromShard old s reply new →
         Serves shards taken (accepted ++ reply ∷ []) new }
-    ensures stranger { (shards s : ℕ) (taken : List Taken) (accepted : List Shown) (old new : ℕ → List Shown) (reply : Shown) →
-        Serves shards taken accepted old → length (old s) < length (due shards s taken) → Receives old s reply new →
+    ensures stranger { (shards s : ℕ) (taken : List Taken) (accepted : List Shown)
+        (old new : ℕ → List Shown) (reply : Shown) → Serves shards taken accepted old →
+        length (old s) < length (due shards s taken) → ReceivesFromShard old s reply new →
         ¬ Expects (forms_of shards taken) accepted reply → Serves shards taken accepted new }
 {}
 

@@ -4,7 +4,7 @@ ghost use Rattle.std.specs.Prelude.{◌≡◌, IfOk};
 use crate::asserting::{equal, holds};
 use crate::outlet::outlet;
 use mc_command::{Command, StatsRequest};
-use mc_item::{Answer, Asked, BoxedStats, Kind, Stats, Status, Tally};
+use mc_item::{Answer, BoxedStats, CountedAs, Kind, Stats, Status, Tally};
 use mc_join::Joiner;
 use mc_ring::Reply;
 use mc_split::{Form, Ticket, split};
@@ -52,9 +52,9 @@ fn stats(alloc: Global) -> Result<Form, Fail>
 fn counts(alloc: Global, shard: usize) -> Result<Answer, Fail> {
     let mut tally = Tally::new();
     for _ in 0..shard {
-        tally.note(Asked::Get, Status::Hit);
-        tally.note(Asked::Get, Status::Miss);
-        tally.note(Asked::Cas, Status::Hit);
+        tally.note(CountedAs::Get, Status::Hit);
+        tally.note(CountedAs::Get, Status::Miss);
+        tally.note(CountedAs::Cas, Status::Hit);
     }
     let number = shard as u64;
     let stats = Stats {

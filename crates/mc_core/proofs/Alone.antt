@@ -9,14 +9,14 @@ use Rattle.mc_item.specs.declared.answer.Answer.{Answer}
 use Rattle.mc_item.specs.declared.answer.Answer.TheVariants.{NoMemory}
 use Rattle.mc_ring.specs.Reply.{Shown}
 use Rattle.mc_split.specs.declared.plan.Ticket.{Ticket}
-use Rattle.mc_split.specs.Pieces.{Asked, pieces_of}
+use Rattle.mc_split.specs.Pieces.{ShardOp, pieces_of}
 use Rattle.mc_split.specs.Plan.{no_answers, parts_from}
 use Rattle.mc_split.specs.Text.{text_of}
 use Rattle.mc_split.proofs.Shards.{pieces_within}
 use Rattle.mc_store.specs.State.{State}
 use Rattle.mc_store.specs.Step.{Answers, IsStep, Outcome, noted_in}
 use Rattle.mc_join.specs.Replies.{answer_to, answers_of, is_to, slots_after}
-use Rattle.mc_conn.specs.History.{Done, IsAnswered, Taken, planned, taken_of, texts_of}
+use Rattle.mc_conn.specs.History.{AnsweredCommand, IsAnswered, Taken, planned, taken_of, texts_of}
 use Rattle.mc_conn.specs.Due.{Ran, due, history_from, history_of, log_from, log_of, ran_by, ran_on}
 use Rattle.mc_conn.specs.Due as due
 use Rattle.mc_conn.specs.Fits.{reply_of}
@@ -58,7 +58,7 @@ self_equal : (n : ℕ) → (n == n) ≡ true
 self_equal n = eq-eqb n n refl
 
 -- the pieces of one command: they were answered as they would be alone, and what is logged later goes on from there
-pieces_alone : (shards : ℕ) (ticket : Ticket) (moment part : ℕ) (states : States) (pieces : List Asked) (answers : List Answer) (later : List Ran) →
+pieces_alone : (shards : ℕ) (ticket : Ticket) (moment part : ℕ) (states : States) (pieces : List ShardOp) (answers : List Answer) (later : List Ran) →
     length answers ≡ length pieces → AllByRecursion (λ asked. asked.shard < shards) pieces → AllByRecursion (λ answer. answer ≢ NoMemory) answers →
     Continues shards states (ran_by (parts_from part ticket moment pieces) answers ++ later) →
     (answers ≡ (ended states moment pieces).answers) × Continues shards (ended states moment pieces).states later
@@ -83,7 +83,7 @@ pieces_alone shards ticket moment part states (asked ∷ pieces) (answer ∷ ans
     (λ i. step.0 i ∷ rest.0 i, rest.1)
 
 -- what is left of a history, from these states on
-pub alone_goes : (shards ticket : ℕ) (states : States) (history : List Done) → 0 < shards → AllByRecursion HadMemory history → AllByRecursion (IsAnswered shards) history → Continues shards states (log_from shards ticket history) → texts_of history ≡ alone_from shards states (map taken_of history)
+pub alone_goes : (shards ticket : ℕ) (states : States) (history : List AnsweredCommand) → 0 < shards → AllByRecursion HadMemory history → AllByRecursion (IsAnswered shards) history → Continues shards states (log_from shards ticket history) → texts_of history ≡ alone_from shards states (map taken_of history)
 alone_goes shards ticket states [] places had answered continues = refl
 alone_goes shards ticket states (done ∷ history) places had answered continues =
     let pieces = pieces_of shards done.entry in
@@ -144,7 +144,7 @@ had_answer (reply ∷ accepted) ticket part answer all here none =
       | false ↦ λ later. had_answer accepted ticket part answer all.1 later none
     ] here
 
-had_slots : (accepted : List Shown) (ticket : Ticket) (part : ℕ) (asked : List Asked) → AllHad accepted → AllByRecursion (λ answer. answer ≢ NoMemory) (answers_of (slots_after accepted ticket part (no_answers asked)))
+had_slots : (accepted : List Shown) (ticket : Ticket) (part : ℕ) (asked : List ShardOp) → AllHad accepted → AllByRecursion (λ answer. answer ≢ NoMemory) (answers_of (slots_after accepted ticket part (no_answers asked)))
 had_slots accepted ticket part [] all = tt
 had_slots accepted ticket part (one ∷ asked) all =
     elim (answer_to accepted ticket part) as (λ o. answer_to accepted ticket part ≡ o → AllByRecursion (λ answer. answer ≢ NoMemory) (answers_of (o ∷ slots_after accepted ticket (part + 1) (no_answers asked)))) [

@@ -26,7 +26,7 @@ use Rattle.mc_core.specs.Events.Event.{Send, Give}
 use Rattle.mc_core.specs.Schedule.{Happens}
 use Rattle.mc_core.specs.Schedule.StepReply.{Done}
 use Rattle.mc_core.specs.Rings.{AreWired, GivesNone, GivesReply, KeepsPiece, SendsPiece, Wires, with_lane, with_shard}
-use Rattle.mc_core.specs.Stands.{HandIs, IsHolding, IsServing, IsWorld, Keeps, SeatIs, Stands, Steps, told_of, unreceived, unrun}
+use Rattle.mc_core.specs.Stands.{HandIs, IsHolding, IsServing, IsWorld, KeepsLink, SeatIs, Stands, StepsByEvent, told_of, unreceived, unrun}
 use Rattle.mc_core.proofs.Lists.{at_once, set_cases, take_next}
 use Rattle.mc_core.proofs.Every.{event_kept}
 use Rattle.mc_core.proofs.Links.{ran_within}
@@ -116,7 +116,7 @@ waiting sizes w old c number link shard world at =
 pub sends : (old new : Sim) (c number shard : ℕ) (piece : Piece) (place after : Seat) → Finds old c number place → number < length old.connections.items →
     ((told : Told) → IsConn place.conn told → (slice_get (all_pieces told) told.out ≡ Some (shard, piece)) × IsConn after.conn (record told { out = told.out + 1; lent = true })) →
     after.current ≡ place.current → new.seats.items ≡ slice_set old.seats.items c after → new.connections.items ≡ old.connections.items → new.log.items ≡ old.log.items →
-    ((sizes : Sizes) (wires : Wires) → AreWired sizes old.rings wires → SendsPiece sizes wires c shard piece new.rings) → Steps old (Send c) replied.Done new
+    ((sizes : Sizes) (wires : Wires) → AreWired sizes old.rings wires → SendsPiece sizes wires c shard piece new.rings) → StepsByEvent old (Send c) replied.Done new
 unfolding Stands
 sends old new c number shard piece place after finds below conn same set connections log send sizes w world =
     let f = found sizes w old c number place world finds.here finds.current in
@@ -137,7 +137,7 @@ sends old new c number shard piece place after finds below conn same set connect
     let is : SeatIs sizes w' c after.conn after.current = subst (λ x. SeatIs sizes w' c after.conn x) (sym (same ∙ finds.current)) (next, at_same w c number link next at refl, serving) in
     let kept = get_below old.connections.items number below in
     let h = world.keeps number link kept.0 at.here kept.1 in
-    let keeps : Keeps sizes w' number next kept.0 = record { seat = h.seat; ended = h.ended; broken = h.broken; fed = h.fed; handed = h.handed } in
+    let keeps : KeepsLink sizes w' number next kept.0 = record { seat = h.seat; ended = h.ended; broken = h.broken; fed = h.fed; handed = h.handed } in
     let old_pieces = world.wires.pieces in
     let wait = world.mirrors.lanes c number link at in
     let more : (t : ℕ) → unrun sizes w number t next ≡ unrun sizes w number t link ++ lane t ((shard, piece) ∷ []) = λ t.
@@ -172,7 +172,7 @@ sends old new c number shard piece place after finds below conn same set connect
 
 -- No piece is unsent.
 pub sends_none : (old new : Sim) (c number : ℕ) (place after : Seat) → Finds old c number place → ((told : Told) → IsConn place.conn told → (told.out ≡ length (all_pieces told)) × IsConn after.conn told) →
-    after.current ≡ place.current → new.seats.items ≡ slice_set old.seats.items c after → new.connections.items ≡ old.connections.items → new.log.items ≡ old.log.items → new.rings ≡ old.rings → Steps old (Send c) replied.Idle new
+    after.current ≡ place.current → new.seats.items ≡ slice_set old.seats.items c after → new.connections.items ≡ old.connections.items → new.log.items ≡ old.log.items → new.rings ≡ old.rings → StepsByEvent old (Send c) replied.Idle new
 unfolding Stands
 sends_none old new c number place after finds conn same set connections log rings sizes w world =
     let f = found sizes w old c number place world finds.here finds.current in
@@ -197,7 +197,7 @@ sends_none old new c number place after finds conn same set connections log ring
 pub sends_full : (old new : Sim) (c number shard : ℕ) (piece : Piece) (place after : Seat) → Finds old c number place →
     ((told : Told) → IsConn place.conn told → (slice_get (all_pieces told) told.out ≡ Some (shard, piece)) × IsConn after.conn (record told { lent = false })) →
     after.current ≡ place.current → new.seats.items ≡ slice_set old.seats.items c after → new.connections.items ≡ old.connections.items → new.log.items ≡ old.log.items →
-    ((sizes : Sizes) (wires : Wires) → AreWired sizes old.rings wires → KeepsPiece sizes wires c shard new.rings) → Steps old (Send c) replied.Idle new
+    ((sizes : Sizes) (wires : Wires) → AreWired sizes old.rings wires → KeepsPiece sizes wires c shard new.rings) → StepsByEvent old (Send c) replied.Idle new
 unfolding Stands
 sends_full old new c number shard piece place after finds conn same set connections log send sizes w world =
     let f = found sizes w old c number place world finds.here finds.current in
@@ -283,7 +283,7 @@ pub more_not : (counts : ℕ → ℕ) (shard t : ℕ) → t ≢ shard → one_mo
 more_not counts shard t other = ap (λ b. cond b (counts t + 1) (counts t)) (ne_eqb t shard other)
 
 -- The reply in a hand was given.
-pub gives : (old new : Sim) (shard : ℕ) → ((sizes : Sizes) (wires : Wires) → AreWired sizes old.rings wires → GivesReply sizes wires shard new.rings) → new.seats.items ≡ old.seats.items → new.connections.items ≡ old.connections.items → new.log.items ≡ old.log.items → Steps old (Give shard) replied.Done new
+pub gives : (old new : Sim) (shard : ℕ) → ((sizes : Sizes) (wires : Wires) → AreWired sizes old.rings wires → GivesReply sizes wires shard new.rings) → new.seats.items ≡ old.seats.items → new.connections.items ≡ old.connections.items → new.log.items ≡ old.log.items → StepsByEvent old (Give shard) replied.Done new
 unfolding Stands
 gives old new shard give seats connections log sizes w world =
     let g = give sizes world.wires world.wired in
@@ -365,7 +365,7 @@ gives old new shard give seats connections log sizes w world =
     )
 
 -- None was given.
-pub gives_none : (old new : Sim) (shard : ℕ) → ((sizes : Sizes) (wires : Wires) → AreWired sizes old.rings wires → GivesNone sizes wires shard new.rings) → new.seats.items ≡ old.seats.items → new.connections.items ≡ old.connections.items → new.log.items ≡ old.log.items → Steps old (Give shard) replied.Idle new
+pub gives_none : (old new : Sim) (shard : ℕ) → ((sizes : Sizes) (wires : Wires) → AreWired sizes old.rings wires → GivesNone sizes wires shard new.rings) → new.seats.items ≡ old.seats.items → new.connections.items ≡ old.connections.items → new.log.items ≡ old.log.items → StepsByEvent old (Give shard) replied.Idle new
 unfolding Stands
 gives_none old new shard give seats connections log sizes w world =
     let g = give sizes world.wires world.wired in (

@@ -33,7 +33,7 @@ use Rattle.mc_core.specs.Schedule.StepReply.{Done}
 use Rattle.mc_core.specs.Headline.{handed_bytes}
 use Rattle.mc_core.specs.Law.{Law, LinkLaw}
 use Rattle.mc_core.specs.Rings.{AreWired}
-use Rattle.mc_core.specs.Stands.{IsServing, IsWorld, Keeps, SeatIs, Stands, Steps, received_by, told_of, unrun}
+use Rattle.mc_core.specs.Stands.{IsServing, IsWorld, KeepsLink, SeatIs, Stands, StepsByEvent, received_by, told_of, unrun}
 use Rattle.mc_core.proofs.Every.{event_kept}
 use Rattle.mc_core.proofs.Lists.{at_once}
 use Rattle.mc_core.proofs.Follows.{are_replies}
@@ -91,7 +91,7 @@ world_stays sizes w old new world same = record {
 }
 
 -- nothing was found at the seat
-pub finds_none : (old new : Sim) (event : Event) (c : ℕ) → ((w : World) (k : ℕ) (link : Link) → Concerns w event k link → IsAt w c k link) → ((sizes : Sizes) (w : World) → Stands sizes old w → (k : ℕ) (link : Link) → IsAt w c k link → ⊥) → IsSame old new → Steps old event replied.Idle new
+pub finds_none : (old new : Sim) (event : Event) (c : ℕ) → ((w : World) (k : ℕ) (link : Link) → Concerns w event k link → IsAt w c k link) → ((sizes : Sizes) (w : World) → Stands sizes old w → (k : ℕ) (link : Link) → IsAt w c k link → ⊥) → IsSame old new → StepsByEvent old event replied.Idle new
 unfolding Stands
 finds_none old new event c speaks none same sizes w world =
     (w, none_there sizes w event c (speaks w) (none sizes w world), world_stays sizes w old new world same)
@@ -99,7 +99,7 @@ finds_none old new event c speaks none same sizes w world =
 -- The connection ends.
 pub ends : (old new : Sim) (c number : ℕ) (place after : Seat) (kept : Connection) → Finds old c number place → slice_get old.connections.items number ≡ Some kept → kept.ended ≡ false →
     ((told : Told) → IsConn place.conn told → IsConn after.conn (record told { ended = true })) → after.current ≡ place.current → Differs old new c after →
-    new.connections.items ≡ slice_set old.connections.items number (record kept { ended = true }) → Steps old (End c) replied.Done new
+    new.connections.items ≡ slice_set old.connections.items number (record kept { ended = true }) → StepsByEvent old (End c) replied.Done new
 unfolding Stands
 ends old new c number place after kept finds at_kept unset conn same differs connections sizes w world =
     let f = found sizes w old c number place world finds.here finds.current in
@@ -111,7 +111,7 @@ ends old new c number place after kept finds at_kept unset conn same differs con
     let happens : Happens sizes w (End c) Done (with_link w number next) = (number, link, at, sym h.ended ∙ unset, refl) in
     let law = event_kept sizes w (End c) Done (with_link w number next) world.within.shards.0 happens world.law in
     let serving : IsServing sizes (of_asker number w.log) next after.conn = record { lent = s.lent; accepted = s.accepted; is = conn (told_of sizes link s.lent s.accepted) s.is; fits = s.fits } in
-    let keeps : Keeps sizes (with_link w number next) number next (record kept { ended = true }) = record { seat = h.seat; ended = refl; broken = h.broken; fed = h.fed; handed = h.handed } in (
+    let keeps : KeepsLink sizes (with_link w number next) number next (record kept { ended = true }) = record { seat = h.seat; ended = refl; broken = h.broken; fed = h.fed; handed = h.handed } in (
       with_link w number next,
       happens,
       seat_stays sizes w old new c number link next place after world finds at refl law differs same serving
@@ -120,7 +120,7 @@ ends old new c number place after kept finds at_kept unset conn same differs con
     )
 
 -- It had ended before.
-pub ended_before : (old new : Sim) (c number : ℕ) (place : Seat) (kept : Connection) → Finds old c number place → slice_get old.connections.items number ≡ Some kept → kept.ended ≡ true → IsSame old new → Steps old (End c) replied.Idle new
+pub ended_before : (old new : Sim) (c number : ℕ) (place : Seat) (kept : Connection) → Finds old c number place → slice_get old.connections.items number ≡ Some kept → kept.ended ≡ true → IsSame old new → StepsByEvent old (End c) replied.Idle new
 unfolding Stands
 ended_before old new c number place kept finds at_kept ended same sizes w world =
     let f = found sizes w old c number place world finds.here finds.current in
@@ -139,7 +139,7 @@ ended_before old new c number place kept finds at_kept ended same sizes w world 
 -- The connection breaks.
 pub breaks : (old new : Sim) (c number : ℕ) (place after : Seat) (kept : Connection) → Finds old c number place → slice_get old.connections.items number ≡ Some kept → kept.broken ≡ false →
     ((told : Told) → IsConn place.conn told → IsConn after.conn (record told { broken = true })) → after.current ≡ place.current → Differs old new c after →
-    new.connections.items ≡ slice_set old.connections.items number (record kept { broken = true }) → Steps old (Break c) replied.Done new
+    new.connections.items ≡ slice_set old.connections.items number (record kept { broken = true }) → StepsByEvent old (Break c) replied.Done new
 unfolding Stands
 breaks old new c number place after kept finds at_kept unset conn same differs connections sizes w world =
     let f = found sizes w old c number place world finds.here finds.current in
@@ -151,7 +151,7 @@ breaks old new c number place after kept finds at_kept unset conn same differs c
     let happens : Happens sizes w (Break c) Done (with_link w number next) = (number, link, at, sym h.broken ∙ unset, refl) in
     let law = event_kept sizes w (Break c) Done (with_link w number next) world.within.shards.0 happens world.law in
     let serving : IsServing sizes (of_asker number w.log) next after.conn = record { lent = s.lent; accepted = s.accepted; is = conn (told_of sizes link s.lent s.accepted) s.is; fits = s.fits } in
-    let keeps : Keeps sizes (with_link w number next) number next (record kept { broken = true }) = record { seat = h.seat; ended = h.ended; broken = refl; fed = h.fed; handed = h.handed } in (
+    let keeps : KeepsLink sizes (with_link w number next) number next (record kept { broken = true }) = record { seat = h.seat; ended = h.ended; broken = refl; fed = h.fed; handed = h.handed } in (
       with_link w number next,
       happens,
       seat_stays sizes w old new c number link next place after world finds at refl law differs same serving
@@ -160,7 +160,7 @@ breaks old new c number place after kept finds at_kept unset conn same differs c
     )
 
 -- It was broken before.
-pub broken_before : (old new : Sim) (c number : ℕ) (place : Seat) (kept : Connection) → Finds old c number place → slice_get old.connections.items number ≡ Some kept → kept.broken ≡ true → IsSame old new → Steps old (Break c) replied.Idle new
+pub broken_before : (old new : Sim) (c number : ℕ) (place : Seat) (kept : Connection) → Finds old c number place → slice_get old.connections.items number ≡ Some kept → kept.broken ≡ true → IsSame old new → StepsByEvent old (Break c) replied.Idle new
 unfolding Stands
 broken_before old new c number place kept finds at_kept broken same sizes w world =
     let f = found sizes w old c number place world finds.here finds.current in
@@ -210,7 +210,7 @@ taken_bytes sizes w k link one law =
 
 -- A command is taken.
 pub takes : (old new : Sim) (c number moment : ℕ) (ticket : Ticket) (place after : Seat) → Finds old c number place → number < length old.connections.items → ((told : Told) → IsConn place.conn told → Opens told moment ticket after.conn) →
-    after.current ≡ place.current → Differs old new c after → new.connections.items ≡ old.connections.items → Steps old (Take c moment) replied.Done new
+    after.current ≡ place.current → Differs old new c after → new.connections.items ≡ old.connections.items → StepsByEvent old (Take c moment) replied.Done new
 unfolding Stands
 takes old new c number moment ticket place after finds below conn same differs connections sizes w world =
     let f = found sizes w old c number place world finds.here finds.current in
@@ -229,7 +229,7 @@ takes old new c number moment ticket place after finds below conn same differs c
     let law = event_kept sizes w (Take c moment) Done w' world.within.shards.0 happens world.law in
     let serving : IsServing sizes (of_asker number w.log) next after.conn =
     record { lent = s.lent; accepted = s.accepted; is = o.now; fits = fits_take sizes.shards link.taken one s.accepted (received_by link (of_asker number w.log)) s.fits } in
-    let keeps : Keeps sizes w' number next kept.0 = record { seat = h.seat; ended = h.ended; broken = h.broken; fed = h.fed; handed = h.handed ∙ taken_bytes sizes w number link one own } in
+    let keeps : KeepsLink sizes w' number next kept.0 = record { seat = h.seat; ended = h.ended; broken = h.broken; fed = h.fed; handed = h.handed ∙ taken_bytes sizes w number link one own } in
     let sent_same : take link.sent (pieces sizes.shards link.taken) ≡ take link.sent (pieces sizes.shards next.taken) =
     sym (ap (λ ps. take link.sent ps) (pieces_from-append sizes.shards 0 link.taken (one ∷ [])) ∙ take-append-le link.sent (pieces sizes.shards link.taken) (pieces_from sizes.shards (0 + length link.taken) (one ∷ [])) own.sent) in (
       w',
@@ -256,7 +256,7 @@ not_after_last sizes link command closed next =
 takes_none : (old new : Sim) (c number moment : ℕ) (place after : Seat) → Finds old c number place → after.current ≡ place.current → Differs old new c after → new.connections.items ≡ old.connections.items →
     ((told : Told) → IsConn place.conn told → IsConn after.conn told) →
     ((sizes : Sizes) (link : Link) (lent : Bool) (accepted : List Shown) (command : Command) → IsConn place.conn (told_of sizes link lent accepted) → IsNextCommand sizes link command → HasWindow sizes link → link.broken ≡ false → ⊥) →
-    Steps old (Take c moment) replied.Idle new
+    StepsByEvent old (Take c moment) replied.Idle new
 unfolding Stands
 takes_none old new c number moment place after finds same differs connections conn none sizes w world =
     let f = found sizes w old c number place world finds.here finds.current in
@@ -276,14 +276,14 @@ takes_none old new c number moment place after finds same differs connections co
 
 -- A Take is idle where all commands that the bytes spell were taken, and more bytes are needed for another.
 pub takes_all : (old new : Sim) (c number moment : ℕ) (place after : Seat) → Finds old c number place → after.current ≡ place.current → Differs old new c after → new.connections.items ≡ old.connections.items →
-    ((told : Told) → IsConn place.conn told → NeedsMore told after.conn) → Steps old (Take c moment) replied.Idle new
+    ((told : Told) → IsConn place.conn told → NeedsMore told after.conn) → StepsByEvent old (Take c moment) replied.Idle new
 takes_all old new c number moment place after finds same differs connections conn =
     takes_none old new c number moment place after finds same differs connections (λ told is. (conn told is).now)
     (λ sizes link lent accepted command is next window unset. not_one_more sizes link command (conn (told_of sizes link lent accepted) is).all next)
 
 -- A Take is idle where the connection has as many open commands as its window has room for.
 pub takes_full : (old new : Sim) (c number moment : ℕ) (place after : Seat) → Finds old c number place → after.current ≡ place.current → Differs old new c after → new.connections.items ≡ old.connections.items →
-    ((told : Told) → IsConn place.conn told → FillsWindow told after.conn) → Steps old (Take c moment) replied.Idle new
+    ((told : Told) → IsConn place.conn told → FillsWindow told after.conn) → StepsByEvent old (Take c moment) replied.Idle new
 takes_full old new c number moment place after finds same differs connections conn =
     takes_none old new c number moment place after finds same differs connections (λ told is. (conn told is).now)
     (λ sizes link lent accepted command is next window unset. let full = (conn (told_of sizes link lent accepted) is).full in absurd (omega (arith, full, window)))
@@ -295,7 +295,7 @@ over_none sizes link lent accepted command (inr (inr done)) next unset = not_one
 
 -- A Take is idle where the connection is closed or broken.
 pub takes_closed : (old new : Sim) (c number moment : ℕ) (place after : Seat) → Finds old c number place → after.current ≡ place.current → Differs old new c after → new.connections.items ≡ old.connections.items →
-    ((told : Told) → IsConn place.conn told → IsOver told × IsConn after.conn told) → Steps old (Take c moment) replied.Idle new
+    ((told : Told) → IsConn place.conn told → IsOver told × IsConn after.conn told) → StepsByEvent old (Take c moment) replied.Idle new
 takes_closed old new c number moment place after finds same differs connections conn =
     takes_none old new c number moment place after finds same differs connections (λ told is. (conn told is).1)
     (λ sizes link lent accepted command is next window unset. over_none sizes link lent accepted command (conn (told_of sizes link lent accepted) is).0 next unset)

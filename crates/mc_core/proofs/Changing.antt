@@ -6,7 +6,7 @@ use Rattle.mc_ring.specs.Reply.{Shown}
 use Rattle.mc_core.specs.Sizes.{Sizes}
 use Rattle.mc_core.specs.Log.{Leaves, of_asker, on_shard, replies_in}
 use Rattle.mc_core.specs.World.{IsAt, IsLink, Link, World, ran, with_link}
-use Rattle.mc_core.specs.Events.{IsUnused}
+use Rattle.mc_core.specs.Events.{IsUnusedSeat}
 use Rattle.mc_core.specs.Rings.{Wires}
 use Rattle.mc_core.specs.Stands.{HandIs, Mirrors, unreceived, unrun}
 use Rattle.mc_core.proofs.Lists.{at_once, set_cases}
@@ -86,14 +86,14 @@ at_back w c j k one link next here seat at = elim (set_cases w.links k next j on
   )
 ]
 
-pub unused_back : (w : World) (c k : ℕ) (link next : Link) → IsLink w k link → next.seat ≡ link.seat → IsUnused (with_link w k next) c → IsUnused w c
+pub unused_back : (w : World) (c k : ℕ) (link next : Link) → IsLink w k link → next.seat ≡ link.seat → IsUnusedSeat (with_link w k next) c → IsUnusedSeat w c
 unused_back w c k link next here seat unused j one at_j is = elim (cases_eq j k) [
   | inl same ↦ unused k next (set_here w.links k next link here) (seat ∙ (ap seat_of (at_once w.links k j link one here at_j (sym same)) ∙ is))
   | inr apart ↦ unused j one (set_other w.links k next j apart ∙ at_j) is
 ]
 
 -- A seat that has had no connection still has had none once a connection changes that keeps its seat.
-pub unused_on : (w : World) (c k : ℕ) (link next : Link) → IsLink w k link → next.seat ≡ link.seat → IsUnused w c → IsUnused (with_link w k next) c
+pub unused_on : (w : World) (c k : ℕ) (link next : Link) → IsLink w k link → next.seat ≡ link.seat → IsUnusedSeat w c → IsUnusedSeat (with_link w k next) c
 unused_on w c k link next here seat unused j one at_j is = elim (set_cases w.links k next j one at_j) [
   | inl this ↦ unused k link here (sym seat ∙ (ap seat_of (sym this.1) ∙ is))
   | inr old ↦ unused j one old.1 is

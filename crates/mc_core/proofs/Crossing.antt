@@ -20,7 +20,7 @@ use Rattle.mc_core.specs.Sizes.{Sizes}
 use Rattle.mc_core.specs.Log.{Entry}
 use Rattle.mc_core.specs.World.{IsAt, IsLink, Link, World, empty_world, new_link, ran}
 use Rattle.mc_core.specs.Rest.{AtRest, MayRenew}
-use Rattle.mc_core.specs.Events.{Event, IsEmptyHand, IsUnused, RunsNext, one_more}
+use Rattle.mc_core.specs.Events.{Event, IsEmptyHand, IsUnusedSeat, RunsNext, one_more}
 use Rattle.mc_core.specs.Events.Event.{Open, Feed, Take, Send, Pop, Give, Receive, Hand, Break}
 use Rattle.mc_core.specs.Schedule.{Happens, Leads, Schedule}
 use Rattle.mc_core.specs.Schedule.StepReply.{Done, Idle}
@@ -166,7 +166,7 @@ second_is log a b zero link seat at =
 second_is log a b (suc zero) link seat at = let here = at.here in cc
 second_is log a b (suc (suc k)) link seat at = let here = at.here in absurd cc
 
-second_is_unused : IsUnused (alone [] (new_link 0)) 1
+second_is_unused : IsUnusedSeat (alone [] (new_link 0)) 1
 second_is_unused zero link here same =
     let is : new_link 0 ≡ link = cc in
     let bad : 0 ≡ 1 = ap (λ (l : Link). l.seat) is ∙ same in

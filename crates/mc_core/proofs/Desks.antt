@@ -12,7 +12,7 @@ use Rattle.mc_ring.specs.Ends.{AtLane, Ends, Sends, list_at}
 use Rattle.mc_ring.specs.Made.{IsUnused}
 use Rattle.mc_store.specs.State.{State}
 use Rattle.mc_store.specs.Shard.{Keeps}
-use Rattle.mc_core.specs.Desk.{Desk, HasRun, IsSound, end_come}
+use Rattle.mc_core.specs.Desk.{Desk, HasRun, IsWellMarked, end_come}
 use Rattle.mc_core.specs.Turns.{IsFull}
 
 -- What holds where a condition is true may be promised under that condition.
@@ -90,7 +90,7 @@ full_lane reply back seat old new lane = record {
 }
 
 -- The seat of the reply in the hand is there.
-pub held_within : (desk : Desk) (seat : ℕ) (reply : Shown) → IsSound desk → desk.hand ≡ Some (seat, reply) → seat < length desk.ends.lanes
+pub held_within : (desk : Desk) (seat : ℕ) (reply : Shown) → IsWellMarked desk → desk.hand ≡ Some (seat, reply) → seat < length desk.ends.lanes
 held_within desk seat reply sound held =
     let at = slice_get_within desk.live seat true (sound.holder seat reply held) in
     let marked = sound.marked in

@@ -26,7 +26,7 @@ use Rattle.mc_core.specs.Events.Event.{Feed}
 use Rattle.mc_core.specs.Schedule.{Happens}
 use Rattle.mc_core.specs.Schedule.StepReply.{Done}
 use Rattle.mc_core.specs.Feeding.{FeedsInto, MayTake, Refreshed, TakesBytes}
-use Rattle.mc_core.specs.Stands.{IsServing, IsWorld, Keeps, SeatIs, Stands, Steps, told_of}
+use Rattle.mc_core.specs.Stands.{IsServing, IsWorld, KeepsLink, SeatIs, Stands, StepsByEvent, told_of}
 use Rattle.mc_core.proofs.Every.{event_kept}
 use Rattle.mc_core.proofs.Changing.{one_at}
 use Rattle.std.proofs.lemmas.Bool.{cases_eq}
@@ -78,7 +78,7 @@ takes_bytes old new told bytes count unset ready within now progress whole shut 
 pub feeds : (old new : Sim) (c number : ℕ) (bytes : List ℕ) (count : ℕ) (place after : Seat) (kept kept' : Connection) → Finds old c number place → slice_get old.connections.items number ≡ Some kept → kept.ended ≡ false → kept.broken ≡ false → 0 < length bytes → 0 < count →
     ((told : Told) → IsConn place.conn told → IsOpen told → TakesBytes told bytes count after.conn) → after.current ≡ place.current → Differs old new c after →
     new.connections.items ≡ slice_set old.connections.items number kept' → kept'.seat ≡ kept.seat → kept'.ended ≡ kept.ended → kept'.broken ≡ kept.broken → kept'.fed.items ≡ kept.fed.items ++ take count bytes → kept'.handed ≡ kept.handed →
-    Steps old (Feed c bytes) replied.Done new
+    StepsByEvent old (Feed c bytes) replied.Done new
 unfolding Stands
 feeds old new c number bytes count place after kept kept' finds at_kept comes whole filled some conn same differs connections seat ended broken fed handed sizes w world =
     let f = found sizes w old c number place world finds.here finds.current in
@@ -93,7 +93,7 @@ feeds old new c number bytes count place after kept kept' finds at_kept comes wh
     let happens : Happens sizes w (Feed c bytes) Done w' = (number, link, at, (sym h.ended ∙ comes, sym h.broken ∙ whole, filled), (count, may, some, refl)) in
     let law = event_kept sizes w (Feed c bytes) Done w' world.within.shards.0 happens world.law in
     let serving : IsServing sizes (of_asker number w.log) next after.conn = record { lent = s.lent; accepted = s.accepted; is = t.now; fits = s.fits } in
-    let keeps : Keeps sizes w' number next kept' = record {
+    let keeps : KeepsLink sizes w' number next kept' = record {
       seat = seat ∙ h.seat;
       ended = ended ∙ h.ended;
       broken = broken ∙ h.broken;
@@ -122,8 +122,8 @@ world_again sizes w c k link old new world here seats connections log wired = re
   keeps = λ j one kept at_j found_j. elim (cases_eq j k) [
     | inl this ↦
         let same : link ≡ one = at_once w.links k j link one here at_j (sym this) in
-        let mine : Keeps sizes w k link kept = connections.here kept (ap (λ n. slice_get new.connections.items n) (sym this) ∙ found_j) in
-        subst (λ x. Keeps sizes w j x kept) same (subst (λ n. Keeps sizes w n link kept) (sym this) mine)
+        let mine : KeepsLink sizes w k link kept = connections.here kept (ap (λ n. slice_get new.connections.items n) (sym this) ∙ found_j) in
+        subst (λ x. KeepsLink sizes w j x kept) same (subst (λ n. KeepsLink sizes w n link kept) (sym this) mine)
     | inr apart ↦ world.keeps j one kept at_j (connections.others j kept apart found_j)
   ];
   log = log ∙ world.log;
@@ -148,7 +148,7 @@ feeds_none : (sizes : Sizes) (w : World) (old new : Sim) (c number : ℕ) (place
 feeds_none sizes w old new c number place after kept kept' world finds at_kept link at serving same fed =
     let h = world.keeps number link kept at.here at_kept in
     let is : SeatIs sizes w c after.conn after.current = subst (λ o. SeatIs sizes w c after.conn o) (sym (same ∙ finds.current)) (link, at, serving) in
-    let keeps : Keeps sizes w number link kept' = record { seat = fed.seat ∙ h.seat; ended = fed.ended ∙ h.ended; broken = fed.broken ∙ h.broken; fed = fed.fed_is ∙ h.fed; handed = ap (λ v. v.items) fed.handed ∙ h.handed } in
+    let keeps : KeepsLink sizes w number link kept' = record { seat = fed.seat ∙ h.seat; ended = fed.ended ∙ h.ended; broken = fed.broken ∙ h.broken; fed = fed.fed_is ∙ h.fed; handed = ap (λ v. v.items) fed.handed ∙ h.handed } in
     world_again sizes w c number link old new world at.here
     (seats_set sizes w c old.seats.items new.seats.items place after finds.here fed.differs.seats is)
     (kept_set sizes w number link old.connections.items new.connections.items kept kept' at_kept fed.connections keeps)
@@ -157,7 +157,7 @@ feeds_none sizes w old new c number place after kept kept' world finds at_kept l
 
 -- However it is answered, a feed leads the core on.
 pub feeds_into : (old new : Sim) (c number : ℕ) (bytes : List ℕ) (reply : Replied) (place after : Seat) (kept kept' : Connection) → Finds old c number place → slice_get old.connections.items number ≡ Some kept → MayTake kept bytes →
-    FeedsInto place.conn kept.fed.items bytes reply after.conn kept'.fed.items → after.current ≡ place.current → Fed old new c number after kept kept' kept'.fed.items → Steps old (Feed c bytes) reply new
+    FeedsInto place.conn kept.fed.items bytes reply after.conn kept'.fed.items → after.current ≡ place.current → Fed old new c number after kept kept' kept'.fed.items → StepsByEvent old (Feed c bytes) reply new
 unfolding Stands
 feeds_into old new c number bytes replied.Done place after kept kept' finds at_kept may into same fed sizes w world =
     feeds old new c number bytes into.0 place after kept kept' finds at_kept may.0 may.1 may.2 into.1 into.3 same fed.differs fed.connections fed.seat fed.ended fed.broken into.2 fed.handed sizes w world
@@ -188,7 +188,7 @@ feeds_into old new c number bytes replied.NoMemory place after kept kept' finds 
     )
 
 -- The connection is ended or broken, or there are no bytes.
-pub feeds_not : (old new : Sim) (c number : ℕ) (bytes : List ℕ) (f : (x : Seat) × (slice_get old.seats.items c ≡ Some x) × (x.current ≡ Some number)) (kept : Connection) → slice_get old.connections.items number ≡ Some kept → ¬ MayTake kept bytes → IsSame old new → Steps old (Feed c bytes) replied.Idle new
+pub feeds_not : (old new : Sim) (c number : ℕ) (bytes : List ℕ) (f : (x : Seat) × (slice_get old.seats.items c ≡ Some x) × (x.current ≡ Some number)) (kept : Connection) → slice_get old.connections.items number ≡ Some kept → ¬ MayTake kept bytes → IsSame old new → StepsByEvent old (Feed c bytes) replied.Idle new
 unfolding Stands
 feeds_not old new c number bytes f kept at_kept not same sizes w world =
     let g = found sizes w old c number f.0 world f.1 f.2 in

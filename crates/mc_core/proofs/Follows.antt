@@ -20,7 +20,7 @@ use Rattle.mc_core.specs.Sizes.{Sizes, rules_of}
 use Rattle.mc_core.specs.Log.{Entry, of_asker, on_shard, replies_in, reply_to}
 use Rattle.mc_core.specs.World.{Link, World, entries}
 use Rattle.mc_core.specs.Rest.{AtRest, IsAllReceived, IsAllSent, IsAllTaken}
-use Rattle.mc_core.specs.Headline.{AreAllReplies, AreReplies, Headline, IsLast, IsServed, handed_bytes, history, replies_to}
+use Rattle.mc_core.specs.Headline.{AreAllReplies, AreReplies, Headline, IsLast, RanAsDue, handed_bytes, history, replies_to}
 use Rattle.mc_core.specs.Law.{Law, LinkLaw}
 use Rattle.mc_core.proofs.Lists.{all_from, all_take, all_unmap}
 
@@ -76,7 +76,7 @@ at_rest sizes w k link l unbroken rest =
     subst (λ b. MatchBool b (IsAllSent sizes link × IsAllReceived sizes link) (IsAllTaken sizes link × IsAllSent sizes link × (link.handed ≡ length link.taken))) unbroken rest in
     are_all_replies sizes w k link l all.0 all.2
 
-served : (sizes : Sizes) (w : World) (k : ℕ) (link : Link) → LinkLaw sizes (of_asker k w.log) link → IsServed sizes w k link
+served : (sizes : Sizes) (w : World) (k : ℕ) (link : Link) → LinkLaw sizes (of_asker k w.log) link → RanAsDue sizes w k link
 served sizes w k link l s =
     let n = length (on_shard s (of_asker k w.log)) in
     let asked = due sizes.shards s link.taken in

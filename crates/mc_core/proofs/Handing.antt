@@ -11,7 +11,7 @@ use Rattle.mc_item.specs.declared.answer.Answer.{Answer}
 use Rattle.mc_join.specs.Replies.{answer_to, answers_of, replies, slots_after}
 use Rattle.mc_split.specs.declared.plan.Ticket.{Ticket}
 use Rattle.mc_split.specs.Plan.{no_answers, parts_from}
-use Rattle.mc_split.specs.Pieces.{Asked, pieces_of}
+use Rattle.mc_split.specs.Pieces.{ShardOp, pieces_of}
 use Rattle.mc_conn.specs.declared.conn.Conn.{Conn}
 use Rattle.mc_conn.specs.Conn.{IsConn}
 use Rattle.mc_conn.specs.History.{Taken, planned, text_done}
@@ -41,7 +41,7 @@ use Rattle.mc_core.specs.Law.{LinkLaw}
 use Rattle.mc_core.specs.Headline.{handed_bytes}
 use Rattle.mc_core.proofs.Lists.{all_from}
 use Rattle.mc_core.proofs.Growing.{concat-append}
-use Rattle.mc_core.specs.Stands.{IsServing, IsWorld, Keeps, SeatIs, Stands, Steps, received_by, told_of}
+use Rattle.mc_core.specs.Stands.{IsServing, IsWorld, KeepsLink, SeatIs, Stands, StepsByEvent, received_by, told_of}
 use Rattle.mc_core.proofs.Every.{event_kept}
 use Rattle.mc_core.proofs.Changing.{one_at}
 use Rattle.mc_core.proofs.Standing.{found, kept_set, seats_set}
@@ -85,7 +85,7 @@ is_turn sizes own link conn law s =
 abbrev told_for : List Shown → ℕ × Piece → Option Answer
 told_for accepted piece = answer_to accepted piece.1.ticket piece.1.part
 
-parts_told : (accepted : List Shown) (first : ℕ) (ticket : Ticket) (moment : ℕ) (asked : List Asked) → map (told_for accepted) (parts_from first ticket moment asked) ≡ slots_after accepted ticket first (no_answers asked)
+parts_told : (accepted : List Shown) (first : ℕ) (ticket : Ticket) (moment : ℕ) (asked : List ShardOp) → map (told_for accepted) (parts_from first ticket moment asked) ≡ slots_after accepted ticket first (no_answers asked)
 parts_told accepted first ticket moment [] = refl
 parts_told accepted first ticket moment (one ∷ asked) = ap (λ xs. answer_to accepted ticket first ∷ xs) (parts_told accepted (first + 1) ticket moment asked)
 
@@ -159,7 +159,7 @@ handed_now sizes w k link conn law s =
 pub hands : (old new : Sim) (c number : ℕ) (reply : Replied) (place after : Seat) (kept kept' : Connection) (passes : ℕ) → Finds old c number place → slice_get old.connections.items number ≡ Some kept → 0 < passes →
     ((told : Told) → IsConn place.conn told → told.broken ≡ false → told.handed + passes ≡ length (all_texts told)) → ((told : Told) → IsConn place.conn told → IsTrue told.broken → passes ≡ 0) →
     HandsInto place.conn kept.handed.items reply after.conn kept'.handed.items → after.current ≡ place.current → Differs old new c after → new.connections.items ≡ slice_set old.connections.items number kept' →
-    kept'.seat ≡ kept.seat → kept'.ended ≡ kept.ended → kept'.broken ≡ kept.broken → kept'.fed ≡ kept.fed → Steps old (Hand c) reply new
+    kept'.seat ≡ kept.seat → kept'.ended ≡ kept.ended → kept'.broken ≡ kept.broken → kept'.fed ≡ kept.fed → StepsByEvent old (Hand c) reply new
 unfolding Stands
 hands old new c number reply place after kept kept' passes finds at_kept some pass none into same differs connections seat ended broken fed sizes w world =
     let f = found sizes w old c number place world finds.here finds.current in
@@ -189,7 +189,7 @@ hands old new c number reply place after kept kept' passes finds at_kept some pa
           let happens : Happens sizes w (Hand c) Done w' = (number, link, at, allows, (n, turn, refl)) in
           let law' = event_kept sizes w (Hand c) Done w' world.within.shards.0 happens world.law in
           let serving : IsServing sizes own next after.conn = record { lent = s.lent; accepted = s.accepted; is = subst (λ m. IsConn after.conn (record told { handed = m })) d.all d.now; fits = s.fits } in
-          let keeps : Keeps sizes w' number next kept' = record {
+          let keeps : KeepsLink sizes w' number next kept' = record {
             seat = seat ∙ h.seat;
             ended = ended ∙ h.ended;
             broken = broken ∙ h.broken;
@@ -206,7 +206,7 @@ hands old new c number reply place after kept kept' passes finds at_kept some pa
       | replied.NoMemory ↦ λ stays.
           let d = stays told s.is whole in
           let is : SeatIs sizes w c after.conn after.current = subst (λ o. SeatIs sizes w c after.conn o) (sym (same ∙ finds.current)) (link, at, record { lent = s.lent; accepted = s.accepted; is = d.1; fits = s.fits }) in
-          let keeps : Keeps sizes w number link kept' = record { seat = seat ∙ h.seat; ended = ended ∙ h.ended; broken = broken ∙ h.broken; fed = ap (λ v. v.items) fed ∙ h.fed; handed = d.0 ∙ h.handed } in (
+          let keeps : KeepsLink sizes w number link kept' = record { seat = seat ∙ h.seat; ended = ended ∙ h.ended; broken = broken ∙ h.broken; fed = ap (λ v. v.items) fed ∙ h.fed; handed = d.0 ∙ h.handed } in (
             w,
             ((tt, (number, link, at, allows)), refl),
             world_again sizes w c number link old new world at.here
@@ -218,7 +218,7 @@ hands old new c number reply place after kept kept' passes finds at_kept some pa
     ] into
 
 -- No reply's turn has come.
-pub hands_none : (old new : Sim) (c number passes : ℕ) (place : Seat) → Finds old c number place → ((told : Told) → IsConn place.conn told → told.broken ≡ false → told.handed + passes ≡ length (all_texts told)) → passes ≡ 0 → IsSame old new → Steps old (Hand c) replied.Idle new
+pub hands_none : (old new : Sim) (c number passes : ℕ) (place : Seat) → Finds old c number place → ((told : Told) → IsConn place.conn told → told.broken ≡ false → told.handed + passes ≡ length (all_texts told)) → passes ≡ 0 → IsSame old new → StepsByEvent old (Hand c) replied.Idle new
 unfolding Stands
 hands_none old new c number passes place finds pass none same sizes w world =
     let f = found sizes w old c number place world finds.here finds.current in

@@ -10,7 +10,7 @@ use Rattle.mc_split.specs.declared.plan.Piece.{Piece}
 use Rattle.mc_reader.proofs.Fronts.{begin_more}
 use Rattle.mc_conn.specs.History.{MayBeTaken, Taken}
 use Rattle.mc_conn.specs.Due.{due, lane, pieces, pieces_from}
-use Rattle.mc_conn.specs.Fits.{Fits, IsReplyTo, Receives}
+use Rattle.mc_conn.specs.Fits.{Fits, IsReplyTo, ReceivesFromShard}
 use Rattle.mc_conn.proofs.Gets.{all_push}
 use Rattle.mc_conn.proofs.Places.{lane-append, lane-no, lane-yes}
 use Rattle.mc_conn.proofs.Fitting.{due-append, fits_none, fits_take, next_fits, pieces_from-append}
@@ -253,7 +253,7 @@ pop_kept sizes own link entry l next waiting =
     let at_old : slice_get (due sizes.shards here link.taken) (length (old here)) ≡ Some entry.piece =
     ap (λ n. slice_get (due sizes.shards here link.taken) n) (length-map (on_shard here own) reply_to) ∙ next in
     let to : IsReplyTo entry.piece (reply_to entry) = record { ticket = refl; part = refl; kind = refl } in
-    let receives : Receives old here (reply_to entry) new = record {
+    let receives : ReceivesFromShard old here (reply_to entry) new = record {
       here = ap replies_in more ∙ map-append reply_to (on_shard here own) (entry ∷ []);
       others = λ s other. ap replies_in (others s (λ e. other (sym e)));
     } in

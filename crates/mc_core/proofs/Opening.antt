@@ -25,7 +25,7 @@ use Rattle.mc_core.specs.Sizes.{Sizes, rules_of}
 use Rattle.mc_core.specs.Log.{Entry, of_asker, on_shard, replies_in, reply_to}
 use Rattle.mc_core.specs.World.{IsAt, IsLink, Link, World, new_link, ran, sent_to}
 use Rattle.mc_core.specs.Rest.{AtRest, IsAllReceived, IsAllSent, IsAllTaken, IsClosed, MayRenew}
-use Rattle.mc_core.specs.Events.{IsFree, IsUnused}
+use Rattle.mc_core.specs.Events.{IsRenewable, IsUnusedSeat}
 use Rattle.mc_core.specs.Events.Event.{Open}
 use Rattle.mc_core.specs.Schedule.{Happens}
 use Rattle.mc_core.specs.Schedule.StepReply.{Done}
@@ -36,7 +36,7 @@ use Rattle.mc_core.proofs.Lists.{at_once, push_cases}
 use Rattle.mc_core.proofs.Logs.{none_of}
 use Rattle.mc_core.proofs.Every.{event_kept}
 use Rattle.mc_core.proofs.Changing.{one_at}
-use Rattle.mc_core.specs.Stands.{HandIs, IsServing, IsWorld, Keeps, Mirrors, SeatIs, Stands, Steps, received_by, told_of, unreceived, unrun}
+use Rattle.mc_core.specs.Stands.{HandIs, IsServing, IsWorld, KeepsLink, Mirrors, SeatIs, Stands, StepsByEvent, received_by, told_of, unreceived, unrun}
 use Rattle.mc_core.proofs.Links.{ran_within}
 use Rattle.mc_core.proofs.AtSeat.{IsSame, world_stays}
 use Rattle.mc_core.proofs.Handing.{come_back, come_on}
@@ -144,12 +144,12 @@ at_push w w' c d k link is apart at = record {
 abbrev pub IsReady : Sizes → World → ℕ → Type 0
 IsReady sizes w c = (k : ℕ) (link : Link) → IsAt w c k link → AtRest sizes link
 
-pub ready : (sizes : Sizes) (w : World) (c : ℕ) → IsUnused w c ⊎ IsFree sizes w c → IsReady sizes w c
+pub ready : (sizes : Sizes) (w : World) (c : ℕ) → IsUnusedSeat w c ⊎ IsRenewable sizes w c → IsReady sizes w c
 ready sizes w c (inl unused) k link at = absurd (unused k link at.here at.seat_is)
 ready sizes w c (inr free) k link at = let one = one_at w c free.0 k free.1 link free.2 at in subst (λ x. AtRest sizes x) one.1 free.3.0
 
 -- Nothing waits on the seat's rings.
-quiet : (sizes : Sizes) (w : World) (old : Sim) (c s : ℕ) → (world : IsWorld sizes old w) → IsUnused w c ⊎ IsFree sizes w c → (world.wires.pieces c s ≡ []) × (world.wires.replies c s ≡ [])
+quiet : (sizes : Sizes) (w : World) (old : Sim) (c s : ℕ) → (world : IsWorld sizes old w) → IsUnusedSeat w c ⊎ IsRenewable sizes w c → (world.wires.pieces c s ≡ []) × (world.wires.replies c s ≡ [])
 quiet sizes w old c s world (inl unused) = world.mirrors.unused c unused s
 quiet sizes w old c s world (inr free) =
     let link = free.1 in
@@ -168,9 +168,9 @@ quiet sizes w old c s world (inr free) =
 
 -- A new connection begins.
 pub opens : (old new : Sim) (c : ℕ) (place after : Seat) (kept : Connection) → slice_get old.seats.items c ≡ Some place →
-    ((sizes : Sizes) (w : World) → Stands sizes old w → (IsUnused w c ⊎ IsFree sizes w c) × IsConn after.conn (told_nothing sizes.shards (rules_of sizes) sizes.window)) →
+    ((sizes : Sizes) (w : World) → Stands sizes old w → (IsUnusedSeat w c ⊎ IsRenewable sizes w c) × IsConn after.conn (told_nothing sizes.shards (rules_of sizes) sizes.window)) →
     after.current ≡ Some (length old.connections.items) → new.seats.items ≡ slice_set old.seats.items c after → new.connections.items ≡ old.connections.items ++ kept ∷ [] →
-    kept.seat ≡ c → kept.ended ≡ false → kept.broken ≡ false → kept.fed.items ≡ [] → kept.handed.items ≡ [] → new.log.items ≡ old.log.items → new.rings ≡ old.rings → Steps old (Open c) replied.Done new
+    kept.seat ≡ c → kept.ended ≡ false → kept.broken ≡ false → kept.fed.items ≡ [] → kept.handed.items ≡ [] → new.log.items ≡ old.log.items → new.rings ≡ old.rings → StepsByEvent old (Open c) replied.Done new
 unfolding Stands
 opens old new c place after kept here free current set connections seat ended broken fed handed log rings sizes w world =
     let f = free sizes w world in
@@ -195,7 +195,7 @@ opens old new c place after kept here free current set connections seat ended br
       | inl before ↦ record { here = before; seat_is = at.seat_is; last = λ j other less at_j. at.last j other less (get_front w.links (new_link c ∷ []) j other at_j) }
       | inr this ↦ absurd (apart (sym at.seat_is ∙ ap (λ (x : Link). x.seat) this.1))
     ] in
-    let unused_before : (d : ℕ) → IsUnused w' d → IsUnused w d = λ d unused k link at_k. unused k link (get_front w.links (new_link c ∷ []) k link at_k) in
+    let unused_before : (d : ℕ) → IsUnusedSeat w' d → IsUnusedSeat w d = λ d unused k link at_k. unused k link (get_front w.links (new_link c ∷ []) k link at_k) in
     let seat_is : (d : ℕ) (conn : Conn) (o : Option ℕ) → d ≢ c → SeatIs sizes w d conn o → SeatIs sizes w' d conn o = λ d conn o apart. elim o as (λ x. SeatIs sizes w d conn x → SeatIs sizes w' d conn x) [
       | None ↦ λ is. (λ k link at_k same. elim (push_cases w.links (new_link c) k link at_k) [ inl before ↦ is.0 k link before same | inr this ↦ apart (sym same ∙ ap (λ (x : Link). x.seat) this.1) ], is.1)
       | Some k ↦ λ is. (is.0, at_push w w' c d k is.0 refl (λ e. apart (sym e)) is.1, is.2)
@@ -256,8 +256,8 @@ opens old new c place after kept here free current set connections seat ended br
         | inr last ↦ elim (push_cases w.links (new_link c) k link at_k) [
           | inl before ↦ let within = slice_get_within w.links k link before in let e = last.0 in absurd (omega (arith, within, e, total))
           | inr this ↦
-              let first : Keeps sizes w' k (new_link c) kept = record { seat = seat; ended = ended; broken = broken; fed = fed; handed = handed } in
-              subst (λ x. Keeps sizes w' k x one) (sym this.1) (subst (λ x. Keeps sizes w' k (new_link c) x) (sym last.1) first)
+              let first : KeepsLink sizes w' k (new_link c) kept = record { seat = seat; ended = ended; broken = broken; fed = fed; handed = handed } in
+              subst (λ x. KeepsLink sizes w' k x one) (sym this.1) (subst (λ x. KeepsLink sizes w' k (new_link c) x) (sym last.1) first)
         ]
       ];
       log = log ∙ world.log;
@@ -270,10 +270,10 @@ opens old new c place after kept here free current set connections seat ended br
 -- What the seat that may begin is in its world, and what its connection is once it was renewed.
 pub frees : (old : Sim) (c : ℕ) (place : Seat) (after : Conn) (renewed : Bool) → slice_get old.seats.items c ≡ Some place → ((told : Told) → IsConn place.conn told → MayBegin told place.current) →
     ((told : Told) → IsConn place.conn told → IsTrue renewed ↔ (IsAtRest told × IsOver told)) → (IsTrue renewed → (told : Told) → IsConn place.conn told → IsConn after (told_nothing told.shards told.rules told.window)) → (renewed ≡ false → after ≡ place.conn) →
-    (sizes : Sizes) (w : World) → Stands sizes old w → (IsUnused w c ⊎ IsFree sizes w c) × IsConn after (told_nothing sizes.shards (rules_of sizes) sizes.window)
+    (sizes : Sizes) (w : World) → Stands sizes old w → (IsUnusedSeat w c ⊎ IsRenewable sizes w c) × IsConn after (told_nothing sizes.shards (rules_of sizes) sizes.window)
 unfolding Stands
 frees old c place after renewed here may when fresh same sizes w world =
-    elim place.current as (λ o. ((told : Told) → IsConn place.conn told → MayBegin told o) → SeatIs sizes w c place.conn o → (IsUnused w c ⊎ IsFree sizes w c) × IsConn after (told_nothing sizes.shards (rules_of sizes) sizes.window)) [
+    elim place.current as (λ o. ((told : Told) → IsConn place.conn told → MayBegin told o) → SeatIs sizes w c place.conn o → (IsUnusedSeat w c ⊎ IsRenewable sizes w c) × IsConn after (told_nothing sizes.shards (rules_of sizes) sizes.window)) [
       | None ↦ λ may' is. (inl is.0, is_still_new place.conn after renewed sizes is.1 (λ yes'. fresh yes' (told_nothing sizes.shards (rules_of sizes) sizes.window) is.1) same)
       | Some k ↦ λ may' is.
           let link = is.0 in
@@ -290,14 +290,14 @@ frees old c place after renewed here may when fresh same sizes w world =
     ] may (world.each_seat c place here)
 
 -- The seat isn't there.
-pub opens_beyond : (old new : Sim) (c : ℕ) → length old.seats.items ≤ c → IsSame old new → Steps old (Open c) replied.Idle new
+pub opens_beyond : (old new : Sim) (c : ℕ) → length old.seats.items ≤ c → IsSame old new → StepsByEvent old (Open c) replied.Idle new
 unfolding Stands
 opens_beyond old new c beyond same sizes w world =
     let counted = world.seat_count in
     (w, (inl (λ e. let below = e.3.0 in absurd (omega (arith, below, counted, beyond))), refl), world_stays sizes w old new world same)
 
 -- The seat's connection may not be followed yet.
-pub opens_not : (old new : Sim) (c : ℕ) (place : Seat) → slice_get old.seats.items c ≡ Some place → ((told : Told) → IsConn place.conn told → MayBegin told place.current → ⊥) → IsSame old new → Steps old (Open c) replied.Idle new
+pub opens_not : (old new : Sim) (c : ℕ) (place : Seat) → slice_get old.seats.items c ≡ Some place → ((told : Told) → IsConn place.conn told → MayBegin told place.current → ⊥) → IsSame old new → StepsByEvent old (Open c) replied.Idle new
 unfolding Stands
 opens_not old new c place here not same sizes w world = (
   w,
@@ -323,12 +323,12 @@ opens_not old new c place here not same sizes w world = (
 )
 
 -- There was no memory for what is kept of it.
-pub opens_unkept : (old new : Sim) (c : ℕ) (place : Seat) → slice_get old.seats.items c ≡ Some place → ((told : Told) → IsConn place.conn told → MayBegin told place.current) → IsSame old new → Steps old (Open c) replied.NoMemory new
+pub opens_unkept : (old new : Sim) (c : ℕ) (place : Seat) → slice_get old.seats.items c ≡ Some place → ((told : Told) → IsConn place.conn told → MayBegin told place.current) → IsSame old new → StepsByEvent old (Open c) replied.NoMemory new
 unfolding Stands
 opens_unkept old new c place here may same sizes w world =
     let below = slice_get_within old.seats.items c place here in
     let counted = world.seat_count in
-    let free : IsUnused w c ⊎ IsFree sizes w c = elim place.current as (λ o. ((told : Told) → IsConn place.conn told → MayBegin told o) → SeatIs sizes w c place.conn o → IsUnused w c ⊎ IsFree sizes w c) [
+    let free : IsUnusedSeat w c ⊎ IsRenewable sizes w c = elim place.current as (λ o. ((told : Told) → IsConn place.conn told → MayBegin told o) → SeatIs sizes w c place.conn o → IsUnusedSeat w c ⊎ IsRenewable sizes w c) [
       | None ↦ λ may' is. inl is.0
       | Some k ↦ λ may' is.
           let link = is.0 in

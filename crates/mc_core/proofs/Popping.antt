@@ -30,7 +30,7 @@ use Rattle.mc_core.specs.Schedule.StepReply.{Done}
 use Rattle.mc_core.specs.Headline.{handed_bytes}
 use Rattle.mc_core.specs.Law.{LinkLaw}
 use Rattle.mc_core.specs.Rings.{AreThere, AreWired, RunsOldest, TellsWaiting, Wires, with_lane, with_shard}
-use Rattle.mc_core.specs.Stands.{HandIs, IsHolding, IsServing, IsWorld, Keeps, Mirrors, SeatIs, Stands, Steps, line_of, received_by, unreceived, unrun}
+use Rattle.mc_core.specs.Stands.{HandIs, IsHolding, IsServing, IsWorld, KeepsLink, Mirrors, SeatIs, Stands, StepsByEvent, line_of, received_by, unreceived, unrun}
 use Rattle.mc_core.proofs.Lists.{at_once}
 use Rattle.mc_core.proofs.Logs.{Run-push, of_asker-yes, on_shard-no, on_shard-yes, ran_push}
 use Rattle.mc_core.proofs.Follows.{are_replies}
@@ -88,7 +88,7 @@ seat_run sizes w entry c conn None laws is = (is.0, is.1)
 seat_run sizes w entry c conn (Some j) laws is =
     let at = is.1 in (is.0, at_entry w entry c j is.0 at, serving_on sizes w.log entry j is.0 conn (laws j is.0 at.here) is.2)
 
-kept_run : (sizes : Sizes) (w : World) (entry : Entry) (j : ℕ) (link : Link) (kept : Connection) → LinkLaw sizes (of_asker j w.log) link → Keeps sizes w j link kept → Keeps sizes (with_entry w entry) j link kept
+kept_run : (sizes : Sizes) (w : World) (entry : Entry) (j : ℕ) (link : Link) (kept : Connection) → LinkLaw sizes (of_asker j w.log) link → KeepsLink sizes w j link kept → KeepsLink sizes (with_entry w entry) j link kept
 kept_run sizes w entry j link kept law h = record { seat = h.seat; ended = h.ended; broken = h.broken; fed = h.fed; handed = h.handed ∙ run_bytes sizes w entry j link law }
 
 -- How many a shard ran for a connection stays, but for the entry's own.
@@ -121,7 +121,7 @@ may_run sizes w old c k link shard world at free some =
 pub pops : (old new : Sim) (c number shard : ℕ) (ran' : Ran) (f : (x : Seat) × (slice_get old.seats.items c ≡ Some x) × (x.current ≡ Some number)) →
     ((sizes : Sizes) (wires : Wires) → AreWired sizes old.rings wires → RunsOldest sizes wires shard c ran' new.rings) →
     new.seats.items ≡ old.seats.items → new.connections.items ≡ old.connections.items →
-    new.log.items ≡ old.log.items ++ record { shard = shard; connection = number; ticket = ran'.ticket; part = ran'.part; moment = ran'.moment } ∷ [] → Steps old (Pop shard c) replied.Done new
+    new.log.items ≡ old.log.items ++ record { shard = shard; connection = number; ticket = ran'.ticket; part = ran'.part; moment = ran'.moment } ∷ [] → StepsByEvent old (Pop shard c) replied.Done new
 unfolding Stands
 pops old new c number shard ran' f run seats connections log sizes w world =
     let g = found sizes w old c number f.0 world f.1 f.2 in
@@ -262,7 +262,7 @@ pops old new c number shard ran' f run seats connections log sizes w world =
 -- None was run: the hand is full, or none waits.
 pub pops_none : (old new : Sim) (c number shard : ℕ) (f : (x : Seat) × (slice_get old.seats.items c ≡ Some x) × (x.current ≡ Some number)) →
     ((sizes : Sizes) (wires : Wires) → AreWired sizes old.rings wires → (AreThere sizes c shard → wires.hand shard ≡ None → wires.pieces c shard ≡ []) × AreWired sizes new.rings wires) →
-    new.seats.items ≡ old.seats.items → new.connections.items ≡ old.connections.items → new.log.items ≡ old.log.items → Steps old (Pop shard c) replied.Idle new
+    new.seats.items ≡ old.seats.items → new.connections.items ≡ old.connections.items → new.log.items ≡ old.log.items → StepsByEvent old (Pop shard c) replied.Idle new
 unfolding Stands
 pops_none old new c number shard f run seats connections log sizes w world =
     let r = run sizes world.wires world.wired in (
@@ -289,7 +289,7 @@ pops_none old new c number shard f run seats connections log sizes w world =
 -- There was no memory for the entry.
 pub pops_unkept : (old new : Sim) (c number shard : ℕ) (f : (x : Seat) × (slice_get old.seats.items c ≡ Some x) × (x.current ≡ Some number)) →
     ((sizes : Sizes) (wires : Wires) → AreWired sizes old.rings wires → TellsWaiting sizes wires shard c true new.rings) →
-    new.seats.items ≡ old.seats.items → new.connections.items ≡ old.connections.items → new.log.items ≡ old.log.items → Steps old (Pop shard c) replied.NoMemory new
+    new.seats.items ≡ old.seats.items → new.connections.items ≡ old.connections.items → new.log.items ≡ old.log.items → StepsByEvent old (Pop shard c) replied.NoMemory new
 unfolding Stands
 pops_unkept old new c number shard f waits seats connections log sizes w world =
     let g = found sizes w old c number f.0 world f.1 f.2 in

@@ -13,7 +13,7 @@ use Rattle.mc_conn.specs.declared.conn.Conn.{Conn}
 use Rattle.mc_conn.specs.Conn.{IsConn}
 use Rattle.mc_conn.specs.Told.{Told, all_forms}
 use Rattle.mc_conn.specs.Due.{due}
-use Rattle.mc_conn.specs.Fits.{IsReplyTo, Receives}
+use Rattle.mc_conn.specs.Fits.{IsReplyTo, ReceivesFromShard}
 use Rattle.mc_conn.proofs.Counting.{due_beyond}
 use Rattle.mc_conn.proofs.Fitting.{next_expected, next_fits}
 use Rattle.mc_conn.proofs.Gets.{get_below, get_take}
@@ -29,7 +29,7 @@ use Rattle.mc_core.specs.Schedule.{Happens}
 use Rattle.mc_core.specs.Schedule.StepReply.{Done}
 use Rattle.mc_core.specs.Law.{LinkLaw}
 use Rattle.mc_core.specs.Rings.{AreWired, ReceivesNone, ReceivesReply, Wires, with_lane}
-use Rattle.mc_core.specs.Stands.{IsServing, Keeps, SeatIs, Stands, Steps, received_by, told_of, unreceived}
+use Rattle.mc_core.specs.Stands.{IsServing, KeepsLink, SeatIs, Stands, StepsByEvent, received_by, told_of, unreceived}
 use Rattle.mc_core.proofs.Lists.{take_next}
 use Rattle.mc_core.proofs.Links.{ran_within}
 use Rattle.mc_core.proofs.Every.{event_kept}
@@ -76,7 +76,7 @@ answers sizes own link shard reply law less here =
 pub receives : (old new : Sim) (c number shard : ℕ) (reply : Shown) (place after : Seat) → Finds old c number place → number < length old.connections.items →
     ((sizes : Sizes) (wires : Wires) → AreWired sizes old.rings wires → ReceivesReply sizes wires c shard reply new.rings) →
     ((told : Told) → IsConn place.conn told → Expects (all_forms told) told.accepted reply → IsConn after.conn (record told { accepted = told.accepted ++ reply ∷ [] })) →
-    after.current ≡ place.current → new.seats.items ≡ slice_set old.seats.items c after → new.connections.items ≡ old.connections.items → new.log.items ≡ old.log.items → Steps old (Receive c shard) replied.Done new
+    after.current ≡ place.current → new.seats.items ≡ slice_set old.seats.items c after → new.connections.items ≡ old.connections.items → new.log.items ≡ old.log.items → StepsByEvent old (Receive c shard) replied.Done new
 unfolding Stands
 receives old new c number shard reply place after finds below receive conn same set connections log sizes w world =
     let f = found sizes w old c number place world finds.here finds.current in
@@ -101,7 +101,7 @@ receives old new c number shard reply place after finds below receive conn same 
     let long = length-map (on_shard shard own) reply_to in
     let counted : length (received_by link own shard) ≡ link.received shard = length-take-le (link.received shard) (rs shard) (omega (arith, less, given, long)) in
     let asked : slice_get (due sizes.shards shard link.taken) (length (received_by link own shard)) ≡ Some a.piece = ap (λ n. slice_get (due sizes.shards shard link.taken) n) counted ∙ a.asked in
-    let comes : Receives (received_by link own) shard reply (received_by next own) = record {
+    let comes : ReceivesFromShard (received_by link own) shard reply (received_by next own) = record {
       here = ap (λ n. take n (rs shard)) (more_here link.received shard shard refl) ∙ take_next (link.received shard) (rs shard) reply got.1;
       others = λ t other. ap (λ n. take n (rs t)) (more_not link.received shard t other);
     } in
@@ -115,7 +115,7 @@ receives old new c number shard reply place after finds below receive conn same 
     let is : SeatIs sizes w' c after.conn after.current = subst (λ x. SeatIs sizes w' c after.conn x) (sym (same ∙ finds.current)) (next, at_same w c number link next at refl, serving) in
     let kept = get_below old.connections.items number below in
     let h = world.keeps number link kept.0 at.here kept.1 in
-    let keeps : Keeps sizes w' number next kept.0 = record { seat = h.seat; ended = h.ended; broken = h.broken; fed = h.fed; handed = h.handed } in
+    let keeps : KeepsLink sizes w' number next kept.0 = record { seat = h.seat; ended = h.ended; broken = h.broken; fed = h.fed; handed = h.handed } in
     let now_replies = with_lane old_replies c shard r.rest in
     let mine : (t : ℕ) → now_replies c t ≡ unreceived w number t next = λ t. elim (cases_eq t shard) [
       | inl here ↦
@@ -144,7 +144,7 @@ receives old new c number shard reply place after finds below receive conn same 
 -- None waits.
 pub receives_none : (old new : Sim) (c number shard : ℕ) (f : (x : Seat) × (slice_get old.seats.items c ≡ Some x) × (x.current ≡ Some number)) →
     ((sizes : Sizes) (wires : Wires) → AreWired sizes old.rings wires → ReceivesNone sizes wires c shard new.rings) →
-    new.seats.items ≡ old.seats.items → new.connections.items ≡ old.connections.items → new.log.items ≡ old.log.items → Steps old (Receive c shard) replied.Idle new
+    new.seats.items ≡ old.seats.items → new.connections.items ≡ old.connections.items → new.log.items ≡ old.log.items → StepsByEvent old (Receive c shard) replied.Idle new
 unfolding Stands
 receives_none old new c number shard f receive seats connections log sizes w world =
     let r = receive sizes world.wires world.wired in (

@@ -6,7 +6,7 @@ use Rattle.std.proofs.lemmas.Option.{same_Some}
 use Rattle.mc_ring.specs.Lane.{Far, Near, Side}
 use Rattle.mc_ring.specs.Ends.{Ends, list_at}
 use Rattle.mc_ring.specs.Made.{AreLanes, IsUnused}
-use Rattle.mc_store.specs.Shard.{Held, Keeps}
+use Rattle.mc_store.specs.Shard.{ShardContents, Keeps}
 use Rattle.mc_core.specs.Sizes.{Sizes}
 use Rattle.mc_core.specs.Sized.{empty_shard}
 use Rattle.mc_core.specs.Desk.{Desk, HasRun}
@@ -57,7 +57,7 @@ all_ends workers before shards all none = sym (append-nil (map ends_of workers))
 pub begins_empty : (sizes : Sizes) (number : ℕ) (desk : Desk) → HasRun (empty_shard sizes number) desk [] → Keeps desk.shard (empty_shard sizes number)
 begins_empty sizes number desk run = rw (← run.ran) run.kept
 
-keeps_at : (held : Held) (sizes : Sizes) (p q : ℕ) → p ≡ q → Keeps held (empty_shard sizes p) → Keeps held (empty_shard sizes q)
+keeps_at : (held : ShardContents) (sizes : Sizes) (p q : ℕ) → p ≡ q → Keeps held (empty_shard sizes p) → Keeps held (empty_shard sizes q)
 keeps_at held sizes p q same keeps = rw (← same) keeps
 
 unused_list : {Out In B : Type 0} (read : Side Out In → List B) (lanes : List (Side Out In)) (k : ℕ) → ((end : Side Out In) → IsUnused end → read end ≡ []) → AllByRecursion IsUnused lanes → list_at read lanes k ≡ []

@@ -12,7 +12,7 @@ use Rattle.mc_core.specs.World.{World}
 use Rattle.mc_core.specs.Events.{Event}
 use Rattle.mc_core.specs.Schedule.{Happens, Leads, StepReply}
 use Rattle.mc_core.specs.Schedule.StepReply.{NoMemory}
-use Rattle.mc_core.specs.Stands.{Stands, Steps}
+use Rattle.mc_core.specs.Stands.{Stands, StepsByEvent}
 use Rattle.mc_core.specs.Runs.{FoundMemory, Runs, Stops, done_in, is_done}
 
 leads_more : (sizes : Sizes) (w mid w' : World) (front : List Event) (last : Event) (reply : StepReply) (led : Leads sizes w front mid) → FoundMemory sizes w front mid led → Happens sizes mid last reply w' → reply ≢ NoMemory →
@@ -26,14 +26,14 @@ leads_more sizes w mid w' (event ∷ front) last reply led found happens memory 
 pub runs_none : (sim : Sim) → Runs sim [] 0 sim
 runs_none sim sizes w stands = (w, refl, tt, refl, stands)
 
-runs_more : (old mid new : Sim) (front : List Event) (last : Event) (reply : Replied) (done : ℕ) → Runs old front done mid → Steps mid last reply new → reply_of reply ≢ NoMemory → Runs old (front ++ last ∷ []) (done + is_done (reply_of reply)) new
+runs_more : (old mid new : Sim) (front : List Event) (last : Event) (reply : Replied) (done : ℕ) → Runs old front done mid → StepsByEvent mid last reply new → reply_of reply ≢ NoMemory → Runs old (front ++ last ∷ []) (done + is_done (reply_of reply)) new
 runs_more old mid new front last reply done runs steps memory sizes w stands =
     let ran = runs sizes w stands in
     let step = steps sizes ran.0 ran.4 in
     let more = leads_more sizes w ran.0 step.0 front last (reply_of reply) ran.1 ran.2 step.1 memory in
     (step.0, more.0, more.1, ap (λ n. n + is_done (reply_of reply)) ran.3 ∙ sym more.2, step.2)
 
-runs_stop : (old mid new : Sim) (front : List Event) (last : Event) (rest : List Event) (done : ℕ) → Runs old front done mid → Steps mid last replied.NoMemory new → Stops old (front ++ last ∷ rest) new
+runs_stop : (old mid new : Sim) (front : List Event) (last : Event) (rest : List Event) (done : ℕ) → Runs old front done mid → StepsByEvent mid last replied.NoMemory new → Stops old (front ++ last ∷ rest) new
 runs_stop old mid new front last rest done runs steps sizes w stands =
     let ran = runs sizes w stands in
     let step = steps sizes ran.0 ran.4 in
@@ -51,14 +51,14 @@ map_around events i event within here =
 
 -- The step was answered so: it counts where it was done.
 pub runs_next : (old mid new : Sim) (events : List Asked) (i : ℕ) (event : Asked) (reply : Replied) (done more : ℕ) → i < length events → event ≡ get_or events i event →
-    Runs old (map event_of (take i events)) done mid → Steps mid (event_of event) reply new → reply_of reply ≢ NoMemory → more ≡ done + is_done (reply_of reply) → Runs old (map event_of (take (i + 1) events)) more new
+    Runs old (map event_of (take i events)) done mid → StepsByEvent mid (event_of event) reply new → reply_of reply ≢ NoMemory → more ≡ done + is_done (reply_of reply) → Runs old (map event_of (take (i + 1) events)) more new
 runs_next old mid new events i event reply done more within here runs steps memory count =
     let one = runs_more old mid new (map event_of (take i events)) (event_of event) reply done runs steps memory in
     subst (λ some. Runs old some more new) (sym (map_next events i event within here)) (subst (λ n. Runs old (map event_of (take i events) ++ event_of event ∷ []) n new) (sym count) one)
 
 -- A core that ran the first events, each with the memory that it took, and found none for the next stopped there.
 pub runs_until : (old mid new : Sim) (events : List Asked) (i : ℕ) (event : Asked) (done : ℕ) → i < length events → event ≡ get_or events i event →
-    Runs old (map event_of (take i events)) done mid → Steps mid (event_of event) replied.NoMemory new → Stops old (map event_of events) new
+    Runs old (map event_of (take i events)) done mid → StepsByEvent mid (event_of event) replied.NoMemory new → Stops old (map event_of events) new
 runs_until old mid new events i event done within here runs steps =
     let one = runs_stop old mid new (map event_of (take i events)) (event_of event) (map event_of (drop (i + 1) events)) done runs steps in
     subst (λ some. Stops old some new) (sym (map_around events i event within here)) one

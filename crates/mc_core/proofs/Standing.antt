@@ -16,7 +16,7 @@ use Rattle.mc_core.specs.Schedule.{Happens}
 use Rattle.mc_core.specs.Schedule.StepReply.{Idle}
 use Rattle.mc_core.specs.Law.{Law}
 use Rattle.mc_core.specs.Rings.{AreWired, Wires}
-use Rattle.mc_core.specs.Stands.{IsServing, IsWorld, Keeps, Mirrors, SeatIs}
+use Rattle.mc_core.specs.Stands.{IsServing, IsWorld, KeepsLink, Mirrors, SeatIs}
 use Rattle.mc_core.proofs.Lists.{at_once, set_cases}
 use Rattle.mc_core.proofs.Changing.{at_apart, unused_on}
 
@@ -29,7 +29,7 @@ pub record SeatsBut (sizes : Sizes) (w : World) (c : ℕ) (old new : List Seat) 
 -- What is kept of the connections is as before, but for one.
 pub record KeptBut (sizes : Sizes) (w : World) (k : ℕ) (link : Link) (old new : List Connection) : Type 0 where
   pub count : length new ≡ length old
-  pub here : (kept : Connection) → slice_get new k ≡ Some kept → Keeps sizes w k link kept
+  pub here : (kept : Connection) → slice_get new k ≡ Some kept → KeepsLink sizes w k link kept
   pub others : (j : ℕ) (kept : Connection) → j ≢ k → slice_get new j ≡ Some kept → slice_get old j ≡ Some kept
 
 set_at : {X : Type 0} (P : X → Type 0) (xs ys : List X) (i : ℕ) (x y z : X) → slice_get xs i ≡ Some x → ys ≡ slice_set xs i y → P y → slice_get ys i ≡ Some z → P z
@@ -48,18 +48,18 @@ seats_set sizes w c old new before after here is good = record {
 }
 
 -- Where what is kept of one connection was set, as the world says, all that is kept is as before but for that.
-pub kept_set : (sizes : Sizes) (w : World) (k : ℕ) (link : Link) (old new : List Connection) (before after : Connection) → slice_get old k ≡ Some before → new ≡ slice_set old k after → Keeps sizes w k link after → KeptBut sizes w k link old new
+pub kept_set : (sizes : Sizes) (w : World) (k : ℕ) (link : Link) (old new : List Connection) (before after : Connection) → slice_get old k ≡ Some before → new ≡ slice_set old k after → KeepsLink sizes w k link after → KeptBut sizes w k link old new
 kept_set sizes w k link old new before after here is good = record {
   count = ap length is ∙ length-slice_set old k after;
-  here = λ kept found. set_at (λ x. Keeps sizes w k link x) old new k before after kept here is good found;
+  here = λ kept found. set_at (λ x. KeepsLink sizes w k link x) old new k before after kept here is good found;
   others = λ j kept apart found. set_off old new k after j kept is apart found;
 }
 
 -- Where all that is kept stays, and what is kept of one connection is as the world says, all is as before but for that.
-pub kept_same : (sizes : Sizes) (w : World) (k : ℕ) (link : Link) (old new : List Connection) (kept : Connection) → slice_get old k ≡ Some kept → new ≡ old → Keeps sizes w k link kept → KeptBut sizes w k link old new
+pub kept_same : (sizes : Sizes) (w : World) (k : ℕ) (link : Link) (old new : List Connection) (kept : Connection) → slice_get old k ≡ Some kept → new ≡ old → KeepsLink sizes w k link kept → KeptBut sizes w k link old new
 kept_same sizes w k link old new kept here is good = record {
   count = ap length is;
-  here = λ x found. subst (λ y. Keeps sizes w k link y) (at_once old k k kept x here (ap (λ zs. slice_get zs k) (sym is) ∙ found) refl) good;
+  here = λ x found. subst (λ y. KeepsLink sizes w k link y) (at_once old k k kept x here (ap (λ zs. slice_get zs k) (sym is) ∙ found) refl) good;
   others = λ j x apart found. ap (λ zs. slice_get zs j) (sym is) ∙ found;
 }
 
@@ -72,7 +72,7 @@ seat_on sizes w c k link next d conn (Some j) at seat apart is =
     (is.0, at_apart w d j k is.0 link next other at.here seat far, is.2)
 
 -- what is kept of a connection that did not change
-kept_on : (sizes : Sizes) (w : World) (k : ℕ) (next : Link) (j : ℕ) (link : Link) (kept : Connection) → Keeps sizes w j link kept → Keeps sizes (with_link w k next) j link kept
+kept_on : (sizes : Sizes) (w : World) (k : ℕ) (next : Link) (j : ℕ) (link : Link) (kept : Connection) → KeepsLink sizes w j link kept → KeepsLink sizes (with_link w k next) j link kept
 kept_on sizes w k next j link kept h = record { seat = h.seat; ended = h.ended; broken = h.broken; fed = h.fed; handed = h.handed }
 
 -- A core stands in the world with the change of one connection, where the law still holds, its seat, what is kept of it
@@ -99,8 +99,8 @@ world_on sizes w c k link next old new wires world at seat law seats connections
   count = connections.count ∙ (world.count ∙ sym (length-set w.links k next));
   keeps = λ j one kept at_j found. elim (set_cases w.links k next j one at_j) [
     | inl this ↦
-        let kept_k : Keeps sizes (with_link w k next) k next kept = connections.here kept (ap (λ n. slice_get new.connections.items n) (sym this.0) ∙ found) in
-        subst (λ x. Keeps sizes (with_link w k next) j x kept) (sym this.1) (subst (λ n. Keeps sizes (with_link w k next) n next kept) (sym this.0) kept_k)
+        let kept_k : KeepsLink sizes (with_link w k next) k next kept = connections.here kept (ap (λ n. slice_get new.connections.items n) (sym this.0) ∙ found) in
+        subst (λ x. KeepsLink sizes (with_link w k next) j x kept) (sym this.1) (subst (λ n. KeepsLink sizes (with_link w k next) n next kept) (sym this.0) kept_k)
     | inr before ↦ kept_on sizes w k next j one kept (world.keeps j one kept before.1 (connections.others j kept before.0 found))
   ];
   log = log ∙ world.log;

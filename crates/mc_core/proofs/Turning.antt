@@ -12,8 +12,8 @@ use Rattle.mc_ring.specs.EndsLaws.{at_lane-kept, at_lane-longer, at_lane-other, 
 use Rattle.mc_core.specs.declared.worker.Turn.{Turn}
 use Rattle.mc_core.specs.declared.worker.Turn.TheVariants.{Gave, Blocked, Nothing, Ended, Ran}
 use Rattle.mc_core.specs.Log.{Entry, reply_to}
-use Rattle.mc_core.specs.Desk.{Desk, Goes, IsSound, RunsMore, RunsNoMore}
-use Rattle.mc_core.specs.Turns.{FindsNothing, Gives, GivesIt, Grows, IsFull, RunsPiece, TakesEnd, Turned}
+use Rattle.mc_core.specs.Desk.{Desk, Goes, IsWellMarked, RunsMore, RunsNoMore}
+use Rattle.mc_core.specs.Turns.{FindsNothing, Gives, GivesIt, LogGrows, IsFull, RunsPiece, TakesEnd, Turned}
 use Rattle.mc_core.specs.DeskLaws.{goes_none}
 use Rattle.mc_core.proofs.Logs.{Run-push, of_asker-no, of_asker-yes}
 
@@ -141,7 +141,7 @@ past_same says seat old new same lane rest =
 same_desk : (old new : Desk) → new ≡ old → RunsNoMore old new
 same_desk old new same begin log had = rw same had
 
-found_none : (old : Desk) (seat : ℕ) (new : Desk) → IsSound old → seat < length old.ends.lanes → FindsNothing old seat new → RunsNoMore old new
+found_none : (old : Desk) (seat : ℕ) (new : Desk) → IsWellMarked old → seat < length old.ends.lanes → FindsNothing old seat new → RunsNoMore old new
 found_none old seat new sound within found =
     let mark = mark_at old.live seat (let e = sound.marked in omega arith) in
     elim mark [
@@ -169,7 +169,7 @@ ended_none old seat new took begin log had =
     }
 
 -- A turn of a sound worker, for a seat that it has a lane to, adds the piece that it ran to its log, or else nothing.
-pub turned_grows : (old : Desk) (seat : ℕ) (turn : Turn) (new : Desk) → IsSound old → seat < length old.ends.lanes → Turned old seat turn new → Grows old seat turn new
+pub turned_grows : (old : Desk) (seat : ℕ) (turn : Turn) (new : Desk) → IsWellMarked old → seat < length old.ends.lanes → Turned old seat turn new → LogGrows old seat turn new
 turned_grows old seat Gave new sound within turned = gave_none old new turned
 turned_grows old seat Blocked new sound within turned = past_same IsFull turned.seat old new (λ x y s. s.past) turned.lane turned.rest
 turned_grows old seat Nothing new sound within turned = found_none old seat new sound within turned
@@ -177,7 +177,7 @@ turned_grows old seat Ended new sound within turned = ended_none old seat new tu
 turned_grows old seat (Ran ticket part moment) new sound within turned = (turned, ran_more old new seat part moment turned within)
 
 -- A turn of a sound worker, whatever it did, leaves it its ends of the same lanes.
-pub turned_keeps : (old : Desk) (seat : ℕ) (turn : Turn) (new : Desk) → IsSound old → seat < length old.ends.lanes → Turned old seat turn new → AreSameEnds old.ends new.ends
+pub turned_keeps : (old : Desk) (seat : ℕ) (turn : Turn) (new : Desk) → IsWellMarked old → seat < length old.ends.lanes → Turned old seat turn new → AreSameEnds old.ends new.ends
 turned_keeps old seat Gave new sound within turned = at_lane-same_ends (Sends shown turned.reply (Ok tt)) turned.seat old.ends new.ends (λ x y s. s.lane) turned.lane
 turned_keeps old seat Blocked new sound within turned = at_lane-same_ends IsFull turned.seat old.ends new.ends (λ x y s. ap (λ past. past.lane) s.past) turned.lane
 turned_keeps old seat Nothing new sound within turned = elim (mark_at old.live seat (let e = sound.marked in omega arith)) [
@@ -188,7 +188,7 @@ turned_keeps old seat Ended new sound within turned = take_same_ends parcel.End 
 turned_keeps old seat (Ran ticket part moment) new sound within turned = take_same_ends (parcel.Piece turned.entry.piece) seat old.ends new.ends turned.lane
 
 -- What a turn sends.
-pub turned_gives : (old : Desk) (seat : ℕ) (turn : Turn) (new : Desk) → IsSound old → seat < length old.ends.lanes → Turned old seat turn new → Gives old turn new
+pub turned_gives : (old : Desk) (seat : ℕ) (turn : Turn) (new : Desk) → IsWellMarked old → seat < length old.ends.lanes → Turned old seat turn new → Gives old turn new
 turned_gives old seat Gave new sound within turned k =
     let says = Sends shown turned.reply (Ok tt) in
     elim (eqb_tells turned.seat k) [
@@ -204,7 +204,7 @@ turned_gives old seat Ended new sound within turned k = take_sent parcel.End sea
 turned_gives old seat (Ran ticket part moment) new sound within turned k = take_sent (parcel.Piece turned.entry.piece) seat k old.ends new.ends turned.lane ∙ sym (append-nil (sent_on old.ends k))
 
 -- A turn goes on from what was run before.
-pub goes_turn : (old : Desk) (seat : ℕ) (turn : Turn) (new : Desk) → AreSameEnds old.ends new.ends → Grows old seat turn new → Goes old new
+pub goes_turn : (old : Desk) (seat : ℕ) (turn : Turn) (new : Desk) → AreSameEnds old.ends new.ends → LogGrows old seat turn new → Goes old new
 goes_turn old seat Gave new same grows = goes_none old new same grows
 goes_turn old seat Blocked new same grows = goes_none old new same grows
 goes_turn old seat Nothing new same grows = goes_none old new same grows

@@ -13,7 +13,7 @@ use Rattle.mc_core.specs.Sized.{empty_shard}
 use Rattle.mc_core.specs.Log.{Entry, Leaves, of_asker, on_shard}
 use Rattle.mc_core.specs.World.{HoldsAnswerFor, IsAt, IsLink, Link, World, empty_world, new_link, ran, sent_to, with_entry, with_link}
 use Rattle.mc_core.specs.Rest.{AtRest}
-use Rattle.mc_core.specs.Events.{IsEmptyHand, IsFree, IsUnused, RunsNext}
+use Rattle.mc_core.specs.Events.{IsEmptyHand, IsRenewable, IsUnusedSeat, RunsNext}
 use Rattle.mc_core.specs.Law.{Law, LinkLaw}
 use Rattle.mc_core.proofs.Lists.{at_once, push_cases, set_cases}
 use Rattle.mc_core.proofs.Logs.{none_of, of_asker-no, of_asker-yes, on_shard-no, on_shard-yes, ran_push, Run-push}
@@ -159,7 +159,7 @@ entry_kept sizes w shard seat k link entry some l at empty waiting runs =
     }
 
 -- a new connection on a seat that has had none, or whose last one is at rest
-pub open_kept : (sizes : Sizes) (w : World) (seat : ℕ) → Law sizes w → IsUnused w seat ⊎ IsFree sizes w seat → Law sizes (record w { links = w.links ++ new_link seat ∷ [] })
+pub open_kept : (sizes : Sizes) (w : World) (seat : ℕ) → Law sizes w → IsUnusedSeat w seat ⊎ IsRenewable sizes w seat → Law sizes (record w { links = w.links ++ new_link seat ∷ [] })
 open_kept sizes w seat l free =
     let new = new_link seat in
     let long = length-append w.links (new ∷ []) in

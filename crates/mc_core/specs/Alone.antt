@@ -6,11 +6,11 @@ use Rattle.mc_item.specs.declared.op.Op.{Op}
 use Rattle.mc_item.specs.declared.answer.Answer.{Answer}
 use Rattle.mc_item.specs.declared.answer.Answer.TheVariants.{NoMemory}
 use Rattle.mc_item.specs.Kind.{key_of}
-use Rattle.mc_split.specs.Pieces.{Asked, pieces_of}
+use Rattle.mc_split.specs.Pieces.{ShardOp, pieces_of}
 use Rattle.mc_split.specs.Text.{text_of}
 use Rattle.mc_store.specs.State.{State, settle}
 use Rattle.mc_store.specs.Step.{Outcome, noted_in, step_of}
-use Rattle.mc_conn.specs.History.{Done, Taken}
+use Rattle.mc_conn.specs.History.{AnsweredCommand, Taken}
 use Rattle.mc_core.specs.Sizes.{Sizes}
 use Rattle.mc_core.specs.Sized.{empty_shard}
 use Rattle.mc_core.specs.World.{Link, World}
@@ -37,7 +37,7 @@ pub record Ended : Type 0 where
   pub states : States
 
 -- the answers to these pieces, run one after another at the moment
-abbrev pub ended : States → ℕ → List Asked → Ended
+abbrev pub ended : States → ℕ → List ShardOp → Ended
 ended states moment [] = record { answers = []; states = states }
 ended states moment (asked ∷ pieces) =
     let outcome = outcome_at (states asked.shard) asked.op moment in
@@ -62,6 +62,6 @@ pub record IsAlone (w : World) (k : ℕ) (link : Link) : Type 0 where
   pub had : AllByRecursion (λ entry. entry.answer ≢ NoMemory) w.log
 
 -- The command was not given up, and no shard was out of memory for it.
-pub record HadMemory (done : Done) : Type 0 where
+pub record HadMemory (done : AnsweredCommand) : Type 0 where
   pub kept : done.given_up ≡ false
   pub answered : AllByRecursion (λ answer. answer ≢ NoMemory) done.answers

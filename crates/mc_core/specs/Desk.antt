@@ -7,12 +7,12 @@ use Rattle.mc_ring.specs.Reply.{Shown}
 use Rattle.mc_ring.specs.Lane.{Far}
 use Rattle.mc_ring.specs.Ends.{AreSameEnds, Ends, received_on, sent_on}
 use Rattle.mc_store.specs.State.{State}
-use Rattle.mc_store.specs.Shard.{Held, Keeps}
+use Rattle.mc_store.specs.Shard.{ShardContents, Keeps}
 use Rattle.mc_core.specs.Log.{Entry, Run, of_asker, pieces_in, replies_in}
 
 pub record Desk : Type 0 where
   -- what its shard holds
-  pub shard : Held
+  pub shard : ShardContents
   -- the shard's ends of its lanes
   pub ends : Ends Far
   -- the reply that is not given yet, and the seat that it is for
@@ -21,7 +21,7 @@ pub record Desk : Type 0 where
   pub live : List Bool
 
 -- There is a mark for each lane, and a reply in the hand is for a seat whose End is still to come.
-pub record IsSound (desk : Desk) : Type 0 where
+pub record IsWellMarked (desk : Desk) : Type 0 where
   pub marked : length desk.live ≡ length desk.ends.lanes
   pub holder : (seat : ℕ) (reply : Shown) → desk.hand ≡ Some (seat, reply) → slice_get desk.live seat ≡ Some true
 

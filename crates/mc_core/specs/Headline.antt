@@ -4,7 +4,7 @@ use Rattle.std.specs.List.{AllByRecursion, concat, slice_get}
 use Rattle.mc_split.specs.declared.plan.Piece.{Piece}
 use Rattle.mc_join.specs.Replies.{replies}
 use Rattle.mc_reader.specs.Spelling.{is_last}
-use Rattle.mc_conn.specs.History.{Done, IsAnswered, Taken, texts_of}
+use Rattle.mc_conn.specs.History.{AnsweredCommand, IsAnswered, Taken, texts_of}
 use Rattle.mc_conn.specs.Due.{due, forms_of, history_of, pieces}
 use Rattle.mc_core.specs.Sizes.{Sizes}
 use Rattle.mc_core.specs.Sized.{SpellAll, SpellFirst}
@@ -25,7 +25,7 @@ abbrev pub handed_bytes : Sizes → World → ℕ → Link → List ℕ
 handed_bytes sizes w k link = concat (take link.handed (replies_to sizes w k link))
 
 -- the first of the commands taken, each with the answers that the log has for its parts
-abbrev pub history : Sizes → World → ℕ → Link → ℕ → List Done
+abbrev pub history : Sizes → World → ℕ → Link → ℕ → List AnsweredCommand
 history sizes w k link count = history_of sizes.shards (replies_in (of_asker k w.log)) (take count link.taken)
 
 -- The bytes handed are whole replies, one a command, in the order of the commands that the bytes fed spell: each command
@@ -52,8 +52,8 @@ pub record IsFollowed (w : World) (k : ℕ) (link : Link) : Type 0 where
   pub seat : link.seat ≡ other.seat
 
 -- What each shard ran for the connection is a beginning of what is due there, in order.
-abbrev pub IsServed : Sizes → World → ℕ → Link → Type 0
-IsServed sizes w k link = (shard : ℕ) → (rest : List Piece) × (pieces_in (on_shard shard (of_asker k w.log)) ++ rest ≡ due sizes.shards shard link.taken)
+abbrev pub RanAsDue : Sizes → World → ℕ → Link → Type 0
+RanAsDue sizes w k link = (shard : ℕ) → (rest : List Piece) × (pieces_in (on_shard shard (of_asker k w.log)) ++ rest ≡ due sizes.shards shard link.taken)
 
 -- After a last command none is taken, and nothing of a later one is sent, answered or handed out.
 pub record IsLast (sizes : Sizes) (w : World) (k : ℕ) (link : Link) (place : ℕ) : Type 0 where
@@ -68,7 +68,7 @@ pub record Headline (sizes : Sizes) (w : World) : Type 0 where
   -- all of them at rest; and a connection that another one followed on its seat is at rest
   pub all_of_them_at_rest : OfEach w (λ k link. link.broken ≡ false → AtRest sizes link ⊎ IsFollowed w k link → AreAllReplies sizes w k link)
   -- each shard ran each connection's pieces once, in sending order, and it ran nothing else
-  pub once_in_sending_order : OfEach w (λ k link. IsServed sizes w k link) × AllByRecursion (λ entry. (entry.shard < sizes.shards) × (entry.asker < length w.links)) w.log
+  pub once_in_sending_order : OfEach w (λ k link. RanAsDue sizes w k link) × AllByRecursion (λ entry. (entry.shard < sizes.shards) × (entry.asker < length w.links)) w.log
   -- each answer is the protocol's step on that shard's items
   pub the_protocols_step : IsLawful sizes w.log
   -- nothing follows quit

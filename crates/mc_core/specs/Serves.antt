@@ -6,7 +6,7 @@ use Rattle.mc_core.specs.Desk.{Desk, Goes}
 use Rattle.mc_core.specs.Turns.{Turned}
 
 -- A turn was made for the seat that found something to do, and perhaps more turns after it.
-pub record Serves (old : Desk) (seat : ℕ) (new : Desk) : Type 0 where
+pub record ServesSeat (old : Desk) (seat : ℕ) (new : Desk) : Type 0 where
   pub turn : Turn
   pub next : Desk
   pub turned : Turned old seat turn next

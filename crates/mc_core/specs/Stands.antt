@@ -17,7 +17,7 @@ use Rattle.mc_core.specs.Asked.{reply_of}
 use Rattle.mc_core.specs.Sizes.{AreWithin, Sizes, rules_of}
 use Rattle.mc_core.specs.Log.{Entry, Leaves, of_asker, on_shard, replies_in}
 use Rattle.mc_core.specs.World.{HoldsAnswerFor, IsAt, IsLink, Link, World, ran}
-use Rattle.mc_core.specs.Events.{Event, IsEmptyHand, IsUnused}
+use Rattle.mc_core.specs.Events.{Event, IsEmptyHand, IsUnusedSeat}
 use Rattle.mc_core.specs.Schedule.{Happens}
 use Rattle.mc_core.specs.Headline.{handed_bytes}
 use Rattle.mc_core.specs.Law.{Law}
@@ -40,7 +40,7 @@ pub record IsServing (sizes : Sizes) (own : List Entry) (link : Link) (conn : Co
 
 -- a seat that has had no connection, or has this one
 abbrev pub SeatIs : Sizes → World → ℕ → Conn → Option ℕ → Type 0
-SeatIs sizes w seat conn None = IsUnused w seat × IsConn conn (told_nothing sizes.shards (rules_of sizes) sizes.window)
+SeatIs sizes w seat conn None = IsUnusedSeat w seat × IsConn conn (told_nothing sizes.shards (rules_of sizes) sizes.window)
 SeatIs sizes w seat conn (Some k) = (link : Link) × IsAt w seat k link × IsServing sizes (of_asker k w.log) link conn
 
 -- A seat that has had no connection.
@@ -48,7 +48,7 @@ abbrev pub IsNewSeat : Sizes → Seat → Type 0
 IsNewSeat sizes seat = (seat.current ≡ None) × IsConn seat.conn (told_nothing sizes.shards (rules_of sizes) sizes.window)
 
 -- What is kept of a connection.
-pub record Keeps (sizes : Sizes) (w : World) (k : ℕ) (link : Link) (kept : Connection) : Type 0 where
+pub record KeepsLink (sizes : Sizes) (w : World) (k : ℕ) (link : Link) (kept : Connection) : Type 0 where
   pub seat : kept.seat ≡ link.seat
   pub ended : kept.ended ≡ link.ended
   pub broken : kept.broken ≡ link.broken
@@ -82,7 +82,7 @@ HandIs w s (Some held) = IsHolding w s held.0 held.1
 -- The rings hold what was sent and not run, or given and not received; the shards are where the log leaves them.
 pub record Mirrors (sizes : Sizes) (w : World) (wires : Wires) : Type 0 where
   pub lanes : (c k : ℕ) (link : Link) → IsAt w c k link → (s : ℕ) → (wires.pieces c s ≡ unrun sizes w k s link) × (wires.replies c s ≡ unreceived w k s link)
-  pub unused : (c : ℕ) → IsUnused w c → (s : ℕ) → (wires.pieces c s ≡ []) × (wires.replies c s ≡ [])
+  pub unused : (c : ℕ) → IsUnusedSeat w c → (s : ℕ) → (wires.pieces c s ≡ []) × (wires.replies c s ≡ [])
   pub hands : (s : ℕ) → s < sizes.shards → HandIs w s (wires.hand s)
   pub left : (s : ℕ) → s < sizes.shards → Leaves sizes s w.log (wires.state s)
 
@@ -93,7 +93,7 @@ pub record IsWorld (sizes : Sizes) (sim : Sim) (w : World) : Type 0 where
   pub each_seat : (c : ℕ) (seat : Seat) → slice_get sim.seats.items c ≡ Some seat → SeatIs sizes w c seat.conn seat.current
   pub seated : (k : ℕ) (link : Link) → IsLink w k link → link.seat < sizes.seats
   pub count : length sim.connections.items ≡ length w.links
-  pub keeps : (k : ℕ) (link : Link) (kept : Connection) → IsLink w k link → slice_get sim.connections.items k ≡ Some kept → Keeps sizes w k link kept
+  pub keeps : (k : ℕ) (link : Link) (kept : Connection) → IsLink w k link → slice_get sim.connections.items k ≡ Some kept → KeepsLink sizes w k link kept
   pub log : sim.log.items ≡ map line_of w.log
   pub wires : Wires
   pub wired : AreWired sizes sim.rings wires
@@ -104,5 +104,5 @@ unfoldable pub Stands : Sizes → Sim → World → Type 0
 Stands sizes sim w = IsWorld sizes sim w
 
 -- From whatever world the core stood in, the event leads it to one, and is answered as the world's events are.
-abbrev pub Steps : Sim → Event → Replied → Sim → Type 0
-Steps old event reply new = (sizes : Sizes) (w : World) → Stands sizes old w → (w' : World) × Happens sizes w event (reply_of reply) w' × Stands sizes new w'
+abbrev pub StepsByEvent : Sim → Event → Replied → Sim → Type 0
+StepsByEvent old event reply new = (sizes : Sizes) (w : World) → Stands sizes old w → (w' : World) × Happens sizes w event (reply_of reply) w' × Stands sizes new w'

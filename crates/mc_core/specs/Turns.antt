@@ -86,9 +86,9 @@ abbrev pub Gives : Desk → Turn → Desk → Type 0
 Gives old turn new = (seat : ℕ) → sent_on new.ends seat ≡ sent_on old.ends seat ++ given_by turn seat old.hand
 
 -- The log gains one entry where a piece was run, and none else.
-abbrev pub Grows : Desk → ℕ → Turn → Desk → Type 0
-Grows old seat Gave new = RunsNoMore old new
-Grows old seat Blocked new = RunsNoMore old new
-Grows old seat Nothing new = RunsNoMore old new
-Grows old seat Ended new = RunsNoMore old new
-Grows old seat (Ran ticket part moment) new = (ran : RunsPiece old seat ticket part moment new) × RunsMore old new (ran.entry ∷ [])
+abbrev pub LogGrows : Desk → ℕ → Turn → Desk → Type 0
+LogGrows old seat Gave new = RunsNoMore old new
+LogGrows old seat Blocked new = RunsNoMore old new
+LogGrows old seat Nothing new = RunsNoMore old new
+LogGrows old seat Ended new = RunsNoMore old new
+LogGrows old seat (Ran ticket part moment) new = (ran : RunsPiece old seat ticket part moment new) × RunsMore old new (ran.entry ∷ [])

@@ -12,7 +12,7 @@ ghost use Rattle.mc_core.specs.Served.{IsServedAlone};
 /// the connection has handed out, once it is at rest, the replies to its commands, each run whole before the next; whenever
 /// its pieces left and its answers came.
 pub fn a_connection_is_served_as_alone()
-    ensures { (sizes : Sizes) (conn : Conn) (told : Told) (log : List Entry) →
-        0 < sizes.shards → IsConn conn told → told.broken ≡ false → IsAtRest told → IsServedAlone sizes told log →
+    ensures { (sizes : Sizes) (conn : Conn) (told : Told) (log : List Entry) → 0 < sizes.shards →
+        IsConn conn told → told.broken ≡ false → IsAtRest told → IsServedAlone sizes told log →
         handed_text told ≡ alone sizes told.taken }
 {}

@@ -23,7 +23,8 @@ pub fn every_schedule()
 /// never other bytes.
 pub fn nothing_is_taken_back()
     ensures { (sizes : Sizes) (before after : List Event) (w later : World) (k : ℕ) (link : Link) →
-        AreWithin sizes → Schedule sizes before w → Leads sizes w after later → IsLink w k link → Grows sizes w k link later }
+        AreWithin sizes → Schedule sizes before w → Leads sizes w after later → IsLink w k link →
+        Grows sizes w k link later }
 {}
 
 /// The law that holds at the beginning, and that each event keeps, however it is answered.
@@ -37,6 +38,7 @@ pub fn every_event_keeps_the_law()
 /// that brings the connection to rest hands it the same: the replies to its commands, each run whole before the next.
 pub fn one_connection_is_served_as_alone()
     ensures { (sizes : Sizes) (events : List Event) (w : World) (k : ℕ) (link : Link) →
-        AreWithin sizes → Schedule sizes events w → IsLink w k link → link.broken ≡ false → AtRest sizes link →
-        IsAlone w k link → handed_bytes sizes w k link ≡ alone sizes link.taken }
+        AreWithin sizes → Schedule sizes events w → IsLink w k link → link.broken ≡ false →
+        AtRest sizes link → IsAlone w k link →
+        handed_bytes sizes w k link ≡ alone sizes link.taken }
 {}

@@ -9,7 +9,7 @@ ghost use Rattle.mc_core.specs.Sizes.{AreWithin, Sizes, sized};
 ghost use Rattle.mc_core.specs.Headline.{handed_bytes};
 ghost use Rattle.mc_core.specs.Numbers.{sizes_of};
 ghost use Rattle.mc_core.specs.Asked.{event_of};
-ghost use Rattle.mc_core.specs.Stands.{IsNewSeat, Stands, Steps, line_of};
+ghost use Rattle.mc_core.specs.Stands.{IsNewSeat, Stands, StepsByEvent, line_of};
 ghost use Rattle.mc_core.specs.Runs.{Runs, Stops};
 
 mod at_ring;
@@ -96,10 +96,15 @@ impl Sim {
         value: usize,
         window: usize,
     ) -> Result<Sim, SimRefusal>
-        ensures ok { IfOk result (λ sim. Stands (sized Own seats shards bytes ring value DEFAULT_LINE_LIMIT window) sim empty_world) }
-        ensures within { OnOk result (AreWithin (sized Own seats shards bytes ring value DEFAULT_LINE_LIMIT window)) }
-        ensures size { IsErrOf result SimRefusal.Size → ¬ AreWithin (sized Own seats shards bytes ring value DEFAULT_LINE_LIMIT window) }
-        ensures memory { IsErrOf result SimRefusal.Memory → AreWithin (sized Own seats shards bytes ring value DEFAULT_LINE_LIMIT window) }
+        ensures ok { IfOk result (λ sim.
+            Stands (sized Own seats shards bytes ring value DEFAULT_LINE_LIMIT window) sim
+            empty_world) }
+        ensures within { OnOk result
+            (AreWithin (sized Own seats shards bytes ring value DEFAULT_LINE_LIMIT window)) }
+        ensures size { IsErrOf result SimRefusal.Size →
+            ¬ AreWithin (sized Own seats shards bytes ring value DEFAULT_LINE_LIMIT window) }
+        ensures memory { IsErrOf result SimRefusal.Memory →
+            AreWithin (sized Own seats shards bytes ring value DEFAULT_LINE_LIMIT window) }
     {
         let own = Profile::Own;
         let line = DEFAULT_LINE_LIMIT;
@@ -122,10 +127,14 @@ impl Sim {
         line: usize,
         window: usize,
     ) -> Result<Sim, SimRefusal>
-        ensures ok { IfOk result (λ sim. Stands (sized profile seats shards bytes ring value line window) sim empty_world) }
-        ensures within { OnOk result (AreWithin (sized profile seats shards bytes ring value line window)) }
-        ensures size { IsErrOf result SimRefusal.Size → ¬ AreWithin (sized profile seats shards bytes ring value line window) }
-        ensures memory { IsErrOf result SimRefusal.Memory → AreWithin (sized profile seats shards bytes ring value line window) }
+        ensures ok { IfOk result (λ sim.
+            Stands (sized profile seats shards bytes ring value line window) sim empty_world) }
+        ensures within { OnOk result
+            (AreWithin (sized profile seats shards bytes ring value line window)) }
+        ensures size { IsErrOf result SimRefusal.Size →
+            ¬ AreWithin (sized profile seats shards bytes ring value line window) }
+        ensures memory { IsErrOf result SimRefusal.Memory →
+            AreWithin (sized profile seats shards bytes ring value line window) }
     {
         let numbers = Numbers {
             profile,
@@ -177,17 +186,22 @@ impl Sim {
 
     /// The connections, in the order in which they were opened.
     pub fn connections(&self) -> &[Connection]
-        ensures seats { (sizes : Sizes) (w : World) → Stands sizes self.now w → map (λ one. one.seat) result.now ≡ map (λ link. link.seat) w.links }
-        ensures ended { (sizes : Sizes) (w : World) → Stands sizes self.now w → map (λ one. one.ended) result.now ≡ map (λ link. link.ended) w.links }
-        ensures broken { (sizes : Sizes) (w : World) → Stands sizes self.now w → map (λ one. one.broken) result.now ≡ map (λ link. link.broken) w.links }
+        ensures seats { (sizes : Sizes) (w : World) → Stands sizes self.now w →
+            map (λ one. one.seat) result.now ≡ map (λ link. link.seat) w.links }
+        ensures ended { (sizes : Sizes) (w : World) → Stands sizes self.now w →
+            map (λ one. one.ended) result.now ≡ map (λ link. link.ended) w.links }
+        ensures broken { (sizes : Sizes) (w : World) → Stands sizes self.now w →
+            map (λ one. one.broken) result.now ≡ map (λ link. link.broken) w.links }
     {
         &self.connections
     }
 
     /// All bytes that the connection of this number was fed, where there is one.
     pub fn fed(&self, number: usize) -> Option<&[u8]>
-        ensures kept { (sizes : Sizes) (w : World) (link : Link) → Stands sizes self.now w → IsLink w number link → option_map (λ bytes. bytes.now) result ≡ Some link.fed }
-        ensures within { IfSome result (λ _. (sizes : Sizes) (w : World) → Stands sizes self.now w → number < length w.links) }
+        ensures kept { (sizes : Sizes) (w : World) (link : Link) → Stands sizes self.now w →
+            IsLink w number link → option_map (λ bytes. bytes.now) result ≡ Some link.fed }
+        ensures within { IfSome result (λ _.
+            (sizes : Sizes) (w : World) → Stands sizes self.now w → number < length w.links) }
     {
         let kept = self.connections.get(number)?;
         Some(&kept.fed)
@@ -195,8 +209,11 @@ impl Sim {
 
     /// All bytes that the connection of this number was handed, where there is one.
     pub fn handed(&self, number: usize) -> Option<&[u8]>
-        ensures kept { (sizes : Sizes) (w : World) (link : Link) → Stands sizes self.now w → IsLink w number link → option_map (λ bytes. bytes.now) result ≡ Some (handed_bytes sizes w number link) }
-        ensures within { IfSome result (λ _. (sizes : Sizes) (w : World) → Stands sizes self.now w → number < length w.links) }
+        ensures kept { (sizes : Sizes) (w : World) (link : Link) → Stands sizes self.now w →
+            IsLink w number link →
+            option_map (λ bytes. bytes.now) result ≡ Some (handed_bytes sizes w number link) }
+        ensures within { IfSome result (λ _.
+            (sizes : Sizes) (w : World) → Stands sizes self.now w → number < length w.links) }
     {
         let connection = self.connections.get(number)?;
         Some(&connection.handed)
@@ -204,14 +221,15 @@ impl Sim {
 
     /// What the shards ran, in the order in which they did.
     pub fn log(&self) -> &[LogEntry]
-        ensures { (sizes : Sizes) (w : World) → Stands sizes self.now w → result.now ≡ map line_of w.log }
+        ensures { (sizes : Sizes) (w : World) → Stands sizes self.now w →
+            result.now ≡ map line_of w.log }
     {
         &self.log
     }
 
     /// One event of a connection or a shard.
     pub fn step(&mut self, alloc: Global, event: &Event) -> StepReply
-        ensures { Steps self.old (event_of event.now) result self.new }
+        ensures { StepsByEvent self.old (event_of event.now) result self.new }
     {
         match event {
             Event::Open { seat } => self.begin(alloc, *seat),
@@ -247,8 +265,12 @@ impl Sim {
     fn find(&self, seat: usize) -> Option<usize>
         ensures seat { IfSome result (λ number. seat < length self.now.seats.items) }
         ensures kept { IfSome result (λ number. number < length self.now.connections.items) }
-        ensures current { IfSome result (λ number. (place : _) × (slice_get self.now.seats.items seat ≡ Some place) × (place.current ≡ Some number)) }
-        ensures none { IfNone result ((sizes : Sizes) (w : World) → Stands sizes self.now w → (k : ℕ) (link : Link) → IsAt w seat k link → ⊥) }
+        ensures current { IfSome result (λ number.
+            (place : _) × (slice_get self.now.seats.items seat ≡ Some place) ×
+            (place.current ≡ Some number)) }
+        ensures none { IfNone result
+            ((sizes : Sizes) (w : World) → Stands sizes self.now w → (k : ℕ) (link : Link) →
+            IsAt w seat k link → ⊥) }
     {
         if self.seats.len() <= seat {
             return None;
@@ -265,7 +287,8 @@ impl Sim {
 fn new_seats(alloc: Global, numbers: Numbers) -> Result<Vec<Seat>, AllocError>
     requires { AreWithin (sizes_of numbers) }
     ensures count { IfOk result (λ seats. length seats.items ≡ numbers.seats) }
-    ensures each { IfOk result (λ seats. AllByRecursion (IsNewSeat (sizes_of numbers)) seats.items) }
+    ensures each { IfOk result
+        (λ seats. AllByRecursion (IsNewSeat (sizes_of numbers)) seats.items) }
 {
     let mut seats = Vec::with_capacity(alloc, numbers.seats)?;
     for _ in 0..numbers.seats {

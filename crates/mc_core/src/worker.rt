@@ -8,9 +8,9 @@ ghost use Rattle.mc_ring.specs.Made.{IsLane, IsUnused, LooksAtBoth};
 ghost use Rattle.mc_store.specs.Shard.{IsShard};
 ghost use Rattle.mc_store.specs.State.{State, empty_state};
 ghost use Rattle.mc_core.specs.Desk.{Goes, HasEnded, HasRun, RunsNoMore};
-ghost use Rattle.mc_core.specs.Turns.{FindsNothing, Gives, Grows, Turned};
+ghost use Rattle.mc_core.specs.Turns.{FindsNothing, Gives, LogGrows, Turned};
 ghost use Rattle.mc_core.specs.Marks.{Marks};
-ghost use Rattle.mc_core.specs.Serves.{Serves};
+ghost use Rattle.mc_core.specs.Serves.{ServesSeat};
 
 use crate::gate::Gate;
 use mc_ring::{Parcel, Reply, SeatEnds, ShardEnds, beside};
@@ -64,7 +64,7 @@ impl Model for Worker {
     ghost use Rattle.std.specs.Option.{option_map};
     ghost use Rattle.mc_ring.specs.Reply.{shown};
     ghost use Rattle.mc_store.specs.Shard.{held_of};
-    ghost use Rattle.mc_core.specs.Desk.{Desk, IsSound};
+    ghost use Rattle.mc_core.specs.Desk.{Desk, IsWellMarked};
 
     ghost Value = { Desk };
 
@@ -75,7 +75,7 @@ impl Model for Worker {
       live = worker.live.items;
     } };
 
-    ghost invariant = { λ worker. IsSound (record {
+    ghost invariant = { λ worker. IsWellMarked (record {
       shard = held_of worker.shard;
       ends = worker.ends;
       hand = option_map (λ hand. (hand.seat, shown hand.reply)) worker.hand;
@@ -93,7 +93,8 @@ impl Worker {
         ensures marked { IfOk result (λ worker. length worker.live ≡ length worker.ends.lanes) }
 
         // It has run nothing.
-        ensures begins { IfOk result (λ worker. (begin : State) → IsShard shard begin → HasRun begin worker []) }
+        ensures begins { IfOk result
+            (λ worker. (begin : State) → IsShard shard begin → HasRun begin worker []) }
     {
         let live = vec![in alloc; true; ends.seats()]?;
         Ok(Worker {
@@ -124,7 +125,8 @@ impl Worker {
         ensures marked { IfOk result (λ worker. length worker.live ≡ length worker.ends.lanes) }
 
         // It has run nothing.
-        ensures begins { IfOk result (λ worker. HasRun (empty_state ends.number shards budget 0 limit) worker []) }
+        ensures begins { IfOk result
+            (λ worker. HasRun (empty_state ends.number shards budget 0 limit) worker []) }
     {
         match Shard::empty(rt, alloc, ends.number(), shards, budget, limit) {
             Ok(shard) => Worker::new(alloc, shard, ends),
@@ -158,7 +160,7 @@ impl Worker {
     pub fn turn<G: Gate>(&mut self, alloc: Global, seat: usize, gate: &G) -> Turn
         requires { seat < length self.old.ends.lanes }
         ensures turned { Turned self.old seat result self.new }
-        ensures grows { Grows self.old seat result self.new }
+        ensures grows { LogGrows self.old seat result self.new }
         ensures gives { Gives self.old result self.new }
         ensures keeps { AreSameEnds self.old.ends self.new.ends }
     {
@@ -170,7 +172,8 @@ impl Worker {
     /// memory is taken.
     pub fn beside(&mut self, seat: &mut SeatEnds) -> (usize, usize)
         requires { IsLane seat.old self.old.ends }
-        ensures looked { LooksAtBoth seat.old seat.new self.old.ends self.new.ends result.0 result.1 }
+        ensures looked { LooksAtBoth seat.old seat.new self.old.ends self.new.ends result.0
+            result.1 }
         ensures rest { self.new ≡ record self.old { ends = self.new.ends } }
         ensures ran { RunsNoMore self.old self.new }
         ensures seat { AreSameEnds seat.old seat.new }
@@ -193,7 +196,7 @@ impl Worker {
         requires given { length given.old ≡ length self.old.ends.lanes }
         ensures goes { Goes self.old self.new }
         ensures marks { Marks self.old self.new given.old given.new }
-        ensures serves { OnTrue result (Serves self.old seat self.new) }
+        ensures serves { OnTrue result (ServesSeat self.old seat self.new) }
         ensures rests { OnFalse result (FindsNothing self.old seat self.new) }
     {
         let _ = &self.shard;

@@ -3,18 +3,18 @@ use Rattle.std.specs.Prelude.{ℕ, ◌+◌, List, [], ◌∷◌, codes}
 use Rattle.mc_item.specs.declared.stat.Stat.{Stat}
 use Rattle.mc_item.specs.declared.stat.Stat.TheVariants as stat
 use Rattle.mc_item.specs.declared.stats.Stats.{Stats}
-use Rattle.mc_item.specs.declared.tally.Asked.{Asked}
-use Rattle.mc_item.specs.declared.tally.Asked.TheVariants as asked
+use Rattle.mc_item.specs.declared.tally.CountedAs.{CountedAs}
+use Rattle.mc_item.specs.declared.tally.CountedAs.TheVariants as asked
 use Rattle.mc_item.specs.declared.tally.Status.{Status}
 use Rattle.mc_item.specs.declared.tally.Status.TheVariants as status
 use Rattle.mc_item.specs.Tally.{counted}
 
 -- how often this was asked and came to that
-abbrev pub came_to : Status → Asked → Stats → ℕ
+abbrev pub came_to : Status → CountedAs → Stats → ℕ
 came_to status asked stats = counted stats.tally asked status
 
 -- how often this was asked, whatever came of it
-abbrev pub total : Asked → Stats → ℕ
+abbrev pub total : CountedAs → Stats → ℕ
 total asked stats =
     came_to status.Hit asked stats + came_to status.Miss asked stats + came_to status.BadValue asked stats + came_to status.NoMemory asked stats + came_to status.Refused asked stats
 

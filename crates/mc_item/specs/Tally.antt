@@ -7,26 +7,26 @@ use Rattle.mc_item.specs.declared.answer.Answer.{Answer}
 use Rattle.mc_item.specs.declared.answer.Answer.TheVariants as answer
 use Rattle.mc_item.specs.declared.op.Op.{Op}
 use Rattle.mc_item.specs.declared.op.Op.TheVariants as op
-use Rattle.mc_item.specs.declared.tally.Asked.{Asked}
-use Rattle.mc_item.specs.declared.tally.Asked.TheVariants as asked
+use Rattle.mc_item.specs.declared.tally.CountedAs.{CountedAs}
+use Rattle.mc_item.specs.declared.tally.CountedAs.TheVariants as asked
 use Rattle.mc_item.specs.declared.tally.Status.{Status}
 use Rattle.mc_item.specs.declared.tally.Status.TheVariants as status
 use Rattle.mc_item.specs.declared.tally.Tally.{Tally}
 
-abbrev pub counting : Direction → Asked
+abbrev pub counting : Direction → CountedAs
 counting direction.Increment = asked.Incr
 counting direction.Decrement = asked.Decr
 
-abbrev pub getting : Option ℤ → Asked
+abbrev pub getting : Option ℤ → CountedAs
 getting None = asked.Get
 getting (Some exptime) = asked.Touch
 
-abbrev pub storing : Option ℕ → Asked
+abbrev pub storing : Option ℕ → CountedAs
 storing None = asked.Set
 storing (Some unique) = asked.Cas
 
 -- what a piece counts as
-unfoldable pub asked_of : Op → Asked
+unfoldable pub asked_of : Op → CountedAs
 asked_of (op.Store key (mode.Cas unique) flags exptime value) = asked.Cas
 asked_of (op.Store key _ flags exptime value) = asked.Set
 asked_of (op.Fetch key touch) = getting touch
@@ -54,7 +54,7 @@ status_of answer.NonNumeric = status.Refused
 status_of _ = status.Hit
 
 -- the number of a kind
-abbrev pub kind_number : Asked → ℕ
+abbrev pub kind_number : CountedAs → ℕ
 kind_number asked.Get = 0
 kind_number asked.Set = 1
 kind_number asked.Cas = 2
@@ -82,13 +82,13 @@ abbrev pub no_counts : Tally
 no_counts = record { counts = replicate counters 0 }
 
 -- the counter of a kind and a status
-abbrev pub counter : Asked → Status → ℕ
+abbrev pub counter : CountedAs → Status → ℕ
 counter asked status = kind_number asked * 5 + status_number status
 
 -- how often this was asked and came to that
-abbrev pub counted : Tally → Asked → Status → ℕ
+abbrev pub counted : Tally → CountedAs → Status → ℕ
 counted tally asked status = slice_index tally.counts (counter asked status)
 
 -- the counts where this was asked once more and came to that, and no other changed; a count starts anew after 2^64 - 1
-abbrev pub noted : Tally → Asked → Status → Tally
+abbrev pub noted : Tally → CountedAs → Status → Tally
 noted tally asked status = record tally { counts = slice_set tally.counts (counter asked status) ((counted tally asked status + 1) % (2 ^ 64)) }

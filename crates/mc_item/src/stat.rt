@@ -3,7 +3,7 @@ ghost use Rattle.std.specs.Prelude.{◌≡◌, ◌%◌, ◌^◌};
 ghost use Rattle.mc_item.specs.Stat.{all_stats, row_of, total};
 
 use crate::stats::Stats;
-use crate::tally::{Asked, Status};
+use crate::tally::{CountedAs, Status};
 
 /// One of the numbers that `stats` shows.
 #[derive(Clone, Copy, Debug, PartialEq, Eq)]
@@ -106,23 +106,23 @@ impl Stat {
             ..
         } = *stats;
         match self {
-            Stat::CmdGet => total(stats, Asked::Get),
-            Stat::CmdSet => total(stats, Asked::Set).wrapping_add(total(stats, Asked::Cas)),
-            Stat::CmdFlush => total(stats, Asked::Flush),
-            Stat::CmdTouch => total(stats, Asked::Touch),
-            Stat::GetHits => stats.tally.count(Asked::Get, Status::Hit),
-            Stat::GetMisses => stats.tally.count(Asked::Get, Status::Miss),
-            Stat::DeleteMisses => stats.tally.count(Asked::Delete, Status::Miss),
-            Stat::DeleteHits => stats.tally.count(Asked::Delete, Status::Hit),
-            Stat::IncrMisses => stats.tally.count(Asked::Incr, Status::Miss),
-            Stat::IncrHits => stats.tally.count(Asked::Incr, Status::Hit),
-            Stat::DecrMisses => stats.tally.count(Asked::Decr, Status::Miss),
-            Stat::DecrHits => stats.tally.count(Asked::Decr, Status::Hit),
-            Stat::CasMisses => stats.tally.count(Asked::Cas, Status::Miss),
-            Stat::CasHits => stats.tally.count(Asked::Cas, Status::Hit),
-            Stat::CasBadval => stats.tally.count(Asked::Cas, Status::BadValue),
-            Stat::TouchHits => stats.tally.count(Asked::Touch, Status::Hit),
-            Stat::TouchMisses => stats.tally.count(Asked::Touch, Status::Miss),
+            Stat::CmdGet => total(stats, CountedAs::Get),
+            Stat::CmdSet => total(stats, CountedAs::Set).wrapping_add(total(stats, CountedAs::Cas)),
+            Stat::CmdFlush => total(stats, CountedAs::Flush),
+            Stat::CmdTouch => total(stats, CountedAs::Touch),
+            Stat::GetHits => stats.tally.count(CountedAs::Get, Status::Hit),
+            Stat::GetMisses => stats.tally.count(CountedAs::Get, Status::Miss),
+            Stat::DeleteMisses => stats.tally.count(CountedAs::Delete, Status::Miss),
+            Stat::DeleteHits => stats.tally.count(CountedAs::Delete, Status::Hit),
+            Stat::IncrMisses => stats.tally.count(CountedAs::Incr, Status::Miss),
+            Stat::IncrHits => stats.tally.count(CountedAs::Incr, Status::Hit),
+            Stat::DecrMisses => stats.tally.count(CountedAs::Decr, Status::Miss),
+            Stat::DecrHits => stats.tally.count(CountedAs::Decr, Status::Hit),
+            Stat::CasMisses => stats.tally.count(CountedAs::Cas, Status::Miss),
+            Stat::CasHits => stats.tally.count(CountedAs::Cas, Status::Hit),
+            Stat::CasBadval => stats.tally.count(CountedAs::Cas, Status::BadValue),
+            Stat::TouchHits => stats.tally.count(CountedAs::Touch, Status::Hit),
+            Stat::TouchMisses => stats.tally.count(CountedAs::Touch, Status::Miss),
             Stat::LimitMaxbytes => budget,
             Stat::Bytes => bytes,
             Stat::CurrItems => items,
@@ -133,7 +133,7 @@ impl Stat {
 }
 
 /// How often this was asked, whatever came of it.
-fn total(stats: &Stats, asked: Asked) -> u64
+fn total(stats: &Stats, asked: CountedAs) -> u64
     ensures { result ≡ total asked stats.now % 2 ^ 64 }
 {
     let tally = &stats.tally;
@@ -149,6 +149,6 @@ fn total(stats: &Stats, asked: Asked) -> u64
 fn stored(stats: &Stats) -> u64
     ensures { result ≡ (row_of Stat.TotalItems).1 stats.now % 2 ^ 64 }
 {
-    let set = stats.tally.count(Asked::Set, Status::Hit);
-    set.wrapping_add(stats.tally.count(Asked::Cas, Status::Hit))
+    let set = stats.tally.count(CountedAs::Set, Status::Hit);
+    set.wrapping_add(stats.tally.count(CountedAs::Cas, Status::Hit))
 }

@@ -8,7 +8,7 @@ use mc_command::{Direction, StoreMode};
 
 /// What a shard is asked, as it is counted: under memcached's names (protocol.txt, "General-purpose statistics").
 #[derive(Clone, Copy, Debug, PartialEq, Eq)]
-pub enum Asked {
+pub enum CountedAs {
     /// `get`, `gets`, and `mg` without `T`.
     Get,
     /// `set`, `add`, `replace`, `append`, `prepend`, `ms`.
@@ -55,38 +55,38 @@ pub struct Tally {
     counts: [u64; KINDS * STATUSES],
 }
 
-impl Asked {
+impl CountedAs {
     /// What the piece asks.
     #[tactic(auto, unfolding(crate::specs::Tally::asked_of))]
-    pub fn of(op: &Op) -> Asked
+    pub fn of(op: &Op) -> CountedAs
         ensures { result ≡ asked_of op.now }
     {
         match op {
             Op::Store {
                 mode: StoreMode::Cas(_),
                 ..
-            } => Asked::Cas,
-            Op::Store { .. } => Asked::Set,
+            } => CountedAs::Cas,
+            Op::Store { .. } => CountedAs::Set,
             Op::Fetch { touch: Some(_), .. }
             | Op::Touch { .. }
-            | Op::MetaGet(MetaGet { touch: Some(_), .. }) => Asked::Touch,
-            Op::Fetch { .. } | Op::MetaGet(_) => Asked::Get,
-            Op::Count { direction, .. } => Asked::counting(*direction),
-            Op::Delete { .. } | Op::MetaDelete(_) => Asked::Delete,
-            Op::Flush { .. } => Asked::Flush,
-            Op::Stats | Op::ResetStats => Asked::Stats,
-            Op::MetaStore(asked) if asked.compare.is_some() => Asked::Cas,
-            Op::MetaStore(_) => Asked::Set,
-            Op::MetaCount(asked) => Asked::counting(asked.direction),
+            | Op::MetaGet(MetaGet { touch: Some(_), .. }) => CountedAs::Touch,
+            Op::Fetch { .. } | Op::MetaGet(_) => CountedAs::Get,
+            Op::Count { direction, .. } => CountedAs::counting(*direction),
+            Op::Delete { .. } | Op::MetaDelete(_) => CountedAs::Delete,
+            Op::Flush { .. } => CountedAs::Flush,
+            Op::Stats | Op::ResetStats => CountedAs::Stats,
+            Op::MetaStore(asked) if asked.compare.is_some() => CountedAs::Cas,
+            Op::MetaStore(_) => CountedAs::Set,
+            Op::MetaCount(asked) => CountedAs::counting(asked.direction),
         }
     }
 
-    fn counting(direction: Direction) -> Asked
+    fn counting(direction: Direction) -> CountedAs
         ensures { result ≡ counting direction }
     {
         match direction {
-            Direction::Increment => Asked::Incr,
-            Direction::Decrement => Asked::Decr,
+            Direction::Increment => CountedAs::Incr,
+            Direction::Decrement => CountedAs::Decr,
         }
     }
 }
@@ -127,14 +127,14 @@ impl Tally {
     }
 
     /// How often this was asked and came to that.
-    pub fn count(&self, asked: Asked, status: Status) -> u64
+    pub fn count(&self, asked: CountedAs, status: Status) -> u64
         ensures { result ≡ counted self.now asked status }
     {
         self.counts[place_of(asked, status)]
     }
 
     /// Counts what was asked, and what came of it.
-    pub fn note(&mut self, asked: Asked, status: Status)
+    pub fn note(&mut self, asked: CountedAs, status: Status)
         ensures { self.new ≡ noted self.old asked status }
     {
         let count = &mut self.counts[place_of(asked, status)];
@@ -143,7 +143,7 @@ impl Tally {
 }
 
 /// Where a kind and a status are counted.
-fn place_of(asked: Asked, status: Status) -> usize
+fn place_of(asked: CountedAs, status: Status) -> usize
     ensures place { result ≡ counter asked status }
     ensures within { result < counters }
 {

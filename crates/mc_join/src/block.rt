@@ -12,7 +12,8 @@ const SHARED_LEAST: usize = 1_024;
 /// Writes the end of the line before a value, the value, and the end of its block. An outlet that keeps what it is given may
 /// share a long value.
 pub(crate) fn put_block<O: Outlet>(out: &mut O, line: &[u8], value: &Value) -> Result<(), OutFault>
-    ensures { Writes (line.now ++ (value.now ++ codes "\r\n")) result (O.sight out.old) (O.sight out.new) }
+    ensures { Writes (line.now ++ (value.now ++ codes "\r\n")) result (O.sight out.old)
+        (O.sight out.new) }
 {
     if value.len() < SHARED_LEAST || !out.shares() {
         return put_parts(out, &[line, value.bytes(), b"\r\n"]);

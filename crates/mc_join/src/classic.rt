@@ -36,7 +36,8 @@ pub fn put_first_line<O: Outlet>(
     lenient: bool,
     slots: &[Option<Answer>],
 ) -> Result<(), OutFault>
-    ensures { Writes (first_text (λ answer. answer_line (told answer lenient)) slots.now) result (O.sight out.old) (O.sight out.new) }
+    ensures { Writes (first_text (λ answer. answer_line (told answer lenient)) slots.now) result
+        (O.sight out.old) (O.sight out.new) }
 {
     match slots {
         [Some(Answer::TooLarge), ..] if lenient => put_all(out, b"NOT_STORED\r\n"),
@@ -82,7 +83,8 @@ pub fn line_of(answer: &Answer) -> &'static [u8]
 }
 
 fn put_number_line<O: Outlet>(out: &mut O, number: u64) -> Result<(), OutFault>
-    ensures { Writes (concat (decimal number ∷ codes "\r\n" ∷ [])) result (O.sight out.old) (O.sight out.new) }
+    ensures { Writes (concat (decimal number ∷ codes "\r\n" ∷ [])) result (O.sight out.old)
+        (O.sight out.new) }
 {
     let mut digits = Buffer::new();
     put_parts(out, &[digits.format(number).as_bytes(), b"\r\n"])
@@ -95,7 +97,8 @@ pub fn put_values<O: Outlet>(
     with_unique: bool,
     slots: &[Option<Answer>],
 ) -> Result<(), OutFault>
-    ensures { Writes (items_text with_unique keys.now slots.now ++ codes "END\r\n") result (O.sight out.old) (O.sight out.new) }
+    ensures { Writes (items_text with_unique keys.now slots.now ++ codes "END\r\n") result
+        (O.sight out.old) (O.sight out.new) }
 {
     let (first, others) = keys.parts();
     let Some((slot, more)) = slots.split_first() else {
@@ -114,7 +117,8 @@ fn put_items<O: Outlet>(
     slots: &[Option<Answer>],
 ) -> Result<(), OutFault>
     requires { AreKeys (words_left keys) }
-    ensures { Writes (items_text with_unique (words_left keys.entry) slots.now) result (O.sight out.old) (O.sight out.new) }
+    ensures { Writes (items_text with_unique (words_left keys.entry) slots.now) result
+        (O.sight out.old) (O.sight out.new) }
 {
     for slot in slots {
         let Some(key) = keys.next() else {
@@ -133,7 +137,8 @@ fn put_slot<O: Outlet>(
     slot: &Option<Answer>,
 ) -> Result<(), OutFault>
     requires { length key.now ≤ KEY_LIMIT }
-    ensures { Writes (slot_text (item_text with_unique key.now) slot.now) result (O.sight out.old) (O.sight out.new) }
+    ensures { Writes (slot_text (item_text with_unique key.now) slot.now) result (O.sight out.old)
+        (O.sight out.new) }
 {
     match slot {
         Some(answer) => put_item(out, key, with_unique, answer),
@@ -148,7 +153,8 @@ fn put_item<O: Outlet>(
     answer: &Answer,
 ) -> Result<(), OutFault>
     requires { length key.now ≤ KEY_LIMIT }
-    ensures { Writes (item_text with_unique key.now answer.now) result (O.sight out.old) (O.sight out.new) }
+    ensures { Writes (item_text with_unique key.now answer.now) result (O.sight out.old)
+        (O.sight out.new) }
 {
     match answer {
         Answer::Hit {
@@ -193,7 +199,8 @@ fn put_plain_item<O: Outlet, const ROOM: usize>(
 ) -> Result<(), OutFault>
     requires room { length key.now + BESIDE_KEY ≤ ROOM }
     requires small { ROOM ≤ HEADER_LIMIT }
-    ensures { Writes (plain_item key.now flags value.now) result (O.sight out.old) (O.sight out.new) }
+    ensures { Writes (plain_item key.now flags value.now) result (O.sight out.old)
+        (O.sight out.new) }
 {
     let mut room = [0; ROOM];
     let end = place_line(&mut room, key, flags, value.len());
@@ -214,7 +221,8 @@ fn put_unique_item<O: Outlet>(
     value: &Value,
 ) -> Result<(), OutFault>
     requires { length key.now ≤ KEY_LIMIT }
-    ensures { Writes (unique_item key.now flags unique value.now) result (O.sight out.old) (O.sight out.new) }
+    ensures { Writes (unique_item key.now flags unique value.now) result (O.sight out.old)
+        (O.sight out.new) }
 {
     let mut room = [0; HEADER_LIMIT];
     let end = place_line(&mut room, key, flags, value.len());

@@ -59,8 +59,12 @@ impl<S: Start, O: Outlet> Gathering<'_, '_, S, O> {
     pub(crate) fn send(&mut self) -> Result<(), OutFault>
         ensures same { self.new.out.ghost_name ≡ self.old.out.ghost_name }
         ensures empty { OnOk result (self.new.room.now ≡ []) }
-        ensures ok { OnOk result (took self.new.room.now (O.sight self.new.out.now) ≡ took self.old.room.now (O.sight self.old.out.now)) }
-        ensures err { OnErr result (took self.new.room.now (O.sight self.new.out.now) ≡ broke (took self.old.room.now (O.sight self.old.out.now))) }
+        ensures ok { OnOk result
+            (took self.new.room.now (O.sight self.new.out.now) ≡
+            took self.old.room.now (O.sight self.old.out.now)) }
+        ensures err { OnErr result
+            (took self.new.room.now (O.sight self.new.out.now) ≡
+            broke (took self.old.room.now (O.sight self.old.out.now))) }
     {
         while !self.room.waiting().is_empty() {
             let count = self.out.write(self.room.waiting())?;

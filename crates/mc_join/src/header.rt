@@ -38,7 +38,9 @@ pub fn place(room: &mut [u8], at: usize, part: &[u8]) -> usize
 pub fn place_line(room: &mut [u8], key: &[u8], flags: u32, size: usize) -> usize
     requires { length key.now + LINE_LIMIT ≤ length room.old }
     ensures most { result ≤ length key.now + LINE_LIMIT }
-    ensures text { take result room.new ≡ concat (codes "VALUE " ∷ key.now ∷ codes " " ∷ decimal flags ∷ codes " " ∷ decimal size ∷ []) }
+    ensures text { take result room.new ≡
+        concat
+        (codes "VALUE " ∷ key.now ∷ codes " " ∷ decimal flags ∷ codes " " ∷ decimal size ∷ []) }
 {
     let end = place(room, 0, b"VALUE ");
     let end = place(room, end, key);
@@ -53,7 +55,8 @@ pub fn place_line(room: &mut [u8], key: &[u8], flags: u32, size: usize) -> usize
 pub fn place_unique(room: &mut [u8], at: usize, unique: u64) -> usize
     requires { at + DIGIT_LIMIT + 3 ≤ length room.old }
     ensures most { result ≤ at + DIGIT_LIMIT + 3 }
-    ensures text { take result room.new ≡ take at room.old ++ concat (codes " " ∷ decimal unique ∷ codes "\r\n" ∷ []) }
+    ensures text { take result room.new ≡
+        take at room.old ++ concat (codes " " ∷ decimal unique ∷ codes "\r\n" ∷ []) }
 {
     let end = place(room, at, b" ");
     let end = place_number(room, end, unique);

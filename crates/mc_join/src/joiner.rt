@@ -64,9 +64,17 @@ impl Model for Joiner {
 
     ghost Value = { Held };
 
-    ghost view = { λ joiner. record { window = joiner.forms.capacity; handed = joiner.handed; forms = joiner.forms.items; gone = joiner.gone } };
+    ghost view = { λ joiner.
+        record {
+          window = joiner.forms.capacity;
+          handed = joiner.handed;
+          forms = joiner.forms.items;
+          gone = joiner.gone;
+        } };
 
-    ghost invariant = { λ joiner. AreNumbered joiner.handed joiner.forms.items × (joiner.handed + length joiner.forms.items ≤ 2 ^ 64) };
+    ghost invariant = { λ joiner.
+        AreNumbered joiner.handed joiner.forms.items ×
+        (joiner.handed + length joiner.forms.items ≤ 2 ^ 64) };
 }
 
 impl Joiner {
@@ -87,13 +95,16 @@ impl Joiner {
     /// Opens the next ticket. Takes no memory. Where as many tickets are open as may be, the form is let go.
     pub fn open(&mut self, form: Form) -> Result<(), Full>
         requires { form.ticket.0 ≡ opened_count self.old }
-        ensures ok { OnOk result (self.new ≡ record self.old { forms = self.old.forms ++ form ∷ [] }) }
+        ensures ok { OnOk result
+            (self.new ≡ record self.old { forms = self.old.forms ++ form ∷ [] }) }
         ensures opened { OnOk result (opened_count self.new ≡ opened_count self.old + 1) }
         ensures room { length self.old.forms < self.old.window → IsOk result }
         ensures full { OnErr result (length self.old.forms ≡ self.old.window) }
         ensures err { OnErr result (self.new ≡ self.old) }
-        ensures joined { OnOk result ((opened : List Form) (accepted : List Shown) (handed : List (List ℕ)) →
-            IsJoiner self.old opened accepted handed → IsJoiner self.new (opened ++ form ∷ []) accepted handed) }
+        ensures joined { OnOk result
+            ((opened : List Form) (accepted : List Shown) (handed : List (List ℕ)) →
+            IsJoiner self.old opened accepted handed →
+            IsJoiner self.new (opened ++ form ∷ []) accepted handed) }
     {
         // The number is read so that it is known to fit 64 bits.
         let _number = form.ticket.0;
@@ -106,8 +117,10 @@ impl Joiner {
     /// The place of an open ticket.
     fn place_of(&self, ticket: Ticket) -> Option<usize>
         ensures numbered { AreNumbered self.now.handed self.now.forms }
-        ensures some { IfSome result (λ place. (place < length self.now.forms) × (ticket.0 ≡ self.now.handed + place)) }
-        ensures none { IfNone result ((place : ℕ) → place < length self.now.forms → ticket.0 ≢ self.now.handed + place) }
+        ensures some { IfSome result
+            (λ place. (place < length self.now.forms) × (ticket.0 ≡ self.now.handed + place)) }
+        ensures none { IfNone result
+            ((place : ℕ) → place < length self.now.forms → ticket.0 ≢ self.now.handed + place) }
     {
         let ticket = u128::from(ticket.0);
         if ticket < self.handed || ticket - self.handed >= self.waiting() as u128 {
@@ -138,13 +151,18 @@ impl Joiner {
         ensures stranger { IfErr result (λ stranger. shown stranger.reply ≡ shown reply) }
         ensures unawaited { OnErr result (¬ IsAwaited self.old (shown reply)) }
         ensures unchanged { OnErr result (self.new ≡ self.old) }
-        ensures joined { OnOk result ((opened : List Form) (accepted : List Shown) (handed : List (List ℕ)) →
-            IsJoiner self.old opened accepted handed → IsJoiner self.new opened (accepted ++ shown reply ∷ []) handed) }
+        ensures joined { OnOk result
+            ((opened : List Form) (accepted : List Shown) (handed : List (List ℕ)) →
+            IsJoiner self.old opened accepted handed →
+            IsJoiner self.new opened (accepted ++ shown reply ∷ []) handed) }
         // By the lists of forms opened and replies accepted alone.
-        ensures expected { OnOk result ((opened : List Form) (accepted : List Shown) (handed : List (List ℕ)) →
+        ensures expected { OnOk result
+            ((opened : List Form) (accepted : List Shown) (handed : List (List ℕ)) →
             IsJoiner self.old opened accepted handed → Expects opened accepted (shown reply)) }
-        ensures unexpected { OnErr result ((opened : List Form) (accepted : List Shown) (handed : List (List ℕ)) →
-            IsJoiner self.old opened accepted handed → ¬ Expects opened accepted (shown reply)) }
+        ensures unexpected { OnErr result
+            ((opened : List Form) (accepted : List Shown) (handed : List (List ℕ)) →
+            IsJoiner self.old opened accepted handed →
+            ¬ Expects opened accepted (shown reply)) }
     {
         let Some(place) = self.awaiting(&reply) else {
             return Err(Stranger { reply });
@@ -156,8 +174,9 @@ impl Joiner {
     /// How many bytes `hand` would write; a number that stays at its greatest value.
     pub fn ready(&self) -> u64
         ensures count { result ≡ capped (length (due_text self.now)) }
-        ensures turn { (opened : List Form) (accepted : List Shown) (handed : List (List ℕ)) → self.now.gone ≡ false →
-            IsJoiner self.now opened accepted handed → due_text self.now ≡ unhanded opened accepted handed }
+        ensures turn { (opened : List Form) (accepted : List Shown) (handed : List (List ℕ)) →
+            self.now.gone ≡ false → IsJoiner self.now opened accepted handed →
+            due_text self.now ≡ unhanded opened accepted handed }
     {
         if self.gone {
             return 0;
@@ -199,7 +218,8 @@ impl Joiner {
     pub fn passes(&self) -> usize
         ensures count { result ≡ length (complete self.now.forms) }
         ensures joined { (opened : List Form) (accepted : List Shown) (handed : List (List ℕ)) →
-            IsJoiner self.now opened accepted handed → length handed + result ≡ length (replies opened accepted) }
+            IsJoiner self.now opened accepted handed →
+            length handed + result ≡ length (replies opened accepted) }
     {
         count_complete(&self.forms)
     }
@@ -208,21 +228,32 @@ impl Joiner {
     /// Small replies go out together. After a fault nothing is written any more. Takes no memory.
     pub fn hand<O: Outlet>(&mut self, out: &mut O) -> Result<u64, Gone>
         // Once an outlet has failed.
-        ensures silent { IsTrue self.old.gone → (result ≡ Ok 0) × (self.new ≡ self.old) × (O.sight out.new ≡ O.sight out.old) }
+        ensures silent { IsTrue self.old.gone →
+            (result ≡ Ok 0) × (self.new ≡ self.old) × (O.sight out.new ≡ O.sight out.old) }
         // Until then.
-        ensures count { self.old.gone ≡ false → IfOk result (λ count. count ≡ length (complete self.old.forms)) }
-        ensures left { IfOk result (λ count. self.new ≡ record self.old { handed = self.old.handed + count; forms = drop count self.old.forms }) }
+        ensures count { self.old.gone ≡ false →
+            IfOk result (λ count. count ≡ length (complete self.old.forms)) }
+        ensures left { IfOk result (λ count.
+            self.new ≡
+            record self.old
+            { handed = self.old.handed + count; forms = drop count self.old.forms }) }
         ensures opened { opened_count self.new ≡ opened_count self.old }
         ensures none_left { self.old.gone ≡ false → OnOk result (complete self.new.forms ≡ []) }
         ensures writes { Writes (due_text self.old) result (O.sight out.old) (O.sight out.new) }
         ensures gone { OnErr result (self.new ≡ record self.old { gone = true }) }
         // By the lists of forms opened, replies accepted and texts handed.
-        ensures turn { (opened : List Form) (accepted : List Shown) (handed : List (List ℕ)) → self.old.gone ≡ false →
-            IsJoiner self.old opened accepted handed → due_text self.old ≡ unhanded opened accepted handed }
-        ensures joined { self.old.gone ≡ false → OnOk result ((opened : List Form) (accepted : List Shown) (handed : List (List ℕ)) →
-            IsJoiner self.old opened accepted handed → IsJoiner self.new opened accepted (replies opened accepted)) }
-        ensures joined_gone { OnErr result ((opened : List Form) (accepted : List Shown) (handed : List (List ℕ)) →
-            IsJoiner self.old opened accepted handed → IsJoiner self.new opened accepted handed) }
+        ensures turn { (opened : List Form) (accepted : List Shown) (handed : List (List ℕ)) →
+            self.old.gone ≡ false → IsJoiner self.old opened accepted handed →
+            due_text self.old ≡ unhanded opened accepted handed }
+        ensures joined { self.old.gone ≡ false →
+            OnOk result
+            ((opened : List Form) (accepted : List Shown) (handed : List (List ℕ)) →
+            IsJoiner self.old opened accepted handed →
+            IsJoiner self.new opened accepted (replies opened accepted)) }
+        ensures joined_gone { OnErr result
+            ((opened : List Form) (accepted : List Shown) (handed : List (List ℕ)) →
+            IsJoiner self.old opened accepted handed →
+            IsJoiner self.new opened accepted handed) }
     {
         if self.gone {
             return Ok(0);

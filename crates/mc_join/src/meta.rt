@@ -29,7 +29,8 @@ pub fn put_meta<O: Outlet>(
     lenient: bool,
     answer: &Answer,
 ) -> Result<(), OutFault>
-    ensures { Writes (meta_text kind flags.now value key.now lenient answer.now) result (O.sight out.old) (O.sight out.new) }
+    ensures { Writes (meta_text kind flags.now value key.now lenient answer.now) result
+        (O.sight out.old) (O.sight out.new) }
 {
     if flags.quiet && is_hidden(kind, value, answer) {
         return put_all(out, b"");
@@ -61,7 +62,8 @@ fn put_coded<O: Outlet>(
     lenient: bool,
     answer: &Answer,
 ) -> Result<(), OutFault>
-    ensures { Writes (coded_text kind flags.now key.now (told answer.now lenient) value) result (O.sight out.old) (O.sight out.new) }
+    ensures { Writes (coded_text kind flags.now key.now (told answer.now lenient) value) result
+        (O.sight out.old) (O.sight out.new) }
 {
     match answer {
         Answer::MetaHit(hit) => put_found(out, flags, value, key, answer, hit),
@@ -96,7 +98,9 @@ fn put_found<O: Outlet>(
     hit: &MetaHit,
 ) -> Result<(), OutFault>
     requires { answer.now ≡ answers.MetaHit hit.now }
-    ensures { (kind : MetaKind) → Writes (coded_text kind flags.now key.now answer.now value) result (O.sight out.old) (O.sight out.new) }
+    ensures { (kind : MetaKind) →
+        Writes (coded_text kind flags.now key.now answer.now value) result (O.sight out.old)
+        (O.sight out.new) }
 {
     let end = marks_line(flags.profile, hit.marks);
     if !value {
@@ -116,7 +120,9 @@ fn put_done<O: Outlet>(
     done: &MetaDone,
 ) -> Result<(), OutFault>
     requires { answer.now ≡ answers.MetaDone done.now }
-    ensures { (kind : MetaKind) → Writes (coded_text kind flags.now key.now answer.now value) result (O.sight out.old) (O.sight out.new) }
+    ensures { (kind : MetaKind) →
+        Writes (coded_text kind flags.now key.now answer.now value) result (O.sight out.old)
+        (O.sight out.new) }
 {
     if !value {
         return put_head(out, b"HD", flags, key, answer, b"\r\n");
@@ -136,7 +142,8 @@ fn put_head<O: Outlet>(
     answer: &Answer,
     end: &[u8],
 ) -> Result<(), OutFault>
-    ensures { Writes (code.now ++ (flags_text flags.now key.now answer.now ++ end.now)) result (O.sight out.old) (O.sight out.new) }
+    ensures { Writes (code.now ++ (flags_text flags.now key.now answer.now ++ end.now)) result
+        (O.sight out.old) (O.sight out.new) }
 {
     put_all(out, code)?;
     put_flags(out, flags, key, answer)?;
@@ -152,7 +159,8 @@ fn put_failed<O: Outlet>(
     key: &Option<Key>,
     answer: &Answer,
 ) -> Result<(), OutFault>
-    ensures { Writes (head_text code.now (failed_text kind flags.now key.now answer.now) []) result (O.sight out.old) (O.sight out.new) }
+    ensures { Writes (head_text code.now (failed_text kind flags.now key.now answer.now) []) result
+        (O.sight out.old) (O.sight out.new) }
 {
     put_all(out, code)?;
     put_failed_flags(out, kind, flags, key, answer)?;
@@ -167,7 +175,8 @@ fn put_failed_flags<O: Outlet>(
     key: &Option<Key>,
     answer: &Answer,
 ) -> Result<(), OutFault>
-    ensures { Writes (failed_text kind flags.now key.now answer.now) result (O.sight out.old) (O.sight out.new) }
+    ensures { Writes (failed_text kind flags.now key.now answer.now) result (O.sight out.old)
+        (O.sight out.new) }
 {
     for flag in flags.returned.flags() {
         put_failed_flag(out, kind, flags, key, answer, *flag)?;
@@ -184,7 +193,9 @@ fn put_failed_flag<O: Outlet>(
     answer: &Answer,
     flag: ReturnFlag,
 ) -> Result<(), OutFault>
-    ensures { Writes (failed_flag kind flags.now.profile (flag_text flags.now key.now answer.now) flag) result (O.sight out.old) (O.sight out.new) }
+    ensures { Writes
+        (failed_flag kind flags.now.profile (flag_text flags.now key.now answer.now) flag) result
+        (O.sight out.old) (O.sight out.new) }
 {
     match (kind, flags.profile, flag) {
         (MetaKind::Set, Profile::DropIn, ReturnFlag::Unique) => put_all(out, b" c0"),
@@ -200,7 +211,8 @@ fn put_size<O: Outlet>(
     key: &Option<Key>,
     answer: &Answer,
 ) -> Result<(), OutFault>
-    ensures { Writes (codes "VA " ++ (decimal size ++ flags_text flags.now key.now answer.now)) result (O.sight out.old) (O.sight out.new) }
+    ensures { Writes (codes "VA " ++ (decimal size ++ flags_text flags.now key.now answer.now))
+        result (O.sight out.old) (O.sight out.new) }
 {
     let mut room = [0; SIZE_LIMIT];
     put_all(out, sized(&mut room, size))?;
@@ -256,7 +268,8 @@ fn put_flags<O: Outlet>(
     key: &Option<Key>,
     answer: &Answer,
 ) -> Result<(), OutFault>
-    ensures { Writes (flags_text flags.now key.now answer.now) result (O.sight out.old) (O.sight out.new) }
+    ensures { Writes (flags_text flags.now key.now answer.now) result (O.sight out.old)
+        (O.sight out.new) }
 {
     for flag in flags.returned.flags() {
         put_flag(out, flags, key, answer, *flag)?;
@@ -271,7 +284,8 @@ fn put_flag<O: Outlet>(
     answer: &Answer,
     flag: ReturnFlag,
 ) -> Result<(), OutFault>
-    ensures { Writes (flag_text flags.now key.now answer.now flag) result (O.sight out.old) (O.sight out.new) }
+    ensures { Writes (flag_text flags.now key.now answer.now flag) result (O.sight out.old)
+        (O.sight out.new) }
 {
     match flag {
         ReturnFlag::Key => put_key(out, flags.base64, key),
@@ -326,7 +340,8 @@ fn put_item_flag<O: Outlet>(out: &mut O, answer: &Answer, flag: ReturnFlag) -> R
 }
 
 fn put_hit_flag<O: Outlet>(out: &mut O, hit: &MetaHit, flag: ReturnFlag) -> Result<(), OutFault>
-    ensures { Writes (item_flag (answers.MetaHit hit.now) flag) result (O.sight out.old) (O.sight out.new) }
+    ensures { Writes (item_flag (answers.MetaHit hit.now) flag) result (O.sight out.old)
+        (O.sight out.new) }
 {
     match flag {
         ReturnFlag::Unique => put_number(out, b" c", hit.unique),
@@ -341,7 +356,8 @@ fn put_hit_flag<O: Outlet>(out: &mut O, hit: &MetaHit, flag: ReturnFlag) -> Resu
 }
 
 fn put_done_flag<O: Outlet>(out: &mut O, done: &MetaDone, flag: ReturnFlag) -> Result<(), OutFault>
-    ensures { Writes (item_flag (answers.MetaDone done.now) flag) result (O.sight out.old) (O.sight out.new) }
+    ensures { Writes (item_flag (answers.MetaDone done.now) flag) result (O.sight out.old)
+        (O.sight out.new) }
 {
     match flag {
         ReturnFlag::Unique => put_number(out, b" c", done.unique),
@@ -367,7 +383,8 @@ fn put_left<O: Outlet>(out: &mut O, left: Option<u64>) -> Result<(), OutFault>
 
 /// Writes a flag's letter and its number.
 fn put_number<O: Outlet>(out: &mut O, letter: &[u8], number: u64) -> Result<(), OutFault>
-    ensures { Writes (concat (letter.now ∷ decimal number ∷ [])) result (O.sight out.old) (O.sight out.new) }
+    ensures { Writes (concat (letter.now ∷ decimal number ∷ [])) result (O.sight out.old)
+        (O.sight out.new) }
 {
     let mut digits = Buffer::new();
     put_parts(out, &[letter, digits.format(number).as_bytes()])

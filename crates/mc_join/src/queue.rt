@@ -23,7 +23,8 @@ use std::marker::{Brand, PhantomData};
 pub(crate) fn add(forms: &mut HeapCircularBuffer<Form>, form: Form) -> bool
     ensures added { IsTrue result → forms.new.items ≡ forms.old.items ++ form ∷ [] }
     ensures room { length forms.old.items < forms.old.capacity → IsTrue result }
-    ensures full { result ≡ false → (forms.new ≡ forms.old) × (length forms.old.items ≡ forms.old.capacity) }
+    ensures full { result ≡ false →
+        (forms.new ≡ forms.old) × (length forms.old.items ≡ forms.old.capacity) }
     ensures capacity { forms.new.capacity ≡ forms.old.capacity }
 {
     if forms.len() >= forms.capacity() {
@@ -76,7 +77,8 @@ pub(crate) fn put_first<O: Outlet>(
     room: &mut Room,
     forms: &HeapCircularBuffer<Form>,
 ) -> Result<(), OutFault>
-    ensures { Writes (concat (map form_text (complete forms.now.items))) result (O.sight out.old) (O.sight out.new) }
+    ensures { Writes (concat (map form_text (complete forms.now.items))) result (O.sight out.old)
+        (O.sight out.new) }
 {
     put_gathered::<Brand, O>(out, room, forms)
 }
@@ -88,7 +90,8 @@ fn put_gathered<S: Start, O: Outlet>(
     forms: &HeapCircularBuffer<Form>,
 ) -> Result<(), OutFault>
     requires { S.sight ≡ O.sight out.old }
-    ensures { Writes (concat (map form_text (complete forms.now.items))) result (O.sight out.old) (O.sight out.new) }
+    ensures { Writes (concat (map form_text (complete forms.now.items))) result (O.sight out.old)
+        (O.sight out.new) }
 {
     room.clear();
     let mut gathering: Gathering<'_, '_, S, O> = Gathering {
@@ -102,7 +105,8 @@ fn put_gathered<S: Start, O: Outlet>(
 
 /// Writes these replies, each by itself. Where the outlet fails, it took a beginning of them.
 fn put_each<O: Outlet>(out: &mut O, forms: &HeapCircularBuffer<Form>) -> Result<(), OutFault>
-    ensures { Writes (concat (map form_text (complete forms.now.items))) result (O.sight out.old) (O.sight out.new) }
+    ensures { Writes (concat (map form_text (complete forms.now.items))) result (O.sight out.old)
+        (O.sight out.new) }
 {
     for form in forms.iter() {
         if !is_complete(form) {

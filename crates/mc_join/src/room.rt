@@ -24,7 +24,9 @@ impl Model for Room {
     ghost view = { λ room. drop room.sent room.bytes.items };
 
     // What fits takes no memory.
-    ghost invariant = { λ room. (ROOM ≤ vec_capacity room.bytes) × (length room.bytes.items ≤ ROOM) × (room.sent ≤ length room.bytes.items) };
+    ghost invariant = { λ room.
+        (ROOM ≤ vec_capacity room.bytes) × (length room.bytes.items ≤ ROOM) ×
+        (room.sent ≤ length room.bytes.items) };
 }
 
 impl Room {

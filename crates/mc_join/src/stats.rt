@@ -56,7 +56,8 @@ fn number_in(stat: Stat, slot: &Option<Answer>) -> u64
 
 /// Writes a line whose value is a number.
 fn put_number<O: Outlet>(out: &mut O, name: &[u8], number: u64) -> Result<(), OutFault>
-    ensures { Writes (stat_text name.now (decimal number)) result (O.sight out.old) (O.sight out.new) }
+    ensures { Writes (stat_text name.now (decimal number)) result (O.sight out.old)
+        (O.sight out.new) }
 {
     let mut digits = Buffer::new();
     put_stat(out, name, digits.format(number).as_bytes())

@@ -14,7 +14,7 @@ use Rattle.mc_core.specs.Schedule.{Enabled, Happens, Leads, Spared, StepReply}
 use Rattle.mc_core.specs.Schedule.StepReply.{Done, Idle, NoMemory}
 use Rattle.mc_core.specs.Law.{Law}
 use Rattle.mc_laws.specs.Progress.{HasWork, IsWork}
-use Rattle.mc_laws.specs.Fair.{ComesToRest, EndlessRun, HasNoInput, IsOfServer, IsSameStep, IsWeaklyFair, TakesBytes, TriesAll}
+use Rattle.mc_laws.specs.Fair.{ComesToRest, EndlessRun, HasNoInput, IsOfServer, IsSameStep, IsWeaklyFair, TakesBytesAtRest, TriesAll}
 use Rattle.mc_core.proofs.Every.{event_kept}
 use Rattle.mc_core.proofs.Links.{ran_within}
 use Rattle.mc_core.proofs.Lists.{at_once, push_cases, set_cases}
@@ -237,7 +237,7 @@ one_at : (w : World) (c k j : ℕ) (link one : Link) → IsAt w c k link → IsA
 one_at w c k j link one a b = at_once w.links k j link one a.here b.here (one_place w c k j link one a b)
 
 -- On a server whose sizes are within limits, a connection at rest that has neither ended nor broken takes bytes.
-pub takes_bytes : (sizes : Sizes) (w : World) → AreWithin sizes → TakesBytes sizes w
+pub takes_bytes : (sizes : Sizes) (w : World) → AreWithin sizes → TakesBytesAtRest sizes w
 takes_bytes sizes w within seat k link bytes at rest goes_on whole some = (
   (k, link, at, (goes_on, whole, some)),
   λ spared.

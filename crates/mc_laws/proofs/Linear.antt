@@ -8,7 +8,7 @@ use Rattle.mc_wire.specs.Key.{place_of}
 use Rattle.mc_item.specs.Kind.{key_of}
 use Rattle.mc_split.specs.declared.plan.Piece.{Piece}
 use Rattle.mc_split.specs.declared.plan.Ticket.{Ticket}
-use Rattle.mc_split.specs.Pieces.{Asked, pieces_of}
+use Rattle.mc_split.specs.Pieces.{ShardOp, pieces_of}
 use Rattle.mc_split.specs.Plan.{parts_from}
 use Rattle.mc_split.proofs.Shards.{pieces_name}
 use Rattle.mc_conn.specs.History.{Taken, planned}
@@ -32,7 +32,7 @@ use Rattle.mc_laws.proofs.Ordering.{all_both, all_mine, on_there, ran_first, was
 abbrev GoesHome : ℕ → ℕ → Piece → Type 0
 GoesHome shards s piece = IfSome (key_of piece.op) (λ key. s ≡ place_of key shards)
 
-parts_home : (shards part : ℕ) (ticket : Ticket) (moment : ℕ) (asked : List Asked) → AllByRecursion (λ one. IfSome (key_of one.op) (λ key. one.shard ≡ place_of key shards)) asked → AllByRecursion (λ (piece : ℕ × Piece). GoesHome shards piece.0 piece.1) (parts_from part ticket moment asked)
+parts_home : (shards part : ℕ) (ticket : Ticket) (moment : ℕ) (asked : List ShardOp) → AllByRecursion (λ one. IfSome (key_of one.op) (λ key. one.shard ≡ place_of key shards)) asked → AllByRecursion (λ (piece : ℕ × Piece). GoesHome shards piece.0 piece.1) (parts_from part ticket moment asked)
 parts_home shards part ticket moment [] all = tt
 parts_home shards part ticket moment (one ∷ asked) all = (all.0, parts_home shards (part + 1) ticket moment asked all.1)
 

@@ -86,8 +86,8 @@ pub record ComesToRest {sizes : Sizes} {w : World} (run : EndlessRun sizes w) : 
   pub replied : AllReplied sizes (run.worlds place)
 
 -- A connection at rest that has neither ended nor broken takes bytes.
-abbrev pub TakesBytes : Sizes → World → Type 0
-TakesBytes sizes w =
+abbrev pub TakesBytesAtRest : Sizes → World → Type 0
+TakesBytesAtRest sizes w =
     (seat k : ℕ) (link : Link) (bytes : List ℕ) → IsAt w seat k link → AtRest sizes link → link.ended ≡ false → link.broken ≡ false → 0 < length bytes → Enabled sizes w (Feed seat bytes) × (Spared sizes w (Feed seat bytes) → ⊥)
 
 -- The connection is handed the reply to its command of this number, or breaks.

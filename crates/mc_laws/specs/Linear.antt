@@ -10,7 +10,7 @@ use Rattle.mc_core.specs.Log.{Entry, Run, on_shard}
 use Rattle.mc_core.specs.World.{World}
 use Rattle.mc_core.specs.Events.{Event}
 use Rattle.mc_core.specs.Schedule.{Schedule}
-use Rattle.mc_core.specs.Headline.{AreReplies, IsServed, OfEach}
+use Rattle.mc_core.specs.Headline.{AreReplies, RanAsDue, OfEach}
 use Rattle.mc_laws.specs.Order.{HappensBefore, IsHandedOut, RunsBefore, WasRun}
 
 -- what the shard of the key ran, in order, whoever asked
@@ -30,7 +30,7 @@ pub record IsLinearizable (sizes : Sizes) (events : List Event) (w : World) (led
   -- the order is one run of the protocol's step, from the empty shard
   pub lawful : (last : State) × Run (empty_shard sizes (place_of key sizes.shards)) (order_of sizes w key) last
   -- what a shard ran for a connection is a beginning of what is due there, in sending order
-  pub own_order : OfEach w (λ k link. IsServed sizes w k link)
+  pub own_order : OfEach w (λ k link. RanAsDue sizes w k link)
   -- each piece of a command whose reply was handed out stands in the order of its shard
   pub complete : (k number : ℕ) → IsHandedOut w k number → WasRun sizes w k number
   -- where one reply was handed out before another command was asked, the one stands before the other

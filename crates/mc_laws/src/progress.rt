@@ -5,7 +5,7 @@ ghost use Rattle.mc_core.specs.World.{World};
 ghost use Rattle.mc_core.specs.Events.{Event};
 ghost use Rattle.mc_core.specs.Schedule.{Schedule};
 ghost use Rattle.mc_laws.specs.Progress.{AllAtRest, CanComeToRest, HasWork, IsBounded};
-ghost use Rattle.mc_laws.specs.Fair.{ComesToRest, EndlessRun, HasNoInput, IsFairToSeats, IsWeaklyFair, NoneWaitsForever, TakesBytes, TriesAll};
+ghost use Rattle.mc_laws.specs.Fair.{ComesToRest, EndlessRun, HasNoInput, IsFairToSeats, IsWeaklyFair, NoneWaitsForever, TakesBytesAtRest, TriesAll};
 
 /// The connections and the shards never wait for one another in a ring: wherever events lead, all connections are at rest, or
 /// some step of the server can be done.
@@ -26,24 +26,27 @@ pub fn all_comes_to_rest()
 
 /// A run into which nothing comes and in which work that stays enabled is done comes to rest, and all replies are out.
 pub fn fair_runs_come_to_rest()
-    ensures { (sizes : Sizes) (events : List Event) (w : World) →
-        AreWithin sizes → Schedule sizes events w → (run : EndlessRun sizes w) → HasNoInput run → IsWeaklyFair run → ComesToRest run }
+    ensures { (sizes : Sizes) (events : List Event) (w : World) → AreWithin sizes →
+        Schedule sizes events w → (run : EndlessRun sizes w) → HasNoInput run → IsWeaklyFair run →
+        ComesToRest run }
 {}
 
 /// A run that tries all work again and again, and finds memory for it, is weakly fair.
 pub fn what_is_tried_is_fair()
-    ensures { (sizes : Sizes) (w : World) → (run : EndlessRun sizes w) → TriesAll run → IsWeaklyFair run }
+    ensures { (sizes : Sizes) (w : World) → (run : EndlessRun sizes w) → TriesAll run →
+        IsWeaklyFair run }
 {}
 
 /// Whatever comes in meanwhile: where work that stays enabled is done, and no shard passes over a seat for ever, each command
 /// that a connection's bytes spell gets its reply, or the connection breaks.
 pub fn none_waits_forever()
-    ensures { (sizes : Sizes) (events : List Event) (w : World) →
-        AreWithin sizes → Schedule sizes events w → (run : EndlessRun sizes w) → IsWeaklyFair run → IsFairToSeats run → NoneWaitsForever run }
+    ensures { (sizes : Sizes) (events : List Event) (w : World) → AreWithin sizes →
+        Schedule sizes events w → (run : EndlessRun sizes w) → IsWeaklyFair run →
+        IsFairToSeats run → NoneWaitsForever run }
 {}
 
 /// Wherever events lead, a connection at rest that has neither ended nor broken takes some of the bytes that come.
 pub fn bytes_are_taken_at_rest()
     ensures { (sizes : Sizes) (events : List Event) (w : World) →
-        AreWithin sizes → Schedule sizes events w → TakesBytes sizes w }
+        AreWithin sizes → Schedule sizes events w → TakesBytesAtRest sizes w }
 {}

@@ -32,7 +32,8 @@ pub fn settle(sim: &mut Sim, alloc: Global, moment: u64) -> Result<(), NoMemory>
 /// Tries the events again and again, until none of them is done, and tells whether it came to that.
 fn repeat(sim: &mut Sim, alloc: Global, events: &[Event]) -> Result<bool, NoMemory>
     requires { AllByRecursion IsWork (map event_of events.now) }
-    ensures repeated { IfOk result (λ quiet. Repeats sim.old (map event_of events.now) quiet sim.new) }
+    ensures repeated { IfOk result
+        (λ quiet. Repeats sim.old (map event_of events.now) quiet sim.new) }
     ensures stopped { OnErr result (Works sim.old sim.new) }
 {
     for _ in 0..u128::MAX {
@@ -66,7 +67,9 @@ fn add_seat(
     shards: usize,
     moment: u64,
 ) -> Result<(), AllocError>
-    ensures { IfOk result (λ _. map event_of events.new.items ≡ map event_of events.old.items ++ seat_round shards moment seat) }
+    ensures { IfOk result (λ _.
+        map event_of events.new.items ≡
+        map event_of events.old.items ++ seat_round shards moment seat) }
 {
     events.push(Event::Take { seat, moment })?;
     events.push(Event::Send { seat })?;
@@ -79,7 +82,8 @@ fn add_seat(
 
 /// Adds what a seat and a shard do for one another.
 fn add_lane(events: &mut Vec<Event>, seat: usize, shard: usize) -> Result<(), AllocError>
-    ensures { IfOk result (λ _. map event_of events.new.items ≡ map event_of events.old.items ++ lane_round seat shard) }
+    ensures { IfOk result (λ _.
+        map event_of events.new.items ≡ map event_of events.old.items ++ lane_round seat shard) }
 {
     events.push(Event::Pop { shard, seat })?;
     events.push(Event::Give { shard })?;

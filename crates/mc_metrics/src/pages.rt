@@ -123,7 +123,8 @@ impl Pages {
 
     /// The metrics of all shards together.
     fn metrics(&self) -> Result<String, AllocError>
-        ensures { IfOk result (λ text. AreMetrics self.now.facts self.now.uptime (string_bytes text)) }
+        ensures { IfOk result
+            (λ text. AreMetrics self.now.facts self.now.uptime (string_bytes text)) }
     {
         metrics_of(self.alloc, &self.reading())
     }
@@ -140,7 +141,8 @@ impl Pages {
 
     /// All metrics.
     fn all_metrics(&self) -> Result<String, AllocError>
-        ensures { IfOk result (λ text. IsTextAt Target.Metrics self.now.facts self.now.uptime (string_bytes text)) }
+        ensures { IfOk result (λ text.
+            IsTextAt Target.Metrics self.now.facts self.now.uptime (string_bytes text)) }
     {
         let mut text = self.metrics()?;
         let shards = self.shard_metrics()?;
@@ -171,7 +173,8 @@ impl Pages {
 }
 
 impl Service for Pages {
-    ghost answers = { λ old request response new. (new ≡ old) × IsAnswer old.facts old.uptime request response };
+    ghost answers = { λ old request response new.
+        (new ≡ old) × IsAnswer old.facts old.uptime request response };
 
     fn call(
         &mut self,

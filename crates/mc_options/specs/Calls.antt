@@ -7,7 +7,7 @@ use Rattle.mc_options.specs.declared.options.Options.TheVariants.{Listen, Replay
 use Rattle.mc_options.specs.Program.{rows_in}
 use Rattle.mc_options.specs.Wrong.{HasItems, NotOfReplay, NotOfStdio, NotOfTcp, Wrong}
 use Rattle.mc_options.specs.Flags.{is_flag}
-use Rattle.mc_options.specs.Numbers.{AreWithin, and_then, connections_by, idle_by, limits_by, moment_by, seats_by}
+use Rattle.mc_options.specs.Numbers.{AreAllowedLimits, and_then, connections_by, idle_by, limits_by, moment_by, seats_by}
 
 -- what the program is called to do
 pub data Call : Type 0 where
@@ -97,12 +97,12 @@ abbrev pub given_in : List (List ℕ) → List ℕ → Option (List ℕ)
 given_in words name = first_of name (rows_in words)
 
 -- What is given is this call of the program.
-abbrev pub Spells : (List ℕ → Option (List ℕ)) → Options → Type 0
-Spells given options = call_by given ≡ Ok (call_of options)
+abbrev pub SpellsOptions : (List ℕ → Option (List ℕ)) → Options → Type 0
+SpellsOptions given options = call_by given ≡ Ok (call_of options)
 
 -- The sizes of the call are those that a server may have.
-abbrev pub MayServe : Options → Type 0
-MayServe Version = Unit {0}
-MayServe (Replay file) = Unit {0}
-MayServe (Stdio at limits) = AreWithin limits
-MayServe (Listen address seats connections idle verbose metrics limits) = (1 ≤ seats) × (seats ≤ 4096) × AreWithin limits
+abbrev pub HasAllowedLimits : Options → Type 0
+HasAllowedLimits Version = Unit {0}
+HasAllowedLimits (Replay file) = Unit {0}
+HasAllowedLimits (Stdio at limits) = AreAllowedLimits limits
+HasAllowedLimits (Listen address seats connections idle verbose metrics limits) = (1 ≤ seats) × (seats ≤ 4096) × AreAllowedLimits limits

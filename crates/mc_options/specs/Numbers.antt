@@ -99,7 +99,7 @@ abbrev pub moment_by : (List ℕ → Option (List ℕ)) → Result (Option ℕ) 
 moment_by given = number_if_given (codes "at") 0 18446744073709551615 (given (codes "at"))
 
 -- The limits are those that a server may have.
-pub record AreWithin (limits : Limits) : Type 0 where
+pub record AreAllowedLimits (limits : Limits) : Type 0 where
   pub least_shards : 1 ≤ limits.shards
   pub most_shards : limits.shards ≤ 16
   pub least_bytes : 1024 ≤ limits.bytes

@@ -3,9 +3,9 @@ ghost use Rattle.std.specs.Prelude.{◌≡◌, ◌≤◌, ◌^◌, [], ok_or, co
 ghost use Rattle.clap.specs.Words.{FailsBy, first_value, found_of, rows_of};
 ghost use Rattle.mc_options.specs.Program.{rows_in, word_faults};
 ghost use Rattle.mc_options.specs.Wrong.{wrong_of};
-ghost use Rattle.mc_options.specs.Numbers.{AreWithin, budget_of, bytes_of, default_line, digits_of, limits_by, number_given, number_if_given, size_given, size_in, unit_of};
+ghost use Rattle.mc_options.specs.Numbers.{AreAllowedLimits, budget_of, bytes_of, default_line, digits_of, limits_by, number_given, number_if_given, size_given, size_in, unit_of};
 ghost use Rattle.mc_options.specs.Flags.{is_flag, profile_by};
-ghost use Rattle.mc_options.specs.Calls.{MayServe, Spells, call_by, call_of, first_given, given_in, is_given, line_by, replay_by, stdio_by, tcp_by};
+ghost use Rattle.mc_options.specs.Calls.{HasAllowedLimits, SpellsOptions, call_by, call_of, first_given, given_in, is_given, line_by, replay_by, stdio_by, tcp_by};
 ghost use Rattle.mc_options.specs.Faults.{IsFaultOf, IsOfOptions};
 
 use crate::fault::OptionFault;
@@ -89,8 +89,8 @@ pub enum Options<'a> {
 /// Reads the words of the command line, the program's name among them.
 pub fn read_options<'a>(alloc: Global, words: &'a [String]) -> Result<Options<'a>, OptionFault<'a>>
     ensures words { OnOk result (word_faults (map string_bytes words.entry.now) ≡ []) }
-    ensures given { IfOk result (Spells (given_in (map string_bytes words.entry.now))) }
-    ensures within { IfOk result MayServe }
+    ensures given { IfOk result (SpellsOptions (given_in (map string_bytes words.entry.now))) }
+    ensures within { IfOk result HasAllowedLimits }
     ensures refused { IfErr result (IsFaultOf (map string_bytes words.entry.now)) }
 {
     match parse(alloc, words) {
@@ -101,7 +101,8 @@ pub fn read_options<'a>(alloc: Global, words: &'a [String]) -> Result<Options<'a
 
 /// What was given, by options of the program.
 fn parse<'a>(alloc: Global, words: &'a [String]) -> Result<ArgMatches<'a>, clap::Error>
-    ensures matches { IfOk result (λ matches. rows_of (found_of matches) ≡ rows_in (map string_bytes words.entry.now)) }
+    ensures matches { IfOk result
+        (λ matches. rows_of (found_of matches) ≡ rows_in (map string_bytes words.entry.now)) }
     ensures call { FailsBy (word_faults (map string_bytes words.entry.now)) result }
 {
     let program = program_options(alloc)?;
@@ -110,9 +111,10 @@ fn parse<'a>(alloc: Global, words: &'a [String]) -> Result<ArgMatches<'a>, clap:
 
 /// The call that is given.
 fn options_in<'a>(matches: &ArgMatches<'a>) -> Result<Options<'a>, OptionFault<'a>>
-    ensures given { IfOk result (Spells (first_value (found_of matches.now))) }
-    ensures within { IfOk result MayServe }
-    ensures refused { IfErr result (λ fault. IsOfOptions fault × (call_by (first_value (found_of matches.now)) ≡ Err (wrong_of fault))) }
+    ensures given { IfOk result (SpellsOptions (first_value (found_of matches.now))) }
+    ensures within { IfOk result HasAllowedLimits }
+    ensures refused { IfErr result (λ fault.
+        IsOfOptions fault × (call_by (first_value (found_of matches.now)) ≡ Err (wrong_of fault))) }
 {
     if is_flag(matches, "version") {
         return Ok(Options::Version);
@@ -131,9 +133,12 @@ fn options_in<'a>(matches: &ArgMatches<'a>) -> Result<Options<'a>, OptionFault<'
 
 /// The call that runs the schedule in a file.
 fn replay_in<'a>(matches: &ArgMatches<'a>, file: &'a str) -> Result<Options<'a>, OptionFault<'a>>
-    ensures given { IfOk result (λ options. replay_by (first_value (found_of matches.now)) file.now ≡ Ok (call_of options)) }
-    ensures within { IfOk result MayServe }
-    ensures refused { IfErr result (λ fault. IsOfOptions fault × (replay_by (first_value (found_of matches.now)) file.now ≡ Err (wrong_of fault))) }
+    ensures given { IfOk result (λ options.
+        replay_by (first_value (found_of matches.now)) file.now ≡ Ok (call_of options)) }
+    ensures within { IfOk result HasAllowedLimits }
+    ensures refused { IfErr result (λ fault.
+        IsOfOptions fault ×
+        (replay_by (first_value (found_of matches.now)) file.now ≡ Err (wrong_of fault))) }
 {
     let others = &[
         "at",
@@ -166,9 +171,12 @@ fn replay_in<'a>(matches: &ArgMatches<'a>, file: &'a str) -> Result<Options<'a>,
 
 /// The call that serves standard input and output.
 fn stdio_in<'a>(matches: &ArgMatches<'a>) -> Result<Options<'a>, OptionFault<'a>>
-    ensures given { IfOk result (λ options. stdio_by (first_value (found_of matches.now)) ≡ Ok (call_of options)) }
-    ensures within { IfOk result MayServe }
-    ensures refused { IfErr result (λ fault. IsOfOptions fault × (stdio_by (first_value (found_of matches.now)) ≡ Err (wrong_of fault))) }
+    ensures given { IfOk result
+        (λ options. stdio_by (first_value (found_of matches.now)) ≡ Ok (call_of options)) }
+    ensures within { IfOk result HasAllowedLimits }
+    ensures refused { IfErr result (λ fault.
+        IsOfOptions fault ×
+        (stdio_by (first_value (found_of matches.now)) ≡ Err (wrong_of fault))) }
 {
     let others = &["listen", "seats", "connections", "idle-timeout", "metrics"];
     if let Some(option) = first_given(matches, others) {
@@ -182,9 +190,11 @@ fn stdio_in<'a>(matches: &ArgMatches<'a>) -> Result<Options<'a>, OptionFault<'a>
 
 /// What the one line is served with.
 fn line_in<'a>(matches: &ArgMatches<'a>) -> Result<Options<'a>, OptionFault<'a>>
-    ensures given { IfOk result (λ options. line_by (first_value (found_of matches.now)) ≡ Ok (call_of options)) }
-    ensures within { IfOk result MayServe }
-    ensures refused { IfErr result (λ fault. IsOfOptions fault × (line_by (first_value (found_of matches.now)) ≡ Err (wrong_of fault))) }
+    ensures given { IfOk result
+        (λ options. line_by (first_value (found_of matches.now)) ≡ Ok (call_of options)) }
+    ensures within { IfOk result HasAllowedLimits }
+    ensures refused { IfErr result (λ fault.
+        IsOfOptions fault × (line_by (first_value (found_of matches.now)) ≡ Err (wrong_of fault))) }
 {
     let at = number_if_given("at", matches.get_str("at"), 0, u64::MAX)?;
     let limits = limits_in(matches)?;
@@ -193,9 +203,11 @@ fn line_in<'a>(matches: &ArgMatches<'a>) -> Result<Options<'a>, OptionFault<'a>>
 
 /// The call that serves TCP.
 fn listen_in<'a>(matches: &ArgMatches<'a>) -> Result<Options<'a>, OptionFault<'a>>
-    ensures given { IfOk result (λ options. tcp_by (first_value (found_of matches.now)) ≡ Ok (call_of options)) }
-    ensures within { IfOk result MayServe }
-    ensures refused { IfErr result (λ fault. IsOfOptions fault × (tcp_by (first_value (found_of matches.now)) ≡ Err (wrong_of fault))) }
+    ensures given { IfOk result
+        (λ options. tcp_by (first_value (found_of matches.now)) ≡ Ok (call_of options)) }
+    ensures within { IfOk result HasAllowedLimits }
+    ensures refused { IfErr result (λ fault.
+        IsOfOptions fault × (tcp_by (first_value (found_of matches.now)) ≡ Err (wrong_of fault))) }
 {
     if let Some(option) = first_given(matches, &["at"]) {
         return Err(OptionFault::NotOfTcp { option });
@@ -222,9 +234,12 @@ fn listen_in<'a>(matches: &ArgMatches<'a>) -> Result<Options<'a>, OptionFault<'a
 
 /// The limits that are given.
 fn limits_in<'a>(matches: &ArgMatches<'a>) -> Result<Limits, OptionFault<'a>>
-    ensures given { IfOk result (λ limits. limits_by (first_value (found_of matches.now)) ≡ Ok limits) }
-    ensures within { IfOk result AreWithin }
-    ensures refused { IfErr result (λ fault. IsOfOptions fault × (limits_by (first_value (found_of matches.now)) ≡ Err (wrong_of fault))) }
+    ensures given { IfOk result
+        (λ limits. limits_by (first_value (found_of matches.now)) ≡ Ok limits) }
+    ensures within { IfOk result AreAllowedLimits }
+    ensures refused { IfErr result (λ fault.
+        IsOfOptions fault ×
+        (limits_by (first_value (found_of matches.now)) ≡ Err (wrong_of fault))) }
 {
     let shards = matches.get_str("shards");
     let shards = number_given("shards", shards, LEAST, DEFAULT_SHARDS, MOST_SHARDS)?;
@@ -284,9 +299,14 @@ fn budget_in<'a>(
 ) -> Result<usize, OptionFault<'a>>
     requires some { 1 ≤ shards }
     requires few { shards ≤ 16 }
-    ensures given { IfOk result (λ budget. budget_of shards (option_map (λ text. text.now) bytes.entry) (option_map (λ text. text.now) memory.entry) ≡ Ok budget) }
+    ensures given { IfOk result (λ budget.
+        budget_of shards (option_map (λ text. text.now) bytes.entry)
+        (option_map (λ text. text.now) memory.entry) ≡ Ok budget) }
     ensures within { IfOk result (λ budget. (1024 ≤ budget) × (budget ≤ 1073741824)) }
-    ensures refused { IfErr result (λ fault. IsOfOptions fault × (budget_of shards (option_map (λ text. text.now) bytes.entry) (option_map (λ text. text.now) memory.entry) ≡ Err (wrong_of fault))) }
+    ensures refused { IfErr result (λ fault.
+        IsOfOptions fault ×
+        (budget_of shards (option_map (λ text. text.now) bytes.entry)
+        (option_map (λ text. text.now) memory.entry) ≡ Err (wrong_of fault))) }
 {
     match (bytes, memory) {
         (Some(_), Some(_)) => Err(OptionFault::BytesAndMemory),
@@ -307,7 +327,8 @@ fn is_given(matches: &ArgMatches<'_>, name: &str) -> bool
 
 /// The first of the options that is given.
 fn first_given(matches: &ArgMatches<'_>, names: &[&'static str]) -> Option<&'static str>
-    ensures { option_map (λ name. name.now) result ≡ first_given (first_value (found_of matches.now)) (map (λ name. name.now) names.now) }
+    ensures { option_map (λ name. name.now) result ≡
+        first_given (first_value (found_of matches.now)) (map (λ name. name.now) names.now) }
 {
     for name in names {
         if is_given(matches, name) {
@@ -337,9 +358,14 @@ fn number_given<'a>(
 ) -> Result<usize, OptionFault<'a>>
     requires least { least ≤ default }
     requires most { default ≤ most }
-    ensures given { IfOk result (λ number. number_given option.now least default most (option_map (λ text. text.now) given.entry) ≡ Ok number) }
+    ensures given { IfOk result (λ number.
+        number_given option.now least default most (option_map (λ text. text.now) given.entry) ≡
+        Ok number) }
     ensures within { IfOk result (λ number. (least ≤ number) × (number ≤ most)) }
-    ensures refused { IfErr result (λ fault. IsOfOptions fault × (number_given option.now least default most (option_map (λ text. text.now) given.entry) ≡ Err (wrong_of fault))) }
+    ensures refused { IfErr result (λ fault.
+        IsOfOptions fault ×
+        (number_given option.now least default most (option_map (λ text. text.now) given.entry) ≡
+        Err (wrong_of fault))) }
 {
     match number_if_given(option, given, least as u64, most as u64)? {
         Some(number) => Ok(number as usize),
@@ -354,9 +380,15 @@ fn number_if_given<'a>(
     least: u64,
     most: u64,
 ) -> Result<Option<u64>, OptionFault<'a>>
-    ensures given { IfOk result (λ number. number_if_given option.now least most (option_map (λ text. text.now) given.entry) ≡ Ok number) }
-    ensures within { IfOk result (λ given. IfSome given (λ number. (least ≤ number) × (number ≤ most))) }
-    ensures refused { IfErr result (λ fault. IsOfOptions fault × (number_if_given option.now least most (option_map (λ text. text.now) given.entry) ≡ Err (wrong_of fault))) }
+    ensures given { IfOk result (λ number.
+        number_if_given option.now least most (option_map (λ text. text.now) given.entry) ≡
+        Ok number) }
+    ensures within { IfOk result
+        (λ given. IfSome given (λ number. (least ≤ number) × (number ≤ most))) }
+    ensures refused { IfErr result (λ fault.
+        IsOfOptions fault ×
+        (number_if_given option.now least most (option_map (λ text. text.now) given.entry) ≡
+        Err (wrong_of fault))) }
 {
     let Some(word) = given else {
         return Ok(None);
@@ -382,9 +414,14 @@ fn size_given<'a>(
 ) -> Result<usize, OptionFault<'a>>
     requires least { least ≤ default }
     requires most { default ≤ most }
-    ensures given { IfOk result (λ size. size_given option.now least default most (option_map (λ text. text.now) given.entry) ≡ Ok size) }
+    ensures given { IfOk result (λ size.
+        size_given option.now least default most (option_map (λ text. text.now) given.entry) ≡
+        Ok size) }
     ensures within { IfOk result (λ size. (least ≤ size) × (size ≤ most)) }
-    ensures refused { IfErr result (λ fault. IsOfOptions fault × (size_given option.now least default most (option_map (λ text. text.now) given.entry) ≡ Err (wrong_of fault))) }
+    ensures refused { IfErr result (λ fault.
+        IsOfOptions fault ×
+        (size_given option.now least default most (option_map (λ text. text.now) given.entry) ≡
+        Err (wrong_of fault))) }
 {
     match given {
         Some(word) => size_in(option, word, least, most),
@@ -401,7 +438,8 @@ fn size_in<'a>(
 ) -> Result<usize, OptionFault<'a>>
     ensures given { IfOk result (λ size. size_in option.now least most word.entry.now ≡ Ok size) }
     ensures within { IfOk result (λ size. (least ≤ size) × (size ≤ most)) }
-    ensures refused { IfErr result (λ fault. IsOfOptions fault × (size_in option.now least most word.entry.now ≡ Err (wrong_of fault))) }
+    ensures refused { IfErr result (λ fault.
+        IsOfOptions fault × (size_in option.now least most word.entry.now ≡ Err (wrong_of fault))) }
 {
     let least = least as u64;
     let most = most as u64;

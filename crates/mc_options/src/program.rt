@@ -44,7 +44,8 @@ fn with_calls<'a>(alloc: Global, command: Command<'a>) -> Result<Command<'a>, Al
 
 /// The program with the options that say what the server is like.
 fn with_limits<'a>(alloc: Global, command: Command<'a>) -> Result<Command<'a>, AllocError>
-    ensures { IfOk result (λ limited. app_of limited ≡ with_rules (app_of command.entry) limit_rules) }
+    ensures { IfOk result
+        (λ limited. app_of limited ≡ with_rules (app_of command.entry) limit_rules) }
 {
     let shards = "Threads that own items, 1 to 16 [2]";
     let command = with_value(alloc, command, "shards", "N", shards)?;
@@ -69,7 +70,8 @@ fn with_limits<'a>(alloc: Global, command: Command<'a>) -> Result<Command<'a>, A
 
 /// The program with the options of who watches it.
 fn with_watch<'a>(alloc: Global, command: Command<'a>) -> Result<Command<'a>, AllocError>
-    ensures { IfOk result (λ watched. app_of watched ≡ with_rules (app_of command.entry) watch_rules) }
+    ensures { IfOk result
+        (λ watched. app_of watched ≡ with_rules (app_of command.entry) watch_rules) }
 {
     let idle = "Closes what moves no byte for so long, 1 to 31536000";
     let command = with_value(alloc, command, "idle-timeout", "SECONDS", idle)?;
@@ -86,7 +88,8 @@ fn with_flag<'a>(
     name: &'a str,
     help: &'a str,
 ) -> Result<Command<'a>, AllocError>
-    ensures { IfOk result (λ more. app_of more ≡ with_rule (app_of command.entry) (flag_rule name.entry.now)) }
+    ensures { IfOk result
+        (λ more. app_of more ≡ with_rule (app_of command.entry) (flag_rule name.entry.now)) }
 {
     let flag = Arg::new(alloc, name)
         .long(name)
@@ -103,7 +106,8 @@ fn with_value<'a>(
     value: &'a str,
     help: &'a str,
 ) -> Result<Command<'a>, AllocError>
-    ensures { IfOk result (λ more. app_of more ≡ with_rule (app_of command.entry) (option_rule name.entry.now)) }
+    ensures { IfOk result
+        (λ more. app_of more ≡ with_rule (app_of command.entry) (option_rule name.entry.now)) }
 {
     let option = Arg::new(alloc, name)
         .long(name)
@@ -115,7 +119,8 @@ fn with_value<'a>(
 
 /// The program with `--items`, which it knows only to name the option that took its place.
 fn with_items<'a>(alloc: Global, command: Command<'a>) -> Result<Command<'a>, AllocError>
-    ensures { IfOk result (λ more. app_of more ≡ with_rule (app_of command.entry) (option_rule (codes "items"))) }
+    ensures { IfOk result
+        (λ more. app_of more ≡ with_rule (app_of command.entry) (option_rule (codes "items"))) }
 {
     let items = Arg::new(alloc, "items")
         .long("items")

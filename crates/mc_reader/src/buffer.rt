@@ -29,9 +29,12 @@ impl Model for Buffer {
 
     ghost Value = { Unread };
 
-    ghost view = { λ buffer. record { bytes = drop buffer.start buffer.bytes.items; limit = buffer.limit } };
+    ghost view = { λ buffer.
+        record { bytes = drop buffer.start buffer.bytes.items; limit = buffer.limit } };
 
-    ghost invariant = { λ buffer. (buffer.start ≤ vec_len buffer.bytes) × (vec_len buffer.bytes ≤ buffer.limit) × (buffer.limit ≤ vec_capacity buffer.bytes) };
+    ghost invariant = { λ buffer.
+        (buffer.start ≤ vec_len buffer.bytes) × (vec_len buffer.bytes ≤ buffer.limit) ×
+        (buffer.limit ≤ vec_capacity buffer.bytes) };
 }
 
 impl Buffer {

@@ -10,7 +10,8 @@ ghost use Rattle.mc_reader.specs.declared.reader.Reader.{Reader};
 /// No text that spells begins another, and what a text spells is one thing.
 pub fn no_text_begins_another()
     ensures { (rules : Rules) (text more : List ℕ) (entry other : Command) →
-        Spells rules text entry → Spells rules (text ++ more) other → (more ≡ []) × (entry ≡ other) }
+        Spells rules text entry → Spells rules (text ++ more) other →
+        (more ≡ []) × (entry ≡ other) }
 {}
 
 /// The commands of an input are one list.
@@ -25,21 +26,26 @@ pub fn commands_only_grow()
     ensures kept { (rules : Rules) (input more : List ℕ) (entries : List Command) →
         BeginCommands rules input entries → BeginCommands rules (input ++ more) entries }
     ensures begin { (rules : Rules) (input more : List ℕ) (entries others : List Command) →
-        AreCommands rules input entries → AreCommands rules (input ++ more) others → Begins entries others }
+        AreCommands rules input entries → AreCommands rules (input ++ more) others →
+        Begins entries others }
     ensures closed { (rules : Rules) (input more : List ℕ) (entries : List Command) →
-        AreCommands rules input entries → IsTrue (is_closed entries) → AreCommands rules (input ++ more) entries }
+        AreCommands rules input entries → IsTrue (is_closed entries) →
+        AreCommands rules (input ++ more) entries }
 {}
 
 /// Every input has its commands.
 pub fn every_input_has_commands()
-    ensures { (rules : Rules) (input : List ℕ) → (entries : List Command) × AreCommands rules input entries }
+    ensures { (rules : Rules) (input : List ℕ) →
+        (entries : List Command) × AreCommands rules input entries }
 {}
 
 /// The commands that a reader gave begin those of the bytes that it was fed, and each was given up only
 /// where it may be.
 pub fn readers_give_commands()
-    ensures begin { (reader : Reader) (rules : Rules) (fed : List ℕ) (ended : Bool) (given : List Given) →
-        IsReader reader rules fed ended given → BeginCommands rules fed (entries_of given) }
-    ensures may { (reader : Reader) (rules : Rules) (fed : List ℕ) (ended : Bool) (given : List Given) →
-        IsReader reader rules fed ended given → AllByRecursion MayBeGiven given }
+    ensures begin { (reader : Reader) (rules : Rules) (fed : List ℕ) (ended : Bool)
+        (given : List Given) → IsReader reader rules fed ended given →
+        BeginCommands rules fed (entries_of given) }
+    ensures may { (reader : Reader) (rules : Rules) (fed : List ℕ) (ended : Bool)
+        (given : List Given) → IsReader reader rules fed ended given →
+        AllByRecursion MayBeGiven given }
 {}

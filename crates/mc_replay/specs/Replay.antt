@@ -47,11 +47,11 @@ pub record IsReport (sizes : Sizes) (events : List Event) (text : List ℕ) : Ty
   pub text_is : text ≡ report sizes w done idle
 
 -- Of a server that may be so large a text tells; else it is refused, or memory ran out.
-abbrev pub Tells : schedule.Schedule → Result (Vec ℕ Global) ReplayFault → Type 0
-Tells plan (Ok text) = IsReport (sizes_of plan) (events_of plan) text.items
-Tells plan (Err Size) = ¬ AreWithin (sizes_of plan)
-Tells plan (Err Memory) = AreWithin (sizes_of plan)
-Tells plan (Err Gone) = ⊥
+abbrev pub GivesReport : schedule.Schedule → Result (Vec ℕ Global) ReplayFault → Type 0
+GivesReport plan (Ok text) = IsReport (sizes_of plan) (events_of plan) text.items
+GivesReport plan (Err Size) = ¬ AreWithin (sizes_of plan)
+GivesReport plan (Err Memory) = AreWithin (sizes_of plan)
+GivesReport plan (Err Gone) = ⊥
 
 -- The whole of such a text was written, or a beginning where the outlet failed; a refusal wrote nothing.
 abbrev pub Replays : {X : Type 0} → schedule.Schedule → Result X ReplayFault → Sight → Sight → Type 0

@@ -43,7 +43,7 @@ SpellsEvents sizes lines (Err (Bad number)) = IsFirstBad sizes lines number
 SpellsEvents sizes lines (Err Memory) = Unit {0}
 
 -- What was read of a file is what it spells, or its first bad line, unless memory ran out.
-abbrev pub Spells : List ℕ → Result schedule.Schedule ScheduleFault → Type 0
-Spells text (Ok plan) = (header_in (lines_of text) ≡ Some (sizes_of plan)) × (events_in (sizes_of plan) (drop 1 (lines_of text)) ≡ map Some (events_of plan))
-Spells text (Err (Bad number)) = MatchOption (header_in (lines_of text)) (number ≡ 1) (λ sizes. IsFirstBad sizes (drop 1 (lines_of text)) number)
-Spells text (Err Memory) = Unit {0}
+abbrev pub SpellsSchedule : List ℕ → Result schedule.Schedule ScheduleFault → Type 0
+SpellsSchedule text (Ok plan) = (header_in (lines_of text) ≡ Some (sizes_of plan)) × (events_in (sizes_of plan) (drop 1 (lines_of text)) ≡ map Some (events_of plan))
+SpellsSchedule text (Err (Bad number)) = MatchOption (header_in (lines_of text)) (number ≡ 1) (λ sizes. IsFirstBad sizes (drop 1 (lines_of text)) number)
+SpellsSchedule text (Err Memory) = Unit {0}

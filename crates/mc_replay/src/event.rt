@@ -20,7 +20,8 @@ pub(crate) fn read_event(
     line: &[u8],
     header: Header,
 ) -> Result<Option<Event>, AllocError>
-    ensures { IfOk result (λ event. option_map shown event ≡ event_of (sizes_in header) (words_in line.now)) }
+    ensures { IfOk result
+        (λ event. option_map shown event ≡ event_of (sizes_in header) (words_in line.now)) }
 {
     let mut walk = parts(line, b' ');
     match (walk.next(), walk.next(), walk.next(), walk.next()) {
@@ -61,7 +62,8 @@ fn seat_event(name: &[u8], seat: usize) -> Option<Event>
 
 /// An event of a seat at a moment, or of a seat and a shard.
 fn event_between(name: &[u8], first: &[u8], second: &[u8], header: Header) -> Option<Event>
-    ensures { option_map shown result ≡ spec.event_between (sizes_in header) name.now first.now second.now }
+    ensures { option_map shown result ≡
+        spec.event_between (sizes_in header) name.now first.now second.now }
 {
     if name == b"receive".as_slice() {
         return read_receive(first, second, header);
@@ -110,7 +112,8 @@ fn read_feed(
     text: &[u8],
     header: Header,
 ) -> Result<Option<Event>, AllocError>
-    ensures { IfOk result (λ event. option_map shown event ≡ spec.feed_of (sizes_in header) seat.now text.now) }
+    ensures { IfOk result
+        (λ event. option_map shown event ≡ spec.feed_of (sizes_in header) seat.now text.now) }
 {
     let Some(seat) = number_below(seat, header.seats) else {
         return Ok(None);

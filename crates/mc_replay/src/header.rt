@@ -61,7 +61,8 @@ fn read_sizes(
     ring: &[u8],
     more: PartWalk<'_>,
 ) -> Option<Header>
-    ensures { option_map sizes_in result ≡ with_limits seats.now shards.now bytes.now ring.now (parts_left more.entry) }
+    ensures { option_map sizes_in result ≡
+        with_limits seats.now shards.now bytes.now ring.now (parts_left more.entry) }
 {
     let limits = read_limits(more)?;
     Some(Header {

@@ -14,7 +14,8 @@ pub(crate) fn push_connection(
     seat: usize,
     handed: &[u8],
 ) -> Result<(), AllocError>
-    ensures { OnOk result (text.new.items ≡ text.old.items ++ connection_line number seat handed.now) }
+    ensures { OnOk result
+        (text.new.items ≡ text.old.items ++ connection_line number seat handed.now) }
 {
     let word = handed_word(alloc, handed)?;
     let (mut first, mut second) = (Buffer::new(), Buffer::new());
@@ -45,7 +46,8 @@ pub(crate) fn push_entry(
     part: usize,
     moment: u64,
 ) -> Result<(), AllocError>
-    ensures { OnOk result (text.new.items ≡ text.old.items ++ entry_line shard connection ticket part moment) }
+    ensures { OnOk result
+        (text.new.items ≡ text.old.items ++ entry_line shard connection ticket part moment) }
 {
     let (mut first, mut second, mut third) = (Buffer::new(), Buffer::new(), Buffer::new());
     let (mut fourth, mut fifth) = (Buffer::new(), Buffer::new());

@@ -8,7 +8,7 @@ ghost use Rattle.mc_core.specs.Asked.{event_of};
 ghost use Rattle.mc_core.specs.Runs.{Runs};
 ghost use Rattle.mc_core.specs.Stands.{Stands};
 ghost use Rattle.mc_replay.specs.Report.{connection_line};
-ghost use Rattle.mc_replay.specs.Replay.{Replays, Tells, connection_lines, kept_line, report};
+ghost use Rattle.mc_replay.specs.Replay.{Replays, GivesReport, connection_lines, kept_line, report};
 ghost use Rattle.mc_replay.specs.declared.run.ReplayFault.TheVariants.{Memory};
 
 use crate::report::{push_connection, push_counts, push_entry};
@@ -61,7 +61,7 @@ pub fn replay<R: RandomSource, O: Outlet>(
 
 /// What is told of a schedule, once its events ran.
 fn tell<R: RandomSource>(rt: &R, alloc: Global, schedule: &Schedule) -> Result<Vec<u8>, ReplayFault>
-    ensures { Tells schedule.now result }
+    ensures { GivesReport schedule.now result }
 {
     let mut sim = match Sim::under(
         rt,
@@ -102,7 +102,9 @@ fn run_all(alloc: Global, sim: &mut Sim, events: &[Event]) -> Result<u64, Replay
 
 /// What is told of the world that the core stands in.
 fn report(alloc: Global, sim: &Sim, done: u64, idle: u64) -> Result<Vec<u8>, AllocError>
-    ensures { IfOk result (λ text. (sizes : Sizes) (w : World) → Stands sizes sim.now w → text.items ≡ report sizes w done idle) }
+    ensures { IfOk result (λ text.
+        (sizes : Sizes) (w : World) → Stands sizes sim.now w →
+        text.items ≡ report sizes w done idle) }
 {
     let mut text = Vec::new(alloc);
     push_connections(alloc, &mut text, sim)?;
@@ -113,7 +115,9 @@ fn report(alloc: Global, sim: &Sim, done: u64, idle: u64) -> Result<Vec<u8>, All
 
 /// Tells of each connection what was handed to it.
 fn push_connections(alloc: Global, text: &mut Vec<u8>, sim: &Sim) -> Result<(), AllocError>
-    ensures { OnOk result ((sizes : Sizes) (w : World) → Stands sizes sim.now w → text.new.items ≡ text.old.items ++ connection_lines sizes w 0 w.links) }
+    ensures { OnOk result
+        ((sizes : Sizes) (w : World) → Stands sizes sim.now w →
+        text.new.items ≡ text.old.items ++ connection_lines sizes w 0 w.links) }
 {
     let connections = sim.connections();
     for (number, connection) in connections.iter().enumerate() {
@@ -130,8 +134,11 @@ fn push_handed(
     number: usize,
     seat: usize,
 ) -> Result<(), AllocError>
-    ensures { OnOk result ((sizes : Sizes) (w : World) (link : Link) → Stands sizes sim.now w → IsLink w number link → seat ≡ link.seat →
-        text.new.items ≡ text.old.items ++ connection_line number link.seat (handed_bytes sizes w number link)) }
+    ensures { OnOk result
+        ((sizes : Sizes) (w : World) (link : Link) → Stands sizes sim.now w → IsLink w number link →
+        seat ≡ link.seat →
+        text.new.items ≡
+        text.old.items ++ connection_line number link.seat (handed_bytes sizes w number link)) }
 {
     match sim.handed(number) {
         Some(handed) => push_connection(alloc, text, number, seat, handed),

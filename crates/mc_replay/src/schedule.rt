@@ -1,7 +1,7 @@
 //! Reads a whole replay file.
 ghost use Rattle.std.specs.Prelude.{◌≡◌};
 ghost use Rattle.mc_replay.specs.Text.{lines_of, without_last_end};
-ghost use Rattle.mc_replay.specs.Schedule.{Spells, SpellsEvents};
+ghost use Rattle.mc_replay.specs.Schedule.{SpellsSchedule, SpellsEvents};
 ghost use Rattle.mc_replay.specs.internal.Parts.{parts_left};
 ghost use Rattle.mc_replay.specs.internal.Read.{sizes_in};
 ghost use Rattle.mc_replay.specs.declared.schedule.ScheduleFault.TheVariants.{Memory};
@@ -58,7 +58,7 @@ impl From<AllocError> for ScheduleFault {
 
 /// Reads a replay file: every line of it, before anything runs.
 pub fn read_schedule(alloc: Global, text: &[u8]) -> Result<Schedule, ScheduleFault>
-    ensures { Spells text.now result }
+    ensures { SpellsSchedule text.now result }
 {
     let mut lines = parts(without_last_end(text), b'\n');
     let Some(header) = lines.next().and_then(read_header) else {

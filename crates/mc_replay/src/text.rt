@@ -6,7 +6,8 @@ use std::alloc::AllocError;
 
 /// Adds these parts to a text, one after another.
 pub(crate) fn push_parts(text: &mut Vec<u8>, parts: &[&[u8]]) -> Result<(), AllocError>
-    ensures { OnOk result (text.new.items ≡ text.old.items ++ flat_map (λ part. part.now) parts.now) }
+    ensures { OnOk result
+        (text.new.items ≡ text.old.items ++ flat_map (λ part. part.now) parts.now) }
 {
     for part in parts {
         text.extend_from_slice(part)?;

@@ -28,8 +28,10 @@ fn lane_beside(near: &mut SeatLane, far: &mut ShardLane) -> (usize, usize)
     ensures far { Looks far.old far.new }
     ensures parcels { far.new.past.received ++ far.new.ahead ≡ near.new.past.sent }
     ensures replies { near.new.past.received ++ near.new.ahead ≡ far.new.past.sent }
-    ensures parcel_room { near.new.past.lane.capacity + length far.new.past.received ≤ near.new.free + length near.new.past.sent }
-    ensures reply_room { far.new.past.lane.capacity + length near.new.past.received ≤ far.new.free + length far.new.past.sent }
+    ensures parcel_room { near.new.past.lane.capacity + length far.new.past.received ≤
+        near.new.free + length near.new.past.sent }
+    ensures reply_room { far.new.past.lane.capacity + length near.new.past.received ≤
+        far.new.free + length far.new.past.sent }
     ensures counts { (result.0 ≡ length far.new.ahead) × (result.1 ≡ length near.new.ahead) }
 {
     near.parcels.slots_beside(&mut far.parcels);

@@ -24,7 +24,8 @@ impl Reply {
     /// The reply to a piece of this ticket, part and kind. No memory is taken.
     pub fn new(ticket: Ticket, part: usize, kind: Kind, answer: Answer) -> Reply
         requires { is_lawful kind answer ≡ true }
-        ensures { shown result ≡ record { ticket = ticket; part = part; kind = kind; answer = answer } }
+        ensures { shown result ≡
+            record { ticket = ticket; part = part; kind = kind; answer = answer } }
     {
         Reply {
             ticket,

@@ -88,7 +88,14 @@ impl<'a> MemoryLine<'a> {
 impl Outlet for MemoryLine<'_> {
     ghost use Rattle.mc_wire.specs.Outlet.{Untold};
 
-    ghost sight = { λ line. record { given = Untold; ended = line.ended; reads = None; taken = Untold; failed = line.failed } };
+    ghost sight = { λ line.
+        record {
+          given = Untold;
+          ended = line.ended;
+          reads = None;
+          taken = Untold;
+          failed = line.failed;
+        } };
 
     fn write(&mut self, bytes: &[u8]) -> Result<usize, OutFault> {
         if self.fails() {

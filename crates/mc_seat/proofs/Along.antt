@@ -7,7 +7,7 @@ use Rattle.mc_conn.specs.declared.conn.Taken.TheVariants as took
 use Rattle.mc_conn.specs.Fits.{KeysFit}
 use Rattle.mc_conn.specs.History.{Taken}
 use Rattle.mc_conn.specs.Told.{KeepsHanded, Told, all_texts}
-use Rattle.mc_seat.specs.internal.Stands.{Stands}
+use Rattle.mc_seat.specs.internal.Stands.{GaveAndTook}
 use Rattle.mc_seat.specs.internal.Steps.{StopsAt}
 use Rattle.mc_command.specs.declared.rules.Rules.{Rules}
 
@@ -19,9 +19,9 @@ keeps_trans told mid later same one two =
     record { within = omega (arith, within, same); same = subst P (sym same) two.same ∙ one.same }
 
 -- the texts handed out are the same
-pub serving_along : (rules : Rules) (received : ℕ → List Shown) (begin now : Sight) (unread fed : List ℕ) (ended : Bool) (shards : ℕ) (taken : List Taken) (texts others : List (List ℕ)) → texts ≡ others → Stands rules (KeysFit shards taken received) begin now unread fed ended taken texts → Stands rules (KeysFit shards taken received) begin now unread fed ended taken others
+pub serving_along : (rules : Rules) (received : ℕ → List Shown) (begin now : Sight) (unread fed : List ℕ) (ended : Bool) (shards : ℕ) (taken : List Taken) (texts others : List (List ℕ)) → texts ≡ others → GaveAndTook rules (KeysFit shards taken received) begin now unread fed ended taken texts → GaveAndTook rules (KeysFit shards taken received) begin now unread fed ended taken others
 serving_along rules received begin now unread fed ended shards taken texts others same stands =
-    let P : List (List ℕ) → Type 0 = λ ts. Stands rules (KeysFit shards taken received) begin now unread fed ended taken ts in subst P same stands
+    let P : List (List ℕ) → Type 0 = λ ts. GaveAndTook rules (KeysFit shards taken received) begin now unread fed ended taken ts in subst P same stands
 
 -- why no further command was taken is the same
 pub stops_along : (stop : Took) (told : Told) (out : ℕ) (lent : Bool) (accepted : List Shown) → StopsAt stop told → StopsAt stop (record told { out = out; lent = lent; accepted = accepted })

@@ -11,7 +11,7 @@ use Rattle.mc_conn.specs.Told.{commands_of}
 use Rattle.mc_conn.proofs.Gets.{all_more, all_push}
 use Rattle.mc_wire.specs.Outlet.{Read, Sight, asked, with_reads}
 use Rattle.mc_seat.specs.Reads.{OwesNothing}
-use Rattle.mc_seat.specs.internal.Stands.{Stands}
+use Rattle.mc_seat.specs.internal.Stands.{GaveAndTook}
 use Rattle.mc_command.specs.declared.rules.Rules.{Rules}
 
 pub with_reads-nil : (reads : Option (List Read)) → with_reads reads [] ≡ reads
@@ -23,7 +23,7 @@ with_reads-append None reads more = refl
 with_reads-append (Some before) reads more = ap (λ rs. Some rs) (append_assoc before reads more)
 
 -- nothing was read, written or taken yet
-pub stands_first : (rules : Rules) (fits : Type 0) (now : Sight) → Stands rules fits now now [] [] false [] []
+pub stands_first : (rules : Rules) (fits : Type 0) (now : Sight) → GaveAndTook rules fits now now [] [] false [] []
 stands_first rules fits now = record {
   read_is = sym (with_bytes-nil now.given);
   ended_is = λ e. absurd cc;
@@ -54,7 +54,7 @@ commands-length taken = length-map taken (λ (one : Taken). one.entry)
 
 -- a command was taken
 pub stands_take : (rules : Rules) (fits after : Type 0) (begin now : Sight) (unread fed : List ℕ) (ended : Bool) (taken : List Taken) (texts : List (List ℕ)) (one : Taken) → (after → fits) →
-    Stands rules fits begin now unread fed ended taken texts → Stands rules after begin now unread fed ended (taken ++ one ∷ []) texts
+    GaveAndTook rules fits begin now unread fed ended taken texts → GaveAndTook rules after begin now unread fed ended (taken ++ one ∷ []) texts
 stands_take rules fits after begin now unread fed ended taken texts one weaker stands =
     let counted = stands.counted in
     let commands = commands_of taken in
@@ -74,7 +74,7 @@ stands_take rules fits after begin now unread fed ended taken texts one weaker s
 -- neither was more taken of the line nor was it asked for more: what it gave may be read and fed now, and be its end
 pub stands_over : {rules : Rules} {fits after : Type 0} {begin before now : Sight} {unread left fed more : List ℕ} {ended over : Bool} {taken : List Taken} {texts : List (List ℕ)} → (after → fits) →
     now.given ≡ with_bytes begin.given (more ++ left) → (over ≡ true → (now.ended ≡ true) × (left ≡ [])) → now.taken ≡ before.taken → now.reads ≡ before.reads →
-    Stands rules fits begin before unread fed ended taken texts → Stands rules after begin now left more over taken texts
+    GaveAndTook rules fits begin before unread fed ended taken texts → GaveAndTook rules after begin now left more over taken texts
 stands_over weaker read_is ended_is same_taken same_reads stands = record {
   read_is = read_is;
   ended_is = ended_is;
@@ -86,12 +86,12 @@ stands_over weaker read_is ended_is same_taken same_reads stands = record {
 }
 
 -- where the answers are known to fit
-pub stands_fits : (rules : Rules) (fits after : Type 0) (begin now : Sight) (unread fed : List ℕ) (ended : Bool) (taken : List Taken) (texts : List (List ℕ)) → fits → Stands rules fits begin now unread fed ended taken texts → Stands rules after begin now unread fed ended taken texts
+pub stands_fits : (rules : Rules) (fits after : Type 0) (begin now : Sight) (unread fed : List ℕ) (ended : Bool) (taken : List Taken) (texts : List (List ℕ)) → fits → GaveAndTook rules fits begin now unread fed ended taken texts → GaveAndTook rules after begin now unread fed ended taken texts
 stands_fits rules fits after begin now unread fed ended taken texts known stands = stands_over (λ f. known) stands.read_is stands.ended_is refl refl stands
 
 -- every command of the bytes read was taken, and its reply is written out: the line was asked for more
 pub stands_asked : (rules : Rules) (fits : Type 0) (begin before : Sight) (fed : List ℕ) (ended : Bool) (taken : List Taken) (texts : List (List ℕ)) → AreCommands rules fed (commands_of taken) → (fits → length texts ≡ length taken) →
-    Stands rules fits begin before [] fed ended taken texts → Stands rules fits begin (asked before) [] fed ended taken texts
+    GaveAndTook rules fits begin before [] fed ended taken texts → GaveAndTook rules fits begin (asked before) [] fed ended taken texts
 stands_asked rules fits begin before fed ended taken texts all complete stands =
     let read : Read = record { given = before.given; taken = before.taken } in
     record {

@@ -13,8 +13,8 @@ abbrev pub Covers : Rules → Bool → List ℕ → List Taken → Type 0
 Covers rules broke read taken = MatchBool broke (BeginCommands rules read (commands_of taken)) (AreCommands rules read (commands_of taken))
 
 -- The line took all texts; one that broke, a beginning of them.
-abbrev pub Writes : Bool → List ℕ → List (List ℕ) → Type 0
-Writes broke written texts = MatchBool broke ((rest : List ℕ) × (written ++ rest ≡ concat texts)) (written ≡ concat texts)
+abbrev pub WritesTexts : Bool → List ℕ → List (List ℕ) → Type 0
+WritesTexts broke written texts = MatchBool broke ((rest : List ℕ) × (written ++ rest ≡ concat texts)) (written ≡ concat texts)
 
 -- What became of a line between begin and now.
 pub record Story (rules : Rules) (begin now : Sight) (broke : Bool) (taken : List Taken) (texts : List (List ℕ)) : Type 0 where
@@ -24,7 +24,7 @@ pub record Story (rules : Rules) (begin now : Sight) (broke : Bool) (taken : Lis
   pub read_is : now.given ≡ with_bytes begin.given read
   pub written_is : now.taken ≡ with_bytes begin.taken written
   pub covers : Covers rules broke read taken
-  pub writes : Writes broke written texts
+  pub writes : WritesTexts broke written texts
   pub may : AllByRecursion MayBeTaken taken
   -- Its input came to its end, or a command was taken after which nothing is read.
   pub finished : broke ≡ false → IsTrue now.ended ⊎ IsTrue (is_closed (commands_of taken))

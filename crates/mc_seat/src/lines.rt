@@ -2,7 +2,7 @@
 ghost use Rattle.std.specs.Prelude.{◌≡◌, ◌<◌, ◌≤◌, ℕ, IfOk, IfSome, OnErr, length, take};
 ghost use Rattle.std.specs.Io.{StartsWith};
 ghost use Rattle.std.specs.Io.Slices.{io_slices_bytes};
-ghost use Rattle.mc_wire.specs.Outlet.{Reads, broke, took};
+ghost use Rattle.mc_wire.specs.Outlet.{ReadsIntoRoom, broke, took};
 ghost use Rattle.mc_seat.specs.Lines.{ReadsIfReady};
 
 use mc_wire::{OutFault, Outlet};
@@ -44,7 +44,7 @@ pub trait Line: Outlet {
     fn read(&mut self, room: &mut [u8]) -> Result<usize, LineFault>
         requires { 0 < length room.old }
         ensures within { IfOk result (λ count. count ≤ length room.old) }
-        ensures read { Reads room.new result (Self.sight self.old) (Self.sight self.new) };
+        ensures read { ReadsIntoRoom room.new result (Self.sight self.old) (Self.sight self.new) };
 
     /// The same, of a line that may have nothing to give yet: then it gives `None`, and is as it was. Where it isn't told how else,
     /// a line waits until there is something.
@@ -61,7 +61,8 @@ pub trait Line: Outlet {
     /// nothing now. At a fault it takes none, and has failed. Where it isn't told how else, a line waits until it takes some.
     fn write_if_ready(&mut self, bytes: &[u8]) -> Result<usize, OutFault>
         ensures within { IfOk result (λ count. count ≤ length bytes.now) }
-        ensures ok { IfOk result (λ count. Self.sight self.new ≡ took (take count bytes.now) (Self.sight self.old)) }
+        ensures ok { IfOk result
+            (λ count. Self.sight self.new ≡ took (take count bytes.now) (Self.sight self.old)) }
         ensures err { OnErr result (Self.sight self.new ≡ broke (Self.sight self.old)) }
     {
         self.write(bytes)
@@ -71,7 +72,9 @@ pub trait Line: Outlet {
     /// them that isn't empty.
     fn write_vectored_if_ready(&mut self, bufs: &[IoSlice<'_>]) -> Result<usize, OutFault>
         ensures within { IfOk result (λ count. count ≤ length (io_slices_bytes bufs.now)) }
-        ensures ok { IfOk result (λ count. Self.sight self.new ≡ took (take count (io_slices_bytes bufs.now)) (Self.sight self.old)) }
+        ensures ok { IfOk result (λ count.
+            Self.sight self.new ≡
+            took (take count (io_slices_bytes bufs.now)) (Self.sight self.old)) }
         ensures err { OnErr result (Self.sight self.new ≡ broke (Self.sight self.old)) }
     {
         self.write_if_ready(first_filled(bufs))

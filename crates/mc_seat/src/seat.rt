@@ -63,7 +63,8 @@ impl Seat {
         stop: Taken,
         rooms: &mut Rooms,
     ) -> Turn
-        ensures { GoOnSays result stop conn.old self.old.unread (L.sight line.old) conn.new self.new.unread (L.sight line.new) }
+        ensures { GoOnSays result stop conn.old self.old.unread (L.sight line.old) conn.new
+            self.new.unread (L.sight line.new) }
     {
         if let Err(_gone) = conn.hand(line) {
             return Turn::Broke;
@@ -80,7 +81,8 @@ impl Seat {
         stop: Taken,
         rooms: &mut Rooms,
     ) -> Turn
-        ensures { HandedSays result stop conn.old self.old.unread (L.sight line.old) conn.new self.new.unread (L.sight line.new) }
+        ensures { HandedSays result stop conn.old self.old.unread (L.sight line.old) conn.new
+            self.new.unread (L.sight line.new) }
     {
         match stop {
             Taken::NeedMore => self.read_on(conn, line, rooms),
@@ -92,7 +94,8 @@ impl Seat {
     /// Reads on, once all replies are handed out: what was read is fed to the connection as far as it takes it, and where all
     /// of it was fed, more is read first.
     fn read_on<L: Line>(&mut self, conn: &mut Conn, line: &mut L, rooms: &mut Rooms) -> Turn
-        ensures { ReadOnSays result conn.old self.old.unread (L.sight line.old) conn.new self.new.unread (L.sight line.new) }
+        ensures { ReadOnSays result conn.old self.old.unread (L.sight line.old) conn.new
+            self.new.unread (L.sight line.new) }
     {
         if !self.unread.is_empty() {
             self.feed(conn, rooms);

@@ -34,9 +34,11 @@ impl Model for Unread {
 
     ghost Value = { List ℕ };
 
-    ghost view = { λ unread. take (unread.end - unread.start) (drop unread.start unread.room.items) };
+    ghost view = { λ unread.
+        take (unread.end - unread.start) (drop unread.start unread.room.items) };
 
-    ghost invariant = { λ unread. (unread.start ≤ unread.end) × (unread.end ≤ length unread.room.items) };
+    ghost invariant = { λ unread.
+        (unread.start ≤ unread.end) × (unread.end ≤ length unread.room.items) };
 }
 
 impl Unread {
@@ -101,7 +103,8 @@ impl Unread {
         line: &mut L,
         rooms: &mut Rooms,
     ) -> Result<Refilled, LineFault>
-        ensures bytes { IfOk result (λ got. got ≡ Bytes → L.sight line.new ≡ gave self.new (asked (L.sight line.old))) }
+        ensures bytes { IfOk result
+            (λ got. got ≡ Bytes → L.sight line.new ≡ gave self.new (asked (L.sight line.old))) }
         ensures same { IfOk result (λ got. got ≢ Bytes → L.sight line.new ≡ L.sight line.old) }
         ensures none { IfOk result (λ got. got ≢ Bytes → self.new ≡ []) }
         ensures err { OnErr result (L.sight line.new ≡ broke (asked (L.sight line.old))) }

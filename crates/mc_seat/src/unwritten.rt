@@ -113,7 +113,8 @@ impl Unwritten {
     /// a plain write, else the rest of the front and what stands behind it, so many pieces as one write takes.
     fn offer<L: Line>(&self, line: &mut L) -> Result<usize, OutFault>
         ensures within { IfOk result (λ count. count ≤ length (text_in self.now)) }
-        ensures ok { IfOk result (λ count. L.sight line.new ≡ took (take count (text_in self.now)) (L.sight line.old)) }
+        ensures ok { IfOk result (λ count.
+            L.sight line.new ≡ took (take count (text_in self.now)) (L.sight line.old)) }
         ensures err { OnErr result (L.sight line.new ≡ broke (L.sight line.old)) }
     {
         if self.is_last() {
@@ -185,7 +186,8 @@ impl Unwritten {
 
     /// The block waits too, behind the rest, and isn't copied. Where memory is refused, the rest waits as before.
     fn add_shared(&mut self, block: &ArcSlice<u8>) -> Result<(), AllocError>
-        ensures ok { OnOk result (text_in self.new ≡ text_in self.old ++ arc_slice_items block.now) }
+        ensures ok { OnOk result
+            (text_in self.new ≡ text_in self.old ++ arc_slice_items block.now) }
         ensures err { OnErr result (text_in self.new ≡ text_in self.old) }
         ensures refused { self.new.refused ≡ self.old.refused }
     {
@@ -201,8 +203,12 @@ impl Unwritten {
     /// all is written, it keeps no memory but a small room for the next replies.
     pub fn flush<L: Line>(&mut self, line: &mut L) -> Result<bool, OutFault>
         ensures out { IfOk result (λ out. IsTrue out → text_in self.new ≡ []) }
-        ensures ok { IfOk result (λ _. took (text_in self.new) (L.sight line.new) ≡ took (text_in self.old) (L.sight line.old)) }
-        ensures err { OnErr result (took (text_in self.new) (L.sight line.new) ≡ broke (took (text_in self.old) (L.sight line.old))) }
+        ensures ok { IfOk result (λ _.
+            took (text_in self.new) (L.sight line.new) ≡
+            took (text_in self.old) (L.sight line.old)) }
+        ensures err { OnErr result
+            (took (text_in self.new) (L.sight line.new) ≡
+            broke (took (text_in self.old) (L.sight line.old))) }
         ensures grows { HasGrown (L.sight line.old) (L.sight line.new) }
     {
         for _ in 0..u64::MAX {

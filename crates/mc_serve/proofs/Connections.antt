@@ -5,19 +5,19 @@ use Rattle.std.proofs.lemmas.List.{length-map}
 use Rattle.mc_wire.specs.Outlet.{Sight}
 use Rattle.mc_core.specs.Sizes.{Sizes}
 use Rattle.mc_server.specs.Explains.{LineTold}
-use Rattle.mc_serve.specs.Told.{DoorTold, IsFree, Told, Untold, closed}
+use Rattle.mc_serve.specs.Told.{DoorTold, IsFree, TellsLines, TellsNothing, closed}
 use Rattle.mc_serve.specs.Served.{PassEach, PassesAll, ServesDoors}
 use Rattle.mc_serve.specs.Tcp.{ServesConnections, gone_count, gone_line, how_many, new_line, told_tcp}
 use Rattle.mc_serve.specs.declared.tcp_door.Gone.{Gone}
 
 -- a door by which nothing came in yet
 abbrev pub new_door : DoorTold
-new_door = Told None None [] false
+new_door = TellsLines None None [] false
 
 -- Each line that went back was new when it came in.
 abbrev pub BeginsNew : DoorTold → Type 0
-BeginsNew Untold = Unit {0}
-BeginsNew (Told coming out back over) = AllByRecursion (λ line. line.begin ≡ new_line) back
+BeginsNew TellsNothing = Unit {0}
+BeginsNew (TellsLines coming out back over) = AllByRecursion (λ line. line.begin ≡ new_line) back
 
 lines_new : (gone : List (Gone × Unit {0})) → AllByRecursion (λ line. line.begin ≡ new_line) (map (λ one. gone_line one.0) gone)
 lines_new [] = tt
@@ -36,7 +36,7 @@ gone_one false gone over rest = ap (λ n. n + gone_count rest) (length-map gone 
 -- what came in by a new door is what went back
 record IsAllBack (lines : List LineTold) (after : DoorTold) : Type 0 where
   coming : Option (List Sight)
-  back : after ≡ Told coming None lines true
+  back : after ≡ TellsLines coming None lines true
 
 all_back : (before : DoorTold) (lines : List LineTold) (after : DoorTold) → before ≡ new_door → PassesAll before lines after → IsAllBack lines after
 all_back before lines after new passes =

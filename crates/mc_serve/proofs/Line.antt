@@ -4,7 +4,7 @@ use Rattle.std.specs.List.{AllByRecursion}
 use Rattle.std.specs.Prelude.{filter}
 use Rattle.std.proofs.lemmas.Bool.{cases_lt}
 use Rattle.std.proofs.lemmas.Bool.Decides.{eqb_tells}
-use Rattle.mc_conn.specs.History.{Taken, Done}
+use Rattle.mc_conn.specs.History.{Taken, AnsweredCommand}
 use Rattle.mc_conn.specs.Due as due
 use Rattle.mc_conn.specs.Due.{Ran}
 use Rattle.mc_conn.specs.Fits.{KeysFit}
@@ -93,7 +93,7 @@ ran_shards shard [] all = tt
 ran_shards shard (entry ∷ log) all = (all.0, ran_shards shard log all.1)
 
 -- What a shard ran for the line is what the line's history tells.
-pub ran_for_line : (shards shard seat : ℕ) (taken : List Taken) (got : List Shown) (all : List Entry) (history : List Done)
+pub ran_for_line : (shards shard seat : ℕ) (taken : List Taken) (got : List Shown) (all : List Entry) (history : List AnsweredCommand)
     → Agrees shards shard seat taken got (on_shard shard all)
     → due.on_shard shard (due.log_of shards history) ≡ due.ran_on shard (due.due shards shard taken) got
     → of_asker seat (on_shard shard all) ≡ on_shard shard (map (entry_for seat) (due.log_of shards history))

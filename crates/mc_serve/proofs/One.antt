@@ -4,15 +4,15 @@ use Rattle.std.specs.List.{AllByRecursion, flat_map, slice_get}
 use Rattle.std.specs.Prelude.{IfOk, Result, Ok, Err}
 use Rattle.std.proofs.lemmas.List.{length-map}
 use Rattle.mc_wire.specs.Outlet.{Sight}
-use Rattle.mc_conn.specs.History.{Done}
+use Rattle.mc_conn.specs.History.{AnsweredCommand}
 use Rattle.mc_core.specs.Sizes.{Sizes}
 use Rattle.mc_core.specs.Log.{Entry, of_asker, on_shard}
 use Rattle.mc_crew.specs.Zips.{Zips}
-use Rattle.mc_server.specs.Explains.{ExplainsLine, IsLogOf, LineTold, log_of}
+use Rattle.mc_server.specs.Explains.{ExplainsLine, IsLogOfLines, LineTold, log_of}
 use Rattle.mc_serve.specs.Over.{CameBack, ServesAll, lines_told}
 use Rattle.mc_serve.proofs.Lanes.{map_map}
 use Rattle.mc_serve.proofs.Zipped.{get_map, zips_seen}
-use Rattle.mc_serve.specs.Told.{DoorTold, IsFree, Told, closed}
+use Rattle.mc_serve.specs.Told.{DoorTold, IsFree, TellsLines, closed}
 use Rattle.mc_serve.specs.Served.{ExplainsHistory, PassEach, PassesAll, ServesDoors}
 use Rattle.mc_serve.specs.One.{IsBack, waits}
 
@@ -22,7 +22,7 @@ one_line line lines door back passes is =
     let told = passes.passes in
     let rest = told.0 in
     let one : LineTold = record { begin = is.0; now = back.line; commands = back.commands; broke = back.broke } in
-    let same : Told rest None lines true ≡ Told (Some []) None (one ∷ []) is.1 = sym (passes.over ∙ ap closed told.2) ∙ is.2 in
+    let same : TellsLines rest None lines true ≡ TellsLines (Some []) None (one ∷ []) is.1 = sym (passes.over ∙ ap closed told.2) ∙ is.2 in
     let lines_are : lines ≡ one ∷ [] = cc in
     let comes : line ∷ [] ≡ map (λ (l : LineTold). l.begin) lines ++ told.1.0 = told.1.1 in
     let first : line ∷ [] ≡ is.0 ∷ told.1.0 = comes ∙ ap (λ ls. map (λ (l : LineTold). l.begin) ls ++ told.1.0) lines_are in
@@ -50,7 +50,7 @@ each_one (line ∷ lines) (s ∷ seats) (door ∷ doors) (back ∷ backs) each z
       count = ap suc rest.count;
     }
 
-one_history : (sizes : Sizes) (may_answer : ℕ → Type 0) (log : List Entry) (seat : ℕ) (line : LineTold) (histories : List (List Done)) → Zips (ExplainsHistory sizes may_answer) (line ∷ []) histories
+one_history : (sizes : Sizes) (may_answer : ℕ → Type 0) (log : List Entry) (seat : ℕ) (line : LineTold) (histories : List (List AnsweredCommand)) → Zips (ExplainsHistory sizes may_answer) (line ∷ []) histories
     → ((shard : ℕ) → shard < sizes.shards → of_asker seat (on_shard shard log) ≡ flat_map (λ history. on_shard shard (log_of sizes.shards seat history)) histories) → ExplainsLine sizes may_answer log seat line
 one_history sizes may_answer log seat line [] each ran = absurd each
 one_history sizes may_answer log seat line (history ∷ h ∷ histories) each ran = absurd each.1
@@ -72,7 +72,7 @@ serves_one sizes may_answer lines doors backs serves zips =
     let ones = each_one lines serves.seats doors backs serves.back zips in
     let told = lines_told lines backs in
     let count : length serves.seats ≡ length told = ap length (sym ones.seats_are) ∙ length-map told (λ line. line ∷ []) in
-    let L : ℕ → Type 0 = λ n. IsLogOf sizes n serves.log in
+    let L : ℕ → Type 0 = λ n. IsLogOfLines sizes n serves.log in
     record {
       as_many = ones.count;
       explained = record {

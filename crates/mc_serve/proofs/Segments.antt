@@ -11,7 +11,7 @@ use Rattle.mc_ring.specs.Made.{AreNewEnds}
 use Rattle.mc_ring.specs.Reply.{Shown}
 use Rattle.mc_split.specs.declared.plan.Piece.{Piece}
 use Rattle.mc_conn.specs.declared.conn.Conn.{Conn}
-use Rattle.mc_conn.specs.History.{Done, IsAnswered, Taken, entries_of, taken_of, text_done}
+use Rattle.mc_conn.specs.History.{AnsweredCommand, IsAnswered, Taken, entries_of, taken_of, text_done}
 use Rattle.mc_conn.specs.Due as due
 use Rattle.mc_conn.specs.Due.{Ran, history_of, ran_on}
 use Rattle.mc_conn.specs.Fits.{CameFrom, KeysFit, Serves, Tells, reply_of}
@@ -32,7 +32,7 @@ use Rattle.mc_serve.proofs.Joined.{worker_at}
 use Rattle.mc_serve.proofs.Line.{asked_by, entry_for, filter_keeps, map_on_shard, ran_shards, same_asker, shard_of}
 use Rattle.mc_serve.proofs.Served.{IsJoined, all_come, entries_same, moments_of, none_read}
 use Rattle.mc_serve.proofs.Tying.{as_many_replies, none_came, pieces_ran, ran_of, replies_ran, same_pieces, same_replies, to_end}
-use Rattle.mc_serve.specs.Seats.{AllFit, SeatAt, SeatServes, ServesLine, ServesLines}
+use Rattle.mc_serve.specs.Seats.{AllFit, SeatAt, SeatServes, ServesDoorLine, ServesLines}
 use Rattle.mc_serve.specs.Served.{ExplainsHistory, ExplainsSeat}
 use Rattle.mc_command.specs.declared.rules.Rules.{Rules}
 
@@ -70,7 +70,7 @@ pub record Served (shards : ℕ) (rules : Rules) (may_answer : ℕ → Type 0) (
   pub received : ℕ → List Shown
   pub core : Core may_answer line before after (sized shards rules told) received
 
-served_of : (shards : ℕ) (rules : Rules) (may_answer : ℕ → Type 0) (line : LineTold) (before after : Ends Near) → ServesLine shards rules may_answer line before after → Served shards rules may_answer line before after
+served_of : (shards : ℕ) (rules : Rules) (may_answer : ℕ → Type 0) (line : LineTold) (before after : Ends Near) → ServesDoorLine shards rules may_answer line before after → Served shards rules may_answer line before after
 served_of shards rules may_answer line before after serves =
     let told = serves.served.told in
     let received = serves.served.received in
@@ -231,7 +231,7 @@ run_came shards shard taken got log run = record {
 }
 
 -- What a shard ran for a line is what the line's history tells.
-run_told : (shards shard seat : ℕ) (taken : List Taken) (got : List Shown) (mine : List Entry) (history : List Done) → AreRun (due.due shards shard taken) got mine → AllByRecursion (IsMine shard seat) mine
+run_told : (shards shard seat : ℕ) (taken : List Taken) (got : List Shown) (mine : List Entry) (history : List AnsweredCommand) → AreRun (due.due shards shard taken) got mine → AllByRecursion (IsMine shard seat) mine
     → due.on_shard shard (due.log_of shards history) ≡ ran_on shard (due.due shards shard taken) got → mine ≡ on_shard shard (log_of shards seat history)
 run_told shards shard seat taken got mine history run owned told =
     let these : ran_on shard (due.due shards shard taken) got ≡ map ran_of mine =
@@ -243,7 +243,7 @@ run_told shards shard seat taken got mine history run owned told =
 -- One line of the seat, by what each shard ran for it.
 record LineRan (sizes : Sizes) (may_answer : ℕ → Type 0) (line : LineTold) (seat : ℕ) (mine : ℕ → List Entry) (taken : List Taken) (received : ℕ → List Shown) : Type 0 where
   fit : KeysFit sizes.shards taken received
-  history : List Done
+  history : List AnsweredCommand
   explains : ExplainsHistory sizes may_answer line history
   ran : (shard : ℕ) → shard < sizes.shards → mine shard ≡ on_shard shard (log_of sizes.shards seat history)
 
@@ -266,7 +266,7 @@ line_ran sizes may_answer line before after seat mine some at runs owned =
     let whole : take count told.taken ≡ told.taken = take_all count told.taken (omega arith) in
     let complete = core.complete fit in
     let all : take count (all_texts told) ≡ all_texts told = take_all count (all_texts told) (omega (arith, complete)) in
-    let history_at : List Taken → List Done = λ ts. history_of sizes.shards told.accepted ts in
+    let history_at : List Taken → List AnsweredCommand = λ ts. history_of sizes.shards told.accepted ts in
     let history = history_at told.taken in
     let same : map taken_of history ≡ told.taken = (let P : List Taken → Type 0 = λ ts. map taken_of (history_at ts) ≡ ts in subst P whole t.same) in
     let texts : all_texts told ≡ map text_done history = sym all ∙ (t.texts ∙ ap (λ ts. map text_done (history_at ts)) whole) in
@@ -294,7 +294,7 @@ line_ran sizes may_answer line before after seat mine some at runs owned =
 -- All lines of the seat, by what each shard ran for it.
 record SeatRan (sizes : Sizes) (may_answer : ℕ → Type 0) (lines : List LineTold) (seat : ℕ) (mine : ℕ → List Entry) (before after : Ends Near) (chain : Chain sizes.shards (rules_of sizes) may_answer lines before after) : Type 0 where
   fits : ChainFits sizes.shards (rules_of sizes) may_answer lines before after chain
-  histories : List (List Done)
+  histories : List (List AnsweredCommand)
   each : Zips (ExplainsHistory sizes may_answer) lines histories
   ran : (shard : ℕ) → shard < sizes.shards → mine shard ≡ flat_map (λ history. on_shard shard (log_of sizes.shards seat history)) histories
 

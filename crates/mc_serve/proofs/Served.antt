@@ -6,7 +6,7 @@ use Rattle.mc_ring.specs.Lane.{Near}
 use Rattle.mc_ring.specs.Ends.{Ends, list_at}
 use Rattle.mc_ring.specs.Made.{IsUnused}
 use Rattle.mc_ring.specs.Reply.{Shown}
-use Rattle.mc_conn.specs.History.{Done, Taken, entries_of, taken_of}
+use Rattle.mc_conn.specs.History.{AnsweredCommand, Taken, entries_of, taken_of}
 use Rattle.mc_conn.specs.Due as due
 use Rattle.mc_conn.specs.Fits.{HasCome, counts}
 use Rattle.mc_conn.specs.Told.{commands_of}
@@ -30,12 +30,12 @@ all_come shards taken received answered shard =
     omega (arith, whole, these)
 
 -- What holds of the moments at which commands were taken holds of those that stand in their history.
-pub moments_of : (may_answer : ℕ → Type 0) (history : List Done) → AllByRecursion (λ (one : Taken). may_answer one.moment) (map taken_of history) → AllByRecursion (λ (done : Done). may_answer done.moment) history
+pub moments_of : (may_answer : ℕ → Type 0) (history : List AnsweredCommand) → AllByRecursion (λ (one : Taken). may_answer one.moment) (map taken_of history) → AllByRecursion (λ (done : AnsweredCommand). may_answer done.moment) history
 moments_of may_answer [] all = tt
 moments_of may_answer (done ∷ history) all = (all.0, moments_of may_answer history all.1)
 
 -- The commands of a history are those that were taken.
-pub entries_same : (history : List Done) → commands_of (map taken_of history) ≡ entries_of history
+pub entries_same : (history : List AnsweredCommand) → commands_of (map taken_of history) ≡ entries_of history
 entries_same [] = refl
 entries_same (done ∷ history) = ap (λ es. done.entry ∷ es) (entries_same history)
 

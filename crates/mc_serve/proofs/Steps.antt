@@ -6,7 +6,7 @@ use Rattle.mc_ring.specs.Lane.{Near}
 use Rattle.mc_ring.specs.Ends.{Ends}
 use Rattle.mc_conn.specs.declared.conn.Conn.{Conn}
 use Rattle.mc_conn.specs.Conn.{IsConn}
-use Rattle.mc_conn.specs.Told.{IsAtRest, IsOver, Told as ConnTold}
+use Rattle.mc_conn.specs.Told.{IsAtRest, IsOver, Told}
 use Rattle.mc_seat.specs.LineServed.{LineServed}
 use Rattle.mc_server.specs.Explains.{LineTold}
 use Rattle.mc_threads.specs.declared.service.Service.{Service}
@@ -14,13 +14,13 @@ use Rattle.mc_threads.specs.declared.session.Session.{Session}
 use Rattle.mc_threads.specs.Serving.{EndsAll, IsIdle}
 use Rattle.mc_threads.specs.Ending.{EndsFirst, EndsOne, StandsStill}
 use Rattle.mc_threads.specs.Service.{WasServedBy}
-use Rattle.mc_threads.specs.Session.{HasServed, IsServing, IsVacant, MayStep}
+use Rattle.mc_threads.specs.Session.{HasServed, IsServingLine, IsVacant, MayStep}
 use Rattle.mc_threads.proofs.Ending.{ends_all, ends_next, ends_none, ends_still}
 use Rattle.mc_threads.proofs.Sessions.{SomeAnd, may_serve, some_and}
 use Rattle.mc_serve.specs.Told.{DoorTold, IsDone, IsFree, IsNext, closed, let_in, took_back}
 use Rattle.mc_serve.specs.declared.sitting.Phase.{Phase}
 use Rattle.mc_serve.specs.declared.sitting.Phase.TheVariants as phase
-use Rattle.mc_serve.specs.Seats.{CanStep, ClosesOn, LineFits, SeatAt, SeatServes, SeatStands, ServesDoor, ServesLine, SitsBeginning, SitsClosing, SitsFree, SitsServing, seat_at}
+use Rattle.mc_serve.specs.Seats.{CanStep, ClosesOn, LineFits, SeatAt, SeatServes, SeatStands, ServesDoor, ServesDoorLine, SitsBeginning, SitsClosing, SitsFree, SitsServing, seat_at}
 use Rattle.mc_serve.proofs.Chain.{OneMore, one_more, passes_none}
 use Rattle.mc_command.specs.declared.rules.Rules.{Rules}
 
@@ -39,11 +39,11 @@ module _ (shards : ℕ) (rules : Rules) (may_answer : ℕ → Type 0) where
 
   -- The line that came in begins to be served.
   pub begins : (sat : SeatAt) (door : DoorTold) (begin : Sight) (session session' : Session)
-      → ((rules : Rules) (window : ℕ) (line : Sight) → IsVacant rules window session → IsServing (length session.courier.ends.lanes) rules may_answer line line session.courier.ends session')
+      → ((rules : Rules) (window : ℕ) (line : Sight) → IsVacant rules window session → IsServingLine (length session.courier.ends.lanes) rules may_answer line line session.courier.ends session')
       → SitsBeginning shards rules may_answer sat door begin session → SitsServing shards rules may_answer sat door begin session'
   begins sat door begin session session' serves came =
       let sits = came.sits in
-      let S : ℕ → Type 0 = λ n. IsServing n rules may_answer begin begin session.courier.ends session' in
+      let S : ℕ → Type 0 = λ n. IsServingLine n rules may_answer begin begin session.courier.ends session' in
       record {
         free = sits.free;
         lines = sits.lines;
@@ -72,7 +72,7 @@ module _ (shards : ℕ) (rules : Rules) (may_answer : ℕ → Type 0) where
 
   -- The line that is out was served a step further.
   pub serves_on : (sat : SeatAt) (door : DoorTold) (now now' : Sight) (session session' : Session)
-      → ((begin : Sight) (before : Ends Near) → IsServing shards rules may_answer begin now before session → IsServing shards rules may_answer begin now' before session')
+      → ((begin : Sight) (before : Ends Near) → IsServingLine shards rules may_answer begin now before session → IsServingLine shards rules may_answer begin now' before session')
       → SitsServing shards rules may_answer sat door now session → SitsServing shards rules may_answer sat door now' session'
   serves_on sat door now now' session session' goes sits = record {
     free = sits.free;
@@ -110,13 +110,13 @@ module _ (shards : ℕ) (rules : Rules) (may_answer : ℕ → Type 0) where
 
   -- what renewing a session does
   pub record Renews (another : Bool) (old new : Session) : Type 0 where
-    pub when : (service : Service) (told : ConnTold) → old.service ≡ Some service → IsConn service.conn told → IsTrue another ↔ (IsAtRest told × IsOver told)
-    pub vacant : IsTrue another → (service : Service) (told : ConnTold) → old.service ≡ Some service → IsConn service.conn told → told.shards ≡ length old.courier.ends.lanes → IsIdle old.courier.under_way.items → IsVacant told.rules told.window new
+    pub when : (service : Service) (told : Told) → old.service ≡ Some service → IsConn service.conn told → IsTrue another ↔ (IsAtRest told × IsOver told)
+    pub vacant : IsTrue another → (service : Service) (told : Told) → old.service ≡ Some service → IsConn service.conn told → told.shards ≡ length old.courier.ends.lanes → IsIdle old.courier.under_way.items → IsVacant told.rules told.window new
     pub ends : new.courier.ends ≡ old.courier.ends
 
   -- The line that was out was served and went back, and the session was renewed, or can't be.
   module _ (sat : SeatAt) (door door' : DoorTold) (now now' : Sight) (commands : ℕ) (broke another : Bool) (session session' last : Session)
-      (goes : (begin : Sight) (before : Ends Near) → IsServing shards rules may_answer begin now before session → HasServed shards rules may_answer begin now' before session' commands broke)
+      (goes : (begin : Sight) (before : Ends Near) → IsServingLine shards rules may_answer begin now before session → HasServed shards rules may_answer begin now' before session' commands broke)
       (back : door' ≡ took_back now' commands broke door) (renews : Renews another session' last) (sits : SitsServing shards rules may_answer sat door now session) where
     -- what the line was served by
     abbrev by : SomeAnd session'.service (λ service. WasServedBy shards rules may_answer sits.begin now' sits.ends session'.courier service commands broke)
@@ -125,7 +125,7 @@ module _ (shards : ℕ) (rules : Rules) (may_answer : ℕ → Type 0) where
     abbrev line : LineTold
     line = record { begin = sits.begin; now = now'; commands = commands; broke = broke }
 
-    abbrev this : ServesLine shards rules may_answer line sits.ends last.courier.ends
+    abbrev this : ServesDoorLine shards rules may_answer line sits.ends last.courier.ends
     this = record { conn = by.some.conn; served = renewed sits.begin now' sits.ends session'.courier.ends last.courier.ends by.some.conn commands broke renews.ends by.holds.served }
 
     abbrev more : OneMore shards rules may_answer sat (seat_at door' last.courier.ends) another

@@ -9,7 +9,7 @@ use Rattle.mc_seat.specs.LineServed.{LineServed}
 use Rattle.mc_server.specs.Explains.{LineTold}
 use Rattle.mc_threads.specs.Ending.{EndsFirst}
 use Rattle.mc_threads.specs.Serving.{EndsAll}
-use Rattle.mc_threads.specs.Session.{IsServing, IsVacant, MayStep}
+use Rattle.mc_threads.specs.Session.{IsServingLine, IsVacant, MayStep}
 use Rattle.mc_threads.specs.declared.session.Session.{Session}
 use Rattle.mc_serve.specs.Told.{DoorTold, IsDone, IsFree, IsNext, Passes, closed, let_in}
 use Rattle.mc_serve.specs.declared.sitting.Phase.{Phase}
@@ -17,7 +17,7 @@ use Rattle.mc_serve.specs.declared.sitting.Phase.TheVariants as phase
 use Rattle.mc_command.specs.declared.rules.Rules.{Rules}
 
 -- The line was served between these ends.
-pub record ServesLine (shards : ℕ) (rules : Rules) (may_answer : ℕ → Type 0) (line : LineTold) (before after : Ends Near) : Type 0 where
+pub record ServesDoorLine (shards : ℕ) (rules : Rules) (may_answer : ℕ → Type 0) (line : LineTold) (before after : Ends Near) : Type 0 where
   pub conn : Conn
   pub served : LineServed shards rules may_answer line.begin line.now before after conn line.commands line.broke
 
@@ -25,10 +25,10 @@ pub record ServesLine (shards : ℕ) (rules : Rules) (may_answer : ℕ → Type 
 abbrev pub ServesLines : ℕ → Rules → (ℕ → Type 0) → List LineTold → Ends Near → Ends Near → Type 0
 ServesLines shards rules may_answer [] before after = after ≡ before
 ServesLines shards rules may_answer (line ∷ lines) before after =
-    (mid : Ends Near) × ServesLine shards rules may_answer line before mid × ServesLines shards rules may_answer lines mid after
+    (mid : Ends Near) × ServesDoorLine shards rules may_answer line before mid × ServesLines shards rules may_answer lines mid after
 
 -- The keys of the replies that the line got are those of the pieces that were due.
-abbrev pub LineFits : (shards : ℕ) (rules : Rules) (may_answer : ℕ → Type 0) (line : LineTold) (before after : Ends Near) → ServesLine shards rules may_answer line before after → Type 0
+abbrev pub LineFits : (shards : ℕ) (rules : Rules) (may_answer : ℕ → Type 0) (line : LineTold) (before after : Ends Near) → ServesDoorLine shards rules may_answer line before after → Type 0
 LineFits shards rules may_answer line before after serves = KeysFit serves.served.told.shards serves.served.told.taken serves.served.received
 
 -- The same of each line. Once the lanes are looked at from both ends it is known.
@@ -45,7 +45,7 @@ abbrev pub seat_at : DoorTold → Ends Near → SeatAt
 seat_at door ends = record { door = door; ends = ends }
 
 -- The door said that no more lines come.
-pub record IsClosed (before after : DoorTold) : Type 0 where
+pub record DoorIsClosed (before after : DoorTold) : Type 0 where
   pub done : IsDone before
   pub now : after ≡ closed before
 
@@ -55,7 +55,7 @@ pub record ServesDoor (shards : ℕ) (rules : Rules) (may_answer : ℕ → Type 
   pub passed : DoorTold
   pub door : Passes sat.door lines passed
   pub lines_are : ServesLines shards rules may_answer lines sat.ends rose.ends
-  pub over : AllFit shards rules may_answer lines sat.ends rose.ends lines_are → IsClosed passed rose.door
+  pub over : AllFit shards rules may_answer lines sat.ends rose.ends lines_are → DoorIsClosed passed rose.door
 
 -- Lines of the door were served, and then each lane was closed.
 pub record SeatServes (shards : ℕ) (rules : Rules) (may_answer : ℕ → Type 0) (sat rose : SeatAt) : Type 0 where
@@ -64,7 +64,7 @@ pub record SeatServes (shards : ℕ) (rules : Rules) (may_answer : ℕ → Type 
   pub door : Passes sat.door lines passed
   pub served : Ends Near
   pub lines_are : ServesLines shards rules may_answer lines sat.ends served
-  pub over : AllFit shards rules may_answer lines sat.ends served lines_are → IsClosed passed rose.door
+  pub over : AllFit shards rules may_answer lines sat.ends served lines_are → DoorIsClosed passed rose.door
   pub closed : EndsAll served rose.ends
 
 -- Lines of the door were served, none is out, and the seat may serve another.
@@ -98,7 +98,7 @@ pub record SitsServing (shards : ℕ) (rules : Rules) (may_answer : ℕ → Type
   pub came : door ≡ let_in begin before
   pub lines_are : ServesLines shards rules may_answer lines sat.ends ends
   pub width : length ends.lanes ≡ shards
-  pub serving : IsServing shards rules may_answer begin now ends session
+  pub serving : IsServingLine shards rules may_answer begin now ends session
 
 -- Lines of the door were served, and then the first so many lanes were closed.
 pub record SitsClosing (shards : ℕ) (rules : Rules) (may_answer : ℕ → Type 0) (count : ℕ) (sat : SeatAt) (door : DoorTold) (ends : Ends Near) : Type 0 where

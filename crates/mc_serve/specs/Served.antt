@@ -1,17 +1,17 @@
 -- What is told of all doors once their threads are joined.
 use Rattle.std.specs.Prelude.{ℕ, ◌≡◌, ◌<◌, List, [], ◌∷◌, length, map, Some}
 use Rattle.std.specs.List.{AllByRecursion, flat_map, slice_get}
-use Rattle.mc_conn.specs.History.{Done, IsAnswered, entries_of, taken_of, text_done}
+use Rattle.mc_conn.specs.History.{AnsweredCommand, IsAnswered, entries_of, taken_of, text_done}
 use Rattle.mc_core.specs.Sizes.{Sizes, rules_of}
 use Rattle.mc_core.specs.Log.{Entry, of_asker, on_shard}
 use Rattle.mc_crew.specs.Zips.{Zips}
 use Rattle.mc_seat.specs.Story.{Story}
 use Rattle.mc_seat.specs.Reads.{ReadsOwingNothing}
-use Rattle.mc_server.specs.Explains.{IsLogOf, LineTold, log_of}
+use Rattle.mc_server.specs.Explains.{IsLogOfLines, LineTold, log_of}
 use Rattle.mc_serve.specs.Told.{DoorTold, IsDone, Passes, closed}
 
 -- The line's commands, each with its moment and answers, explain what was read of it and what it took.
-pub record ExplainsHistory (sizes : Sizes) (may_answer : ℕ → Type 0) (line : LineTold) (history : List Done) : Type 0 where
+pub record ExplainsHistory (sizes : Sizes) (may_answer : ℕ → Type 0) (line : LineTold) (history : List AnsweredCommand) : Type 0 where
   -- The commands are those of the bytes read, and the line took the texts of their replies.
   pub story : Story (rules_of sizes) line.begin line.now line.broke (map taken_of history) (map text_done history)
   -- It was read only where all replies to the bytes read so far were written out.
@@ -22,7 +22,7 @@ pub record ExplainsHistory (sizes : Sizes) (may_answer : ℕ → Type 0) (line :
 
 -- The log explains the lines of a seat by a history each.
 pub record ExplainsSeat (sizes : Sizes) (may_answer : ℕ → Type 0) (log : List Entry) (seat : ℕ) (lines : List LineTold) : Type 0 where
-  pub histories : List (List Done)
+  pub histories : List (List AnsweredCommand)
   pub each : Zips (ExplainsHistory sizes may_answer) lines histories
   -- What a shard ran for the seat is just what was due there for the first line, then for the second, and so on.
   pub ran : (shard : ℕ) → shard < sizes.shards → of_asker seat (on_shard shard log) ≡ flat_map (λ history. on_shard shard (log_of sizes.shards seat history)) histories
@@ -48,5 +48,5 @@ pub record ServesDoors (sizes : Sizes) (may_answer : ℕ → Type 0) (before aft
   pub seats : List (List LineTold)
   pub back : PassEach before seats after
   pub log : List Entry
-  pub log_is : IsLogOf sizes (length seats) log
+  pub log_is : IsLogOfLines sizes (length seats) log
   pub each : (seat : ℕ) (lines : List LineTold) → slice_get seats seat ≡ Some lines → ExplainsSeat sizes may_answer log seat lines

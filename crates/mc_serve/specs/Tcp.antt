@@ -4,8 +4,8 @@ use Rattle.std.specs.List.{AllByRecursion, slice_get}
 use Rattle.mc_wire.specs.Outlet.{Listed, Read, Sight}
 use Rattle.mc_core.specs.Sizes.{Sizes}
 use Rattle.mc_core.specs.Log.{Entry}
-use Rattle.mc_server.specs.Explains.{IsLogOf, LineTold}
-use Rattle.mc_serve.specs.Told.{DoorTold, Told, Untold}
+use Rattle.mc_server.specs.Explains.{IsLogOfLines, LineTold}
+use Rattle.mc_serve.specs.Told.{DoorTold, TellsLines, TellsNothing}
 use Rattle.mc_serve.specs.Served.{ExplainsSeat}
 use Rattle.mc_serve.specs.declared.tcp_door.Gone.{Gone}
 use Rattle.mc_serve.specs.declared.tcp_line.TcpLine.{TcpLine}
@@ -52,14 +52,14 @@ gone_line gone = record {
 
 -- what is told of the door of a seat: whether a connection is out, those that are gone, and whether it said that no more come
 abbrev pub told_tcp : Bool → List (Gone × Unit {0}) → Bool → DoorTold
-told_tcp true gone over = Told None (Some new_line) (map (λ one. gone_line one.0) gone) over
-told_tcp false gone over = Told None None (map (λ one. gone_line one.0) gone) over
+told_tcp true gone over = TellsLines None (Some new_line) (map (λ one. gone_line one.0) gone) over
+told_tcp false gone over = TellsLines None None (map (λ one. gone_line one.0) gone) over
 
 -- how many lines went back to the doors, all of them together
 abbrev pub gone_count : List DoorTold → ℕ
 gone_count [] = 0
-gone_count (Untold ∷ doors) = gone_count doors
-gone_count (Told coming out back over ∷ doors) = length back + gone_count doors
+gone_count (TellsNothing ∷ doors) = gone_count doors
+gone_count (TellsLines coming out back over ∷ doors) = length back + gone_count doors
 
 -- how many connections all seats have served
 abbrev pub how_many : List (List LineTold) → ℕ
@@ -75,5 +75,5 @@ pub record ServesConnections (sizes : Sizes) (may_answer : ℕ → Type 0) (ende
   pub counted : ended ≡ min (how_many seats) (2 ^ 64 - 1)
   pub begins : AllByRecursion (λ lines. AllByRecursion (λ line. line.begin ≡ new_line) lines) seats
   pub log : List Entry
-  pub log_is : IsLogOf sizes (length seats) log
+  pub log_is : IsLogOfLines sizes (length seats) log
   pub each : (seat : ℕ) (lines : List LineTold) → slice_get seats seat ≡ Some lines → ExplainsSeat sizes may_answer log seat lines

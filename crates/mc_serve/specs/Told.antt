@@ -8,8 +8,8 @@ use Rattle.mc_serve.specs.declared.door.Arrival.TheVariants as arrival
 -- what is told of a door: nothing; or the lines that will come, where they are known, the one that is out, those that went back,
 -- in their order, and whether it has said that no more come
 pub data DoorTold : Type 0 where
-  Untold : DoorTold
-  Told : Option (List Sight) → Option Sight → List LineTold → Bool → DoorTold
+  TellsNothing : DoorTold
+  TellsLines : Option (List Sight) → Option Sight → List LineTold → Bool → DoorTold
 
 -- those that come later
 abbrev pub later : Option (List Sight) → Option (List Sight)
@@ -19,37 +19,37 @@ later (Some (line ∷ lines)) = Some lines
 
 -- This line is the next to come, where that is known.
 abbrev pub IsNext : Sight → DoorTold → Type 0
-IsNext line Untold = Unit {0}
-IsNext line (Told None out back over) = Unit {0}
-IsNext line (Told (Some []) out back over) = ⊥
-IsNext line (Told (Some (next ∷ lines)) out back over) = next ≡ line
+IsNext line TellsNothing = Unit {0}
+IsNext line (TellsLines None out back over) = Unit {0}
+IsNext line (TellsLines (Some []) out back over) = ⊥
+IsNext line (TellsLines (Some (next ∷ lines)) out back over) = next ≡ line
 
 -- a line came in
 abbrev pub let_in : Sight → DoorTold → DoorTold
-let_in line Untold = Untold
-let_in line (Told coming out back over) = Told (later coming) (Some line) back over
+let_in line TellsNothing = TellsNothing
+let_in line (TellsLines coming out back over) = TellsLines (later coming) (Some line) back over
 
 -- the line that was out went back
 abbrev pub took_back : Sight → ℕ → Bool → DoorTold → DoorTold
-took_back now commands broke Untold = Untold
-took_back now commands broke (Told coming None back over) = Told coming None back over
-took_back now commands broke (Told coming (Some begin) back over) = Told coming None (back ++ record { begin = begin; now = now; commands = commands; broke = broke } ∷ []) over
+took_back now commands broke TellsNothing = TellsNothing
+took_back now commands broke (TellsLines coming None back over) = TellsLines coming None back over
+took_back now commands broke (TellsLines coming (Some begin) back over) = TellsLines coming None (back ++ record { begin = begin; now = now; commands = commands; broke = broke } ∷ []) over
 
 -- it said that no more come
 abbrev pub closed : DoorTold → DoorTold
-closed Untold = Untold
-closed (Told coming out back over) = Told coming out back true
+closed TellsNothing = TellsNothing
+closed (TellsLines coming out back over) = TellsLines coming out back true
 
 -- No line is out.
 abbrev pub IsFree : DoorTold → Type 0
-IsFree Untold = Unit {0}
-IsFree (Told coming out back over) = out ≡ None
+IsFree TellsNothing = Unit {0}
+IsFree (TellsLines coming out back over) = out ≡ None
 
 -- No further line comes, where that is known.
 abbrev pub IsDone : DoorTold → Type 0
-IsDone Untold = Unit {0}
-IsDone (Told None out back over) = Unit {0}
-IsDone (Told (Some lines) out back over) = lines ≡ []
+IsDone TellsNothing = Unit {0}
+IsDone (TellsLines None out back over) = Unit {0}
+IsDone (TellsLines (Some lines) out back over) = lines ≡ []
 
 -- What accepting answers, and what is told of the door then.
 abbrev pub Arrives : {L : Type 0} → (L → Sight) → Arrival L → DoorTold → DoorTold → Type 0
@@ -64,5 +64,5 @@ Comes (Some before) lines after = (left : List Sight) × (before ≡ lines ++ le
 
 -- Just these lines came in and went back.
 abbrev pub Passes : DoorTold → List LineTold → DoorTold → Type 0
-Passes Untold lines after = after ≡ Untold
-Passes (Told coming out back over) lines after = (rest : Option (List Sight)) × Comes coming (map (λ line. line.begin) lines) rest × (after ≡ Told rest out (back ++ lines) over)
+Passes TellsNothing lines after = after ≡ TellsNothing
+Passes (TellsLines coming out back over) lines after = (rest : Option (List Sight)) × Comes coming (map (λ line. line.begin) lines) rest × (after ≡ TellsLines rest out (back ++ lines) over)

@@ -46,7 +46,8 @@ pub struct OneDoor<L> {
 impl<L: Line + Drop> OneDoor<L> {
     /// The line comes in by it.
     pub fn new(line: L) -> OneDoor<L>
-        ensures { told_one (λ line. L.sight line) result.waits result.out result.back result.over ≡ waits (L.sight line) }
+        ensures { told_one (λ line. L.sight line) result.waits result.out result.back result.over ≡
+            waits (L.sight line) }
     {
         OneDoor {
             waits: Some(line),
@@ -58,7 +59,9 @@ impl<L: Line + Drop> OneDoor<L> {
 
     /// The line, if it was served.
     pub fn served(self) -> Option<ServedLine<L>>
-        ensures { IfSome result (λ one. IsBack (told_one (λ line. L.sight line) self.waits self.out self.back self.over) (L.sight one.line) one.commands one.broke) }
+        ensures { IfSome result (λ one.
+            IsBack (told_one (λ line. L.sight line) self.waits self.out self.back self.over)
+            (L.sight one.line) one.commands one.broke) }
     {
         let OneDoor { back, .. } = self;
         match back {
@@ -71,7 +74,8 @@ impl<L: Line + Drop> OneDoor<L> {
 impl<L: Line + Drop> Door for OneDoor<L> {
     type Line = L;
 
-    ghost told = { λ door. told_one (λ line. L.sight line) door.waits door.out door.back door.over };
+    ghost told = { λ door.
+        told_one (λ line. L.sight line) door.waits door.out door.back door.over };
 
     fn accept(&mut self) -> Arrival<L> {
         if self.back.is_some() || self.out.is_some() {

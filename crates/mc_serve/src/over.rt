@@ -43,7 +43,8 @@ pub fn serve_over<
 ) -> Result<Report<L>, ServeRefusal>
     requires { MayServe (length lines.items) sizes }
     // One log explains what was read of all lines, what was written to them and what the shards did.
-    ensures explained { IfOk result (λ report. ServesAll (sizes_of (length lines.items) sizes) (K.may_answer clock)
+    ensures explained { IfOk result (λ report.
+        ServesAll (sizes_of (length lines.items) sizes) (K.may_answer clock)
         (map (λ line. L.sight line) lines.items)
         (map (λ one. came_back (L.sight one.line) one.commands one.broke) report.lines.items)) }
     ensures refused { IfErr result (λ refusal. refusal ≢ Bind) }
@@ -77,7 +78,9 @@ pub(crate) fn sleepers_for<R: Threads>(
 
 /// A door for each line.
 fn doors_for<L: Line + Drop>(alloc: Global, lines: Vec<L>) -> Result<Vec<OneDoor<L>>, AllocError>
-    ensures { IfOk result (λ doors. map (λ door. told_one (λ line. L.sight line) door.waits door.out door.back door.over) doors.items ≡ map (λ line. waits (L.sight line)) lines.items) }
+    ensures { IfOk result (λ doors.
+        map (λ door. told_one (λ line. L.sight line) door.waits door.out door.back door.over)
+        doors.items ≡ map (λ line. waits (L.sight line)) lines.items) }
 {
     let mut doors = Vec::with_capacity(alloc, lines.len())?;
     for line in lines {
@@ -92,7 +95,10 @@ fn gather<L: Line + Drop>(
     room: Vec<ServedLine<L>>,
 ) -> Result<Report<L>, ServeRefusal>
     requires { room.items ≡ [] }
-    ensures back { IfOk result (λ report. Zips (λ door one. IsBack (told_one (λ line. L.sight line) door.waits door.out door.back door.over) (L.sight one.line) one.commands one.broke) doors.items report.lines.items) }
+    ensures back { IfOk result (λ report.
+        Zips (λ door one.
+        IsBack (told_one (λ line. L.sight line) door.waits door.out door.back door.over)
+        (L.sight one.line) one.commands one.broke) doors.items report.lines.items) }
     ensures refused { IfErr result (λ refusal. refusal ≢ Bind) }
 {
     let mut lines = room;

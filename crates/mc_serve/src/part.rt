@@ -61,8 +61,13 @@ impl<D: Door + Drop, G: Gate + Drop, K: Clock + Drop> Part<D, G, K> {
         sizes: Sizes,
         clock: K,
     ) -> Result<Part<D, G, K>, AllocError>
-        requires { AllByRecursion (λ one. HasSatDown sizes.shards (rules_of sizes) (D.told one.door) one.session one.phase) seats.items }
-        ensures ready { IfOk result (λ part. AllByRecursion (λ one. HasSatDown part.sizes.shards (rules_of part.sizes) (D.told one.door) one.session one.phase) part.seats.all.items) }
+        requires { AllByRecursion (λ one.
+            HasSatDown sizes.shards (rules_of sizes) (D.told one.door) one.session one.phase)
+            seats.items }
+        ensures ready { IfOk result (λ part.
+            AllByRecursion (λ one.
+            HasSatDown part.sizes.shards (rules_of part.sizes) (D.told one.door) one.session
+            one.phase) part.seats.all.items) }
         ensures seats { IfOk result (λ part. part.seats.all ≡ seats) }
         ensures workers { IfOk result (λ part. part.workers ≡ workers) }
         ensures sizes { IfOk result (λ part. part.sizes ≡ sizes) }
@@ -89,11 +94,18 @@ impl<D: Door + Drop, G: Gate + Drop, K: Clock + Drop> Part<D, G, K> {
 
     /// Serves by turns until each seat has closed its lanes and each worker has ended.
     fn run<R: Wait>(&mut self, rt: &R)
-        requires { AllByRecursion (λ one. HasSatDown self.old.sizes.shards (rules_of self.old.sizes) (D.told one.door) one.session one.phase) self.old.seats.all.items }
-        ensures seats { Zips (SeatServes self.old.sizes.shards (rules_of self.old.sizes) (K.may_answer self.old.clock))
-            (map (λ one. seat_at (D.told one.door) one.session.courier.ends) self.old.seats.all.items)
-            (map (λ one. seat_at (D.told one.door) one.session.courier.ends) self.new.seats.all.items) }
-        ensures workers { Zips Finishes (map (λ one. one.worker) self.old.workers.items) (map (λ one. one.worker) self.new.workers.items) }
+        requires { AllByRecursion (λ one.
+            HasSatDown self.old.sizes.shards (rules_of self.old.sizes) (D.told one.door) one.session
+            one.phase) self.old.seats.all.items }
+        ensures seats { Zips
+            (SeatServes self.old.sizes.shards (rules_of self.old.sizes)
+            (K.may_answer self.old.clock))
+            (map (λ one. seat_at (D.told one.door) one.session.courier.ends)
+            self.old.seats.all.items)
+            (map (λ one. seat_at (D.told one.door) one.session.courier.ends)
+            self.new.seats.all.items) }
+        ensures workers { Zips Finishes (map (λ one. one.worker) self.old.workers.items)
+            (map (λ one. one.worker) self.new.workers.items) }
     {
         for _ in rt.forever() {
             let stepped = self
@@ -113,8 +125,12 @@ impl<D: Door + Drop, G: Gate + Drop, K: Clock + Drop> Part<D, G, K> {
 
     /// Whether each seat has closed its lanes and each worker has ended.
     fn is_done(&self) -> bool
-        ensures over { IsTrue result → AllByRecursion (λ one. one.phase ≡ phase.Over) self.now.seats.all.items }
-        ensures ended { IsTrue result → AllByRecursion (λ one. (begun : Desk) → Goes begun one.worker → Finishes begun one.worker) self.now.workers.items }
+        ensures over { IsTrue result →
+            AllByRecursion (λ one. one.phase ≡ phase.Over) self.now.seats.all.items }
+        ensures ended { IsTrue result →
+            AllByRecursion
+            (λ one. (begun : Desk) → Goes begun one.worker → Finishes begun one.worker)
+            self.now.workers.items }
     {
         if !self.seats.are_over() {
             return false;
@@ -134,7 +150,8 @@ impl<D: Door + Drop, G: Gate + Drop, K: Clock + Drop> Part<D, G, K> {
 
 /// Gives each worker a turn, for the seats that called. Whether one of them had anything to do.
 fn serve_callers<G: Gate + Drop>(workers: &mut Vec<Working<G>>, called: &[u64]) -> bool
-    ensures { (begun : List Desk) → Zips Goes begun (map (λ one. one.worker) workers.old.items) → Zips Goes begun (map (λ one. one.worker) workers.new.items) }
+    ensures { (begun : List Desk) → Zips Goes begun (map (λ one. one.worker) workers.old.items) →
+        Zips Goes begun (map (λ one. one.worker) workers.new.items) }
 {
     let mut busy = false;
     for place in 0..workers.len() {
@@ -148,7 +165,9 @@ fn serve_callers<G: Gate + Drop>(workers: &mut Vec<Working<G>>, called: &[u64]) 
 
 /// Whether each worker has ended.
 fn have_ended<G: Gate + Drop>(workers: &Vec<Working<G>>) -> bool
-    ensures { IsTrue result → AllByRecursion (λ one. (begun : Desk) → Goes begun one.worker → Finishes begun one.worker) workers.now.items }
+    ensures { IsTrue result →
+        AllByRecursion (λ one. (begun : Desk) → Goes begun one.worker → Finishes begun one.worker)
+        workers.now.items }
 {
     for place in 0..workers.len() {
         if !workers[place].ended() {
@@ -159,12 +178,17 @@ fn have_ended<G: Gate + Drop>(workers: &Vec<Working<G>>) -> bool
 }
 
 impl<D: Door + Drop, G: Gate + Drop, K: Clock + Drop> Task for Part<D, G, K> {
-    ghost is_ready = { λ part. AllByRecursion (λ one. HasSatDown part.sizes.shards (rules_of part.sizes) (D.told one.door) one.session one.phase) part.seats.all.items };
+    ghost is_ready = { λ part.
+        AllByRecursion (λ one.
+        HasSatDown part.sizes.shards (rules_of part.sizes) (D.told one.door) one.session
+        one.phase) part.seats.all.items };
 
-    ghost does = { λ sat rose. Zips (SeatServes sat.sizes.shards (rules_of sat.sizes) (K.may_answer sat.clock))
+    ghost does = { λ sat rose.
+        Zips (SeatServes sat.sizes.shards (rules_of sat.sizes) (K.may_answer sat.clock))
         (map (λ one. seat_at (D.told one.door) one.session.courier.ends) sat.seats.all.items)
-        (map (λ one. seat_at (D.told one.door) one.session.courier.ends) rose.seats.all.items)
-        × Zips Finishes (map (λ one. one.worker) sat.workers.items) (map (λ one. one.worker) rose.workers.items) };
+        (map (λ one. seat_at (D.told one.door) one.session.courier.ends) rose.seats.all.items) ×
+        Zips Finishes (map (λ one. one.worker) sat.workers.items)
+        (map (λ one. one.worker) rose.workers.items) };
 
     fn work<R: Wait>(self, rt: &R) -> Part<D, G, K> {
         let mut part = self;

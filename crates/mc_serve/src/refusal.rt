@@ -34,7 +34,9 @@ impl From<CrewRefusal> for ServeRefusal {
     ghost use Rattle.mc_crew.specs.declared.crew.CrewRefusal.TheVariants as crew;
     ghost use Rattle.mc_serve.specs.declared.refusal.ServeRefusal.TheVariants.{Bind, Memory, Thread};
 
-    ghost from_gives = { λ why refusal. (why ≡ crew.Memory → refusal ≡ Memory) × (why ≡ crew.Thread → refusal ≡ Thread) × (refusal ≢ Bind) };
+    ghost from_gives = { λ why refusal.
+        (why ≡ crew.Memory → refusal ≡ Memory) × (why ≡ crew.Thread → refusal ≡ Thread) ×
+        (refusal ≢ Bind) };
 
     fn from(refusal: CrewRefusal) -> ServeRefusal {
         match refusal {

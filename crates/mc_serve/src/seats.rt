@@ -43,10 +43,16 @@ impl<D: Door + Drop> Seats<D> {
         rooms: &mut Rooms,
     ) -> bool
         requires { (shards : ℕ) × (rules : Rules) × (sats : List SeatAt) ×
-            Zips (λ sat one. SeatStands (λ line. D.Line.sight line) shards rules (K.may_answer clock.now) sat (D.told one.door) one.session one.phase) sats self.old.all.items }
+            Zips (λ sat one.
+            SeatStands (λ line. D.Line.sight line) shards rules (K.may_answer clock.now) sat
+            (D.told one.door) one.session one.phase) sats self.old.all.items }
         ensures { (shards : ℕ) (rules : Rules) (sats : List SeatAt) →
-            Zips (λ sat one. SeatStands (λ line. D.Line.sight line) shards rules (K.may_answer clock.now) sat (D.told one.door) one.session one.phase) sats self.old.all.items →
-            Zips (λ sat one. SeatStands (λ line. D.Line.sight line) shards rules (K.may_answer clock.now) sat (D.told one.door) one.session one.phase) sats self.new.all.items }
+            Zips (λ sat one.
+            SeatStands (λ line. D.Line.sight line) shards rules (K.may_answer clock.now) sat
+            (D.told one.door) one.session one.phase) sats self.old.all.items →
+            Zips (λ sat one.
+            SeatStands (λ line. D.Line.sight line) shards rules (K.may_answer clock.now) sat
+            (D.told one.door) one.session one.phase) sats self.new.all.items }
     {
         let mut did = false;
         for word in 0..self.due.len() {
@@ -66,10 +72,16 @@ impl<D: Door + Drop> Seats<D> {
         rooms: &mut Rooms,
     ) -> bool
         requires { (shards : ℕ) × (rules : Rules) × (sats : List SeatAt) ×
-            Zips (λ sat one. SeatStands (λ line. D.Line.sight line) shards rules (K.may_answer clock.now) sat (D.told one.door) one.session one.phase) sats self.old.all.items }
+            Zips (λ sat one.
+            SeatStands (λ line. D.Line.sight line) shards rules (K.may_answer clock.now) sat
+            (D.told one.door) one.session one.phase) sats self.old.all.items }
         ensures { (shards : ℕ) (rules : Rules) (sats : List SeatAt) →
-            Zips (λ sat one. SeatStands (λ line. D.Line.sight line) shards rules (K.may_answer clock.now) sat (D.told one.door) one.session one.phase) sats self.old.all.items →
-            Zips (λ sat one. SeatStands (λ line. D.Line.sight line) shards rules (K.may_answer clock.now) sat (D.told one.door) one.session one.phase) sats self.new.all.items }
+            Zips (λ sat one.
+            SeatStands (λ line. D.Line.sight line) shards rules (K.may_answer clock.now) sat
+            (D.told one.door) one.session one.phase) sats self.old.all.items →
+            Zips (λ sat one.
+            SeatStands (λ line. D.Line.sight line) shards rules (K.may_answer clock.now) sat
+            (D.told one.door) one.session one.phase) sats self.new.all.items }
     {
         let marked = self.marked(word, sleeper);
         let mut again = 0u64;
@@ -114,10 +126,16 @@ impl<D: Door + Drop> Seats<D> {
         rooms: &mut Rooms,
     ) -> Stepped
         requires { (shards : ℕ) × (rules : Rules) × (sats : List SeatAt) ×
-            Zips (λ sat one. SeatStands (λ line. D.Line.sight line) shards rules (K.may_answer clock.now) sat (D.told one.door) one.session one.phase) sats self.old.all.items }
+            Zips (λ sat one.
+            SeatStands (λ line. D.Line.sight line) shards rules (K.may_answer clock.now) sat
+            (D.told one.door) one.session one.phase) sats self.old.all.items }
         ensures { (shards : ℕ) (rules : Rules) (sats : List SeatAt) →
-            Zips (λ sat one. SeatStands (λ line. D.Line.sight line) shards rules (K.may_answer clock.now) sat (D.told one.door) one.session one.phase) sats self.old.all.items →
-            Zips (λ sat one. SeatStands (λ line. D.Line.sight line) shards rules (K.may_answer clock.now) sat (D.told one.door) one.session one.phase) sats self.new.all.items }
+            Zips (λ sat one.
+            SeatStands (λ line. D.Line.sight line) shards rules (K.may_answer clock.now) sat
+            (D.told one.door) one.session one.phase) sats self.old.all.items →
+            Zips (λ sat one.
+            SeatStands (λ line. D.Line.sight line) shards rules (K.may_answer clock.now) sat
+            (D.told one.door) one.session one.phase) sats self.new.all.items }
     {
         if place >= self.all.len() {
             return Stepped::Waits;
@@ -129,7 +147,8 @@ impl<D: Door + Drop> Seats<D> {
 
     /// Whether all lanes of all seats were closed.
     pub(crate) fn are_over(&self) -> bool
-        ensures { IsTrue result → AllByRecursion (λ one. one.phase ≡ phase.Over) self.now.all.items }
+        ensures { IsTrue result →
+            AllByRecursion (λ one. one.phase ≡ phase.Over) self.now.all.items }
     {
         if self.left > 0 {
             return false;

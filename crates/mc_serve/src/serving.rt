@@ -53,7 +53,8 @@ where
     requires sizes { MayServe (length doors.items) sizes }
     requires free { AllByRecursion (λ door. IsFree (D.told door)) doors.items }
     // One log explains what was read of all lines, what was written to them and what the shards did.
-    ensures explained { IfOk result (λ back. ServesDoors (sizes_of (length doors.items) sizes) (K.may_answer clock)
+    ensures explained { IfOk result (λ back.
+        ServesDoors (sizes_of (length doors.items) sizes) (K.may_answer clock)
         (map (λ door. D.told door) doors.items) (map (λ door. D.told door) back.items)) }
     ensures refused { IfErr result (λ refusal. refusal ≢ Bind) }
 {
@@ -82,7 +83,8 @@ where
     D::Line: Send + 'static,
     requires sizes { MayServe (length doors.items) sizes }
     requires free { AllByRecursion (λ door. IsFree (D.told door)) doors.items }
-    ensures { IfOk result (λ back. ServesDoors (sizes_of (length doors.items) sizes) (K.may_answer clock)
+    ensures { IfOk result (λ back.
+        ServesDoors (sizes_of (length doors.items) sizes) (K.may_answer clock)
         (map (λ door. D.told door) doors.items) (map (λ door. D.told door) back.items)) }
 {
     let mut crew = Crew::new(alloc, sleepers.len())?;
@@ -128,9 +130,13 @@ where
     ensures lanes { OnOk result (AreLanes (length doors.items) sizes.shards sizes.ring
         (map (λ one. one.session.courier.ends) (flat_map (λ part. part.seats.all.items) crew.new))
         (map ends_of (map (λ one. one.worker) (flat_map (λ part. part.workers.items) crew.new)))) }
-    ensures fresh { OnOk result (AllByRecursion (IsFresh (sizes_of (length doors.items) sizes)) (map (λ one. one.worker) (flat_map (λ part. part.workers.items) crew.new))) }
-    ensures doors { OnOk result (map (λ one. one.door) (flat_map (λ part. part.seats.all.items) crew.new) ≡ doors.items) }
-    ensures same { OnOk result (AllByRecursion (λ part. (part.clock ≡ clock) × (part.sizes ≡ sizes)) crew.new) }
+    ensures fresh { OnOk result
+        (AllByRecursion (IsFresh (sizes_of (length doors.items) sizes))
+        (map (λ one. one.worker) (flat_map (λ part. part.workers.items) crew.new))) }
+    ensures doors { OnOk result
+        (map (λ one. one.door) (flat_map (λ part. part.seats.all.items) crew.new) ≡ doors.items) }
+    ensures same { OnOk result
+        (AllByRecursion (λ part. (part.clock ≡ clock) × (part.sizes ≡ sizes)) crew.new) }
 {
     let count = doors.len();
     let Ok((near, far)) = lanes(alloc, count, sizes.shards, sizes.ring) else {
@@ -161,9 +167,13 @@ fn sit_down<D: Door + Drop>(
     requires width { AllByRecursion (λ seat. length seat.lanes ≡ sizes.shards) ends.items }
     requires as_many { length doors.items ≡ length ends.items }
     requires free { AllByRecursion (λ door. IsFree (D.told door)) doors.items }
-    ensures ends { IfOk result (λ seats. map (λ one. one.session.courier.ends) seats.items ≡ ends.items) }
+    ensures ends { IfOk result
+        (λ seats. map (λ one. one.session.courier.ends) seats.items ≡ ends.items) }
     ensures doors { IfOk result (λ seats. map (λ one. one.door) seats.items ≡ doors.items) }
-    ensures begin { IfOk result (λ seats. AllByRecursion (λ one. HasSatDown sizes.shards (rules_of sizes) (D.told one.door) one.session one.phase) seats.items) }
+    ensures begin { IfOk result (λ seats.
+        AllByRecursion (λ one.
+        HasSatDown sizes.shards (rules_of sizes) (D.told one.door) one.session one.phase)
+        seats.items) }
 {
     let mut seats = Vec::with_capacity(alloc, ends.len())?;
     let mut doors = doors.into_iter();
@@ -217,11 +227,14 @@ fn start_parts<
 where
     D::Line: Send + 'static,
     requires none { crew.old ≡ [] }
-    requires begin { AllByRecursion (λ one. HasSatDown sizes.shards (rules_of sizes) (D.told one.door) one.session one.phase) seats.items }
+    requires begin { AllByRecursion (λ one.
+        HasSatDown sizes.shards (rules_of sizes) (D.told one.door) one.session one.phase)
+        seats.items }
     // Each seat and each worker stands in just one part, in their order.
     ensures seats { OnOk result (flat_map (λ part. part.seats.all.items) crew.new ≡ seats.items) }
     ensures workers { OnOk result (flat_map (λ part. part.workers.items) crew.new ≡ workers.items) }
-    ensures same { OnOk result (AllByRecursion (λ part. (part.clock ≡ clock) × (part.sizes ≡ sizes)) crew.new) }
+    ensures same { OnOk result
+        (AllByRecursion (λ part. (part.clock ≡ clock) × (part.sizes ≡ sizes)) crew.new) }
 {
     let mut seats = seats.into_iter();
     let mut workers = workers.into_iter();
@@ -246,7 +259,8 @@ fn take_some<T: Drop>(
     left: &mut IntoIter<T>,
     count: usize,
 ) -> Result<Vec<T>, AllocError>
-    ensures { IfOk result (λ some. some.items ++ into_iter_items left.new ≡ into_iter_items left.old) }
+    ensures { IfOk result
+        (λ some. some.items ++ into_iter_items left.new ≡ into_iter_items left.old) }
 {
     let mut some = Vec::new(alloc);
     for _ in 0..count {
@@ -266,8 +280,10 @@ fn take_apart<D: Door + Drop, G: Gate + Drop, K: Clock + Drop>(
 ) -> Result<(), AllocError>
     requires no_seats { seats.old.items ≡ [] }
     requires no_workers { workers.old.items ≡ [] }
-    ensures seats { OnOk result (seats.new.items ≡ flat_map (λ part. part.seats.all.items) parts.items) }
-    ensures workers { OnOk result (workers.new.items ≡ flat_map (λ part. part.workers.items) parts.items) }
+    ensures seats { OnOk result
+        (seats.new.items ≡ flat_map (λ part. part.seats.all.items) parts.items) }
+    ensures workers { OnOk result
+        (workers.new.items ≡ flat_map (λ part. part.workers.items) parts.items) }
 {
     for part in parts {
         let (mut own, mut working) = part.apart();

@@ -18,8 +18,13 @@ pub(crate) fn settle<D: Door + Drop, G: Gate + Drop>(
     room: Vec<D>,
 ) -> Result<Vec<D>, CrewRefusal>
     requires none { room.items ≡ [] }
-    requires lanes { AllByRecursion (λ sitting. HasLanes sitting.session.courier.ends (map (λ one. one.worker) workers.old.items)) seats.items }
-    ensures tied { IfOk result (λ _. AllByRecursion (λ sitting. AreTied sitting.session.courier.ends (map (λ one. one.worker) workers.old.items)) seats.items) }
+    requires lanes { AllByRecursion (λ sitting.
+        HasLanes sitting.session.courier.ends (map (λ one. one.worker) workers.old.items))
+        seats.items }
+    ensures tied { IfOk result (λ _.
+        AllByRecursion (λ sitting.
+        AreTied sitting.session.courier.ends (map (λ one. one.worker) workers.old.items))
+        seats.items) }
     ensures doors { IfOk result (λ doors. doors.items ≡ map (λ sitting. sitting.door) seats.items) }
 {
     let mut doors = room;
@@ -37,7 +42,8 @@ pub(crate) fn settle<D: Door + Drop, G: Gate + Drop>(
 fn tie<G: Gate + Drop>(ends: &mut SeatEnds, workers: &mut Vec<Working<G>>)
     requires { HasLanes ends.old (map (λ one. one.worker) workers.old.items) }
     ensures tied { AreTied ends.old (map (λ one. one.worker) workers.old.items) }
-    ensures same { map passed_by (map (λ one. one.worker) workers.new.items) ≡ map passed_by (map (λ one. one.worker) workers.old.items) }
+    ensures same { map passed_by (map (λ one. one.worker) workers.new.items) ≡
+        map passed_by (map (λ one. one.worker) workers.old.items) }
 {
     for shard in 0..workers.len() {
         let worker = &mut workers[shard];

@@ -67,7 +67,8 @@ impl<D: Door + Drop> Sitting<D> {
         requires line { sizes.line ≤ GREATEST_LINE_LIMIT }
         requires window { 0 < sizes.window }
         requires width { length ends.lanes ≡ sizes.shards }
-        ensures vacant { IfOk result (λ sitting. IsVacant (rules_of sizes) sizes.window sitting.session) }
+        ensures vacant { IfOk result
+            (λ sitting. IsVacant (rules_of sizes) sizes.window sitting.session) }
         ensures free { IfOk result (λ sitting. sitting.phase ≡ phase.Free) }
         ensures door { IfOk result (λ sitting. sitting.door ≡ door) }
         ensures ends { IfOk result (λ sitting. sitting.session.courier.ends ≡ ends) }
@@ -90,8 +91,10 @@ impl<D: Door + Drop> Sitting<D> {
     ) -> Stepped
         requires { CanStep self.old.phase self.old.session }
         ensures { (shards : ℕ) (rules : Rules) (sat : SeatAt) →
-            SeatStands (λ line. D.Line.sight line) shards rules (K.may_answer clock.now) sat (D.told self.old.door) self.old.session self.old.phase →
-            SeatStands (λ line. D.Line.sight line) shards rules (K.may_answer clock.now) sat (D.told self.new.door) self.new.session self.new.phase }
+            SeatStands (λ line. D.Line.sight line) shards rules (K.may_answer clock.now) sat
+            (D.told self.old.door) self.old.session self.old.phase →
+            SeatStands (λ line. D.Line.sight line) shards rules (K.may_answer clock.now) sat
+            (D.told self.new.door) self.new.session self.new.phase }
     {
         match mem::replace(&mut self.phase, Phase::Over) {
             Phase::Free => self.accept(clock),
@@ -105,8 +108,10 @@ impl<D: Door + Drop> Sitting<D> {
     /// Asks the door for a line, and begins to serve it.
     fn accept<K: Clock>(&mut self, clock: &K) -> Stepped
         ensures { (shards : ℕ) (rules : Rules) (sat : SeatAt) →
-            SitsFree shards rules (K.may_answer clock.now) sat (D.told self.old.door) self.old.session →
-            SeatStands (λ line. D.Line.sight line) shards rules (K.may_answer clock.now) sat (D.told self.new.door) self.new.session self.new.phase }
+            SitsFree shards rules (K.may_answer clock.now) sat (D.told self.old.door)
+            self.old.session →
+            SeatStands (λ line. D.Line.sight line) shards rules (K.may_answer clock.now) sat
+            (D.told self.new.door) self.new.session self.new.phase }
     {
         match self.door.accept() {
             Arrival::Came(line) => self.begin(line, clock),
@@ -124,8 +129,10 @@ impl<D: Door + Drop> Sitting<D> {
     /// Begins to serve the line that is out. Where memory for it is refused the line waits, and the next step asks again.
     fn begin<K: Clock>(&mut self, line: D::Line, clock: &K) -> Stepped
         ensures { (shards : ℕ) (rules : Rules) (sat : SeatAt) →
-            SitsBeginning shards rules (K.may_answer clock.now) sat (D.told self.old.door) (D.Line.sight line) self.old.session →
-            SeatStands (λ line. D.Line.sight line) shards rules (K.may_answer clock.now) sat (D.told self.new.door) self.new.session self.new.phase }
+            SitsBeginning shards rules (K.may_answer clock.now) sat (D.told self.old.door)
+            (D.Line.sight line) self.old.session →
+            SeatStands (λ line. D.Line.sight line) shards rules (K.may_answer clock.now) sat
+            (D.told self.new.door) self.new.session self.new.phase }
     {
         match self.session.begin(clock) {
             Ok(()) => {
@@ -143,8 +150,10 @@ impl<D: Door + Drop> Sitting<D> {
     fn serve<K: Clock>(&mut self, line: D::Line, clock: &K, rooms: &mut Rooms) -> Stepped
         requires { MayStep self.old.session }
         ensures { (shards : ℕ) (rules : Rules) (sat : SeatAt) →
-            SitsServing shards rules (K.may_answer clock.now) sat (D.told self.old.door) (D.Line.sight line) self.old.session →
-            SeatStands (λ line. D.Line.sight line) shards rules (K.may_answer clock.now) sat (D.told self.new.door) self.new.session self.new.phase }
+            SitsServing shards rules (K.may_answer clock.now) sat (D.told self.old.door)
+            (D.Line.sight line) self.old.session →
+            SeatStands (λ line. D.Line.sight line) shards rules (K.may_answer clock.now) sat
+            (D.told self.new.door) self.new.session self.new.phase }
     {
         let mut line = line;
         match self.session.step(&mut line, clock, rooms) {
@@ -170,7 +179,9 @@ impl<D: Door + Drop> Sitting<D> {
 
     /// Closes the next lane, where it has room for End and the first so many are closed.
     fn close(&mut self, count: usize) -> Stepped
-        ensures closes { (served : Ends Near) → EndsFirst count served self.old.session.courier.ends → ClosesOn served self.new.phase self.new.session.courier.ends }
+        ensures closes { (served : Ends Near) →
+            EndsFirst count served self.old.session.courier.ends →
+            ClosesOn served self.new.phase self.new.session.courier.ends }
         ensures door { self.new.door ≡ self.old.door }
     {
         if count >= self.session.shards() {

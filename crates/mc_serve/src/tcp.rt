@@ -5,7 +5,7 @@ ghost use Rattle.mc_command.specs.Rules.{is_drop_in};
 ghost use Rattle.mc_server.specs.Sizes.{rules_of, sizes_of};
 ghost use Rattle.mc_serve.specs.Sizes.{MayServe};
 ghost use Rattle.mc_serve.specs.Tcp.{ServesConnections, gone_count, told_tcp};
-ghost use Rattle.mc_serve.specs.Told.{Told};
+ghost use Rattle.mc_serve.specs.Told.{TellsLines};
 
 use crate::entrance::Entrance;
 use crate::refusal::ServeRefusal;
@@ -104,8 +104,12 @@ fn doors_to<R: time::Clock + Copy + Drop>(
     watch: &mut Watch,
 ) -> Result<Vec<TcpDoor<R>>, AllocError>
     ensures count { IfOk result (λ doors. length doors.items ≡ seats) }
-    ensures new { IfOk result (λ doors. AllByRecursion (λ door. told_tcp door.is_out door.gone.items door.is_over ≡ Told None None [] false) doors.items) }
-    ensures wary { IfOk result (λ doors. AllByRecursion (λ door. door.is_wary ≡ is_drop_in (rules_of sizes)) doors.items) }
+    ensures new { IfOk result (λ doors.
+        AllByRecursion (λ door.
+        told_tcp door.is_out door.gone.items door.is_over ≡ TellsLines None None [] false)
+        doors.items) }
+    ensures wary { IfOk result (λ doors.
+        AllByRecursion (λ door. door.is_wary ≡ is_drop_in (rules_of sizes)) doors.items) }
 {
     let is_wary = sizes.rules().is_drop_in();
     let mut doors = Vec::with_capacity(alloc, seats)?;
@@ -118,7 +122,12 @@ fn doors_to<R: time::Clock + Copy + Drop>(
 
 /// How many connections came in by the doors, all of which have ended.
 fn count_ended<R: time::Clock + Drop>(doors: Vec<TcpDoor<R>>) -> Result<u64, ServeRefusal>
-    ensures { IfOk result (λ ended. ended ≡ min (gone_count (map (λ door. told_tcp door.is_out door.gone.items door.is_over) doors.items)) (2 ^ 64 - 1)) }
+    ensures { IfOk result (λ ended.
+        ended ≡
+        min
+        (gone_count
+        (map (λ door. told_tcp door.is_out door.gone.items door.is_over) doors.items))
+        (2 ^ 64 - 1)) }
 {
     let mut ended = 0u64;
     for door in doors {

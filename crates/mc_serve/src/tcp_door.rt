@@ -1,7 +1,7 @@
 //! The door of one seat over TCP.
 ghost use Rattle.std.specs.Prelude.{◌≡◌, ◌^◌, ◌-◌, [], None, false, IfSome, length, min};
 ghost use Rattle.mc_serve.specs.Tcp.{new_line, sight_of, told_tcp};
-ghost use Rattle.mc_serve.specs.Told.{Told};
+ghost use Rattle.mc_serve.specs.Told.{TellsLines};
 
 use crate::door::{Arrival, Door};
 use crate::entrance::{Caller, Way};
@@ -48,7 +48,8 @@ impl<R: time::Clock> TcpDoor<R> {
     /// No connection came in yet. The runtime tells how long a connection lingers.
     pub(crate) fn new(rt: R, way: Way, is_wary: bool) -> TcpDoor<R>
         ensures wary { result.is_wary ≡ is_wary }
-        ensures told { told_tcp result.is_out result.gone.items result.is_over ≡ Told None None [] false }
+        ensures told { told_tcp result.is_out result.gone.items result.is_over ≡
+            TellsLines None None [] false }
     {
         TcpDoor {
             rt,
@@ -66,7 +67,8 @@ impl<R: time::Clock> TcpDoor<R> {
 
     /// Whether the last connection still waits for the end of its peer's bytes.
     fn lingers(&mut self) -> bool
-        ensures told { told_tcp self.new.is_out self.new.gone.items self.new.is_over ≡ told_tcp self.old.is_out self.old.gone.items self.old.is_over }
+        ensures told { told_tcp self.new.is_out self.new.gone.items self.new.is_over ≡
+            told_tcp self.old.is_out self.old.gone.items self.old.is_over }
     {
         let Some(lingering) = &mut self.lingering else {
             return false;
@@ -86,7 +88,8 @@ impl<R: time::Clock> TcpDoor<R> {
     fn next(&mut self) -> Option<TcpLine<TcpStream>>
         ensures new { IfSome result (λ line. sight_of line ≡ new_line) }
         ensures wary { IfSome result (λ line. line.wary ≡ self.old.is_wary) }
-        ensures told { told_tcp self.new.is_out self.new.gone.items self.new.is_over ≡ told_tcp self.old.is_out self.old.gone.items self.old.is_over }
+        ensures told { told_tcp self.new.is_out self.new.gone.items self.new.is_over ≡
+            told_tcp self.old.is_out self.old.gone.items self.old.is_over }
     {
         let Caller { mut stream, peer } = self.way.come.pop().ok()?;
         self.told_free = false;
@@ -101,7 +104,8 @@ impl<R: time::Clock> TcpDoor<R> {
 
     /// Tells the entrance that the seat is free, once.
     fn tell_free(&mut self)
-        ensures told { told_tcp self.new.is_out self.new.gone.items self.new.is_over ≡ told_tcp self.old.is_out self.old.gone.items self.old.is_over }
+        ensures told { told_tcp self.new.is_out self.new.gone.items self.new.is_over ≡
+            told_tcp self.old.is_out self.old.gone.items self.old.is_over }
     {
         if !self.told_free {
             self.told_free = true;

@@ -3,7 +3,7 @@ ghost use Rattle.std.specs.Prelude.{◌≡◌, ◌<◌, ◌≤◌, [], false, tr
 ghost use Rattle.std.specs.Io.{ReadsAtMost, WritesAtMost};
 ghost use Rattle.std.specs.Io.KnownBytes.{Appends, Consumes, Keeps};
 ghost use Rattle.std.specs.Io.Slices.{io_slices_bytes};
-ghost use Rattle.mc_wire.specs.Outlet.{Reads, asked, broke, gave, took};
+ghost use Rattle.mc_wire.specs.Outlet.{ReadsIntoRoom, asked, broke, gave, took};
 ghost use Rattle.mc_seat.specs.Lines.{ReadsIfReady};
 ghost use Rattle.mc_serve.specs.Foreign.{EndsWhere, ShowsNext};
 ghost use Rattle.mc_serve.specs.Tcp.{ReadsStream, TellsWrite, WritesStream, new_line, sight_of};
@@ -154,7 +154,8 @@ impl<S: Drop> TcpLine<S> {
 pub(crate) fn read_some<S: Read>(stream: &mut S, room: &mut [u8]) -> io::Result<usize>
     ensures bound { ReadsAtMost result room.new }
     ensures same { length room.new ≡ length room.old }
-    ensures ok { IfOk result (λ count. Consumes (S.remaining stream.old) (S.remaining stream.new) (take count room.new)) }
+    ensures ok { IfOk result (λ count.
+        Consumes (S.remaining stream.old) (S.remaining stream.new) (take count room.new)) }
     ensures err { OnErr result (Keeps (S.remaining stream.old) (S.remaining stream.new)) }
     ensures end { 0 < length room.old → IfOk result (EndsWhere false (S.remaining stream.old)) }
 {
@@ -186,7 +187,8 @@ fn peek_some<S: Peek>(stream: &S, room: &mut [u8]) -> io::Result<usize>
 fn read_first<S: Peek>(stream: &mut S, room: &mut [u8]) -> io::Result<usize>
     ensures bound { ReadsAtMost result room.new }
     ensures same { length room.new ≡ length room.old }
-    ensures ok { IfOk result (λ count. Consumes (S.remaining stream.old) (S.remaining stream.new) (take count room.new)) }
+    ensures ok { IfOk result (λ count.
+        Consumes (S.remaining stream.old) (S.remaining stream.new) (take count room.new)) }
     ensures err { OnErr result (Keeps (S.remaining stream.old) (S.remaining stream.new)) }
     ensures end { 0 < length room.old → IfOk result (EndsWhere true (S.remaining stream.old)) }
 {
@@ -201,7 +203,8 @@ fn read_first<S: Peek>(stream: &mut S, room: &mut [u8]) -> io::Result<usize>
 /// Writes, again where a signal interrupts it.
 fn write_some<S: Write>(stream: &mut S, bytes: &[u8]) -> io::Result<usize>
     ensures bound { WritesAtMost result bytes.now }
-    ensures ok { IfOk result (λ count. Appends (S.contents stream.old) (S.contents stream.new) (take count bytes.now)) }
+    ensures ok { IfOk result (λ count.
+        Appends (S.contents stream.old) (S.contents stream.new) (take count bytes.now)) }
     ensures err { OnErr result (Keeps (S.contents stream.old) (S.contents stream.new)) }
 {
     for _ in 0..u64::MAX {
@@ -216,7 +219,9 @@ fn write_some<S: Write>(stream: &mut S, bytes: &[u8]) -> io::Result<usize>
 /// The same of the bytes of all the buffers, one after another.
 fn write_some_of<S: VectoredWrite>(stream: &mut S, bufs: &[IoSlice<'_>]) -> io::Result<usize>
     ensures bound { WritesAtMost result (io_slices_bytes bufs.now) }
-    ensures ok { IfOk result (λ count. Appends (S.contents stream.old) (S.contents stream.new) (take count (io_slices_bytes bufs.now))) }
+    ensures ok { IfOk result (λ count.
+        Appends (S.contents stream.old) (S.contents stream.new)
+        (take count (io_slices_bytes bufs.now))) }
     ensures err { OnErr result (Keeps (S.contents stream.old) (S.contents stream.new)) }
 {
     for _ in 0..u64::MAX {
@@ -239,10 +244,12 @@ impl<S: Peek + VectoredWrite> Outlet for TcpLine<S> {
     fn write(&mut self, bytes: &[u8]) -> Result<usize, OutFault>
         ensures within { IfOk result (λ count. count ≤ length bytes.now) }
         ensures some { IfOk result (λ count. 0 < length bytes.now → 0 < count) }
-        ensures ok { IfOk result (λ count. sight_of self.new ≡ took (take count bytes.now) (sight_of self.old)) }
+        ensures ok { IfOk result
+            (λ count. sight_of self.new ≡ took (take count bytes.now) (sight_of self.old)) }
         ensures err { OnErr result (sight_of self.new ≡ broke (sight_of self.old)) }
         // Just the bytes that it says went to the stream.
-        ensures stream { WritesStream bytes.now result (S.contents self.old.stream) (S.contents self.new.stream) }
+        ensures stream { WritesStream bytes.now result (S.contents self.old.stream)
+            (S.contents self.new.stream) }
     {
         for _ in 0..u64::MAX {
             let count = self.write_if_ready(bytes)?;
@@ -260,10 +267,13 @@ impl<S: Peek + VectoredWrite> Outlet for TcpLine<S> {
 impl<S: Peek + VectoredWrite> Line for TcpLine<S> {
     fn read(&mut self, room: &mut [u8]) -> Result<usize, LineFault>
         ensures within { IfOk result (λ count. count ≤ length room.old) }
-        ensures read { Reads room.new result (sight_of self.old) (sight_of self.new) }
+        ensures read { ReadsIntoRoom room.new result (sight_of self.old) (sight_of self.new) }
         // Just the bytes that it says came from the stream.
-        ensures stream { IfOk result (λ count. Consumes (S.remaining self.old.stream) (S.remaining self.new.stream) (take count room.new)) }
-        ensures fault { OnErr result (Keeps (S.remaining self.old.stream) (S.remaining self.new.stream)) }
+        ensures stream { IfOk result (λ count.
+            Consumes (S.remaining self.old.stream) (S.remaining self.new.stream)
+            (take count room.new)) }
+        ensures fault { OnErr result
+            (Keeps (S.remaining self.old.stream) (S.remaining self.new.stream)) }
     {
         for _ in 0..u64::MAX {
             if let Some(count) = self.read_if_ready(room)? {
@@ -281,10 +291,13 @@ impl<S: Peek + VectoredWrite> Line for TcpLine<S> {
         ensures within { IfOk result (λ given. IfSome given (λ count. count ≤ length room.old)) }
         ensures read { ReadsIfReady room.new result (sight_of self.old) (sight_of self.new) }
         // Just the bytes that it says came from the stream.
-        ensures stream { ReadsStream room.new result (S.remaining self.old.stream) (S.remaining self.new.stream) }
+        ensures stream { ReadsStream room.new result (S.remaining self.old.stream)
+            (S.remaining self.new.stream) }
         // It reads as ended just where nothing is left, or it is wary and first bytes come that are another protocol's. After a read it
         // is wary no more.
-        ensures end { 0 < length room.old → IfOk result (λ given. IfSome given (EndsWhere self.old.wary (S.remaining self.old.stream))) }
+        ensures end { 0 < length room.old →
+            IfOk result
+            (λ given. IfSome given (EndsWhere self.old.wary (S.remaining self.old.stream))) }
         ensures serves { IfOk result (λ given. IfSome given (λ _. self.new.wary ≡ false)) }
         ensures waits { IfOk result (λ given. IfNone given (self.new.wary ≡ self.old.wary)) }
     {
@@ -321,10 +334,12 @@ impl<S: Peek + VectoredWrite> Line for TcpLine<S> {
 
     fn write_if_ready(&mut self, bytes: &[u8]) -> Result<usize, OutFault>
         ensures within { IfOk result (λ count. count ≤ length bytes.now) }
-        ensures ok { IfOk result (λ count. sight_of self.new ≡ took (take count bytes.now) (sight_of self.old)) }
+        ensures ok { IfOk result
+            (λ count. sight_of self.new ≡ took (take count bytes.now) (sight_of self.old)) }
         ensures err { OnErr result (sight_of self.new ≡ broke (sight_of self.old)) }
         // Just the bytes that it says went to the stream.
-        ensures stream { WritesStream bytes.now result (S.contents self.old.stream) (S.contents self.new.stream) }
+        ensures stream { WritesStream bytes.now result (S.contents self.old.stream)
+            (S.contents self.new.stream) }
     {
         if self.failed || (!self.may_write && self.meter.is_idle()) {
             self.failed = true;
@@ -341,10 +356,12 @@ impl<S: Peek + VectoredWrite> Line for TcpLine<S> {
 
     fn write_vectored_if_ready(&mut self, bufs: &[IoSlice<'_>]) -> Result<usize, OutFault>
         ensures within { IfOk result (λ count. count ≤ length (io_slices_bytes bufs.now)) }
-        ensures ok { IfOk result (λ count. sight_of self.new ≡ took (take count (io_slices_bytes bufs.now)) (sight_of self.old)) }
+        ensures ok { IfOk result (λ count.
+            sight_of self.new ≡ took (take count (io_slices_bytes bufs.now)) (sight_of self.old)) }
         ensures err { OnErr result (sight_of self.new ≡ broke (sight_of self.old)) }
         // Just the bytes that it says went to the stream.
-        ensures stream { WritesStream (io_slices_bytes bufs.now) result (S.contents self.old.stream) (S.contents self.new.stream) }
+        ensures stream { WritesStream (io_slices_bytes bufs.now) result (S.contents self.old.stream)
+            (S.contents self.new.stream) }
     {
         if self.failed || (!self.may_write && self.meter.is_idle()) {
             self.failed = true;

@@ -13,7 +13,8 @@ pub trait VectoredWrite: Write {
     /// else, each buffer is a write.
     fn write_buffers(&mut self, bufs: &[IoSlice<'_>]) -> io::Result<usize>
         ensures bound { WritesAtMost result (io_slices_bytes bufs.now) }
-        ensures bytes { WriteAppends (Self.contents self.old) (Self.contents self.new) result (io_slices_bytes bufs.now) }
+        ensures bytes { WriteAppends (Self.contents self.old) (Self.contents self.new) result
+            (io_slices_bytes bufs.now) }
     {
         self.write_vectored(bufs)
     }

@@ -16,7 +16,7 @@ use Rattle.mc_conn.specs.Conn.{IsConn}
 use Rattle.mc_conn.specs.internal.Inside.{put_first}
 use Rattle.mc_conn.specs.Due.{due, lane}
 use Rattle.mc_join.specs.Expects.{Expects}
-use Rattle.mc_conn.specs.Fits.{Receives}
+use Rattle.mc_conn.specs.Fits.{ReceivesFromShard}
 use Rattle.mc_conn.specs.Told.{Told, all_forms, all_pieces}
 use Rattle.mc_conn.proofs.Counting.{due_beyond}
 use Rattle.mc_conn.proofs.Fitting.{next_expected, next_fits}
@@ -27,7 +27,7 @@ use Rattle.mc_core.specs.Sizes.{Sizes}
 use Rattle.mc_core.specs.Log.{Entry, on_shard, pieces_in, replies_in, reply_to}
 use Rattle.mc_core.proofs.Lists.{take_next}
 use Rattle.mc_core.proofs.Logs.{on_shard-no, on_shard-yes}
-use Rattle.mc_server.specs.internal.Answering.{Answers, AnswersMore, piece_in, replies_on}
+use Rattle.mc_server.specs.internal.Answering.{ShardsAnswered, AnswersMore, piece_in, replies_on}
 use Rattle.mc_server.proofs.Backing.{Backs-push}
 use Rattle.mc_seat.proofs.Along.{keeps_trans}
 
@@ -48,7 +48,7 @@ lane_ran s (entry ∷ log) = elim (cases_Bool (entry.shard == s)) [
 ]
 
 -- the next piece that is out is the next one that is due at its shard
-next_due : (sizes : Sizes) (told : Told) (shards : List Shard) (log : List Entry) (place : ℕ) (piece : Piece) → Answers sizes told shards log → slice_get (all_pieces told) told.out ≡ Some (place, piece) → slice_get (due told.shards place told.taken) (length (replies_on log place)) ≡ Some piece
+next_due : (sizes : Sizes) (told : Told) (shards : List Shard) (log : List Entry) (place : ℕ) (piece : Piece) → ShardsAnswered sizes told shards log → slice_get (all_pieces told) told.out ≡ Some (place, piece) → slice_get (due told.shards place told.taken) (length (replies_on log place)) ≡ Some piece
 next_due sizes told shards log place piece answers next =
     let es = on_shard place log in
     let ran : lane place (take told.out (all_pieces told)) ≡ pieces_in es = ap (lane place) (sym answers.ran) ∙ lane_ran place log in
@@ -57,16 +57,16 @@ next_due sizes told shards log place piece answers next =
     rw same (lane_there place (all_pieces told) told.out piece next)
 
 -- a shard gave one reply more
-receives_entry : (log : List Entry) (entry : Entry) → Receives (replies_on log) entry.shard (reply_to entry) (replies_on (log ++ entry ∷ []))
+receives_entry : (log : List Entry) (entry : Entry) → ReceivesFromShard (replies_on log) entry.shard (reply_to entry) (replies_on (log ++ entry ∷ []))
 receives_entry log entry = record {
   here = ap replies_in (on_shard-yes entry.shard log entry refl) ∙ map-append reply_to (on_shard entry.shard log) (entry ∷ []);
   others = λ k other. ap replies_in (on_shard-no k log entry (λ e. other (sym e)));
 }
 
 -- the next piece was run, and its answer accepted
-answers_next : (sizes : Sizes) (told : Told) (shards : List Shard) (log : List Entry) (place : ℕ) (piece : Piece) (answer : Answer) (was shard : Shard) → Answers sizes told shards log → slice_get (all_pieces told) told.out ≡ Some (place, piece) →
+answers_next : (sizes : Sizes) (told : Told) (shards : List Shard) (log : List Entry) (place : ℕ) (piece : Piece) (answer : Answer) (was shard : Shard) → ShardsAnswered sizes told shards log → slice_get (all_pieces told) told.out ≡ Some (place, piece) →
     slice_get shards place ≡ Some was → Steps was piece.op piece.moment answer shard →
-    Answers sizes (record told { out = told.out + 1; lent = true; accepted = told.accepted ++ reply_to (entry_for place piece answer) ∷ [] }) (set shards place shard) (log ++ entry_for place piece answer ∷ [])
+    ShardsAnswered sizes (record told { out = told.out + 1; lent = true; accepted = told.accepted ++ reply_to (entry_for place piece answer) ∷ [] }) (set shards place shard) (log ++ entry_for place piece answer ∷ [])
 answers_next sizes told shards log place piece answer was shard answers next got steps =
     let entry = entry_for place piece answer in
     record {
@@ -82,7 +82,7 @@ answers_next sizes told shards log place piece answer was shard answers next got
     }
 
 -- before any of them is run
-pub more_none : (sizes : Sizes) (told : Told) (conn : Conn) (shards : List Shard) (log : List Entry) → IsConn conn told → Answers sizes told shards log → AnswersMore sizes told conn shards
+pub more_none : (sizes : Sizes) (told : Told) (conn : Conn) (shards : List Shard) (log : List Entry) → IsConn conn told → ShardsAnswered sizes told shards log → AnswersMore sizes told conn shards
 more_none sizes told conn shards log is answers = record {
   out = told.out;
   lent = told.lent;

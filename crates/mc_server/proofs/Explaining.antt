@@ -7,7 +7,7 @@ use Rattle.std.proofs.lemmas.Simd.{map-map}
 use Rattle.mc_wire.specs.Outlet.{Sight}
 use Rattle.mc_split.specs.declared.plan.Piece.{Piece}
 use Rattle.mc_split.specs.declared.plan.Ticket.{Ticket}
-use Rattle.mc_split.specs.Pieces.{Asked, pieces_of}
+use Rattle.mc_split.specs.Pieces.{ShardOp, pieces_of}
 use Rattle.mc_split.specs.Plan.{parts_from}
 use Rattle.mc_split.proofs.Shards.{pieces_within}
 use Rattle.mc_store.specs.declared.shard.Shard.{Shard}
@@ -16,7 +16,7 @@ use Rattle.mc_conn.specs.Conn.{IsConn}
 use Rattle.mc_conn.specs.Due.{Ran, due, history_of, lane, pieces_at, pieces_from, ran_on, ticket_at}
 use Rattle.mc_conn.specs.Due as due
 use Rattle.mc_conn.specs.Fits.{HasCome, KeysFit, Tells, counts}
-use Rattle.mc_conn.specs.History.{Done, IsAnswered, Taken, entries_of, planned, taken_of, text_done, texts_of}
+use Rattle.mc_conn.specs.History.{AnsweredCommand, IsAnswered, Taken, entries_of, planned, taken_of, text_done, texts_of}
 use Rattle.mc_conn.specs.Told.{Told, all_pieces, all_texts, commands_of}
 use Rattle.mc_conn.proofs.Counting.{count_from_come}
 use Rattle.mc_conn.proofs.Places.{lane-append}
@@ -32,13 +32,13 @@ use Rattle.mc_core.proofs.Alone.{Continues, all_mine, alone_goes, on_its_shard, 
 use Rattle.mc_seat.specs.Story.{Story}
 use Rattle.mc_seat.specs.internal.Steps.{IsServed}
 use Rattle.mc_server.specs.Explains.{IsExplained, entry_of}
-use Rattle.mc_server.specs.internal.Answering.{Answers, piece_in, replies_on}
+use Rattle.mc_server.specs.internal.Answering.{ShardsAnswered, piece_in, replies_on}
 use Rattle.mc_server.proofs.Answering.{lane_ran}
 use Rattle.mc_server.proofs.Backing.{lawful}
 
 -- all pieces that are due were run
 pub record RanAll (sizes : Sizes) (told : Told) (shards : List Shard) (log : List Entry) : Type 0 where
-  pub answers : Answers sizes told shards log
+  pub answers : ShardsAnswered sizes told shards log
   pub all : told.out ≡ length (all_pieces told)
 
 -- what a shard ran is what was due there
@@ -63,7 +63,7 @@ all_complete sizes told shards log conn is ran =
     omega (arith, complete, most)
 
 -- The history whose answers are those accepted tells all commands taken.
-pub record TellsAll (sizes : Sizes) (told : Told) (log : List Entry) (history : List Done) : Type 0 where
+pub record TellsAll (sizes : Sizes) (told : Told) (log : List Entry) (history : List AnsweredCommand) : Type 0 where
   pub same : map taken_of history ≡ told.taken
   pub texts : all_texts told ≡ map text_done history
   pub bytes : concat (all_texts told) ≡ texts_of history
@@ -87,13 +87,13 @@ tells_all sizes told shards log conn is ran =
     }
 
 -- what the history logs on a shard is what the shard ran
-on_shard_is : (sizes : Sizes) (told : Told) (shards : List Shard) (log : List Entry) (history : List Done) → RanAll sizes told shards log → TellsAll sizes told log history → (s : ℕ) → due.on_shard s (due.log_of told.shards history) ≡ map ran_of (on_shard s log)
+on_shard_is : (sizes : Sizes) (told : Told) (shards : List Shard) (log : List Entry) (history : List AnsweredCommand) → RanAll sizes told shards log → TellsAll sizes told log history → (s : ℕ) → due.on_shard s (due.log_of told.shards history) ≡ map ran_of (on_shard s log)
 on_shard_is sizes told shards log history ran t s =
     let es = on_shard s log in
     t.ran s ∙ rw (← ran_due sizes told shards log s ran, ← pieces_of_ran es, ← replies_of_ran es) (ran_on-same s (map ran_of es) (on_its_shard s log))
 
 -- the keys of the replies are those of what was due
-pub keys_fit : (sizes : Sizes) (told : Told) (shards : List Shard) (log : List Entry) → Answers sizes told shards log → KeysFit told.shards told.taken (replies_on log)
+pub keys_fit : (sizes : Sizes) (told : Told) (shards : List Shard) (log : List Entry) → ShardsAnswered sizes told shards log → KeysFit told.shards told.taken (replies_on log)
 keys_fit sizes told shards log answers = keys_came told.shards told.taken (replies_on log) (λ s.
     let es = on_shard s log in
     let front = take told.out (all_pieces told) in
@@ -130,7 +130,7 @@ owned : (shards : ℕ) (log : List Entry) → AllByRecursion (λ (piece : ℕ ×
 owned shards [] there mine = tt
 owned shards (entry ∷ log) there mine = let asker = mine.0 in ((there.0, omega (arith, asker)), owned shards log there.1 mine.1)
 
-parts_there : (shards part : ℕ) (ticket : Ticket) (moment : ℕ) (asked : List Asked) → AllByRecursion (λ (one : Asked). one.shard < shards) asked → AllByRecursion (λ (piece : ℕ × Piece). piece.0 < shards) (parts_from part ticket moment asked)
+parts_there : (shards part : ℕ) (ticket : Ticket) (moment : ℕ) (asked : List ShardOp) → AllByRecursion (λ (one : ShardOp). one.shard < shards) asked → AllByRecursion (λ (piece : ℕ × Piece). piece.0 < shards) (parts_from part ticket moment asked)
 parts_there shards part ticket moment [] all = tt
 parts_there shards part ticket moment (one ∷ asked) all = (all.0, parts_there shards (part + 1) ticket moment asked all.1)
 

@@ -24,7 +24,7 @@ use Rattle.mc_seat.proofs.Along.{serving_along, stops_along}
 use Rattle.mc_seat.proofs.Fronts.{begins_length}
 use Rattle.mc_seat.proofs.Standing.{stands_first, stands_fits, stands_take}
 use Rattle.mc_server.specs.Explains.{IsExplained}
-use Rattle.mc_server.specs.internal.Answering.{Answers, AnswersAll, Backs, replies_on}
+use Rattle.mc_server.specs.internal.Answering.{ShardsAnswered, AnswersAll, Backs, replies_on}
 use Rattle.mc_server.specs.internal.Turns.{Turns}
 use Rattle.mc_server.proofs.Answering.{told_more}
 use Rattle.mc_server.proofs.Explaining.{RanAll, all_complete, explains, keys_fit}
@@ -43,7 +43,7 @@ turns_first sizes may_answer now unread conn shards window some count backs none
 }
 
 -- a command was taken: the answers so far stay in their places
-answers_take : (sizes : Sizes) (told : Told) (shards : List Shard) (log : List Entry) (one : Taken) (conn : Conn) → IsConn conn told → Answers sizes told shards log → Answers sizes (record told { taken = told.taken ++ one ∷ [] }) shards log
+answers_take : (sizes : Sizes) (told : Told) (shards : List Shard) (log : List Entry) (one : Taken) (conn : Conn) → IsConn conn told → ShardsAnswered sizes told shards log → ShardsAnswered sizes (record told { taken = told.taken ++ one ∷ [] }) shards log
 answers_take sizes told shards log one conn is answers =
     let sound = is_sound conn told is in
     let more = pieces_from told.shards (0 + length told.taken) (one ∷ []) in

@@ -2,7 +2,7 @@
 use Rattle.std.specs.Prelude.{ℕ, ◌≡◌, ◌<◌, ◌≢◌, Bool, false, List, length, map, Some}
 use Rattle.std.specs.List.{AllByRecursion, slice_get}
 use Rattle.mc_wire.specs.Outlet.{Sight}
-use Rattle.mc_conn.specs.History.{Done, IsAnswered, entries_of, taken_of, text_done}
+use Rattle.mc_conn.specs.History.{AnsweredCommand, IsAnswered, entries_of, taken_of, text_done}
 use Rattle.mc_conn.specs.Due.{Ran}
 use Rattle.mc_conn.specs.Due as due
 use Rattle.mc_core.specs.Sizes.{Sizes, rules_of}
@@ -23,17 +23,17 @@ abbrev pub entry_of : ℕ → Ran → Entry
 entry_of asker ran = record { shard = ran.shard; asker = asker; piece = ran.piece; answer = ran.answer }
 
 -- what was run for the commands of a line's history, in their order
-abbrev pub log_of : ℕ → ℕ → List Done → List Entry
+abbrev pub log_of : ℕ → ℕ → List AnsweredCommand → List Entry
 log_of shards asker history = map (entry_of asker) (due.log_of shards history)
 
 -- Each shard's entries are one run of the protocol's step, and each entry was asked by one of so many lines.
-pub record IsLogOf (sizes : Sizes) (lines : ℕ) (log : List Entry) : Type 0 where
+pub record IsLogOfLines (sizes : Sizes) (lines : ℕ) (log : List Entry) : Type 0 where
   pub lawful : IsLawful sizes log
   pub owned : AllByRecursion (λ entry. (entry.shard < sizes.shards) × (entry.asker < lines)) log
 
 -- The log explains the line of this number by one history: its commands, each with its moment and answers.
 pub record ExplainsLine (sizes : Sizes) (may_answer : ℕ → Type 0) (log : List Entry) (number : ℕ) (line : LineTold) : Type 0 where
-  pub history : List Done
+  pub history : List AnsweredCommand
   -- The commands are those of the bytes read, and the line took the texts of their replies.
   pub story : Story (rules_of sizes) line.begin line.now line.broke (map taken_of history) (map text_done history)
   -- It was read only where all replies to the bytes read so far were written out.
@@ -47,13 +47,13 @@ pub record ExplainsLine (sizes : Sizes) (may_answer : ℕ → Type 0) (log : Lis
 -- One log explains all these lines.
 pub record Explains (sizes : Sizes) (may_answer : ℕ → Type 0) (lines : List LineTold) : Type 0 where
   pub log : List Entry
-  pub log_is : IsLogOf sizes (length lines) log
+  pub log_is : IsLogOfLines sizes (length lines) log
   pub each : (number : ℕ) (line : LineTold) → slice_get lines number ≡ Some line → ExplainsLine sizes may_answer log number line
 
 -- One log explains a line that is served by itself.
 pub record IsExplained (sizes : Sizes) (may_answer : ℕ → Type 0) (line : LineTold) : Type 0 where
   pub log : List Entry
-  pub log_is : IsLogOf sizes 1 log
+  pub log_is : IsLogOfLines sizes 1 log
   pub explained : ExplainsLine sizes may_answer log 0 line
   -- Where no allocation failed, it took just what its commands get alone.
   pub alone_is : line.broke ≡ false → AllByRecursion HadMemory explained.history → explained.story.written ≡ alone sizes (map taken_of explained.history)

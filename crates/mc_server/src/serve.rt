@@ -114,8 +114,14 @@ pub fn serve_one<R: Wait + RandomSource, L: Line, K: Clock>(
     requires line { sizes.line ≤ GREATEST_LINE_LIMIT }
     requires window { 0 < sizes.window }
     // One log explains what was read, what was written and what the shards did.
-    ensures explained { IfOk result (λ served. IsExplained (line_sizes sizes) (K.may_answer clock.now)
-        (record { begin = L.sight line.old; now = L.sight line.new; commands = served.commands; broke = served.broke })) }
+    ensures explained { IfOk result (λ served.
+        IsExplained (line_sizes sizes) (K.may_answer clock.now)
+        (record {
+          begin = L.sight line.old;
+          now = L.sight line.new;
+          commands = served.commands;
+          broke = served.broke;
+        })) }
     ensures refused { OnErr result (L.sight line.new ≡ L.sight line.old) }
 {
     let (Ok(mut shards), Ok(mut conn), Ok(mut rooms)) = (

@@ -37,7 +37,14 @@ impl Outlet for MemoryLine {
     ghost use Rattle.std.specs.Prelude.{take};
     ghost use Rattle.mc_wire.specs.Outlet.{Listed};
 
-    ghost sight = { λ line. record { given = Listed (take line.at line.input.now); ended = line.ended; reads = None; taken = Listed line.output.items; failed = line.failed } };
+    ghost sight = { λ line.
+        record {
+          given = Listed (take line.at line.input.now);
+          ended = line.ended;
+          reads = None;
+          taken = Listed line.output.items;
+          failed = line.failed;
+        } };
 
     fn write(&mut self, bytes: &[u8]) -> Result<usize, OutFault> {
         self.calls = self.calls.wrapping_add(1);

@@ -12,7 +12,7 @@ use Rattle.mc_item.specs.Kind.{kind_of}
 use Rattle.mc_item.specs.declared.answer.Answer.{Answer}
 use Rattle.mc_split.specs.declared.plan.Ticket.{Ticket}
 use Rattle.mc_split.specs.declared.plan.Piece.{Piece}
-use Rattle.mc_split.specs.Pieces.{Asked, asked_of}
+use Rattle.mc_split.specs.Pieces.{ShardOp, asked_of}
 use Rattle.mc_split.specs.Plan.{form_kind, no_answers, parts_from}
 use Rattle.mc_split.specs.internal.Splits.{Splits}
 use Rattle.std.specs.Result.{IsErr}
@@ -21,35 +21,35 @@ use Rattle.mc_item.specs.declared.memory.NoMemory.{NoMemory}
 use Rattle.mc_split.specs.declared.form.Form.{Form}
 use Rattle.mc_split.specs.declared.form.Shape.{Shape}
 
-abbrev pub numbered : ℕ → Ticket → ℕ → Asked → ℕ × Piece
+abbrev pub numbered : ℕ → Ticket → ℕ → ShardOp → ℕ × Piece
 numbered part ticket moment asked = (asked.shard, record { ticket = ticket; part = part; op = asked.op; moment = moment })
 
 -- Of these pieces some stand behind those that were there, and the rest is left.
-pub record Queued (old now : List (ℕ × Piece)) (ticket : Ticket) (moment : ℕ) (rest whole : List Asked) : Type 0 where
-  pub done : List Asked
+pub record Queued (old now : List (ℕ × Piece)) (ticket : Ticket) (moment : ℕ) (rest whole : List ShardOp) : Type 0 where
+  pub done : List ShardOp
   pub so_far : now ≡ old ++ parts_from 0 ticket moment done
   pub together : done ++ rest ≡ whole
 
-pub queued_none : (old : List (ℕ × Piece)) (ticket : Ticket) (moment : ℕ) (whole : List Asked) → Queued old old ticket moment whole whole
+pub queued_none : (old : List (ℕ × Piece)) (ticket : Ticket) (moment : ℕ) (whole : List ShardOp) → Queued old old ticket moment whole whole
 queued_none old ticket moment whole = record { done = []; so_far = sym (append-nil old); together = refl }
 
-parts_from-push : (part : ℕ) (ticket : Ticket) (moment : ℕ) (done : List Asked) (asked : Asked) → parts_from part ticket moment done ++ numbered (part + length done) ticket moment asked ∷ [] ≡ parts_from part ticket moment (done ++ asked ∷ [])
+parts_from-push : (part : ℕ) (ticket : Ticket) (moment : ℕ) (done : List ShardOp) (asked : ShardOp) → parts_from part ticket moment done ++ numbered (part + length done) ticket moment asked ∷ [] ≡ parts_from part ticket moment (done ++ asked ∷ [])
 parts_from-push part ticket moment [] asked = let e : part + 0 ≡ part = omega arith in ap (λ n. numbered n ticket moment asked ∷ []) e
 parts_from-push part ticket moment (first ∷ done) asked =
     let next : part + length (first ∷ done) ≡ (part + 1) + length done = omega arith in
     rw next (ap (λ ps. numbered part ticket moment first ∷ ps) (parts_from-push (part + 1) ticket moment done asked))
 
-pub length-parts_from : (part : ℕ) (ticket : Ticket) (moment : ℕ) (asked : List Asked) → length (parts_from part ticket moment asked) ≡ length asked
+pub length-parts_from : (part : ℕ) (ticket : Ticket) (moment : ℕ) (asked : List ShardOp) → length (parts_from part ticket moment asked) ≡ length asked
 length-parts_from part ticket moment [] = refl
 length-parts_from part ticket moment (one ∷ asked) = ap (λ n. suc n) (length-parts_from (part + 1) ticket moment asked)
 
 -- how many pieces were added
-pub added : {old now : List (ℕ × Piece)} {ticket : Ticket} {moment : ℕ} {rest whole : List Asked} (so_far : Queued old now ticket moment rest whole) → length now ≡ length old + length so_far.done
+pub added : {old now : List (ℕ × Piece)} {ticket : Ticket} {moment : ℕ} {rest whole : List ShardOp} (so_far : Queued old now ticket moment rest whole) → length now ≡ length old + length so_far.done
 added {old} {now} {ticket} {moment} so_far =
     ap length so_far.so_far ∙ rw (length-append old (parts_from 0 ticket moment so_far.done), length-parts_from 0 ticket moment so_far.done) refl
 
 -- one more
-pub queued_more : (old now new : List (ℕ × Piece)) (ticket : Ticket) (moment part : ℕ) (asked : Asked) (rest whole : List Asked) → Queued old now ticket moment (asked ∷ rest) whole → length now ≡ length old + part → new ≡ now ++ numbered part ticket moment asked ∷ [] → Queued old new ticket moment rest whole
+pub queued_more : (old now new : List (ℕ × Piece)) (ticket : Ticket) (moment part : ℕ) (asked : ShardOp) (rest whole : List ShardOp) → Queued old now ticket moment (asked ∷ rest) whole → length now ≡ length old + part → new ≡ now ++ numbered part ticket moment asked ∷ [] → Queued old new ticket moment rest whole
 queued_more old now new ticket moment part asked rest whole before count after =
     let same : part ≡ 0 + length before.done = omega (arith, count, added before) in
     record {
@@ -62,29 +62,29 @@ queued_more old now new ticket moment part asked rest whole before count after =
       together = append_assoc before.done (asked ∷ []) rest ∙ before.together;
     }
 
-pub queued_all : {old now : List (ℕ × Piece)} {ticket : Ticket} {moment : ℕ} {whole : List Asked} → Queued old now ticket moment [] whole → now ≡ old ++ parts_from 0 ticket moment whole
+pub queued_all : {old now : List (ℕ × Piece)} {ticket : Ticket} {moment : ℕ} {whole : List ShardOp} → Queued old now ticket moment [] whole → now ≡ old ++ parts_from 0 ticket moment whole
 queued_all all = rw (← all.together, append-nil all.done) all.so_far
 
 -- those that were there are still in front
-pub queued_behind : {old now : List (ℕ × Piece)} {ticket : Ticket} {moment : ℕ} {rest whole : List Asked} → Queued old now ticket moment rest whole → take (length old) now ≡ old
+pub queued_behind : {old now : List (ℕ × Piece)} {ticket : Ticket} {moment : ℕ} {rest whole : List ShardOp} → Queued old now ticket moment rest whole → take (length old) now ≡ old
 queued_behind {old} {now} {ticket} {moment} so_far = ap (λ ps. take (length old) ps) so_far.so_far ∙ take_at old (parts_from 0 ticket moment so_far.done) (length old) refl
 
 -- there is a slot for each part
-pub empty_slots : (asked : List Asked) → replicate {A = Option Answer} (length asked) None ≡ no_answers asked
+pub empty_slots : (asked : List ShardOp) → replicate {A = Option Answer} (length asked) None ≡ no_answers asked
 empty_slots [] = refl
 empty_slots (piece ∷ asked) = ap (λ (slots : List (Option Answer)). None ∷ slots) (empty_slots asked)
 
 -- the parts are numbered from the first on
-pub parts_numbered : (part : ℕ) (ticket : Ticket) (moment : ℕ) (asked : List Asked) → map (λ (sent : ℕ × Piece). sent.1.part) (parts_from part ticket moment asked) ≡ range_with_len part (length asked)
+pub parts_numbered : (part : ℕ) (ticket : Ticket) (moment : ℕ) (asked : List ShardOp) → map (λ (sent : ℕ × Piece). sent.1.part) (parts_from part ticket moment asked) ≡ range_with_len part (length asked)
 parts_numbered part ticket moment [] = refl
 parts_numbered part ticket moment (piece ∷ asked) = ap (λ (parts : List ℕ). part ∷ parts) (parts_numbered (part + 1) ticket moment asked)
 
 -- the pieces of a get, one a key
-abbrev pub gets_of : ℕ → Option ℤ → List (List ℕ) → List Asked
+abbrev pub gets_of : ℕ → Option ℤ → List (List ℕ) → List ShardOp
 gets_of shards touch keys = map (λ key. asked_of shards key (op.Fetch key touch)) keys
 
 -- what so many shards are asked, from this one on
-abbrev pub asks_from : Op → ℕ → ℕ → List Asked
+abbrev pub asks_from : Op → ℕ → ℕ → List ShardOp
 asks_from op first count = map (ask_of op) (range_with_len first count)
 
 pub asks_from-next : (op : Op) (first shards : ℕ) → first < shards → asks_from op first (shards - first) ≡ ask_of op first ∷ asks_from op (first + 1) (shards - (first + 1))
@@ -93,7 +93,7 @@ asks_from-next op first shards below =
     rw left refl
 
 -- A form with an empty slot for each of these pieces, which stand behind those that were there.
-pub splits : (result : Result Form NoMemory) (ticket : Ticket) (moment : ℕ) (shape : Shape) (kind : Kind) (asked : List Asked) (old now : List (ℕ × Piece)) →
+pub splits : (result : Result Form NoMemory) (ticket : Ticket) (moment : ℕ) (shape : Shape) (kind : Kind) (asked : List ShardOp) (old now : List (ℕ × Piece)) →
     IfOk result (λ form. form ≡ record { ticket = ticket; kind = kind; shape = shape; slots = replicate (length asked) None }) → kind ≡ form_kind asked → 0 < length asked → Queued old now ticket moment [] asked →
     Splits result ticket moment shape asked old now
 splits (Ok form) ticket moment shape kind asked old now form_is kind_is some all = record {
@@ -105,7 +105,7 @@ splits (Ok form) ticket moment shape kind asked old now form_is kind_is some all
 splits (Err fault) ticket moment shape kind asked old now form_is kind_is some all = record { form = tt; pieces = tt; front = queued_behind all; asks = some }
 
 -- No memory for a piece.
-pub gives_up : (result : Result Form NoMemory) (ticket : Ticket) (moment : ℕ) (shape : Shape) (rest asked : List Asked) (old now : List (ℕ × Piece)) → IsErr result → 0 < length asked → Queued old now ticket moment rest asked → Splits result ticket moment shape asked old now
+pub gives_up : (result : Result Form NoMemory) (ticket : Ticket) (moment : ℕ) (shape : Shape) (rest asked : List ShardOp) (old now : List (ℕ × Piece)) → IsErr result → 0 < length asked → Queued old now ticket moment rest asked → Splits result ticket moment shape asked old now
 gives_up (Ok form) ticket moment shape rest asked old now failed some so_far = absurd cc
 gives_up (Err fault) ticket moment shape rest asked old now failed some so_far = record { form = tt; pieces = tt; front = queued_behind so_far; asks = some }
 

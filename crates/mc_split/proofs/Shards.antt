@@ -10,15 +10,15 @@ use Rattle.mc_item.specs.declared.op.Op.{Op}
 use Rattle.mc_item.specs.declared.op.Op.TheVariants as op
 use Rattle.mc_item.specs.declared.answer.Kind.TheVariants.{Fetch}
 use Rattle.mc_item.specs.Kind.{key_of, kind_of}
-use Rattle.mc_split.specs.Pieces.{Asked, asked_of, pieces_of}
+use Rattle.mc_split.specs.Pieces.{ShardOp, asked_of, pieces_of}
 use Rattle.mc_split.specs.Plan.{form_kind}
 
 -- what is asked of a shard
-abbrev pub ask_of : Op → ℕ → Asked
+abbrev pub ask_of : Op → ℕ → ShardOp
 ask_of op shard = record { shard = shard; op = op }
 
 -- a piece is for the shard of its key, where it has one
-abbrev NamesShard : ℕ → Asked → Type 0
+abbrev NamesShard : ℕ → ShardOp → Type 0
 NamesShard shards asked = IfSome (key_of asked.op) (λ key. asked.shard ≡ place_of key shards)
 
 -- what holds of all that is made holds of each of a list of them
@@ -38,15 +38,15 @@ pieces_name shards other = search rules
 place_within : (key : List ℕ) (shards : ℕ) → 0 < shards → place_of key shards < shards
 place_within key shards some = omega arith
 
-asks_within : (shards first count : ℕ) (op : Op) → first + count ≤ shards → AllByRecursion (λ (asked : Asked). asked.shard < shards) (map (ask_of op) (range_with_len first count))
+asks_within : (shards first count : ℕ) (op : Op) → first + count ≤ shards → AllByRecursion (λ (asked : ShardOp). asked.shard < shards) (map (ask_of op) (range_with_len first count))
 asks_within shards first zero op within = tt
 asks_within shards first (suc count) op within = (omega arith, asks_within shards (first + 1) count op (omega arith))
 
 -- each shard that is asked is there
-pub pieces_within : (shards : ℕ) → 0 < shards → (command : Command) → AllByRecursion (λ (asked : Asked). asked.shard < shards) (pieces_of shards command)
+pub pieces_within : (shards : ℕ) → 0 < shards → (command : Command) → AllByRecursion (λ (asked : ShardOp). asked.shard < shards) (pieces_of shards command)
 unfolding pieces_of
 pieces_within shards some (command.Get retrieval) =
-    every-map (λ (asked : Asked). asked.shard < shards) (λ (key : List ℕ). asked_of shards key (op.Fetch key retrieval.touch)) (λ key. place_within key shards some) retrieval.keys
+    every-map (λ (asked : ShardOp). asked.shard < shards) (λ (key : List ℕ). asked_of shards key (op.Fetch key retrieval.touch)) (λ key. place_within key shards some) retrieval.keys
 pieces_within shards some (command.FlushAll delay noreply) = asks_within shards 0 shards (op.Flush delay) (omega arith)
 pieces_within shards some (command.Stats request.General) = asks_within shards 0 shards op.Stats (omega arith)
 pieces_within shards some (command.Stats request.Reset) = asks_within shards 0 shards op.ResetStats (omega arith)
@@ -63,17 +63,17 @@ unfolding kind_of
 gets_kind shards touch first keys = refl
 
 -- All of these pieces are of the first one's kind.
-abbrev AreAlike : List Asked → Type 0
+abbrev AreAlike : List ShardOp → Type 0
 AreAlike asked = AllByRecursion (λ one. kind_of one.op ≡ form_kind asked) asked
 
 gets_alike : (shards : ℕ) (touch : Option ℤ) (keys : List (List ℕ)) → AreAlike (map (λ key. asked_of shards key (op.Fetch key touch)) keys)
 unfolding kind_of
 gets_alike shards touch [] = tt
-gets_alike shards touch (key ∷ keys) = every-map (λ (one : Asked). kind_of one.op ≡ Fetch) (λ (key : List ℕ). asked_of shards key (op.Fetch key touch)) (λ key. refl) (key ∷ keys)
+gets_alike shards touch (key ∷ keys) = every-map (λ (one : ShardOp). kind_of one.op ≡ Fetch) (λ (key : List ℕ). asked_of shards key (op.Fetch key touch)) (λ key. refl) (key ∷ keys)
 
 asks_alike : (shards : ℕ) (op : Op) → AreAlike (map (ask_of op) (range_with_len 0 shards))
 asks_alike zero op = tt
-asks_alike (suc shards) op = every-map (λ (one : Asked). kind_of one.op ≡ kind_of op) (ask_of op) (λ shard. refl) (range_with_len 0 (suc shards))
+asks_alike (suc shards) op = every-map (λ (one : ShardOp). kind_of one.op ≡ kind_of op) (ask_of op) (λ shard. refl) (range_with_len 0 (suc shards))
 
 -- all pieces of a command are of one kind
 pub pieces_alike : (shards : ℕ) (command : Command) → AreAlike (pieces_of shards command)

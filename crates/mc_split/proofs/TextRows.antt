@@ -15,7 +15,7 @@ use Rattle.mc_command.specs.declared.meta.ReturnFlag.TheVariants as flag
 use Rattle.mc_command.specs.declared.refusal.Refusal.TheVariants as refusal
 use Rattle.mc_command.specs.declared.command.StatsRequest.TheVariants as request
 use Rattle.mc_command.specs.declared.rules.Profile.TheVariants.{DropIn, Own}
-use Rattle.mc_item.specs.declared.tally.Asked.TheVariants as asked
+use Rattle.mc_item.specs.declared.tally.CountedAs.TheVariants as asked
 use Rattle.mc_item.specs.declared.tally.Status.TheVariants as status
 use Rattle.mc_item.specs.Tally.{no_counts, noted}
 use Rattle.mc_item.specs.declared.answer.Answer.{Answer}

@@ -5,12 +5,12 @@ use Rattle.mc_wire.specs.Key.{place_of}
 use Rattle.mc_command.specs.declared.command.Command.{Command}
 use Rattle.mc_item.specs.Kind.{key_of, kind_of}
 use Rattle.mc_split.specs.declared.plan.Ticket.{Ticket}
-use Rattle.mc_split.specs.Pieces.{Asked, pieces_of}
+use Rattle.mc_split.specs.Pieces.{ShardOp, pieces_of}
 use Rattle.mc_split.specs.Plan.{form_of, parts_from}
 
 -- The parts of a command are 0, 1, 2 and so on, in the order of its pieces.
 abbrev pub NumbersParts : Type 0
-NumbersParts = (ticket : Ticket) (moment : ℕ) (asked : List Asked) →
+NumbersParts = (ticket : Ticket) (moment : ℕ) (asked : List ShardOp) →
     map (λ sent. sent.1.part) (parts_from 0 ticket moment asked) ≡ range_with_len 0 (length asked)
 
 -- A piece is for the shard of the key that it asks for.

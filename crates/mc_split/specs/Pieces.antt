@@ -11,16 +11,16 @@ use Rattle.mc_item.specs.declared.op.Op.TheVariants as op
 use Rattle.mc_item.specs.declared.op.Vivify.{Vivify}
 
 -- a piece: the shard that is asked, and what it is asked
-pub record Asked : Type 0 where
+pub record ShardOp : Type 0 where
   pub shard : ℕ
   pub op : Op
 
 -- what is asked of the item under a key, which is on the key's shard
-abbrev pub asked_of : ℕ → List ℕ → Op → Asked
+abbrev pub asked_of : ℕ → List ℕ → Op → ShardOp
 asked_of shards key op = record { shard = place_of key shards; op = op }
 
 -- what every shard is asked, in rising order
-abbrev pub asked_of_all : ℕ → Op → List Asked
+abbrev pub asked_of_all : ℕ → Op → List ShardOp
 asked_of_all shards op = map (λ shard. record { shard = shard; op = op }) (range_with_len 0 shards)
 
 -- the item that ma makes of a miss: its exptime is the token of N, its number that of J
@@ -29,7 +29,7 @@ vivify_of exptime initial = option_map (λ exptime. record { exptime = exptime; 
 
 -- The pieces of a command, over so many shards: one for a command with one key, one a key in the order of the
 -- request for a get, one a shard for flush_all and stats, and none for what asks no shard.
-unfoldable pub pieces_of : ℕ → Command → List Asked
+unfoldable pub pieces_of : ℕ → Command → List ShardOp
 pieces_of shards (command.Store storage) =
     asked_of shards storage.key (op.Store storage.key storage.mode storage.flags storage.exptime storage.block) ∷ []
 pieces_of shards (command.Get retrieval) = map (λ key. asked_of shards key (op.Fetch key retrieval.touch)) retrieval.keys

@@ -13,11 +13,11 @@ use Rattle.mc_item.specs.declared.answer.Answer.{Answer}
 use Rattle.mc_item.specs.Kind.{is_lawful, kind_of}
 use Rattle.mc_command.specs.declared.meta.MetaKind.{MetaKind}
 use Rattle.mc_command.specs.declared.meta.MetaKind.TheVariants as kind
-use Rattle.mc_split.specs.Pieces.{Asked, pieces_of}
+use Rattle.mc_split.specs.Pieces.{ShardOp, pieces_of}
 use Rattle.mc_split.specs.Text.{is_hidden, text_of}
 
 -- Each piece has one answer, which is lawful for its kind.
-abbrev pub AnswersTo : List Asked → List Answer → Type 0
+abbrev pub AnswersTo : List ShardOp → List Answer → Type 0
 AnswersTo [] [] = Unit {0}
 AnswersTo [] (answer ∷ answers) = ⊥
 AnswersTo (asked ∷ pieces) [] = ⊥

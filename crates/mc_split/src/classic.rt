@@ -40,7 +40,8 @@ impl Splitter {
         storage: Storage,
     ) -> Result<Form, NoMemory>
         requires { 0 < self.shards }
-        ensures { Splits result self.ticket self.moment (shape_of (Command.Store storage)) (pieces_of self.shards (Command.Store storage)) queue.old.items queue.new.items }
+        ensures { Splits result self.ticket self.moment (shape_of (Command.Store storage))
+            (pieces_of self.shards (Command.Store storage)) queue.old.items queue.new.items }
     {
         let shape = Shape::Line {
             noreply: storage.noreply,
@@ -65,7 +66,8 @@ impl Splitter {
         retrieval: Retrieval,
     ) -> Result<Form, NoMemory>
         requires { 0 < self.shards }
-        ensures { Splits result self.ticket self.moment (shape_of (Command.Get retrieval)) (pieces_of self.shards (Command.Get retrieval)) queue.old.items queue.new.items }
+        ensures { Splits result self.ticket self.moment (shape_of (Command.Get retrieval))
+            (pieces_of self.shards (Command.Get retrieval)) queue.old.items queue.new.items }
     {
         let before = queue.len();
         let touch = retrieval.touch;
@@ -96,7 +98,8 @@ impl Splitter {
         noreply: bool,
     ) -> Result<Form, NoMemory>
         requires { 0 < self.shards }
-        ensures { Splits result self.ticket self.moment (shape_of (Command.Delete key noreply)) (pieces_of self.shards (Command.Delete key noreply)) queue.old.items queue.new.items }
+        ensures { Splits result self.ticket self.moment (shape_of (Command.Delete key noreply))
+            (pieces_of self.shards (Command.Delete key noreply)) queue.old.items queue.new.items }
     {
         let shard = key.place(self.shards);
         self.one(queue, plain_line(noreply), shard, Op::Delete { key })
@@ -111,7 +114,8 @@ impl Splitter {
         refusal: Refusal,
     ) -> Result<Form, NoMemory>
         requires { 0 < self.shards }
-        ensures { Splits result self.ticket self.moment (shape_of (Command.Discard key refusal)) (pieces_of self.shards (Command.Discard key refusal)) queue.old.items queue.new.items }
+        ensures { Splits result self.ticket self.moment (shape_of (Command.Discard key refusal))
+            (pieces_of self.shards (Command.Discard key refusal)) queue.old.items queue.new.items }
     {
         let shard = key.place(self.shards);
         let shape = Shape::Fixed(Fixed::Refused(refusal));
@@ -129,7 +133,10 @@ impl Splitter {
         noreply: bool,
     ) -> Result<Form, NoMemory>
         requires { 0 < self.shards }
-        ensures { Splits result self.ticket self.moment (shape_of (Command.Count key direction amount noreply)) (pieces_of self.shards (Command.Count key direction amount noreply)) queue.old.items queue.new.items }
+        ensures { Splits result self.ticket self.moment
+            (shape_of (Command.Count key direction amount noreply))
+            (pieces_of self.shards (Command.Count key direction amount noreply)) queue.old.items
+            queue.new.items }
     {
         let shard = key.place(self.shards);
         let op = Op::Count {
@@ -150,7 +157,10 @@ impl Splitter {
         noreply: bool,
     ) -> Result<Form, NoMemory>
         requires { 0 < self.shards }
-        ensures { Splits result self.ticket self.moment (shape_of (Command.Touch key exptime noreply)) (pieces_of self.shards (Command.Touch key exptime noreply)) queue.old.items queue.new.items }
+        ensures { Splits result self.ticket self.moment
+            (shape_of (Command.Touch key exptime noreply))
+            (pieces_of self.shards (Command.Touch key exptime noreply)) queue.old.items
+            queue.new.items }
     {
         let shard = key.place(self.shards);
         self.one(
@@ -170,7 +180,9 @@ impl Splitter {
         noreply: bool,
     ) -> Result<Form, NoMemory>
         requires { 0 < self.shards }
-        ensures { Splits result self.ticket self.moment (shape_of (Command.FlushAll delay noreply)) (pieces_of self.shards (Command.FlushAll delay noreply)) queue.old.items queue.new.items }
+        ensures { Splits result self.ticket self.moment (shape_of (Command.FlushAll delay noreply))
+            (pieces_of self.shards (Command.FlushAll delay noreply)) queue.old.items
+            queue.new.items }
     {
         self.all(queue, plain_line(noreply), ToAll::Flush { delay })
     }

@@ -170,7 +170,8 @@ impl Form {
     /// Puts the answer of a part into its slot.
     pub fn fill(&mut self, part: usize, answer: Answer)
         requires { part < length self.old.slots }
-        ensures { self.new ≡ record self.old { slots = slice_set self.old.slots part (Some answer) } }
+        ensures { self.new ≡
+            record self.old { slots = slice_set self.old.slots part (Some answer) } }
     {
         self.slots.fill(part, answer);
     }

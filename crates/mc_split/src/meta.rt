@@ -59,7 +59,8 @@ impl Splitter {
         get: MetaGet,
     ) -> Result<Form, NoMemory>
         requires { 0 < self.shards }
-        ensures { Splits result self.ticket self.moment (shape_of (Command.MetaGet get)) (pieces_of self.shards (Command.MetaGet get)) queue.old.items queue.new.items }
+        ensures { Splits result self.ticket self.moment (shape_of (Command.MetaGet get))
+            (pieces_of self.shards (Command.MetaGet get)) queue.old.items queue.new.items }
     {
         let shape = Shape::Meta {
             kind: MetaKind::Get,
@@ -87,7 +88,8 @@ impl Splitter {
         set: MetaSet,
     ) -> Result<Form, NoMemory>
         requires { 0 < self.shards }
-        ensures { Splits result self.ticket self.moment (shape_of (Command.MetaSet set)) (pieces_of self.shards (Command.MetaSet set)) queue.old.items queue.new.items }
+        ensures { Splits result self.ticket self.moment (shape_of (Command.MetaSet set))
+            (pieces_of self.shards (Command.MetaSet set)) queue.old.items queue.new.items }
     {
         let shape = Shape::Meta {
             kind: MetaKind::Set,
@@ -117,7 +119,8 @@ impl Splitter {
         delete: MetaDelete,
     ) -> Result<Form, NoMemory>
         requires { 0 < self.shards }
-        ensures { Splits result self.ticket self.moment (shape_of (Command.MetaDelete delete)) (pieces_of self.shards (Command.MetaDelete delete)) queue.old.items queue.new.items }
+        ensures { Splits result self.ticket self.moment (shape_of (Command.MetaDelete delete))
+            (pieces_of self.shards (Command.MetaDelete delete)) queue.old.items queue.new.items }
     {
         let shape = Shape::Meta {
             kind: MetaKind::Delete,
@@ -145,7 +148,10 @@ impl Splitter {
         arithmetic: MetaArithmetic,
     ) -> Result<Form, NoMemory>
         requires { 0 < self.shards }
-        ensures { Splits result self.ticket self.moment (shape_of (Command.MetaArithmetic arithmetic)) (pieces_of self.shards (Command.MetaArithmetic arithmetic)) queue.old.items queue.new.items }
+        ensures { Splits result self.ticket self.moment
+            (shape_of (Command.MetaArithmetic arithmetic))
+            (pieces_of self.shards (Command.MetaArithmetic arithmetic)) queue.old.items
+            queue.new.items }
     {
         let shape = Shape::Meta {
             kind: MetaKind::Arithmetic,

@@ -57,7 +57,9 @@ pub fn queue_get_one(
     requires shards { 0 < shards }
     requires key { key_fault key.now ≡ None }
     ensures shown { IfOk result (λ shown. shown ≡ key.now) }
-    ensures queues { (with_unique : Bool) → Queues shards ticket moment (get_of (key.now ∷ []) with_unique) result queue.old.items queue.new.items }
+    ensures queues { (with_unique : Bool) →
+        Queues shards ticket moment (get_of (key.now ∷ []) with_unique) result queue.old.items
+        queue.new.items }
 {
     let splitter = Splitter {
         alloc,
@@ -101,7 +103,8 @@ pub fn split_get(
     requires shards { 0 < shards }
     requires first { key_fault first.now ≡ None }
     requires others { AreKeys (words_of others.now) }
-    ensures { SplitsInto shards ticket moment (get_of (first.now ∷ words_of others.now) with_unique) result queue.old.items queue.new.items }
+    ensures { SplitsInto shards ticket moment (get_of (first.now ∷ words_of others.now) with_unique)
+        result queue.old.items queue.new.items }
 {
     let before = queue.len();
     let splitter = Splitter {
@@ -130,7 +133,9 @@ pub fn queue_meta_get_value(
 ) -> Result<(), NoMemory>
     requires shards { 0 < shards }
     requires key { key_fault key.now ≡ None }
-    ensures { (profile : Profile) → Queues shards ticket moment (meta_get_of profile key.now) result queue.old.items queue.new.items }
+    ensures { (profile : Profile) →
+        Queues shards ticket moment (meta_get_of profile key.now) result queue.old.items
+        queue.new.items }
 {
     let splitter = Splitter {
         alloc,
@@ -155,7 +160,8 @@ pub fn queue_meta_get_value(
 #[inline(always)]
 #[tactic(auto, unfolding(crate::specs::Pieces::pieces_of, crate::specs::Shape::shape_of))]
 pub fn form_of_meta_get_value(ticket: Ticket, profile: Profile) -> Form
-    ensures { (shards : ℕ) (key : List ℕ) → result ≡ form_of shards ticket (meta_get_of profile key) }
+    ensures { (shards : ℕ) (key : List ℕ) →
+        result ≡ form_of shards ticket (meta_get_of profile key) }
 {
     let shape = Shape::Meta {
         kind: MetaKind::Get,
@@ -183,7 +189,8 @@ pub fn split_meta_get(
     queue: &mut VecDeque<(usize, Piece)>,
 ) -> Result<Form, NoMemory>
     requires { 0 < shards }
-    ensures { SplitsInto shards ticket moment (command.MetaGet get) result queue.old.items queue.new.items }
+    ensures { SplitsInto shards ticket moment (command.MetaGet get) result queue.old.items
+        queue.new.items }
 {
     let before = queue.len();
     let splitter = Splitter {
@@ -211,7 +218,8 @@ pub fn split_meta_set(
 ) -> Result<Form, NoMemory>
     requires shards { 0 < shards }
     requires small { length block.now ≤ GREATEST_VALUE_LIMIT }
-    ensures { SplitsInto shards ticket moment (with_block (command.MetaSet set) block.now) result queue.old.items queue.new.items }
+    ensures { SplitsInto shards ticket moment (with_block (command.MetaSet set) block.now) result
+        queue.old.items queue.new.items }
 {
     let before = queue.len();
     let splitter = Splitter {
@@ -245,7 +253,9 @@ pub fn queue_set(
     requires shards { 0 < shards }
     requires key { key_fault key.now ≡ None }
     requires small { length block.now ≤ GREATEST_VALUE_LIMIT }
-    ensures { (noreply : Bool) → Queues shards ticket moment (set_of key.now flags exptime noreply block.now) result queue.old.items queue.new.items }
+    ensures { (noreply : Bool) →
+        Queues shards ticket moment (set_of key.now flags exptime noreply block.now) result
+        queue.old.items queue.new.items }
 {
     let splitter = Splitter {
         alloc,
@@ -304,7 +314,8 @@ impl Splitter {
         requires first { key_fault first.now ≡ None }
         requires others { AreKeys (words_of others.now) }
         ensures { let asked : Command = get_of (first.now ∷ words_of others.now) with_unique in
-            Splits result self.ticket self.moment (shape_of asked) (pieces_of self.shards asked) queue.old.items queue.new.items }
+            Splits result self.ticket self.moment (shape_of asked) (pieces_of self.shards asked)
+            queue.old.items queue.new.items }
     {
         let keys = Keys::from_key_words(self.alloc, first, others)?;
         self.get(
@@ -327,8 +338,9 @@ impl Splitter {
     ) -> Result<Form, NoMemory>
         requires shards { 0 < self.shards }
         requires small { length block.now ≤ GREATEST_VALUE_LIMIT }
-        ensures { let asked : Command = with_block (command.MetaSet set) block.now in
-            Splits result self.ticket self.moment (shape_of asked) (pieces_of self.shards asked) queue.old.items queue.new.items }
+        ensures { let asked : Command = with_block (command.MetaSet set) block.now in Splits result
+            self.ticket self.moment (shape_of asked) (pieces_of self.shards asked)
+            queue.old.items queue.new.items }
     {
         let block = Vec::from_slice(self.alloc, block)?;
         self.meta_set(

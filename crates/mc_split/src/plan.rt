@@ -47,7 +47,9 @@ pub fn split_into(
 ) -> Result<Form, NoMemory>
     requires { 0 < shards }
     ensures form { IfOk result (λ form. form ≡ form_of shards ticket command) }
-    ensures pieces { OnOk result (queue.new.items ≡ queue.old.items ++ parts_from 0 ticket moment (pieces_of shards command)) }
+    ensures pieces { OnOk result
+        (queue.new.items ≡
+        queue.old.items ++ parts_from 0 ticket moment (pieces_of shards command)) }
     ensures unchanged { OnErr result (queue.new.items ≡ queue.old.items) }
     // Only a command that asks a shard can find no memory.
     ensures asks { OnErr result (0 < length (pieces_of shards command)) }
@@ -77,7 +79,8 @@ pub fn split(
 ) -> Result<Plan, NoMemory>
     requires { 0 < shards }
     ensures form { IfOk result (λ plan. plan.form ≡ form_of shards ticket command) }
-    ensures pieces { IfOk result (λ plan. plan.pieces.items ≡ parts_from 0 ticket moment (pieces_of shards command)) }
+    ensures pieces { IfOk result
+        (λ plan. plan.pieces.items ≡ parts_from 0 ticket moment (pieces_of shards command)) }
     ensures asks { OnErr result (0 < length (pieces_of shards command)) }
     ensures gives_up { OnErr result (IsTrue (can_give_up command)) }
 {
@@ -91,7 +94,8 @@ impl Splitter {
     #[tactic(auto, unfolding(crate::specs::Pieces::pieces_of, crate::specs::Shape::shape_of))]
     fn split(self, queue: &mut VecDeque<(usize, Piece)>, command: Command) -> Result<Form, NoMemory>
         requires { 0 < self.shards }
-        ensures splits { Splits result self.ticket self.moment (shape_of command) (pieces_of self.shards command) queue.old.items queue.new.items }
+        ensures splits { Splits result self.ticket self.moment (shape_of command)
+            (pieces_of self.shards command) queue.old.items queue.new.items }
         ensures gives_up { OnErr result (IsTrue (can_give_up command)) }
     {
         match command {

@@ -1,7 +1,7 @@
 //! The pieces of one command, numbered, and the form of its reply.
 ghost use Rattle.std.specs.Prelude.{◌≡◌, ◌<◌, ◌++◌, ◌∷◌, [], IfOk, OnOk, OnErr, None, replicate};
 ghost use Rattle.std.specs.VecDeque.{deque_len, deque_capacity};
-ghost use Rattle.mc_split.specs.Pieces.{Asked};
+ghost use Rattle.mc_split.specs.Pieces.{ShardOp};
 ghost use Rattle.mc_split.specs.Plan.{form_with};
 ghost use Rattle.mc_split.specs.internal.Splits.{Splits};
 
@@ -69,7 +69,8 @@ impl Splitter {
         shard: usize,
         op: Op,
     ) -> Result<Form, NoMemory>
-        ensures { let asked : Asked = record { shard = shard; op = op } in Splits result self.ticket self.moment shape (asked ∷ []) queue.old.items queue.new.items }
+        ensures { let asked : ShardOp = record { shard = shard; op = op } in Splits result
+            self.ticket self.moment shape (asked ∷ []) queue.old.items queue.new.items }
     {
         let kind = op.kind();
         self.push(queue, shard, 0, op)?;
@@ -90,7 +91,11 @@ impl Splitter {
         part: usize,
         op: Op,
     ) -> Result<(), AllocError>
-        ensures ok { OnOk result (queue.new.items ≡ queue.old.items ++ (shard, record { ticket = self.ticket; part = part; op = op; moment = self.moment }) ∷ []) }
+        ensures ok { OnOk result
+            (queue.new.items ≡
+            queue.old.items ++
+            (shard, record { ticket = self.ticket; part = part; op = op; moment = self.moment })
+            ∷ []) }
         ensures err { OnErr result (queue.new.items ≡ queue.old.items) }
     {
         if make_room(queue).is_err() {
@@ -109,7 +114,14 @@ impl Splitter {
 
     /// The form of a reply to so many pieces, all of this kind.
     pub fn form(self, shape: Shape, kind: Kind, count: usize) -> Result<Form, NoMemory>
-        ensures { IfOk result (λ form. form ≡ record { ticket = self.ticket; kind = kind; shape = shape; slots = replicate count None }) }
+        ensures { IfOk result (λ form.
+            form ≡
+            record {
+              ticket = self.ticket;
+              kind = kind;
+              shape = shape;
+              slots = replicate count None;
+            }) }
     {
         let slots = Slots::empty(self.alloc, count)?;
         Ok(Form {

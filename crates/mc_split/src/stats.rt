@@ -46,7 +46,8 @@ impl Splitter {
         asked: StatsRequest,
     ) -> Result<Form, NoMemory>
         requires { 0 < self.shards }
-        ensures { Splits result self.ticket self.moment (shape_of (Command.Stats asked)) (pieces_of self.shards (Command.Stats asked)) queue.old.items queue.new.items }
+        ensures { Splits result self.ticket self.moment (shape_of (Command.Stats asked))
+            (pieces_of self.shards (Command.Stats asked)) queue.old.items queue.new.items }
     {
         match asked {
             StatsRequest::General => self.all(queue, Shape::Stats, ToAll::Stats),
@@ -63,7 +64,8 @@ impl Splitter {
         asked: ToAll,
     ) -> Result<Form, NoMemory>
         requires { 0 < self.shards }
-        ensures { Splits result self.ticket self.moment shape (asked_of_all self.shards (op_of asked)) queue.old.items queue.new.items }
+        ensures { Splits result self.ticket self.moment shape
+            (asked_of_all self.shards (op_of asked)) queue.old.items queue.new.items }
     {
         for shard in 0..self.shards {
             self.push(queue, shard, shard, asked.op())?;

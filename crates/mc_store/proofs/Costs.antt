@@ -12,7 +12,7 @@ use Rattle.std.proofs.lemmas.List.Sums.{sum_by-cons}
 use Rattle.mc_wire.specs.SameKey.{same_key}
 use Rattle.mc_store.specs.State.{Used, Items, number_at, cost, cost_of, costs, used_since, fitting}
 use Rattle.mc_store.specs.Shard.{AllBelow, Shows}
-use Rattle.mc_store.specs.internal.Listed.{Entry, entry_cost, listed_cost, within}
+use Rattle.mc_store.specs.internal.Listed.{ListedItem, entry_cost, listed_cost, within}
 use Rattle.mc_store.proofs.Lists.{same, used, nothing, same_self, not_same, same_items, same_but, none_either, get_nothing, get_retained, get_here, get_other, get_gone, get_apart, get_kept, retained_is, insert-remove, insert_same, remove_none, Shows-first}
 use Rattle.mc_store.proofs.Listed.{cost_cons}
 
@@ -99,7 +99,7 @@ pub costs_with : (m : Items) (k : List ℕ) (u : Used) → get m k ≡ Some u �
 costs_with m k u is = ap costs (sym (insert_same m k u is)) ∙ costs_inserted m k u
 
 -- the list costs what the map does
-pub costs_shown : (es : List Entry) (m : Items) → Shows es m → costs m ≡ listed_cost es
+pub costs_shown : (es : List ListedItem) (m : Items) → Shows es m → costs m ≡ listed_cost es
 costs_shown [] m h = rw h costs_nothing
 costs_shown (e ∷ es) m h = costs_with m e.0 (used e.1 h.0) h.1 ∙ ap (λ n. entry_cost e + n) (costs_shown es (remove m e.0) h.3) ∙ sym (cost_cons e es)
 
@@ -180,7 +180,7 @@ module _ (m : Items) (k : List ℕ) (first : Used) (is : get m k ≡ Some first)
       (λ x f. rw (get_fitting m budget k x, get_kept_in m budget x, texts_ties k x, not_same x k f))
 
 -- the list within a room shows the items that fit it
-pub Shows-within : (room : ℕ) (es : List Entry) (m : Items) → Shows es m → Shows (within room es) (kept m room)
+pub Shows-within : (room : ℕ) (es : List ListedItem) (m : Items) → Shows es m → Shows (within room es) (kept m room)
 Shows-within room [] m h = rw h (same_items (kept nothing room) nothing (λ x. rw (get_kept_in nothing room x, get_nothing x) (none_either (nat_le (costs (used_since nothing x)) room))))
 Shows-within room (e ∷ es) m h = elim (cases_Bool (nat_le (entry_cost e) room)) [
   | inl t ↦

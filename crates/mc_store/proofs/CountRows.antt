@@ -4,7 +4,7 @@ use Rattle.std.specs.Prelude.{codes}
 use Rattle.std.specs.FinMap.{len}
 use Rattle.mc_item.specs.declared.op.Op.TheVariants as op
 use Rattle.mc_item.specs.declared.answer.Answer.TheVariants as answer
-use Rattle.mc_item.specs.declared.tally.Asked.TheVariants.{Get, Set, Stats}
+use Rattle.mc_item.specs.declared.tally.CountedAs.TheVariants.{Get, Set, Stats}
 use Rattle.mc_item.specs.declared.tally.Status.TheVariants.{Hit, Miss}
 use Rattle.mc_item.specs.Tally.{asked_of, counted, no_counts, status_of}
 use Rattle.mc_store.specs.State.{Items, State, evicting, fitting}

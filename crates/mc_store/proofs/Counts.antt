@@ -18,7 +18,7 @@ use Rattle.mc_store.specs.internal.Found.{live}
 use Rattle.mc_store.specs.State.{State, without_dead, entered}
 use Rattle.mc_store.specs.Rows.{counted_item, done_of}
 use Rattle.mc_store.specs.Step.{Outcome, Reply, Counting, is_other, numbered, counted, changes, absent_count, count_step, counting, step_of}
-use Rattle.mc_store.specs.Shard.{Held, Keeps}
+use Rattle.mc_store.specs.Shard.{ShardContents, Keeps}
 use Rattle.mc_store.proofs.Writes.{Closes, along, met_time}
 use Rattle.mc_store.proofs.Outcomes.{Ends, ends, absent_as, present_as, unchanged_as}
 use Rattle.mc_store.proofs.Stores.{fresh, fresh_of}
@@ -31,18 +31,18 @@ asked_in it = counting it.compare it.unique it.direction it.amount it.exptime
 abbrev pub done_with : State → List ℕ → Option ℕ → (ℕ → Item) → ℕ → Reply → Outcome
 done_with settled key token item_of number reply = numbered settled token (λ unique given. (reply (done_of (item_of unique) number settled.time), entered given key (item_of unique)))
 
-pub written_as : (settled : State) (key : List ℕ) (token : Option ℕ) (item made : Item) (number : ℕ) (reply : Reply) (answer : Answer) (new : Held) → item ≡ made → Closes settled (done_with settled key token (λ unique. record item { unique = unique }) number reply) answer new → Closes settled (done_with settled key token (λ unique. record made { unique = unique }) number reply) answer new
+pub written_as : (settled : State) (key : List ℕ) (token : Option ℕ) (item made : Item) (number : ℕ) (reply : Reply) (answer : Answer) (new : ShardContents) → item ≡ made → Closes settled (done_with settled key token (λ unique. record item { unique = unique }) number reply) answer new → Closes settled (done_with settled key token (λ unique. record made { unique = unique }) number reply) answer new
 written_as settled key token item made number reply answer new is closes = subst (λ i. Closes settled (done_with settled key token (λ unique. record i { unique = unique }) number reply) answer new) is closes
 
 -- a counter that is made of a miss
-counter_is : (held : Held) (state : State) (key : List ℕ) (token : Option ℕ) (made : Vivify) (reply : Reply) → Keeps held state →
+counter_is : (held : ShardContents) (state : State) (key : List ℕ) (token : Option ℕ) (made : Vivify) (reply : Reply) → Keeps held state →
     done_with (without_dead state (Some key)) key token (λ unique. fresh (number_text made.initial) 0 (expiry_of made.exptime held.time) unique) made.initial reply ≡ absent_count (without_dead state (Some key)) key token reply (Some made)
 counter_is held state key token made reply h =
     let time : (without_dead state (Some key)).time ≡ held.time = met_time state key ∙ h.time in
     subst (λ t. done_with (without_dead state (Some key)) key token (λ unique. fresh (number_text made.initial) 0 (expiry_of made.exptime t) unique) made.initial reply ≡ absent_count (without_dead state (Some key)) key token reply (Some made)) time refl
 
 -- To write a new item with the initial number and its expiry is what counting does where it makes a counter of a miss.
-pub counter_as : (held : Held) (state : State) (key : List ℕ) (token : Option ℕ) (made : Vivify) (item : Item) (reply : Reply) (answer : Answer) (new : Held) → Keeps held state → item ≡ fresh_of (number_text made.initial) 0 (expiry_of made.exptime held.time) →
+pub counter_as : (held : ShardContents) (state : State) (key : List ℕ) (token : Option ℕ) (made : Vivify) (item : Item) (reply : Reply) (answer : Answer) (new : ShardContents) → Keeps held state → item ≡ fresh_of (number_text made.initial) 0 (expiry_of made.exptime held.time) →
     Closes (without_dead state (Some key)) (done_with (without_dead state (Some key)) key token (λ unique. record item { unique = unique }) made.initial reply) answer new → Closes (without_dead state (Some key)) (absent_count (without_dead state (Some key)) key token reply (Some made)) answer new
 counter_as held state key token made item reply answer new h is closes =
     along (without_dead state (Some key)) (done_with (without_dead state (Some key)) key token (λ unique. fresh (number_text made.initial) 0 (expiry_of made.exptime held.time) unique) made.initial reply) (absent_count (without_dead state (Some key)) key token reply (Some made)) answer new
@@ -50,21 +50,21 @@ counter_as held state key token made item reply answer new h is closes =
     (written_as (without_dead state (Some key)) key token item (fresh_of (number_text made.initial) 0 (expiry_of made.exptime held.time)) made.initial reply answer new is closes)
 
 -- Where nothing alive is under the key, counting goes as under an absent key.
-pub count_misses : (held : Held) (state : State) (key : List ℕ) (asked : Counting) (vivify : Option Vivify) (reply : Reply) (answer : Answer) (new : Held) → Keeps held state → None ≡ live held.time (lookup (pointwise nat_eq key) held.entries) →
+pub count_misses : (held : ShardContents) (state : State) (key : List ℕ) (asked : Counting) (vivify : Option Vivify) (reply : Reply) (answer : Answer) (new : ShardContents) → Keeps held state → None ≡ live held.time (lookup (pointwise nat_eq key) held.entries) →
     Closes (without_dead state (Some key)) (absent_count (without_dead state (Some key)) key asked.unique reply vivify) answer new → Closes (without_dead state (Some key)) (count_step (without_dead state (Some key)) key asked reply vivify (get (without_dead state (Some key)).items key)) answer new
 count_misses held state key asked vivify reply answer new h none closes =
     along (without_dead state (Some key)) (absent_count (without_dead state (Some key)) key asked.unique reply vivify) (count_step (without_dead state (Some key)) key asked reply vivify (get (without_dead state (Some key)).items key)) answer new
     (absent_as held state key (λ s o. count_step s key asked reply vivify o) (λ s. absent_count s key asked.unique reply vivify) h none (λ s. refl)) closes
 
 -- Counting an item whose unique isn't the one asked for changes nothing and is answered that it exists.
-pub count_exists : (held : Held) (state : State) (key : List ℕ) (item : Item) (asked : Counting) (vivify : Option Vivify) (reply : Reply) → Keeps held state → Some item ≡ live held.time (lookup (pointwise nat_eq key) held.entries) → is_other asked.compare item.unique ≡ true →
+pub count_exists : (held : ShardContents) (state : State) (key : List ℕ) (item : Item) (asked : Counting) (vivify : Option Vivify) (reply : Reply) → Keeps held state → Some item ≡ live held.time (lookup (pointwise nat_eq key) held.entries) → is_other asked.compare item.unique ≡ true →
     Closes (without_dead state (Some key)) (count_step (without_dead state (Some key)) key asked reply vivify (get (without_dead state (Some key)).items key)) Exists held
 count_exists held state key item asked vivify reply h is other =
     unchanged_as held state key item (λ s o. count_step s key asked reply vivify o) Exists h is
     (λ s u i. let o : is_other asked.compare u.item.unique ≡ true = rw i other in rw o)
 
 -- Counting an item whose value is no number, at its unique or at none, changes nothing and is answered so.
-pub count_fails : (held : Held) (state : State) (key : List ℕ) (item : Item) (asked : Counting) (vivify : Option Vivify) (reply : Reply) → Keeps held state → Some item ≡ live held.time (lookup (pointwise nat_eq key) held.entries) → is_other asked.compare item.unique ≡ false → None ≡ number_in item.value →
+pub count_fails : (held : ShardContents) (state : State) (key : List ℕ) (item : Item) (asked : Counting) (vivify : Option Vivify) (reply : Reply) → Keeps held state → Some item ≡ live held.time (lookup (pointwise nat_eq key) held.entries) → is_other asked.compare item.unique ≡ false → None ≡ number_in item.value →
     Closes (without_dead state (Some key)) (count_step (without_dead state (Some key)) key asked reply vivify (get (without_dead state (Some key)).items key)) NonNumeric held
 count_fails held state key item asked vivify reply h is other none =
     unchanged_as held state key item (λ s o. count_step s key asked reply vivify o) NonNumeric h is (λ s u i.
@@ -73,7 +73,7 @@ count_fails held state key item asked vivify reply h is other none =
     rw (o, ← no_number))
 
 -- the item with its new number, before it has a new unique
-pub counted_as : (held : Held) (state : State) (key : List ℕ) (item : Item) (asked : Counting) (vivify : Option Vivify) (reply : Reply) (number : ℕ) (new_item : Item) (answer : Answer) (new : Held) → Keeps held state → Some item ≡ live held.time (lookup (pointwise nat_eq key) held.entries) →
+pub counted_as : (held : ShardContents) (state : State) (key : List ℕ) (item : Item) (asked : Counting) (vivify : Option Vivify) (reply : Reply) (number : ℕ) (new_item : Item) (answer : Answer) (new : ShardContents) → Keeps held state → Some item ≡ live held.time (lookup (pointwise nat_eq key) held.entries) →
     is_other asked.compare item.unique ≡ false → Some number ≡ number_in item.value → new_item ≡ counted_item item (counted asked.direction number asked.amount) asked.exptime held.time item.unique →
     Closes (without_dead state (Some key)) (done_with (without_dead state (Some key)) key asked.unique (λ unique. record new_item { unique = unique }) (counted asked.direction number asked.amount) reply) answer new →
     Closes (without_dead state (Some key)) (count_step (without_dead state (Some key)) key asked reply vivify (get (without_dead state (Some key)).items key)) answer new
@@ -92,7 +92,7 @@ counted_as held state key item asked vivify reply number new_item answer new h i
     (written_as settled key asked.unique new_item (counted_item item to asked.exptime held.time item.unique) to reply answer new made closes))
 
 -- the same, where the new number was computed
-pub counted_by : (held : Held) (state : State) (key : List ℕ) (item : Item) (asked : Counting) (vivify : Option Vivify) (reply : Reply) (number to : ℕ) (new_item : Item) (answer : Answer) (new : Held) → Keeps held state → Some item ≡ live held.time (lookup (pointwise nat_eq key) held.entries) →
+pub counted_by : (held : ShardContents) (state : State) (key : List ℕ) (item : Item) (asked : Counting) (vivify : Option Vivify) (reply : Reply) (number to : ℕ) (new_item : Item) (answer : Answer) (new : ShardContents) → Keeps held state → Some item ≡ live held.time (lookup (pointwise nat_eq key) held.entries) →
     is_other asked.compare item.unique ≡ false → Some number ≡ number_in item.value → to ≡ counted asked.direction number asked.amount → new_item ≡ counted_item item to asked.exptime held.time item.unique →
     Closes (without_dead state (Some key)) (done_with (without_dead state (Some key)) key asked.unique (λ unique. record new_item { unique = unique }) to reply) answer new →
     Closes (without_dead state (Some key)) (count_step (without_dead state (Some key)) key asked reply vivify (get (without_dead state (Some key)).items key)) answer new
@@ -102,17 +102,17 @@ counted_by held state key item asked vivify reply number to new_item answer new 
     (subst (λ n. Closes (without_dead state (Some key)) (done_with (without_dead state (Some key)) key asked.unique (λ unique. record new_item { unique = unique }) n reply) answer new) to_is closes)
 
 -- `incr` and `decr` count at no unique, make nothing of a miss and leave the expiry.
-pub classic_count : (settled : State) (key : List ℕ) (direction : Direction) (amount : ℕ) (answer : Answer) (new : Held) →
+pub classic_count : (settled : State) (key : List ℕ) (direction : Direction) (amount : ℕ) (answer : Answer) (new : ShardContents) →
     Closes settled (count_step settled key (counting None None direction amount None) (λ done. Number done.number) None (get settled.items key)) answer new → Ends settled (Count key direction amount) answer new
 unfolding step_of kind_of is_lawful
 classic_count settled key direction amount answer new closes = ends settled (Count key direction amount) answer new (λ _. refl) closes
 
 -- `ma` counts as its flags ask.
-pub meta_count : (settled : State) (asked : op.MetaCount) (answer : Answer) (new : Held) →
+pub meta_count : (settled : State) (asked : op.MetaCount) (answer : Answer) (new : ShardContents) →
     Closes settled (count_step settled asked.key (counting asked.compare asked.unique asked.direction asked.amount asked.exptime) (λ done. MetaDone done) asked.vivify (get settled.items asked.key)) answer new → Ends settled (MetaCount asked) answer new
 unfolding step_of kind_of is_lawful
 meta_count settled asked answer new closes = ends settled (MetaCount asked) answer new (λ _. refl) closes
 
 -- the same, where what is to be made is given as an option
-pub vivified_as : (settled : State) (key : List ℕ) (token : Option ℕ) (vivify : Option Vivify) (made : Vivify) (reply : Reply) (answer : Answer) (new : Held) → vivify ≡ Some made → Closes settled (absent_count settled key token reply (Some made)) answer new → Closes settled (absent_count settled key token reply vivify) answer new
+pub vivified_as : (settled : State) (key : List ℕ) (token : Option ℕ) (vivify : Option Vivify) (made : Vivify) (reply : Reply) (answer : Answer) (new : ShardContents) → vivify ≡ Some made → Closes settled (absent_count settled key token reply (Some made)) answer new → Closes settled (absent_count settled key token reply vivify) answer new
 vivified_as settled key token vivify made reply answer new is closes = subst (λ v. Closes settled (absent_count settled key token reply v) answer new) (sym is) closes

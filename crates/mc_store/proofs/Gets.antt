@@ -17,54 +17,54 @@ use Rattle.mc_store.specs.internal.Found.{live}
 use Rattle.mc_store.specs.State.{State, Used, with_items, without_dead, entered}
 use Rattle.mc_store.specs.Rows.{fetched_item, touched_item, shown_item, hit_of, made_hit}
 use Rattle.mc_store.specs.Step.{numbered, fetch_step, touch_step, meta_get_step, absent_meta_get, step_of}
-use Rattle.mc_store.specs.Shard.{Held, Keeps}
+use Rattle.mc_store.specs.Shard.{ShardContents, Keeps}
 use Rattle.mc_store.proofs.Shards.{with_entries, at_now, misses, set_in_place}
 use Rattle.mc_store.proofs.Changes.{settled_again}
 use Rattle.mc_store.proofs.Writes.{Closes, along, met_time}
 use Rattle.mc_store.proofs.Outcomes.{Ends, ends, here, at_live, misses_as, absent_as, lacks_as, some_of, uses_as}
 
 -- Where nothing alive is under the key, a get misses, and a dead item there goes.
-pub fetch_miss : (held : Held) (state : State) (key : List ℕ) (touch : Option ℤ) → Keeps held state → None ≡ live held.time (lookup (pointwise nat_eq key) held.entries) → Ends (without_dead state (Some key)) (Fetch key touch) Miss (with_entries held (remove_entry (pointwise nat_eq key) held.entries))
+pub fetch_miss : (held : ShardContents) (state : State) (key : List ℕ) (touch : Option ℤ) → Keeps held state → None ≡ live held.time (lookup (pointwise nat_eq key) held.entries) → Ends (without_dead state (Some key)) (Fetch key touch) Miss (with_entries held (remove_entry (pointwise nat_eq key) held.entries))
 unfolding step_of kind_of is_lawful
 fetch_miss held state key touch h none =
     ends (without_dead state (Some key)) (Fetch key touch) Miss _ (λ _. refl) (misses_as held state key (λ s o. fetch_step s key touch o) Miss h none (λ s. refl))
 
 -- A get of a live item that finds no memory changes nothing.
-pub fetch_lacks : (held : Held) (state : State) (key : List ℕ) (touch : Option ℤ) → Keeps held state → IsSome (live held.time (lookup (pointwise nat_eq key) held.entries)) → Ends (without_dead state (Some key)) (Fetch key touch) NoMemory held
+pub fetch_lacks : (held : ShardContents) (state : State) (key : List ℕ) (touch : Option ℤ) → Keeps held state → IsSome (live held.time (lookup (pointwise nat_eq key) held.entries)) → Ends (without_dead state (Some key)) (Fetch key touch) NoMemory held
 unfolding step_of kind_of is_lawful
 fetch_lacks held state key touch h some =
     let alive = some_of (live held.time (lookup (pointwise nat_eq key) held.entries)) some in
     ends (without_dead state (Some key)) (Fetch key touch) NoMemory held (λ _. refl) (lacks_as held state key alive.0 _ h alive.1)
 
 -- A get of a live item shows it and makes it the most recently used one, fetched, with the expiry that `gat` sets.
-pub fetch_hit : (held : Held) (state : State) (key : List ℕ) (touch : Option ℤ) (item : Item) → Keeps held state → Some item ≡ live held.time (lookup (pointwise nat_eq key) held.entries) → Ends (without_dead state (Some key)) (Fetch key touch) (Hit item.flags item.unique item.value) (with_entries held (set_value (pointwise nat_eq key) (promoted (pointwise nat_eq key) held.entries) (at_now (fetched_item item touch held.time) held.time)))
+pub fetch_hit : (held : ShardContents) (state : State) (key : List ℕ) (touch : Option ℤ) (item : Item) → Keeps held state → Some item ≡ live held.time (lookup (pointwise nat_eq key) held.entries) → Ends (without_dead state (Some key)) (Fetch key touch) (Hit item.flags item.unique item.value) (with_entries held (set_value (pointwise nat_eq key) (promoted (pointwise nat_eq key) held.entries) (at_now (fetched_item item touch held.time) held.time)))
 unfolding step_of kind_of is_lawful
 fetch_hit held state key touch item h is =
     ends (without_dead state (Some key)) (Fetch key touch) (Hit item.flags item.unique item.value) _ (λ _. refl)
     (uses_as held state key item (λ s o. fetch_step s key touch o) (λ i _. Hit i.flags i.unique i.value) (λ i time. fetched_item i touch time) (λ _ _. refl) h is (λ s u _. refl))
 
 -- Where nothing alive is under the key, `touch` finds none, and a dead item there goes.
-pub touch_miss : (held : Held) (state : State) (key : List ℕ) (exptime : ℤ) → Keeps held state → None ≡ live held.time (lookup (pointwise nat_eq key) held.entries) → Ends (without_dead state (Some key)) (Touch key exptime) NotFound (with_entries held (remove_entry (pointwise nat_eq key) held.entries))
+pub touch_miss : (held : ShardContents) (state : State) (key : List ℕ) (exptime : ℤ) → Keeps held state → None ≡ live held.time (lookup (pointwise nat_eq key) held.entries) → Ends (without_dead state (Some key)) (Touch key exptime) NotFound (with_entries held (remove_entry (pointwise nat_eq key) held.entries))
 unfolding step_of kind_of is_lawful
 touch_miss held state key exptime h none =
     ends (without_dead state (Some key)) (Touch key exptime) NotFound _ (λ e. absurd cc) (misses_as held state key (λ s o. touch_step s key exptime o) NotFound h none (λ s. refl))
 
 -- `touch` gives a live item its new expiry and makes it the most recently used one.
-pub touch_hit : (held : Held) (state : State) (key : List ℕ) (exptime : ℤ) (item : Item) → Keeps held state → Some item ≡ live held.time (lookup (pointwise nat_eq key) held.entries) → Ends (without_dead state (Some key)) (Touch key exptime) Touched (with_entries held (set_value (pointwise nat_eq key) (promoted (pointwise nat_eq key) held.entries) (at_now (touched_item item exptime held.time) held.time)))
+pub touch_hit : (held : ShardContents) (state : State) (key : List ℕ) (exptime : ℤ) (item : Item) → Keeps held state → Some item ≡ live held.time (lookup (pointwise nat_eq key) held.entries) → Ends (without_dead state (Some key)) (Touch key exptime) Touched (with_entries held (set_value (pointwise nat_eq key) (promoted (pointwise nat_eq key) held.entries) (at_now (touched_item item exptime held.time) held.time)))
 unfolding step_of kind_of is_lawful
 touch_hit held state key exptime item h is =
     ends (without_dead state (Some key)) (Touch key exptime) Touched _ (λ e. absurd cc)
     (uses_as held state key item (λ s o. touch_step s key exptime o) (λ _ _. Touched) (λ i time. touched_item i exptime time) (λ _ _. refl) h is (λ s u _. refl))
 
 -- `mg` of a live item that finds no memory changes nothing.
-pub meta_get_lacks : (held : Held) (state : State) (asked : op.MetaGet) → Keeps held state → IsSome (live held.time (lookup (pointwise nat_eq asked.key) held.entries)) → Ends (without_dead state (Some asked.key)) (MetaGet asked) NoMemory held
+pub meta_get_lacks : (held : ShardContents) (state : State) (asked : op.MetaGet) → Keeps held state → IsSome (live held.time (lookup (pointwise nat_eq asked.key) held.entries)) → Ends (without_dead state (Some asked.key)) (MetaGet asked) NoMemory held
 unfolding step_of kind_of is_lawful
 meta_get_lacks held state asked h some =
     let alive = some_of (live held.time (lookup (pointwise nat_eq asked.key) held.entries)) some in
     ends (without_dead state (Some asked.key)) (MetaGet asked) NoMemory held (λ _. refl) (lacks_as held state asked.key alive.0 _ h alive.1)
 
 -- `mg` of a live item shows it and makes it the most recently used one, where its use is noted.
-pub meta_get_hit : (held : Held) (state : State) (asked : op.MetaGet) (item : Item) → asked.unnoted ≡ false → Keeps held state → Some item ≡ live held.time (lookup (pointwise nat_eq asked.key) held.entries) → Ends (without_dead state (Some asked.key)) (MetaGet asked) (MetaHit (hit_of item asked.touch asked.recache held.time)) (with_entries held (set_value (pointwise nat_eq asked.key) (promoted (pointwise nat_eq asked.key) held.entries) (at_now (shown_item item asked.touch asked.recache held.time) held.time)))
+pub meta_get_hit : (held : ShardContents) (state : State) (asked : op.MetaGet) (item : Item) → asked.unnoted ≡ false → Keeps held state → Some item ≡ live held.time (lookup (pointwise nat_eq asked.key) held.entries) → Ends (without_dead state (Some asked.key)) (MetaGet asked) (MetaHit (hit_of item asked.touch asked.recache held.time)) (with_entries held (set_value (pointwise nat_eq asked.key) (promoted (pointwise nat_eq asked.key) held.entries) (at_now (shown_item item asked.touch asked.recache held.time) held.time)))
 unfolding step_of kind_of is_lawful
 meta_get_hit held state asked item noted h is =
     ends (without_dead state (Some asked.key)) (MetaGet asked) (MetaHit (hit_of item asked.touch asked.recache held.time)) _ (λ _. refl)
@@ -79,7 +79,7 @@ sees : (s : State) (asked : op.MetaGet) (u : Used) → asked.unnoted ≡ true �
 sees s asked u unnoted = rw unnoted
 
 -- Where its use isn't noted, `mg` of a live item shows it and leaves it at its place in the order of use.
-pub meta_see_hit : (held : Held) (state : State) (asked : op.MetaGet) (item : Item) → asked.unnoted ≡ true → Keeps held state → Some item ≡ live held.time (lookup (pointwise nat_eq asked.key) held.entries) → Ends (without_dead state (Some asked.key)) (MetaGet asked) (MetaHit (hit_of item asked.touch asked.recache held.time)) (with_entries held (set_value (pointwise nat_eq asked.key) held.entries (seen asked item held.time)))
+pub meta_see_hit : (held : ShardContents) (state : State) (asked : op.MetaGet) (item : Item) → asked.unnoted ≡ true → Keeps held state → Some item ≡ live held.time (lookup (pointwise nat_eq asked.key) held.entries) → Ends (without_dead state (Some asked.key)) (MetaGet asked) (MetaHit (hit_of item asked.touch asked.recache held.time)) (with_entries held (set_value (pointwise nat_eq asked.key) held.entries (seen asked item held.time)))
 unfolding step_of kind_of is_lawful
 meta_see_hit held state asked item unnoted h is =
     ends (without_dead state (Some asked.key)) (MetaGet asked) (MetaHit (hit_of item asked.touch asked.recache held.time)) _ (λ _. refl)
@@ -91,7 +91,7 @@ meta_see_hit held state asked item unnoted h is =
     )))
 
 -- the key was settled, and is settled once more by what makes the item
-pub meta_get_absent : (held : Held) (state : State) (asked : op.MetaGet) (answer : Answer) (new : Held) → Keeps held state → None ≡ live held.time (lookup (pointwise nat_eq asked.key) held.entries) →
+pub meta_get_absent : (held : ShardContents) (state : State) (asked : op.MetaGet) (answer : Answer) (new : ShardContents) → Keeps held state → None ≡ live held.time (lookup (pointwise nat_eq asked.key) held.entries) →
     (let again = without_dead (without_dead state (Some asked.key)) (Some asked.key) in Closes again (absent_meta_get again asked.key asked.vivify) answer new) → Ends (without_dead state (Some asked.key)) (MetaGet asked) answer new
 unfolding step_of kind_of is_lawful
 meta_get_absent held state asked answer new h none closes =
@@ -105,14 +105,14 @@ meta_get_absent held state asked answer new h none closes =
 abbrev pub empty_item : Expiry → ℕ → Item
 empty_item expiry unique = record { value = []; flags = 0; expiry = expiry; unique = unique; last_access = 0; fetched = false; stale = false; sent = true }
 
-pub vivified_is : (held : Held) (state : State) (key : List ℕ) (exptime : ℤ) → Keeps held state →
+pub vivified_is : (held : ShardContents) (state : State) (key : List ℕ) (exptime : ℤ) → Keeps held state →
     numbered (without_dead state (Some key)) None (λ unique given. (MetaHit (made_hit (empty_item (expiry_of exptime held.time) unique) held.time), entered given key (empty_item (expiry_of exptime held.time) unique))) ≡ absent_meta_get (without_dead state (Some key)) key (Some exptime)
 vivified_is held state key exptime h =
     let time : (without_dead state (Some key)).time ≡ held.time = met_time state key ∙ h.time in
     subst (λ t. numbered (without_dead state (Some key)) None (λ unique given. (MetaHit (made_hit (empty_item (expiry_of exptime t) unique) t), entered given key (empty_item (expiry_of exptime t) unique))) ≡ absent_meta_get (without_dead state (Some key)) key (Some exptime)) time refl
 
 -- To write an empty item with its expiry and the shard's next unique is what `mg` does where it makes one of a miss.
-pub vivified_item_as : (held : Held) (state : State) (key : List ℕ) (exptime : ℤ) (item : Item) (answer : Answer) (new : Held) → Keeps held state → item ≡ empty_item (expiry_of exptime held.time) 0 →
+pub vivified_item_as : (held : ShardContents) (state : State) (key : List ℕ) (exptime : ℤ) (item : Item) (answer : Answer) (new : ShardContents) → Keeps held state → item ≡ empty_item (expiry_of exptime held.time) 0 →
     Closes (without_dead state (Some key)) (numbered (without_dead state (Some key)) None (λ unique given. (MetaHit (made_hit (record item { unique = unique }) held.time), entered given key (record item { unique = unique })))) answer new → Closes (without_dead state (Some key)) (absent_meta_get (without_dead state (Some key)) key (Some exptime)) answer new
 vivified_item_as held state key exptime item answer new h is closes =
     along (without_dead state (Some key)) (numbered (without_dead state (Some key)) None (λ unique given. (MetaHit (made_hit (empty_item (expiry_of exptime held.time) unique) held.time), entered given key (empty_item (expiry_of exptime held.time) unique)))) (absent_meta_get (without_dead state (Some key)) key (Some exptime)) answer new
@@ -120,7 +120,7 @@ vivified_item_as held state key exptime item answer new h is closes =
     (subst (λ i. Closes (without_dead state (Some key)) (numbered (without_dead state (Some key)) None (λ unique given. (MetaHit (made_hit (record i { unique = unique }) held.time), entered given key (record i { unique = unique })))) answer new) is closes)
 
 -- the same, where the exptime is given as an option
-pub vivified_as : (settled : State) (key : List ℕ) (vivify : Option ℤ) (exptime : ℤ) (answer : Answer) (new : Held) → vivify ≡ Some exptime → Closes settled (absent_meta_get settled key (Some exptime)) answer new → Closes settled (absent_meta_get settled key vivify) answer new
+pub vivified_as : (settled : State) (key : List ℕ) (vivify : Option ℤ) (exptime : ℤ) (answer : Answer) (new : ShardContents) → vivify ≡ Some exptime → Closes settled (absent_meta_get settled key (Some exptime)) answer new → Closes settled (absent_meta_get settled key vivify) answer new
 vivified_as settled key vivify exptime answer new is closes = subst (λ v. Closes settled (absent_meta_get settled key v) answer new) (sym is) closes
 
 -- Of an item that it made, `mg` shows an empty value, flags 0, its unique and its time left, with `W`.

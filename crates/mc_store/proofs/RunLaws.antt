@@ -16,14 +16,14 @@ use Rattle.mc_item.specs.declared.answer.MetaHit as hit
 use Rattle.mc_item.specs.Kind.{kind_of, key_of, is_lawful}
 use Rattle.mc_store.specs.State.{Used, Items, State, settle, next_unique}
 use Rattle.mc_store.specs.Step.{IsStep}
-use Rattle.mc_store.specs.Laws.{StaysUnless, IsKept, IsNew, token_of, is_sent}
-use Rattle.mc_store.specs.Runs.{Asked, Runs, last_of, uniques_of, times_of}
-use Rattle.mc_store.specs.RunLaws.{RunsAreOrderly, RunsShareNoUnique, RunsLeaveOthers, IsGiven, NewIsGiven, SameUniqueSameItem, one_if, is_telling, is_asked, told, cleared, ToldAlone}
+use Rattle.mc_store.specs.Laws.{StaysUnless, IsKept, HasNewUnique, token_of, is_sent}
+use Rattle.mc_store.specs.Runs.{TimedOp, StepsInOrder, last_of, uniques_of, times_of}
+use Rattle.mc_store.specs.RunLaws.{RunsAreOrderly, RunsShareNoUnique, RunsLeaveOthers, HasGivenUniques, NewIsGiven, SameUniqueSameItem, one_if, is_telling, is_asked, told, cleared, ToldAlone}
 use Rattle.mc_store.proofs.Lists.{same_is, get_nothing}
 use Rattle.mc_store.proofs.StepLaws.{SamePlace, same_place, answers_are_lawful, others_stay, uniques_rise, uniques_differ, uniques_tell, time_rises, winners_are_first}
 
 -- Of every run: what holds of no operation, and of one more where it holds of those after it.
-of_runs : (P : State → List Asked → List Answer → List State → Type 0) → ((old : State) → P old [] [] []) → ((old : State) (ask : Asked) (rest : List Asked) (answer : Answer) (answers : List Answer) (new : State) (states : List State) → IsStep old ask.0 ask.1 answer new → P new rest answers states → P old (ask ∷ rest) (answer ∷ answers) (new ∷ states)) → (old : State) (asked : List Asked) (answers : List Answer) (states : List State) → Runs old asked answers states → P old asked answers states
+of_runs : (P : State → List TimedOp → List Answer → List State → Type 0) → ((old : State) → P old [] [] []) → ((old : State) (ask : TimedOp) (rest : List TimedOp) (answer : Answer) (answers : List Answer) (new : State) (states : List State) → IsStep old ask.0 ask.1 answer new → P new rest answers states → P old (ask ∷ rest) (answer ∷ answers) (new ∷ states)) → (old : State) (asked : List TimedOp) (answers : List Answer) (states : List State) → StepsInOrder old asked answers states → P old asked answers states
 of_runs P none more old [] [] [] runs = none old
 of_runs P none more old (ask ∷ rest) (other ∷ answers) (next ∷ states) runs =
     more old ask rest other answers next states runs.0 (of_runs P none more next rest answers states runs.1)
@@ -31,10 +31,10 @@ of_runs P none more old asked answers states runs = absurd runs
 
 -- Answers
 
-abbrev IsAnswered : Asked → Answer → Type 0
+abbrev IsAnswered : TimedOp → Answer → Type 0
 IsAnswered ask answer = is_lawful (kind_of ask.0) answer ≡ true
 
-lawful_runs : (old : State) (asked : List Asked) (answers : List Answer) (states : List State) → Runs old asked answers states → AllZip IsAnswered asked answers
+lawful_runs : (old : State) (asked : List TimedOp) (answers : List Answer) (states : List State) → StepsInOrder old asked answers states → AllZip IsAnswered asked answers
 lawful_runs = of_runs (λ old asked answers states. AllZip IsAnswered asked answers) (λ old. tt) (λ old ask rest answer answers new states step after. (answers_are_lawful old new ask.0 ask.1 answer step, after))
 
 -- Uniques
@@ -75,7 +75,7 @@ rises_more old new states gives some after = elim gives.cases [
       (omega arith, from_lower (next_unique old + 1) (next_unique new) (uniques_of new states) (omega (arith, e.1)) after)
 ]
 
-uniques_rise_in : (old : State) (asked : List Asked) (answers : List Answer) (states : List State) → Runs old asked answers states → 0 < old.shards → RisesFrom (next_unique old) (uniques_of old states)
+uniques_rise_in : (old : State) (asked : List TimedOp) (answers : List Answer) (states : List State) → StepsInOrder old asked answers states → 0 < old.shards → RisesFrom (next_unique old) (uniques_of old states)
 uniques_rise_in = of_runs (λ old asked answers states. 0 < old.shards → RisesFrom (next_unique old) (uniques_of old states)) (λ old some. tt) (λ old ask rest answer answers new states step after some.
     let gives = gives_of old new ask.0 ask.1 answer step in
     rises_more old new states gives some (after (omega (arith, gives.place.shards))))
@@ -94,7 +94,7 @@ of_place old states new gives after =
       | inr e ↦ rw (other_given new.given old.given e.0) ((old.given, refl), rest)
     ]
 
-uniques_of_place : (old : State) (asked : List Asked) (answers : List Answer) (states : List State) → Runs old asked answers states → AllByRecursion (IsOf old.index old.shards) (uniques_of old states)
+uniques_of_place : (old : State) (asked : List TimedOp) (answers : List Answer) (states : List State) → StepsInOrder old asked answers states → AllByRecursion (IsOf old.index old.shards) (uniques_of old states)
 uniques_of_place = of_runs (λ old asked answers states. AllByRecursion (IsOf old.index old.shards) (uniques_of old states)) (λ old. tt) (λ old ask rest answer answers new states step after. of_place old states new (gives_of old new ask.0 ask.1 answer step) after)
 
 -- Two different shards of one number of shards never give the same unique.
@@ -107,7 +107,7 @@ runs_share_no_unique one other asked more answers replies states after run secon
 -- Budget
 
 -- Whatever a shard is asked, its budget stays the same.
-pub same_budget : (old : State) (asked : List Asked) (answers : List Answer) (states : List State) → Runs old asked answers states → (last_of old states).budget ≡ old.budget
+pub same_budget : (old : State) (asked : List TimedOp) (answers : List Answer) (states : List State) → StepsInOrder old asked answers states → (last_of old states).budget ≡ old.budget
 same_budget = of_runs (λ old asked answers states. (last_of old states).budget ≡ old.budget) (λ old. refl) (λ old ask rest answer answers new states step after. after ∙ (same_place old new ask.0 ask.1 answer step).budget)
 
 -- Time
@@ -121,7 +121,7 @@ adjacent low [] h k d less = absurd (omega arith)
 adjacent low (x ∷ xs) h zero d less = h.0
 adjacent low (x ∷ xs) h (suc k) d less = let after : k + 1 < length (x ∷ xs) = omega arith in rw (add-one (suc k)) (rw (add-one k) at (adjacent x xs h.1 k d after))
 
-times_runs : (old : State) (asked : List Asked) (answers : List Answer) (states : List State) → Runs old asked answers states → NoneBelow old.time (times_of states)
+times_runs : (old : State) (asked : List TimedOp) (answers : List Answer) (states : List State) → StepsInOrder old asked answers states → NoneBelow old.time (times_of states)
 times_runs = of_runs (λ old asked answers states. NoneBelow old.time (times_of states)) (λ old. tt)
     (λ old ask rest answer answers new states step after. (omega (arith, time_rises old new ask.0 ask.1 answer step), after))
 
@@ -144,8 +144,8 @@ stays_or_goes why m n k o before (inr f) = inr f
 
 -- An item whose key no operation names is at the end as it was, or gone.
 pub runs_leave_others : RunsLeaveOthers
-runs_leave_others = of_runs (λ old asked answers states. (key : List ℕ) → All (λ (ask : Asked). ¬ (key_of ask.0 ≡ Some key)) asked → (get (last_of old states).items key ≡ get old.items key) ⊎ (get (last_of old states).items key ≡ None)) (λ old key apart. inl refl) (λ old ask rest answer answers new states step after key apart.
-    let asks_other : Asked → Type 0 = λ a. ¬ (key_of a.0 ≡ Some key) in
+runs_leave_others = of_runs (λ old asked answers states. (key : List ℕ) → All (λ (ask : TimedOp). ¬ (key_of ask.0 ≡ Some key)) asked → (get (last_of old states).items key ≡ get old.items key) ⊎ (get (last_of old states).items key ≡ None)) (λ old key apart. inl refl) (λ old ask rest answer answers new states step after key apart.
+    let asks_other : TimedOp → Type 0 = λ a. ¬ (key_of a.0 ≡ Some key) in
     stays_or_goes _ old.items new.items key (get (last_of new states).items key) (others_stay old new ask.0 ask.1 answer step key (All-head asks_other ask rest apart))
     (after key (All-tail asks_other ask rest apart)))
 
@@ -155,29 +155,29 @@ runs_leave_others = of_runs (λ old asked answers states. (key : List ℕ) → A
 pub new_is_given : NewIsGiven
 new_is_given index shards budget given limit key used is = absurd (let h' = rw (get_nothing key) at is in cc)
 
-abbrev HasNoToken : Asked → Type 0
+abbrev HasNoToken : TimedOp → Type 0
 HasNoToken ask = token_of ask.0 ≡ None
 
 -- what a run keeps of the items, and those that it changed
 record Traces (old new : State) : Type 0 where
-  given : IsGiven new
+  given : HasGivenUniques new
   traced : (key : List ℕ) (used : Used) → get new.items key ≡ Some used → IsKept old.items key used.item ⊎ (next_unique old ≤ used.item.unique)
 
 not_less : (old new : State) → Gives old new → next_unique old ≤ next_unique new
 not_less old new gives = elim gives.cases [ inl e ↦ omega (arith, e.1) | inr e ↦ omega (arith, e.1) ]
 
 -- where the client gives no unique
-plainly : (old new : State) (token : Option ℕ) (key : List ℕ) (item : Item) → token ≡ None → IsKept old.items key item ⊎ IsNew old new token item →
+plainly : (old new : State) (token : Option ℕ) (key : List ℕ) (item : Item) → token ≡ None → IsKept old.items key item ⊎ HasNewUnique old new token item →
     IsKept old.items key item ⊎ ((item.unique ≡ next_unique old) × (new.given ≡ old.given + 1))
 plainly old new token key item none (inl kept) = inl kept
 plainly old new token key item none (inr (inl fresh)) = inr fresh
 plainly old new token key item none (inr (inr is)) = absurd cc
 
-tells_plainly : (old new : State) (ask : Asked) (answer : Answer) → IsStep old ask.0 ask.1 answer new → token_of ask.0 ≡ None → (key : List ℕ) (used : Used) → get new.items key ≡ Some used → IsKept old.items key used.item ⊎ ((used.item.unique ≡ next_unique old) × (new.given ≡ old.given + 1))
+tells_plainly : (old new : State) (ask : TimedOp) (answer : Answer) → IsStep old ask.0 ask.1 answer new → token_of ask.0 ≡ None → (key : List ℕ) (used : Used) → get new.items key ≡ Some used → IsKept old.items key used.item ⊎ ((used.item.unique ≡ next_unique old) × (new.given ≡ old.given + 1))
 tells_plainly old new ask answer step none key used is =
     plainly old new (token_of ask.0) key used.item none (uniques_tell old new ask.0 ask.1 answer step key used is)
 
-given_by : (old new : State) (key : List ℕ) (used : Used) → Gives old new → 0 < old.shards → IsGiven old → IsKept old.items key used.item ⊎ ((used.item.unique ≡ next_unique old) × (new.given ≡ old.given + 1)) → used.item.unique < next_unique new
+given_by : (old new : State) (key : List ℕ) (used : Used) → Gives old new → 0 < old.shards → HasGivenUniques old → IsKept old.items key used.item ⊎ ((used.item.unique ≡ next_unique old) × (new.given ≡ old.given + 1)) → used.item.unique < next_unique new
 given_by old new key used gives some given (inl kept) = omega (arith, kept.2.unique, given key kept.0 kept.1, not_less old new gives)
 given_by old new key used gives some given (inr fresh) = elim gives.cases [
   | inl e ↦ absurd (omega (arith, e.0, fresh.1))
@@ -193,8 +193,8 @@ traced_by old mid key item gives tells (inl kept) = elim (tells kept.0 kept.1) [
   | inr fresh ↦ inr (omega (arith, fresh.0, kept.2.unique))
 ]
 
-traces : (old : State) (asked : List Asked) (answers : List Answer) (states : List State) → Runs old asked answers states → 0 < old.shards → IsGiven old → All HasNoToken asked → Traces old (last_of old states)
-traces = of_runs (λ old asked answers states. 0 < old.shards → IsGiven old → All HasNoToken asked → Traces old (last_of old states)) (λ old some given _. record { given = given; traced = λ key used is. inl (used, is, record { unique = refl; value = refl; flags = refl }) }) (λ old ask rest answer answers new states step after some given plain.
+traces : (old : State) (asked : List TimedOp) (answers : List Answer) (states : List State) → StepsInOrder old asked answers states → 0 < old.shards → HasGivenUniques old → All HasNoToken asked → Traces old (last_of old states)
+traces = of_runs (λ old asked answers states. 0 < old.shards → HasGivenUniques old → All HasNoToken asked → Traces old (last_of old states)) (λ old some given _. record { given = given; traced = λ key used is. inl (used, is, record { unique = refl; value = refl; flags = refl }) }) (λ old ask rest answer answers new states step after some given plain.
     let gives = gives_of old new ask.0 ask.1 answer step in
     let still : 0 < new.shards = omega (arith, gives.place.shards) in
     let none = All-head HasNoToken ask rest plain in
@@ -204,7 +204,7 @@ traces = of_runs (λ old asked answers states. 0 < old.shards → IsGiven old �
       traced = λ key used is. traced_by old new key used.item gives (λ mid there. tells_plainly old new ask answer step none key mid there) (rest.traced key used is);
     })
 
-tell_apart : (old : State) (key : List ℕ) (before after : Used) → IsGiven old → get old.items key ≡ Some before → after.item.unique ≡ before.item.unique → IsKept old.items key after.item ⊎ (next_unique old ≤ after.item.unique) → (after.item.value ≡ before.item.value) × (after.item.flags ≡ before.item.flags)
+tell_apart : (old : State) (key : List ℕ) (before after : Used) → HasGivenUniques old → get old.items key ≡ Some before → after.item.unique ≡ before.item.unique → IsKept old.items key after.item ⊎ (next_unique old ≤ after.item.unique) → (after.item.value ≡ before.item.value) × (after.item.flags ≡ before.item.flags)
 tell_apart old key before after given is same_unique (inl kept) =
     let there : kept.0 ≡ before = (let found = kept.1 in cc) in
     (kept.2.value ∙ ap (λ u. u.item.value) there, kept.2.flags ∙ ap (λ u. u.item.flags) there)
@@ -240,7 +240,7 @@ telling : (answer : Answer) → is_telling answer ≡ true → (shown : hit.Meta
 telling (MetaHit shown) h = (shown, refl, h)
 telling _ h = cc
 
-telling_first : (old new : State) (ask : Asked) (answer : Answer) (key : List ℕ) → IsStep old ask.0 ask.1 answer new → (is_asked (key_of ask.0) key && is_telling answer) ≡ true → (is_sent (settle old (key_of ask.0) ask.1).items key ≡ false) × (is_sent new.items key ≡ true)
+telling_first : (old new : State) (ask : TimedOp) (answer : Answer) (key : List ℕ) → IsStep old ask.0 ask.1 answer new → (is_asked (key_of ask.0) key && is_telling answer) ≡ true → (is_sent (settle old (key_of ask.0) ask.1).items key ≡ false) × (is_sent new.items key ≡ true)
 telling_first old new ask answer key step h =
     let parts = and_parts (is_asked (key_of ask.0) key) (is_telling answer) h in
     let shown = telling answer parts.1 in

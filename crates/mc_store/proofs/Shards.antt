@@ -11,7 +11,7 @@ use Rattle.mc_item.specs.Expiry.{is_dead}
 use Rattle.mc_store.specs.internal.Found.{live, given_after}
 use Rattle.mc_store.specs.internal.Listed.{gone, within}
 use Rattle.mc_store.specs.State.{Used, Items, State, is_dead_at, with_items, without_dead, first, cost, costs, fitting, entered, with_given}
-use Rattle.mc_store.specs.Shard.{AllBelow, Shows, Held, Keeps}
+use Rattle.mc_store.specs.Shard.{AllBelow, Shows, ShardContents, Keeps}
 use Rattle.mc_store.proofs.Lists.{same, used, same_is, not_same, get_nothing, get_gone, get_here, get_other, get_apart, inserted_all, insert_gone, insert_apart, remove_none, AllBelow-remove, lookup-Shows, len-Shows, Shows-remove, Shows-first}
 use Rattle.mc_store.proofs.Listed.{first_is, cost_within}
 use Rattle.mc_store.proofs.Costs.{costs_with, costs_inserted, costs_shown, AllBelow-fitting, fitting_is, Shows-within}
@@ -24,11 +24,11 @@ AllBelow-insert m key item n below = inserted_all m key (used item n) (λ _ v. v
 -- Changes of what a shard holds
 
 -- what a shard holds, with these items instead
-abbrev pub with_entries : Held → List (List ℕ × Item) → Held
+abbrev pub with_entries : ShardContents → List (List ℕ × Item) → ShardContents
 with_entries held es = record held { entries = es }
 
 -- once an item was put first, and others went for it
-abbrev pub with_put : Held → List ℕ → Item → Held
+abbrev pub with_put : ShardContents → List ℕ → Item → ShardContents
 with_put held key item =
     let es = (key, item) ∷ remove_entry (pointwise nat_eq key) held.entries in
     record held { entries = within held.budget es; evicted = (held.evicted + gone held.budget es) % 2 ^ 64 }
@@ -43,7 +43,7 @@ numbered_first es m n key item h below =
     Shows-first (remove_entry (pointwise nat_eq key) es) m key item n (Shows-remove es m key h) (AllBelow-remove m key n below)
 
 -- an item that enters, before which others go
-pub put_first : (held : Held) (state : State) (key : List ℕ) (item : Item) → Keeps held state → cost key item.value ≤ state.budget → Keeps (with_put held key (at_now item state.time)) (entered state key item)
+pub put_first : (held : ShardContents) (state : State) (key : List ℕ) (item : Item) → Keeps held state → cost key item.value ≤ state.budget → Keeps (with_put held key (at_now item state.time)) (entered state key item)
 put_first held state key item h small =
     let n = state.uses + 1 in
     let it = at_now item state.time in
@@ -62,7 +62,7 @@ put_first held state key item h small =
     rw (h.evicted, len-Shows es new first_shown, len-Shows (within held.budget es) (fitting new state.budget key) order) in
     assumption
 
-pub item_at : (held : Held) (state : State) (key : List ℕ) (u : Used) → Keeps held state → get state.items key ≡ Some u → lookup (pointwise nat_eq key) held.entries ≡ Some u.item
+pub item_at : (held : ShardContents) (state : State) (key : List ℕ) (u : Used) → Keeps held state → get state.items key ≡ Some u → lookup (pointwise nat_eq key) held.entries ≡ Some u.item
 item_at held state key u h is = lookup-Shows held.entries state.items h.order key ∙ ap (λ o. option_map (λ v. v.item) o) is
 
 -- another item with the same value costs the same
@@ -70,7 +70,7 @@ costs_same : (m : Items) (key : List ℕ) (u v : Used) → get m key ≡ Some u 
 costs_same m key u v is value = costs_inserted m key v ∙ ap (λ l. cost key l + costs (remove m key)) value ∙ sym (costs_with m key u is)
 
 -- an item that is used
-pub use_first : (held : Held) (state : State) (key : List ℕ) (u : Used) (item : Item) → Keeps held state → get state.items key ≡ Some u → item.value ≡ u.item.value →
+pub use_first : (held : ShardContents) (state : State) (key : List ℕ) (u : Used) (item : Item) → Keeps held state → get state.items key ≡ Some u → item.value ≡ u.item.value →
     Keeps (with_entries held (set_value (pointwise nat_eq key) (promoted (pointwise nat_eq key) held.entries) (at_now item state.time))) (first state key item)
 use_first held state key u item h is value =
     let n = state.uses + 1 in
@@ -106,7 +106,7 @@ Shows-set_value (e ∷ es) m key u item h is = elim (cases_Bool (same key e.0)) 
 ]
 
 -- When an item changes where it stands and keeps its value, the shard shows the state with the changed one.
-pub set_in_place : (held : Held) (state : State) (key : List ℕ) (u : Used) (item : Item) → Keeps held state → get state.items key ≡ Some u → item.value ≡ u.item.value → Keeps (with_entries held (set_value (pointwise nat_eq key) held.entries item)) (with_items state (insert state.items key (record u { item = item })))
+pub set_in_place : (held : ShardContents) (state : State) (key : List ℕ) (u : Used) (item : Item) → Keeps held state → get state.items key ≡ Some u → item.value ≡ u.item.value → Keeps (with_entries held (set_value (pointwise nat_eq key) held.entries item)) (with_items state (insert state.items key (record u { item = item })))
 set_in_place held state key u item h is value =
     let order = Shows-set_value held.entries state.items key u item h.order is in
     let below = AllBelow-replace state.items key u item (state.uses + 1) h.below is in
@@ -120,7 +120,7 @@ costs_less m key None none = rw (remove_none m key none) (omega arith)
 costs_less m key (Some u) is = omega (arith, costs_with m key u is)
 
 -- When what is under a key is removed, the shard shows the state without it.
-pub take_out : (held : Held) (state : State) (key : List ℕ) → Keeps held state → Keeps (with_entries held (remove_entry (pointwise nat_eq key) held.entries)) (with_items state (remove state.items key))
+pub take_out : (held : ShardContents) (state : State) (key : List ℕ) → Keeps held state → Keeps (with_entries held (remove_entry (pointwise nat_eq key) held.entries)) (with_items state (remove state.items key))
 take_out held state key h =
     let order = Shows-remove held.entries state.items key h.order in
     let below = AllBelow-remove state.items key (state.uses + 1) h.below in
@@ -133,14 +133,14 @@ giving (Some token) state = state
 giving None state = with_given state
 
 -- Once a unique is given, the shard shows the state in which it is counted, unless it is the client's.
-pub gives : (held : Held) (state : State) (token : Option ℕ) → Keeps held state → Keeps (record held { given = given_after token held.given }) (giving token state)
+pub gives : (held : ShardContents) (state : State) (token : Option ℕ) → Keeps held state → Keeps (record held { given = given_after token held.given }) (giving token state)
 gives held state (Some token) h = h
 gives held state None h = assumption (ap (λ (n : ℕ). n + 1) h.given)
 
 -- Settling the key
 
 -- the item under the key is alive: nothing changes
-pub record Meets (held : Held) (state : State) (key : List ℕ) (item : Item) : Type 0 where
+pub record Meets (held : ShardContents) (state : State) (key : List ℕ) (item : Item) : Type 0 where
   pub used : Used
   pub found : get state.items key ≡ Some used
   pub item_is : used.item ≡ item
@@ -159,14 +159,14 @@ used_of None item h = absurd cc
 used_of (Some u) item h = (u, refl, cc)
 
 -- Where a live item is under the key, the state has it too, and settling changes nothing.
-pub meets : (held : Held) (state : State) (key : List ℕ) (item : Item) → Keeps held state → Some item ≡ live held.time (lookup (pointwise nat_eq key) held.entries) → Meets held state key item
+pub meets : (held : ShardContents) (state : State) (key : List ℕ) (item : Item) → Keeps held state → Some item ≡ live held.time (lookup (pointwise nat_eq key) held.entries) → Meets held state key item
 meets held state key item h is =
     let alive = live_item held.time (lookup (pointwise nat_eq key) held.entries) item is in
     let u = used_of (get state.items key) item (sym (lookup-Shows held.entries state.items h.order key) ∙ alive.0) in
     record { used = u.0; found = u.1; item_is = u.2; settled = rw (u.1, h.time, u.2, alive.1) }
 
 -- nothing alive is under the key: what is there goes
-pub record Misses (held : Held) (state : State) (key : List ℕ) : Type 0 where
+pub record Misses (held : ShardContents) (state : State) (key : List ℕ) : Type 0 where
   pub gone : get (without_dead state (Some key)).items key ≡ None
   pub settled : without_dead state (Some key) ≡ with_items state (remove state.items key)
 
@@ -177,11 +177,11 @@ dead_or_none time (Some u) h = elim (cases_Bool (is_dead u.item.expiry time)) [
   | inr f ↦ absurd (let h' = rw f at h in cc)
 ]
 
-gone_by : (held : Held) (state : State) (key : List ℕ) → without_dead state (Some key) ≡ with_items state (remove state.items key) → Misses held state key
+gone_by : (held : ShardContents) (state : State) (key : List ℕ) → without_dead state (Some key) ≡ with_items state (remove state.items key) → Misses held state key
 gone_by held state key is = record { gone = rw is (get_gone state.items key); settled = is }
 
 -- Where nothing alive is under the key, settling leaves nothing there.
-pub misses : (held : Held) (state : State) (key : List ℕ) → Keeps held state → None ≡ live held.time (lookup (pointwise nat_eq key) held.entries) → Misses held state key
+pub misses : (held : ShardContents) (state : State) (key : List ℕ) → Keeps held state → None ≡ live held.time (lookup (pointwise nat_eq key) held.entries) → Misses held state key
 misses held state key h none = elim (dead_or_none state.time (get state.items key) (rw (h.time, ← lookup-Shows held.entries state.items h.order key) none)) [
   | inl absent ↦ gone_by held state key (rw (absent, remove_none state.items key absent))
   | inr dead ↦ gone_by held state key (rw dead)

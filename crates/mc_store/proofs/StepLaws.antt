@@ -28,7 +28,7 @@ use Rattle.mc_item.specs.Tally.{no_counts}
 use Rattle.mc_store.specs.State.{Used, Items, State, is_due, arrived, is_dead_at, with_items, without_dead, settle, first, entered, next_unique, with_given}
 use Rattle.mc_store.specs.Rows.{fetched_item, touched_item, stored_item, joined_item, counted_item, counter_item, vivified_item, stale_item, shown_item, hit_of, made_hit, done_of, is_won, has_fewer_left}
 use Rattle.mc_store.specs.Step.{Outcome, Reply, Storing, Counting, is_other, compared, numbered, is_too_large, writes, stores, joins, absent_store, present_store, store_step, storing, mode_of, compare_of, counting, absent_count, counts, count_step, fetch_step, touch_step, absent_meta_get, meta_get_step, shows, delete_step, deletes, stales, meta_delete_step, counted, coming, flush_step, stats_of, noted_in, step_of, Answers, IsStep}
-use Rattle.mc_store.specs.Laws.{StaysUnless, tells_stored, IsEvicted, SameStored, IsKept, IsNew, token_of, is_sent, may_clear_sent, AnswersAreLawful, StepsAgree, OthersStay, UniquesRise, UniquesDiffer, UniquesTell, TokensAreTaken, TimeRises, WinnersAreFirst, SentStays}
+use Rattle.mc_store.specs.Laws.{StaysUnless, tells_stored, IsEvicted, SameStored, IsKept, HasNewUnique, token_of, is_sent, may_clear_sent, AnswersAreLawful, StepsAgree, OthersStay, UniquesRise, UniquesDiffer, UniquesTell, TokensAreTaken, TimeRises, WinnersAreFirst, SentStays}
 use Rattle.mc_store.proofs.Lists.{same, same_is, by_key, nothing, get_nothing, get_gone, get_apart, get_here, get_other, get_kept, inserted_all}
 use Rattle.mc_store.proofs.Costs.{fitting_key, fitting_other}
 use Rattle.mc_store.proofs.Shards.{at_now}
@@ -51,7 +51,7 @@ record Follows (settled : State) (asked : Kind) (token : Option ℕ) (key : Opti
   place : SamePlace settled outcome.1
   others : (other : List ℕ) → ¬ (key ≡ Some other) → StaysUnless (Reason settled asked key outcome.0 outcome.1.items other) settled.items outcome.1.items other
   lawful : is_lawful asked outcome.0 ≡ true
-  items : (k : List ℕ) (u : Used) → get outcome.1.items k ≡ Some u → IsKept settled.items k u.item ⊎ IsNew settled outcome.1 token u.item
+  items : (k : List ℕ) (u : Used) → get outcome.1.items k ≡ Some u → IsKept settled.items k u.item ⊎ HasNewUnique settled outcome.1 token u.item
   sent : may_clear_sent asked ≡ false → (k : List ℕ) → is_sent settled.items k ≡ true → (get outcome.1.items k ≡ None) ⊎ (is_sent outcome.1.items k ≡ true)
 
 -- what is to be shown of the items that such an outcome leaves, where the shard gives no unique
@@ -498,7 +498,7 @@ uniques_rise old new op moment answer step =
 pub time_rises : TimeRises
 time_rises old new op moment answer step = (step_is old new op moment answer step).time ∙ (settle_settles old (key_of op) moment).time_is
 
-tells : (old settled new : State) (token : Option ℕ) (key : Option (List ℕ)) (time : ℕ) (k : List ℕ) (item : Item) → Settles old settled key time → IsKept settled.items k item ⊎ IsNew settled new token item → IsKept old.items k item ⊎ IsNew old new token item
+tells : (old settled new : State) (token : Option ℕ) (key : Option (List ℕ)) (time : ℕ) (k : List ℕ) (item : Item) → Settles old settled key time → IsKept settled.items k item ⊎ HasNewUnique settled new token item → IsKept old.items k item ⊎ HasNewUnique old new token item
 tells old settled new token key time k item settles (inl kept) = inl (kept.0, settles.items k kept.0 kept.1, kept.2)
 tells old settled new token key time k item settles (inr fresh) = inr (rw (settles.place.index, settles.place.shards, settles.given) at fresh)
 

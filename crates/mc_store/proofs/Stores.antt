@@ -22,7 +22,7 @@ use Rattle.mc_store.specs.declared.shard.storing.Storing as given
 use Rattle.mc_store.specs.internal.Found.{live, joining, is_unconditional}
 use Rattle.mc_store.specs.State.{Used, State, without_dead, first, item_overhead, entered}
 use Rattle.mc_store.specs.Step.{Outcome, Reply, Storing, numbered, is_too_large, is_other, writes, stores, joins, absent_store, present_store, store_step, storing, mode_of, compare_of, step_of}
-use Rattle.mc_store.specs.Shard.{Held, Keeps}
+use Rattle.mc_store.specs.Shard.{ShardContents, Keeps}
 use Rattle.mc_store.proofs.Shards.{with_entries, at_now}
 use Rattle.mc_store.proofs.Changes.{settled_live}
 use Rattle.mc_store.proofs.Writes.{Closes, along, met_time, large_there, too_large, writes_is}
@@ -40,18 +40,18 @@ fresh value flags expiry unique = record { value = value; flags = flags; expiry 
 abbrev pub fresh_of : List ℕ → ℕ → Expiry → Item
 fresh_of value flags expiry = fresh value flags expiry 0
 
-pub made_as : (settled : State) (key : List ℕ) (token : Option ℕ) (item made : Item) (reply : Reply) (answer : Answer) (new : Held) → item ≡ made → Closes settled (writes settled key token item.value (λ unique. record item { unique = unique }) reply) answer new → Closes settled (writes settled key token made.value (λ unique. record made { unique = unique }) reply) answer new
+pub made_as : (settled : State) (key : List ℕ) (token : Option ℕ) (item made : Item) (reply : Reply) (answer : Answer) (new : ShardContents) → item ≡ made → Closes settled (writes settled key token item.value (λ unique. record item { unique = unique }) reply) answer new → Closes settled (writes settled key token made.value (λ unique. record made { unique = unique }) reply) answer new
 made_as settled key token item made reply answer new is closes = subst (λ i. Closes settled (writes settled key token i.value (λ unique. record i { unique = unique }) reply) answer new) is closes
 
 -- What is asked is stored, with the expiry that the shard's time gives.
-stores_is : (held : Held) (state : State) (key : List ℕ) (asked : Storing) (reply : Reply) → Keeps held state →
+stores_is : (held : ShardContents) (state : State) (key : List ℕ) (asked : Storing) (reply : Reply) → Keeps held state →
     writes (without_dead state (Some key)) key asked.unique asked.value (λ unique. fresh asked.value asked.flags (expiry_of asked.exptime held.time) unique) reply ≡ stores (without_dead state (Some key)) key asked reply
 stores_is held state key asked reply h =
     let time : (without_dead state (Some key)).time ≡ held.time = met_time state key ∙ h.time in
     subst (λ t. writes (without_dead state (Some key)) key asked.unique asked.value (λ unique. fresh asked.value asked.flags (expiry_of asked.exptime t) unique) reply ≡ stores (without_dead state (Some key)) key asked reply) time refl
 
 -- To write a new item with the value, flags and expiry asked for is to store what is asked.
-pub stored_as : (held : Held) (state : State) (key : List ℕ) (asked : Storing) (item : Item) (reply : Reply) (answer : Answer) (new : Held) → Keeps held state → item ≡ fresh_of asked.value asked.flags (expiry_of asked.exptime held.time) →
+pub stored_as : (held : ShardContents) (state : State) (key : List ℕ) (asked : Storing) (item : Item) (reply : Reply) (answer : Answer) (new : ShardContents) → Keeps held state → item ≡ fresh_of asked.value asked.flags (expiry_of asked.exptime held.time) →
     Closes (without_dead state (Some key)) (writes (without_dead state (Some key)) key asked.unique item.value (λ unique. record item { unique = unique }) reply) answer new → Closes (without_dead state (Some key)) (stores (without_dead state (Some key)) key asked reply) answer new
 stored_as held state key asked item reply answer new h made closes =
     along (without_dead state (Some key)) (writes (without_dead state (Some key)) key asked.unique asked.value (λ unique. fresh asked.value asked.flags (expiry_of asked.exptime held.time) unique) reply) (stores (without_dead state (Some key)) key asked reply) answer new
@@ -59,7 +59,7 @@ stored_as held state key asked item reply answer new h made closes =
     (made_as (without_dead state (Some key)) key asked.unique item (fresh_of asked.value asked.flags (expiry_of asked.exptime held.time)) reply answer new made closes)
 
 -- a set whose value is not too large
-pub set_stored : (held : Held) (state : State) (key value : List ℕ) (flags : ℕ) (exptime : ℤ) (item : Item) (answer : Answer) (new : Held) → Keeps held state → item ≡ fresh_of value flags (expiry_of exptime held.time) →
+pub set_stored : (held : ShardContents) (state : State) (key value : List ℕ) (flags : ℕ) (exptime : ℤ) (item : Item) (answer : Answer) (new : ShardContents) → Keeps held state → item ≡ fresh_of value flags (expiry_of exptime held.time) →
     is_too_large (without_dead state (Some key)) key value ≡ false →
     Closes (without_dead state (Some key)) (numbered (without_dead state (Some key)) None (λ unique after. (Stored, entered after key (record item { unique = unique })))) answer new →
     Closes (without_dead state (Some key)) (stores (without_dead state (Some key)) key (storing Set None None flags exptime value) (λ _. Stored)) answer new
@@ -92,7 +92,7 @@ absent_refused settled key asked reply mode None h s a = refl
 absent_refused settled key asked reply mode (Some unique) h s a = absurd cc
 
 -- Where nothing alive is under the key, storing goes as under an absent key.
-pub store_misses : (held : Held) (state : State) (key : List ℕ) (asked : Storing) (reply : Reply) → Keeps held state → None ≡ live held.time (lookup (pointwise nat_eq key) held.entries) →
+pub store_misses : (held : ShardContents) (state : State) (key : List ℕ) (asked : Storing) (reply : Reply) → Keeps held state → None ≡ live held.time (lookup (pointwise nat_eq key) held.entries) →
     absent_store (without_dead state (Some key)) key asked reply asked.mode asked.compare ≡ store_step (without_dead state (Some key)) key asked reply (get (without_dead state (Some key)).items key)
 store_misses held state key asked reply h none =
     absent_as held state key (λ s o. store_step s key asked reply o) (λ s. absent_store s key asked reply asked.mode asked.compare) h none (λ s. refl)
@@ -114,7 +114,7 @@ differs s key asked reply item Add a o = absurd (a refl)
 differs s key asked reply item mode a o = rw o
 
 -- Storing where the item has another unique changes nothing and is answered that it exists, but for an add.
-pub store_exists : (held : Held) (state : State) (key : List ℕ) (item : Item) (asked : Storing) (reply : Reply) → Keeps held state → Some item ≡ live held.time (lookup (pointwise nat_eq key) held.entries) →
+pub store_exists : (held : ShardContents) (state : State) (key : List ℕ) (item : Item) (asked : Storing) (reply : Reply) → Keeps held state → Some item ≡ live held.time (lookup (pointwise nat_eq key) held.entries) →
     ¬ (asked.mode ≡ Add) → is_other asked.compare item.unique ≡ true → Closes (without_dead state (Some key)) (store_step (without_dead state (Some key)) key asked reply (get (without_dead state (Some key)).items key)) Exists held
 store_exists held state key item asked reply h is not_add other =
     unchanged_as held state key item (λ s o. store_step s key asked reply o) Exists h is (λ s u i. differs s key asked reply u.item asked.mode not_add (rw i other))
@@ -126,7 +126,7 @@ replaces s key asked reply item Prepend a j o = absurd cc
 replaces s key asked reply item mode a j o = rw o
 
 -- a mode that stores what is asked
-pub replaced_is : (held : Held) (state : State) (key : List ℕ) (item : Item) (asked : Storing) (reply : Reply) → Keeps held state → Some item ≡ live held.time (lookup (pointwise nat_eq key) held.entries) →
+pub replaced_is : (held : ShardContents) (state : State) (key : List ℕ) (item : Item) (asked : Storing) (reply : Reply) → Keeps held state → Some item ≡ live held.time (lookup (pointwise nat_eq key) held.entries) →
     ¬ (asked.mode ≡ Add) → None ≡ joining asked.mode → is_other asked.compare item.unique ≡ false → stores (without_dead state (Some key)) key asked reply ≡ store_step (without_dead state (Some key)) key asked reply (get (without_dead state (Some key)).items key)
 replaced_is held state key item asked reply h is not_add mode other =
     present_as held state key item (λ s o. store_step s key asked reply o) (λ _ _ s. stores s key asked reply) h is (λ s u i. replaces s key asked reply u.item asked.mode not_add mode (rw i other))
@@ -137,7 +137,7 @@ joint s key asked reply item after Append j o = let side : after ≡ true = cc i
 joint s key asked reply item after Prepend j o = let side : after ≡ false = cc in rw (o, side)
 joint s key asked reply item after mode j o = absurd cc
 
-pub joined_is : (held : Held) (state : State) (key : List ℕ) (item : Item) (asked : Storing) (reply : Reply) (after : Bool) → Keeps held state → Some item ≡ live held.time (lookup (pointwise nat_eq key) held.entries) →
+pub joined_is : (held : ShardContents) (state : State) (key : List ℕ) (item : Item) (asked : Storing) (reply : Reply) (after : Bool) → Keeps held state → Some item ≡ live held.time (lookup (pointwise nat_eq key) held.entries) →
     Some after ≡ joining asked.mode → is_other asked.compare item.unique ≡ false → joins (without_dead state (Some key)) key item asked (joined item.value asked.value after) reply ≡ store_step (without_dead state (Some key)) key asked reply (get (without_dead state (Some key)).items key)
 joined_is held state key item asked reply after h is mode other =
     present_as held state key item (λ s o. store_step s key asked reply o) (λ i _ s. joins s key i asked (joined i.value asked.value after) reply) h is (λ s u i. joint s key asked reply u.item after asked.mode mode (rw i other))
@@ -147,7 +147,7 @@ length_joined value block true = length-append value block
 length_joined value block false = omega (arith, length-append block value)
 
 -- An append or a prepend that would make a value too large changes nothing and is answered so.
-pub joined_large : (held : Held) (state : State) (key : List ℕ) (item : Item) (asked : Storing) (reply : Reply) (after : Bool) → Keeps held state → Some item ≡ live held.time (lookup (pointwise nat_eq key) held.entries) →
+pub joined_large : (held : ShardContents) (state : State) (key : List ℕ) (item : Item) (asked : Storing) (reply : Reply) (after : Bool) → Keeps held state → Some item ≡ live held.time (lookup (pointwise nat_eq key) held.entries) →
     Some after ≡ joining asked.mode → is_other asked.compare item.unique ≡ false → (size : ℕ) → size ≡ length item.value + length asked.value → (nat_lt held.limit size || nat_lt held.budget (length key + size + item_overhead)) ≡ true → Closes (without_dead state (Some key)) (store_step (without_dead state (Some key)) key asked reply (get (without_dead state (Some key)).items key)) TooLarge held
 joined_large held state key item asked reply after h is mode other size size_is test =
     let settled = without_dead state (Some key) in
@@ -157,7 +157,7 @@ joined_large held state key item asked reply after h is mode other size size_is 
     (too_large settled key asked.unique value (λ unique. record item { value = value; unique = unique; fetched = false; stale = false; sent = false }) reply held (large_there held state key value size true h (length_joined item.value asked.value after ∙ sym size_is) test) (settled_live held state key item h is))
 
 -- To write a new item with the joined value and the old flags and expiry is to append or to prepend.
-pub joined_as : (held : Held) (state : State) (key : List ℕ) (item : Item) (asked : Storing) (reply : Reply) (after : Bool) (made : Item) (answer : Answer) (new : Held) → Keeps held state → Some item ≡ live held.time (lookup (pointwise nat_eq key) held.entries) →
+pub joined_as : (held : ShardContents) (state : State) (key : List ℕ) (item : Item) (asked : Storing) (reply : Reply) (after : Bool) (made : Item) (answer : Answer) (new : ShardContents) → Keeps held state → Some item ≡ live held.time (lookup (pointwise nat_eq key) held.entries) →
     Some after ≡ joining asked.mode → is_other asked.compare item.unique ≡ false → made ≡ fresh_of (joined item.value asked.value after) item.flags item.expiry →
     Closes (without_dead state (Some key)) (writes (without_dead state (Some key)) key asked.unique made.value (λ unique. record made { unique = unique }) reply) answer new → Closes (without_dead state (Some key)) (store_step (without_dead state (Some key)) key asked reply (get (without_dead state (Some key)).items key)) answer new
 joined_as held state key item asked reply after made answer new h is mode other made_is closes =
@@ -172,7 +172,7 @@ adds : (s : State) (key : List ℕ) (asked : Storing) (reply : Reply) (u : Used)
 adds s key asked reply u mode is = rw is
 
 -- An add under a key that is there isn't stored, but makes the item the most recently used one.
-pub add_refused : (held : Held) (state : State) (key : List ℕ) (item : Item) (asked : Storing) (reply : Reply) → Keeps held state → Some item ≡ live held.time (lookup (pointwise nat_eq key) held.entries) → asked.mode ≡ Add →
+pub add_refused : (held : ShardContents) (state : State) (key : List ℕ) (item : Item) (asked : Storing) (reply : Reply) → Keeps held state → Some item ≡ live held.time (lookup (pointwise nat_eq key) held.entries) → asked.mode ≡ Add →
     Closes (without_dead state (Some key)) (store_step (without_dead state (Some key)) key asked reply (get (without_dead state (Some key)).items key)) NotStored (with_entries held (set_value (pointwise nat_eq key) (promoted (pointwise nat_eq key) held.entries) (at_now item held.time)))
 add_refused held state key item asked reply h is mode =
     uses_as held state key item (λ s o. store_step s key asked reply o) (λ _ _. NotStored) (λ i _. i) (λ _ _. refl) h is (λ s u _. adds s key asked reply u asked.mode mode)
@@ -180,7 +180,7 @@ add_refused held state key item asked reply h is mode =
 -- From the outcome to the answer of the operation
 
 -- A classic storage command stores in its mode, `cas` at its unique, and the shard gives the item its unique.
-pub classic_store : (settled : State) (key : List ℕ) (mode : StoreMode) (flags : ℕ) (exptime : ℤ) (value : List ℕ) (meta_mode : MetaMode) (compare : Option ℕ) (answer : Answer) (new : Held) → meta_mode ≡ mode_of mode → compare ≡ compare_of mode →
+pub classic_store : (settled : State) (key : List ℕ) (mode : StoreMode) (flags : ℕ) (exptime : ℤ) (value : List ℕ) (meta_mode : MetaMode) (compare : Option ℕ) (answer : Answer) (new : ShardContents) → meta_mode ≡ mode_of mode → compare ≡ compare_of mode →
     Closes settled (store_step settled key (storing meta_mode compare None flags exptime value) (λ _. Stored) (get settled.items key)) answer new → Ends settled (Store key mode flags exptime value) answer new
 unfolding step_of kind_of is_lawful
 classic_store settled key mode flags exptime value meta_mode compare answer new m u closes =
@@ -189,7 +189,7 @@ classic_store settled key mode flags exptime value meta_mode compare answer new 
     (subst (λ n. Closes settled (store_step settled key (storing n compare None flags exptime value) (λ _. Stored) (get settled.items key)) answer new) m closes))
 
 -- `set` stores what is asked, whatever is under the key.
-pub set_classic : (settled : State) (key : List ℕ) (mode : StoreMode) (flags : ℕ) (exptime : ℤ) (value : List ℕ) (answer : Answer) (new : Held) → mode ≡ plain.Set →
+pub set_classic : (settled : State) (key : List ℕ) (mode : StoreMode) (flags : ℕ) (exptime : ℤ) (value : List ℕ) (answer : Answer) (new : ShardContents) → mode ≡ plain.Set →
     Closes settled (stores settled key (storing Set None None flags exptime value) (λ _. Stored)) answer new → Ends settled (Store key mode flags exptime value) answer new
 set_classic settled key mode flags exptime value answer new is closes =
     let asked = storing Set None None flags exptime value in
@@ -198,7 +198,7 @@ set_classic settled key mode flags exptime value answer new is closes =
     (set_is settled key asked (λ _. Stored) refl) closes)
 
 -- `ms` stores as its flags ask.
-pub meta_store : (settled : State) (asked : op.MetaStore) (answer : Answer) (new : Held) →
+pub meta_store : (settled : State) (asked : op.MetaStore) (answer : Answer) (new : ShardContents) →
     Closes settled (store_step settled asked.key (storing asked.mode asked.compare asked.unique asked.flags asked.exptime asked.value) (λ done. MetaDone done) (get settled.items asked.key)) answer new → Ends settled (MetaStore asked) answer new
 unfolding step_of kind_of is_lawful
 meta_store settled asked answer new closes = ends settled (MetaStore asked) answer new (λ _. refl) closes

@@ -15,13 +15,13 @@ use Rattle.mc_store.specs.Rows.{done_of}
 use Rattle.mc_store.specs.State.{Used, State, with_items, without_dead, item_overhead, cost, evicting, entered, next_unique, with_given}
 use Rattle.mc_store.specs.internal.Found.{unique_for, given_after}
 use Rattle.mc_store.specs.Step.{Outcome, Reply, numbered, is_too_large, writes}
-use Rattle.mc_store.specs.Shard.{Held, Keeps}
+use Rattle.mc_store.specs.Shard.{ShardContents, Keeps}
 use Rattle.mc_store.specs.internal.Parts.{IsOutcome}
 use Rattle.mc_store.proofs.Lists.{used, insert-remove, lookup-Shows}
 use Rattle.mc_store.proofs.Shards.{at_now, with_put, put_first, giving, gives}
 
 -- what is held now shows a state that the outcome may have led to
-abbrev pub Closes : State → Outcome → Answer → Held → Type 0
+abbrev pub Closes : State → Outcome → Answer → ShardContents → Type 0
 Closes settled outcome answer new = (after : State) × IsOutcome settled outcome answer after × Keeps new after
 
 -- The two states that settling a key may lead to
@@ -36,10 +36,10 @@ pub met_time : (state : State) (key : List ℕ) → (without_dead state (Some ke
 met_time state key = by_met (λ s. s.time ≡ state.time) state key refl (λ _ _. refl)
 
 -- the unique that the shard gives next, by what it holds
-abbrev pub next_of : Held → ℕ
+abbrev pub next_of : ShardContents → ℕ
 next_of held = held.index + 1 + held.shards * held.given
 
-held_unique : (held : Held) (state : State) (key : List ℕ) → Keeps held state → next_unique (without_dead state (Some key)) ≡ next_of held
+held_unique : (held : ShardContents) (state : State) (key : List ℕ) → Keeps held state → next_unique (without_dead state (Some key)) ≡ next_of held
 held_unique held state key h = by_met (λ s. next_unique s ≡ next_of held) state key (rw (h.index, h.shards, h.given)) (λ _ _. rw (h.index, h.shards, h.given))
 
 -- The outcome with a unique, or without one
@@ -61,15 +61,15 @@ numbered_none settled (Some token) outcome is = absurd cc
 numbered_none settled None outcome is = rw (no_unique (nat_lt (next_unique settled) (2 ^ 64)) (next_unique settled) is)
 
 -- what is held tells the unique
-pub unique_there : (held : Held) (state : State) (key : List ℕ) (token o : Option ℕ) → Keeps held state → o ≡ unique_for token (next_of held) → unique_for token (next_unique (without_dead state (Some key))) ≡ o
+pub unique_there : (held : ShardContents) (state : State) (key : List ℕ) (token o : Option ℕ) → Keeps held state → o ≡ unique_for token (next_of held) → unique_for token (next_unique (without_dead state (Some key))) ≡ o
 unique_there held state key token o h is = rw (held_unique held state key h) (sym is)
 
 -- What a shard holds tells which unique is to be given, or that there is none.
-pub unique_now : (held : Held) (state : State) (token o : Option ℕ) → Keeps held state → o ≡ unique_for token (next_of held) → unique_for token (next_unique state) ≡ o
+pub unique_now : (held : ShardContents) (state : State) (token o : Option ℕ) → Keeps held state → o ≡ unique_for token (next_of held) → unique_for token (next_unique state) ≡ o
 unique_now held state token o h is = rw (h.index, h.shards, h.given) (sym is)
 
 -- A write that finds no unique to give leaves the settled state as it is.
-pub write_refused : (held : Held) (state : State) (key : List ℕ) (new : Held) (token : Option ℕ) (outcome : ℕ → State → Outcome) → Keeps held state → None ≡ unique_for token (next_of held) → Keeps new (without_dead state (Some key)) → Closes (without_dead state (Some key)) (numbered (without_dead state (Some key)) token outcome) NoCas new
+pub write_refused : (held : ShardContents) (state : State) (key : List ℕ) (new : ShardContents) (token : Option ℕ) (outcome : ℕ → State → Outcome) → Keeps held state → None ≡ unique_for token (next_of held) → Keeps new (without_dead state (Some key)) → Closes (without_dead state (Some key)) (numbered (without_dead state (Some key)) token outcome) NoCas new
 write_refused held state key new token outcome h none after =
     (without_dead state (Some key), inr (sym (numbered_none (without_dead state (Some key)) token outcome (unique_there held state key token None h none))), after)
 
@@ -89,7 +89,7 @@ giving_keeps state (Some token) = (refl, refl)
 giving_keeps state None = (refl, refl)
 
 -- A write that fits the budget puts its item first with a new unique, and others go for it.
-pub write_done : (held : Held) (state : State) (key : List ℕ) (item : Item) (token : Option ℕ) (unique : ℕ) (reply : ℕ → Answer) → Keeps held state → cost key item.value ≤ held.budget → Some unique ≡ unique_for token (next_of held) →
+pub write_done : (held : ShardContents) (state : State) (key : List ℕ) (item : Item) (token : Option ℕ) (unique : ℕ) (reply : ℕ → Answer) → Keeps held state → cost key item.value ≤ held.budget → Some unique ≡ unique_for token (next_of held) →
     Closes (without_dead state (Some key)) (numbered (without_dead state (Some key)) token (λ number after. (reply number, entered after key (record item { unique = number })))) (reply unique)
     (record (with_put held key (record item { unique = unique; last_access = held.time })) { given = given_after token held.given })
 write_done held state key item token unique reply h small is =
@@ -114,7 +114,7 @@ not_there None h = refl
 not_there (Some u) h = absurd cc
 
 -- memory is never refused where the key is there, so no item under it was dead
-pub write_failed : (held : Held) (state : State) (key : List ℕ) (outcome : Outcome) → Keeps held state → (IsSome (lookup (pointwise nat_eq key) held.entries) → ⊥) → Closes (without_dead state (Some key)) outcome NoMemory held
+pub write_failed : (held : ShardContents) (state : State) (key : List ℕ) (outcome : Outcome) → Keeps held state → (IsSome (lookup (pointwise nat_eq key) held.entries) → ⊥) → Closes (without_dead state (Some key)) outcome NoMemory held
 write_failed held state key outcome h absent =
     let none = not_there (get state.items key) (sym (lookup-Shows held.entries state.items h.order key) ∙ none_of (lookup (pointwise nat_eq key) held.entries) absent) in
     let same : without_dead state (Some key) ≡ state = rw none in
@@ -123,20 +123,20 @@ write_failed held state key outcome h absent =
 -- The same outcome by another name
 
 -- What leads to an outcome leads to the same outcome written in another way.
-pub along : (settled : State) (first_outcome second_outcome : Outcome) (answer : Answer) (new : Held) → first_outcome ≡ second_outcome → Closes settled first_outcome answer new → Closes settled second_outcome answer new
+pub along : (settled : State) (first_outcome second_outcome : Outcome) (answer : Answer) (new : ShardContents) → first_outcome ≡ second_outcome → Closes settled first_outcome answer new → Closes settled second_outcome answer new
 along settled o p answer new is closes = subst (λ q. Closes settled q answer new) is closes
 
 -- What leads to an answer leads to the same answer written in another way.
-pub as_answer : (settled : State) (outcome : Outcome) (one other : Answer) (new : Held) → one ≡ other → Closes settled outcome one new → Closes settled outcome other new
+pub as_answer : (settled : State) (outcome : Outcome) (one other : Answer) (new : ShardContents) → one ≡ other → Closes settled outcome one new → Closes settled outcome other new
 as_answer settled outcome one other new is closes = subst (λ a. Closes settled outcome a new) is closes
 
 -- what is held tells whether a value is too large
-pub large_there : (held : Held) (state : State) (key value : List ℕ) (size : ℕ) (test : Bool) → Keeps held state → length value ≡ size → (nat_lt held.limit size || nat_lt held.budget (length key + size + item_overhead)) ≡ test → is_too_large (without_dead state (Some key)) key value ≡ test
+pub large_there : (held : ShardContents) (state : State) (key value : List ℕ) (size : ℕ) (test : Bool) → Keeps held state → length value ≡ size → (nat_lt held.limit size || nat_lt held.budget (length key + size + item_overhead)) ≡ test → is_too_large (without_dead state (Some key)) key value ≡ test
 large_there held state key value size test h long is =
     by_met (λ s. is_too_large s key value ≡ test) state key (rw (h.limit, h.budget, long) is) (λ _ _. rw (h.limit, h.budget, long) is)
 
 -- A write of a value that is too large changes nothing and is answered so.
-pub too_large : (settled : State) (key : List ℕ) (token : Option ℕ) (value : List ℕ) (item_of : ℕ → Item) (reply : Reply) (new : Held) → is_too_large settled key value ≡ true → Keeps new settled → Closes settled (writes settled key token value item_of reply) TooLarge new
+pub too_large : (settled : State) (key : List ℕ) (token : Option ℕ) (value : List ℕ) (item_of : ℕ → Item) (reply : Reply) (new : ShardContents) → is_too_large settled key value ≡ true → Keeps new settled → Closes settled (writes settled key token value item_of reply) TooLarge new
 too_large settled key token value item_of reply new large h = (settled, inr (rw large), h)
 
 -- an outcome of writing an item, where its value is not too large

@@ -86,14 +86,14 @@ token_of (MetaCount asked) = asked.unique
 token_of _ = None
 
 -- The shard gave a unique, and the item has it; or the client gave one, and the item has that.
-abbrev pub IsNew : State → State → Option ℕ → Item → Type 0
-IsNew old new token item = ((item.unique ≡ next_unique old) × (new.given ≡ old.given + 1)) ⊎ (token ≡ Some item.unique)
+abbrev pub HasNewUnique : State → State → Option ℕ → Item → Type 0
+HasNewUnique old new token item = ((item.unique ≡ next_unique old) × (new.given ≡ old.given + 1)) ⊎ (token ≡ Some item.unique)
 
 -- Whatever a step changes in what an item stores, it gives the item a new unique: the shard's next one, or the
 -- client's.
 abbrev pub UniquesTell : Type 0
 UniquesTell = (old new : State) (op : Op) (moment : ℕ) (answer : Answer) → IsStep old op moment answer new → (key : List ℕ) (used : Used) → get new.items key ≡ Some used →
-    IsKept old.items key used.item ⊎ IsNew old new (token_of op) used.item
+    IsKept old.items key used.item ⊎ HasNewUnique old new (token_of op) used.item
 
 -- Where the client gives a unique, the shard gives none, and none is wanting.
 abbrev pub TokensAreTaken : Type 0

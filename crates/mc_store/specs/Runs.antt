@@ -11,17 +11,17 @@ use Rattle.mc_store.specs.Step.{IsStep}
 use Rattle.mc_store.specs.Shard.{IsShard}
 
 -- an operation, and the moment at which it is done
-abbrev pub Asked : Type 0
-Asked = Op × ℕ
+abbrev pub TimedOp : Type 0
+TimedOp = Op × ℕ
 
 -- Each operation has its answer and the state after it, and each is a step from the state before it.
-abbrev pub Runs : State → List Asked → List Answer → List State → Type 0
-Runs old [] [] [] = Unit {0}
-Runs old [] [] (new ∷ states) = ⊥
-Runs old [] (answer ∷ answers) states = ⊥
-Runs old (asked ∷ rest) [] states = ⊥
-Runs old (asked ∷ rest) (answer ∷ answers) [] = ⊥
-Runs old (asked ∷ rest) (answer ∷ answers) (new ∷ states) = IsStep old asked.0 asked.1 answer new × Runs new rest answers states
+abbrev pub StepsInOrder : State → List TimedOp → List Answer → List State → Type 0
+StepsInOrder old [] [] [] = Unit {0}
+StepsInOrder old [] [] (new ∷ states) = ⊥
+StepsInOrder old [] (answer ∷ answers) states = ⊥
+StepsInOrder old (asked ∷ rest) [] states = ⊥
+StepsInOrder old (asked ∷ rest) (answer ∷ answers) [] = ⊥
+StepsInOrder old (asked ∷ rest) (answer ∷ answers) (new ∷ states) = IsStep old asked.0 asked.1 answer new × StepsInOrder new rest answers states
 
 -- the state after the last operation
 abbrev pub last_of : State → List State → State
@@ -36,9 +36,9 @@ uniques_of old (new ∷ states) = if new.given == old.given then uniques_of new 
 abbrev pub times_of : List State → List ℕ
 times_of states = map (λ state. state.time) states
 
-pub record IsOrderly (old : State) (asked : List Asked) (answers : List Answer) (states : List State) : Type 0 where
+pub record IsOrderly (old : State) (asked : List TimedOp) (answers : List Answer) (states : List State) : Type 0 where
   -- each answer is lawful for the kind of its operation
-  pub lawful : AllZip (λ (ask : Asked) (answer : Answer). is_lawful (kind_of ask.0) answer ≡ true) asked answers
+  pub lawful : AllZip (λ (ask : TimedOp) (answer : Answer). is_lawful (kind_of ask.0) answer ≡ true) asked answers
   -- the uniques rise
   pub uniques : IsStrictlyIncreasing (uniques_of old states)
   -- the time never goes back
@@ -50,6 +50,6 @@ KeepsBudget old states = All (λ (state : State). costs state.items ≤ old.budg
 
 -- From whatever state the shard showed, the answers are those of an orderly run within its budget, whose last state it
 -- shows then.
-abbrev pub RunsThrough : Shard → List Asked → List Answer → Shard → Type 0
+abbrev pub RunsThrough : Shard → List TimedOp → List Answer → Shard → Type 0
 RunsThrough old asked answers new =
-    (state : State) → IsShard old state → (states : List State) × Runs state asked answers states × IsOrderly state asked answers states × KeepsBudget state states × IsShard new (last_of state states)
+    (state : State) → IsShard old state → (states : List State) × StepsInOrder state asked answers states × IsOrderly state asked answers states × KeepsBudget state states × IsShard new (last_of state states)

@@ -20,7 +20,7 @@ Shows (e ∷ es) items =
     (number : ℕ) × (get items e.0 ≡ Some (record { item = e.1; number = number })) × AllBelow (remove items e.0) number × Shows es (remove items e.0)
 
 -- what a shard holds: the list, what it may cost, its numbers, and its counts
-pub record Held : Type 0 where
+pub record ShardContents : Type 0 where
   pub entries : List (List ℕ × Item)
   pub budget : ℕ
   pub limit : ℕ
@@ -32,7 +32,7 @@ pub record Held : Type 0 where
   pub tally : Tally
   pub evicted : ℕ
 
-abbrev pub held_of : Shard → Held
+abbrev pub held_of : Shard → ShardContents
 held_of shard = record {
   entries = shard.items.entries;
   budget = shard.items.budget;
@@ -47,7 +47,7 @@ held_of shard = record {
 }
 
 -- What is held shows the state.
-pub record Keeps (held : Held) (state : State) : Type 0 where
+pub record Keeps (held : ShardContents) (state : State) : Type 0 where
   pub order : Shows held.entries state.items
   pub below : AllBelow state.items (state.uses + 1)
   pub fits : costs state.items ≤ state.budget

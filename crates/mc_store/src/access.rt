@@ -80,7 +80,13 @@ impl Access {
     /// What the item becomes.
     pub fn use_of(self, item: &Item) -> Use
         requires { self.time ≤ LATEST_MOMENT }
-        ensures { result ≡ record { time = self.time; expiry = expiry_from self.touch item.now.expiry self.time; fetched = true; sent = is_sent_after self.reader item.now self.time } }
+        ensures { result ≡
+            record {
+              time = self.time;
+              expiry = expiry_from self.touch item.now.expiry self.time;
+              fetched = true;
+              sent = is_sent_after self.reader item.now self.time;
+            } }
     {
         Use {
             time: self.time,

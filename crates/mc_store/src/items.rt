@@ -8,7 +8,7 @@ ghost use Rattle.mc_item.specs.declared.item.Item.{Item as TheItem};
 ghost use Rattle.mc_store.specs.State.{item_overhead, cost};
 ghost use Rattle.mc_store.specs.Step.{is_other};
 ghost use Rattle.mc_store.specs.internal.Access.{met, read_item, read_shelf, seen_shelf};
-ghost use Rattle.mc_store.specs.internal.Listed.{Fits, freed_by, listed_cost, put_in, within};
+ghost use Rattle.mc_store.specs.internal.Listed.{FitsBudget, freed_by, listed_cost, put_in, within};
 
 use crate::access::{Access, Use};
 use crate::hashing::PolynomialState;
@@ -49,9 +49,11 @@ impl Model for Items {
 
     ghost Value = { Shelf };
 
-    ghost view = { λ items. record { entries = items.cache.entries; budget = items.budget; evicted = items.evicted } };
+    ghost view = { λ items.
+        record { entries = items.cache.entries; budget = items.budget; evicted = items.evicted } };
 
-    ghost invariant = { λ items. IsCounted items.cache.entries items.cache.cap items.cost items.budget };
+    ghost invariant = { λ items.
+        IsCounted items.cache.entries items.cache.cap items.cost items.budget };
 }
 
 /// What an item becomes when it is marked stale where it stands.
@@ -108,7 +110,13 @@ fn evict(cache: &mut Cache, cost: usize, budget: usize) -> usize
 
 /// Notes in an item that it is made the most recently used one.
 fn note_use(item: &mut Item, new: Use)
-    ensures { item.new ≡ record item.old { last_access = new.time; expiry = new.expiry; fetched = new.fetched; sent = new.sent } }
+    ensures { item.new ≡
+        record item.old {
+          last_access = new.time;
+          expiry = new.expiry;
+          fetched = new.fetched;
+          sent = new.sent;
+        } }
 {
     item.last_access = new.time;
     item.expiry = new.expiry;
@@ -118,7 +126,16 @@ fn note_use(item: &mut Item, new: Use)
 
 /// Makes the item under the key the most recently used one, and what it becomes by that.
 fn use_item(cache: &mut Cache, key: &Key, new: Use)
-    ensures used { (item : TheItem) → lookup (same_key key.now) cache.old.entries ≡ Some item → cache.new ≡ lru_cache (set_value (same_key key.now) (promoted (same_key key.now) cache.old.entries) (record item { last_access = new.time; expiry = new.expiry; fetched = new.fetched; sent = new.sent })) cache.old.cap }
+    ensures used { (item : TheItem) → lookup (same_key key.now) cache.old.entries ≡ Some item →
+        cache.new ≡
+        lru_cache
+        (set_value (same_key key.now) (promoted (same_key key.now) cache.old.entries)
+        (record item {
+          last_access = new.time;
+          expiry = new.expiry;
+          fetched = new.fetched;
+          sent = new.sent;
+        })) cache.old.cap }
     ensures none { lookup (same_key key.now) cache.old.entries ≡ None → cache.new ≡ cache.old }
 {
     if let Some(item) = cache.get_mut(key) {
@@ -137,7 +154,11 @@ fn read_item(
     requires time { access.time ≤ LATEST_MOMENT }
     requires reserve { IsSome reserve.old }
     ensures found { result ≡ lookup (same_key key.now) cache.old.entries }
-    ensures read { (item : TheItem) → lookup (same_key key.now) cache.old.entries ≡ Some item → cache.new ≡ lru_cache (set_value (same_key key.now) (promoted (same_key key.now) cache.old.entries) (read_item access item)) cache.old.cap }
+    ensures read { (item : TheItem) → lookup (same_key key.now) cache.old.entries ≡ Some item →
+        cache.new ≡
+        lru_cache
+        (set_value (same_key key.now) (promoted (same_key key.now) cache.old.entries)
+        (read_item access item)) cache.old.cap }
     ensures none { lookup (same_key key.now) cache.old.entries ≡ None → cache.new ≡ cache.old }
 {
     let item = cache.get_mut(key)?;
@@ -148,7 +169,16 @@ fn read_item(
 
 /// Marks the item under the key stale where it stands.
 fn mark_stale(cache: &mut Cache, key: &Key, new: Staling)
-    ensures marked { (item : TheItem) → lookup (same_key key.now) cache.old.entries ≡ Some item → cache.new ≡ lru_cache (set_value (same_key key.now) cache.old.entries (record item { unique = new.unique; expiry = new.expiry; stale = true; sent = false })) cache.old.cap }
+    ensures marked { (item : TheItem) → lookup (same_key key.now) cache.old.entries ≡ Some item →
+        cache.new ≡
+        lru_cache
+        (set_value (same_key key.now) cache.old.entries
+        (record item {
+          unique = new.unique;
+          expiry = new.expiry;
+          stale = true;
+          sent = false;
+        })) cache.old.cap }
     ensures none { lookup (same_key key.now) cache.old.entries ≡ None → cache.new ≡ cache.old }
 {
     if let Some(item) = cache.peek_mut(key) {
@@ -161,7 +191,11 @@ fn mark_stale(cache: &mut Cache, key: &Key, new: Staling)
 
 /// Gives the item under the key another expiry, and notes in it whether a client was told to recompute it. It stays where it is.
 fn mark_seen(cache: &mut Cache, key: &Key, new: Use)
-    ensures marked { (item : TheItem) → lookup (same_key key.now) cache.old.entries ≡ Some item → cache.new ≡ lru_cache (set_value (same_key key.now) cache.old.entries (record item { expiry = new.expiry; sent = new.sent })) cache.old.cap }
+    ensures marked { (item : TheItem) → lookup (same_key key.now) cache.old.entries ≡ Some item →
+        cache.new ≡
+        lru_cache
+        (set_value (same_key key.now) cache.old.entries
+        (record item { expiry = new.expiry; sent = new.sent })) cache.old.cap }
     ensures none { lookup (same_key key.now) cache.old.entries ≡ None → cache.new ≡ cache.old }
 {
     if let Some(seen) = cache.peek_mut(key) {
@@ -176,7 +210,8 @@ impl Items {
     pub fn new(alloc: Global, hasher: RandomState, budget: usize) -> Result<Items, AllocError>
         requires least { LEAST_BUDGET ≤ budget }
         requires most { budget ≤ GREATEST_BUDGET }
-        ensures { IfOk result (λ items. items ≡ record { entries = []; budget = budget; evicted = 0 }) }
+        ensures { IfOk result
+            (λ items. items ≡ record { entries = []; budget = budget; evicted = 0 }) }
     {
         let capacity = NonZeroUsize::new(budget / LEAST_COST + 1).unwrap();
         let mut cache = LruCache::unbounded_with_hasher(alloc, PolynomialState::new(hasher))?;
@@ -262,7 +297,8 @@ impl Items {
     #[cold]
     #[inline(never)]
     fn remove_read(&mut self, key: &Key, _read: Item)
-        ensures { self.new ≡ record self.old { entries = remove_entry (same_key key.now) self.old.entries } }
+        ensures { self.new ≡
+            record self.old { entries = remove_entry (same_key key.now) self.old.entries } }
     {
         self.remove(key);
     }
@@ -315,7 +351,8 @@ impl Items {
     /// Takes the item under the key out.
     pub fn remove(&mut self, key: &Key) -> Option<Item>
         ensures item { result ≡ lookup (same_key key.now) self.old.entries }
-        ensures left { self.new ≡ record self.old { entries = remove_entry (same_key key.now) self.old.entries } }
+        ensures left { self.new ≡
+            record self.old { entries = remove_entry (same_key key.now) self.old.entries } }
     {
         let item = self.cache.pop(key)?;
         self.cost -= cost_of(key.bytes().len(), item.value.len());
@@ -334,7 +371,7 @@ impl Items {
     /// items cost more than the budget. Where memory is refused nothing changes; over an item that is there it never
     /// is. Each that went is counted.
     pub fn put(&mut self, key: Key, item: Item) -> Result<(), NoMemory>
-        requires fits { Fits self.old.budget key item.value }
+        requires fits { FitsBudget self.old.budget key item.value }
         ensures put { OnOk result (self.new ≡ put_in key item self.old) }
         ensures small { OnOk result (cost key item.value ≤ self.old.budget) }
         ensures err { OnErr result (self.new ≡ self.old) }
@@ -355,14 +392,35 @@ impl Items {
 
     /// Makes the item under the key the most recently used one, and what it becomes by that.
     pub fn make_first(&mut self, key: &Key, new: Use)
-        ensures { (item : TheItem) → lookup (same_key key.now) self.old.entries ≡ Some item → self.new ≡ record self.old { entries = set_value (same_key key.now) (promoted (same_key key.now) self.old.entries) (record item { last_access = new.time; expiry = new.expiry; fetched = new.fetched; sent = new.sent }) } }
+        ensures { (item : TheItem) → lookup (same_key key.now) self.old.entries ≡ Some item →
+            self.new ≡
+            record self.old {
+              entries = set_value (same_key key.now)
+                  (promoted (same_key key.now) self.old.entries)
+                  (record item {
+                    last_access = new.time;
+                    expiry = new.expiry;
+                    fetched = new.fetched;
+                    sent = new.sent;
+                  });
+            } }
     {
         use_item(&mut self.cache, key, new);
     }
 
     /// Marks the item under the key stale where it stands.
     pub fn mark_stale(&mut self, key: &Key, new: Staling)
-        ensures { (item : TheItem) → lookup (same_key key.now) self.old.entries ≡ Some item → self.new ≡ record self.old { entries = set_value (same_key key.now) self.old.entries (record item { unique = new.unique; expiry = new.expiry; stale = true; sent = false }) } }
+        ensures { (item : TheItem) → lookup (same_key key.now) self.old.entries ≡ Some item →
+            self.new ≡
+            record self.old {
+              entries = set_value (same_key key.now) self.old.entries
+                  (record item {
+                    unique = new.unique;
+                    expiry = new.expiry;
+                    stale = true;
+                    sent = false;
+                  });
+            } }
     {
         mark_stale(&mut self.cache, key, new);
     }
@@ -370,7 +428,12 @@ impl Items {
     /// Gives the item under the key another expiry, and notes in it whether a client was told to recompute it. It stays where it
     /// is.
     fn mark_seen(&mut self, key: &Key, new: Use)
-        ensures { (item : TheItem) → lookup (same_key key.now) self.old.entries ≡ Some item → self.new ≡ record self.old { entries = set_value (same_key key.now) self.old.entries (record item { expiry = new.expiry; sent = new.sent }) } }
+        ensures { (item : TheItem) → lookup (same_key key.now) self.old.entries ≡ Some item →
+            self.new ≡
+            record self.old {
+              entries = set_value (same_key key.now) self.old.entries
+                  (record item { expiry = new.expiry; sent = new.sent });
+            } }
     {
         mark_seen(&mut self.cache, key, new);
     }

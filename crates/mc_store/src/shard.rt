@@ -9,7 +9,7 @@ ghost use Rattle.mc_item.specs.declared.answer.Answer.{Answer as TheAnswer};
 ghost use Rattle.mc_item.specs.declared.answer.MetaDone.{MetaDone as TheDone};
 ghost use Rattle.mc_item.specs.Kind.{kind_of, is_lawful};
 ghost use Rattle.mc_store.specs.internal.Found.{live, unique_for, given_after};
-ghost use Rattle.mc_store.specs.internal.Listed.{Fits};
+ghost use Rattle.mc_store.specs.internal.Listed.{FitsBudget};
 ghost use Rattle.mc_store.specs.Rows.{expiry_from, done_of};
 
 mod counting;
@@ -21,7 +21,7 @@ mod storing;
 
 use crate::items::{Items, cost_of};
 use crate::{GREATEST_BUDGET, LEAST_BUDGET, access};
-use mc_item::{Answer, Asked, Item, MetaDone, Op, PackedExpiry, Status, Tally, Value};
+use mc_item::{Answer, CountedAs, Item, MetaDone, Op, PackedExpiry, Status, Tally, Value};
 use mc_wire::{GREATEST_VALUE_LIMIT, Key, LATEST_MOMENT};
 use std::alloc::{AllocError, Global};
 use std::hash::RandomState;
@@ -88,7 +88,8 @@ impl Shard {
         requires least_budget { LEAST_BUDGET ≤ budget }
         requires most_budget { budget ≤ GREATEST_BUDGET }
         requires most_limit { limit ≤ GREATEST_VALUE_LIMIT }
-        ensures { IfOk result (λ shard. IsShard shard (empty_state index shards budget given limit)) }
+        ensures { IfOk result
+            (λ shard. IsShard shard (empty_state index shards budget given limit)) }
     {
         let items = Items::new(alloc, hasher, budget)?;
         Ok(Shard {
@@ -130,7 +131,7 @@ impl Shard {
         ensures step { Steps self.old op moment result self.new }
         ensures lawful { is_lawful (kind_of op) result ≡ true }
     {
-        let asked = Asked::of(&op);
+        let asked = CountedAs::of(&op);
         let answer = self.answer(alloc, op, moment);
         self.tally.note(asked, Status::of(&answer));
         answer
@@ -208,7 +209,8 @@ impl Shard {
 
     /// Moves the time to the moment, unless that is past, and runs a flush that is due.
     fn arrive(&mut self, moment: u64)
-        ensures { (state : State) → IsShard self.old state → IsShard self.new (arrived state moment) }
+        ensures { (state : State) → IsShard self.old state →
+            IsShard self.new (arrived state moment) }
     {
         self.time = self.time.max(moment.min(LATEST_MOMENT));
         if self.is_flush_due() {
@@ -236,7 +238,8 @@ impl Shard {
 
     /// The item under the key, unless it is dead.
     fn find(&self, key: &Key) -> Option<&Item>
-        ensures { option_copied result ≡ live self.now.time (lookup (same_key key.now) self.now.items.entries) }
+        ensures { option_copied result ≡
+            live self.now.time (lookup (same_key key.now) self.now.items.entries) }
     {
         let item = self.items.peek(key)?;
         if item.is_dead(self.time) {
@@ -248,7 +251,8 @@ impl Shard {
 
     /// Removes the item under the key where it is dead.
     fn remove_dead(&mut self, key: &Key)
-        ensures { (state : State) → IsShard self.old state → IsShard self.new (without_dead state (Some key.now)) }
+        ensures { (state : State) → IsShard self.old state →
+            IsShard self.new (without_dead state (Some key.now)) }
     {
         let Some(item) = self.items.peek(key) else {
             return;
@@ -260,7 +264,8 @@ impl Shard {
 
     /// The unique that an item is given: the client's, or else the shard's next one, where that fits 64 bits.
     fn unique_for(&self, token: Option<u64>) -> Option<u64>
-        ensures unique { result ≡ unique_for token (self.now.index + 1 + self.now.shards * self.now.given) }
+        ensures unique { result ≡
+            unique_for token (self.now.index + 1 + self.now.shards * self.now.given) }
         ensures room { IsSome result → token ≡ None → self.now.given + 1 < 2 ^ 64 }
     {
         if token.is_some() {
@@ -273,7 +278,8 @@ impl Shard {
     /// Counts a unique that the shard gave.
     fn count_given(&mut self, token: Option<u64>)
         requires { token ≡ None → self.old.given + 1 < 2 ^ 64 }
-        ensures { held_of self.new ≡ record (held_of self.old) { given = given_after token self.old.given } }
+        ensures { held_of self.new ≡
+            record (held_of self.old) { given = given_after token self.old.given } }
     {
         if token.is_none() {
             self.given += 1;
@@ -284,7 +290,9 @@ impl Shard {
     /// budget alone.
     fn is_too_large(&self, key: &Key, size: usize) -> bool
         requires { size ≤ 2 * GREATEST_VALUE_LIMIT }
-        ensures { result ≡ (nat_lt self.now.limit size || nat_lt self.now.items.budget (length key.now + size + item_overhead)) }
+        ensures { result ≡
+            (nat_lt self.now.limit size ||
+            nat_lt self.now.items.budget (length key.now + size + item_overhead)) }
     {
         self.limit < size || self.items.budget() < cost_of(key.bytes().len(), size)
     }
@@ -298,9 +306,14 @@ impl Shard {
 
     /// Puts the item under the key as the most recently used one, with a new unique, which it answers.
     fn write(&mut self, key: Key, mut item: Item, token: Option<u64>) -> Result<u64, Answer>
-        requires fits { Fits self.old.items.budget key item.value }
-        ensures does { (reply : ℕ → TheAnswer) → Does self.old key (λ settled. numbered settled token (λ unique after. (reply unique, entered after key (record item { unique = unique })))) (answered reply result) self.new }
-        ensures refused { IfErr result (λ answer. (answer ≡ Answer.NoCas) ⊎ (answer ≡ Answer.NoMemory)) }
+        requires fits { FitsBudget self.old.items.budget key item.value }
+        ensures does { (reply : ℕ → TheAnswer) →
+            Does self.old key (λ settled.
+            numbered settled token (λ unique after.
+            (reply unique, entered after key (record item { unique = unique }))))
+            (answered reply result) self.new }
+        ensures refused { IfErr result
+            (λ answer. (answer ≡ Answer.NoCas) ⊎ (answer ≡ Answer.NoMemory)) }
     {
         let Some(unique) = self.unique_for(token) else {
             self.remove_dead(&key);
@@ -323,9 +336,17 @@ impl Shard {
         token: Option<u64>,
         number: u64,
     ) -> Result<MetaDone, Answer>
-        requires fits { Fits self.old.items.budget key item.value }
-        ensures does { (reply : TheDone → TheAnswer) → Does self.old key (λ settled. numbered settled token (λ unique after. (reply (done_of (record item { unique = unique }) number settled.time), entered after key (record item { unique = unique })))) (answered reply result) self.new }
-        ensures refused { IfErr result (λ answer. (answer ≡ Answer.NoCas) ⊎ (answer ≡ Answer.NoMemory)) }
+        requires fits { FitsBudget self.old.items.budget key item.value }
+        ensures does { (reply : TheDone → TheAnswer) →
+            Does self.old key (λ settled.
+            numbered settled token (λ unique after. (
+              reply (done_of (record item { unique = unique }) number settled.time),
+              entered
+                  after key (record item { unique = unique }),
+            ))) (answered reply result)
+            self.new }
+        ensures refused { IfErr result
+            (λ answer. (answer ≡ Answer.NoCas) ⊎ (answer ≡ Answer.NoMemory)) }
     {
         let size = item.value.len() as u64;
         let left = item.expiry.seconds_left(self.time);
@@ -341,7 +362,17 @@ impl Shard {
 
 /// An item with this value that nobody fetched, and of which nothing is marked. It has no unique yet.
 fn fresh_item(value: Value, flags: u32, expiry: PackedExpiry) -> Item
-    ensures { result ≡ record { value = value; flags = flags; expiry = expiry; unique = 0; last_access = 0; fetched = false; stale = false; sent = false } }
+    ensures { result ≡
+        record {
+          value = value;
+          flags = flags;
+          expiry = expiry;
+          unique = 0;
+          last_access = 0;
+          fetched = false;
+          stale = false;
+          sent = false;
+        } }
 {
     Item {
         value,

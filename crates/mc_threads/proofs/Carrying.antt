@@ -10,7 +10,7 @@ use Rattle.mc_ring.specs.declared.reply.Reply.{Reply}
 use Rattle.mc_ring.specs.Reply.{Shown, shown}
 use Rattle.mc_ring.specs.Lane.{Near}
 use Rattle.mc_ring.specs.Ends.{AreSameEnds, AtLane, Ends, Sends, received_on, sent_on}
-use Rattle.mc_ring.specs.Ends.{Receives as ReceivesReply}
+use Rattle.mc_ring.specs.Ends.{Receives}
 use Rattle.mc_ring.specs.EndsLaws.{at_lane-kept, at_lane-longer, at_lane-other, get-set_other, get-set_same, length-slice_set, same_ends-trans}
 use Rattle.mc_split.specs.declared.plan.Piece.{Piece}
 use Rattle.mc_join.specs.Expects.{Expects}
@@ -18,7 +18,7 @@ use Rattle.mc_join.specs.declared.joiner.Stranger.{Stranger}
 use Rattle.mc_conn.specs.declared.conn.Conn.{Conn}
 use Rattle.mc_conn.specs.Conn.{IsConn}
 use Rattle.mc_conn.specs.Due.{due, lane}
-use Rattle.mc_conn.specs.Fits.{Receives, Serves}
+use Rattle.mc_conn.specs.Fits.{ReceivesFromShard, Serves}
 use Rattle.mc_conn.specs.Told.{KeepsHanded, Told, all_forms, all_pieces}
 use Rattle.mc_conn.proofs.Counting.{due_beyond}
 use Rattle.mc_conn.proofs.Gets.{get_front}
@@ -26,7 +26,7 @@ use Rattle.mc_conn.proofs.Places.{lane-append, lane-no, lane-yes, lane_there}
 use Rattle.mc_conn.proofs.Serving.{serves_accept, serves_stranger}
 use Rattle.mc_conn.proofs.Staying.{is_sound, keeps_accept}
 use Rattle.mc_core.proofs.Lists.{take_next}
-use Rattle.mc_threads.specs.internal.Carrying.{AllOut, AllOutWhere, AnyOut, Carries, CarriesOn, IsKept, MayCarry, MovesOn, NoneOut, carried, sent_to}
+use Rattle.mc_threads.specs.internal.Carrying.{AllOut, AllOutWhere, AnyOut, Carries, CarriesOn, KeepsReceived, MayCarry, MovesOn, NoneOut, carried, sent_to}
 use Rattle.mc_threads.specs.Ending.{StandsStill}
 use Rattle.mc_seat.proofs.Along.{keeps_trans}
 
@@ -150,9 +150,9 @@ still_back item back shard ends ends' at same =
     }
 
 -- no reply had come
-pub still_none : (shard : ℕ) (ends ends' : Ends Near) → AtLane (ReceivesReply {Out = Parcel} {In = Shown} {T = Reply} shown None) shard ends ends' → AreSameEnds ends ends' → StandsStill ends ends'
+pub still_none : (shard : ℕ) (ends ends' : Ends Near) → AtLane (Receives {Out = Parcel} {In = Shown} {T = Reply} shown None) shard ends ends' → AreSameEnds ends ends' → StandsStill ends ends'
 still_none shard ends ends' at same =
-    let says : Near → Near → Type 0 = ReceivesReply {Out = Parcel} {In = Shown} {T = Reply} shown None in
+    let says : Near → Near → Type 0 = Receives {Out = Parcel} {In = Shown} {T = Reply} shown None in
     record {
       same = same;
       sent = λ s. at_lane-kept says (λ (end : Near). end.past.sent) shard s ends ends' (λ x y said. ap (λ p. p.sent) said.none) at;
@@ -301,13 +301,13 @@ sent_one so ends ends' ways conn mid shard count was piece never counted more at
 abbrev pub with_reply : (ℕ → List Shown) → ℕ → Shown → ℕ → List Shown
 with_reply received shard reply = λ s. cond (s == shard) (received s ++ reply ∷ []) (received s)
 
-receives_one : (received : ℕ → List Shown) (shard : ℕ) (reply : Shown) → Receives received shard reply (with_reply received shard reply)
+receives_one : (received : ℕ → List Shown) (shard : ℕ) (reply : Shown) → ReceivesFromShard received shard reply (with_reply received shard reply)
 receives_one received shard reply = record {
   here = ap (λ b. cond b (received shard ++ reply ∷ []) (received shard)) (eq-eqb shard shard refl);
   others = λ s other. ap (λ b. cond b (received s ++ reply ∷ []) (received s)) (ne_eqb s shard other);
 }
 
-kept_one : (received later : ℕ → List Shown) (shard : ℕ) (reply : Shown) → Receives received shard reply later → IsKept received later
+kept_one : (received later : ℕ → List Shown) (shard : ℕ) (reply : Shown) → ReceivesFromShard received shard reply later → KeepsReceived received later
 kept_one received later shard reply receives s place r came = elim (cases_eq s shard) [
   | inl is ↦
       let here : slice_get (received shard) place ≡ Some r = ap (λ k. slice_get (received k) place) (sym is) ∙ came in
@@ -327,7 +327,7 @@ record AcceptsOne (told : Told) (conn : Conn) (received : ℕ → List Shown) : 
   serves : Serves told.shards told.taken accepted received
   handed : KeepsHanded told (record told { accepted = accepted })
 
-accepts_one : (told : Told) (conn new : Conn) (shard : ℕ) (reply : Shown) (received later : ℕ → List Shown) (result : Result (Unit {0}) Stranger) → IsConn conn told → Serves told.shards told.taken told.accepted received → length (received shard) < length (due told.shards shard told.taken) → Receives received shard reply later → Accepts reply result conn new → AcceptsOne told new later
+accepts_one : (told : Told) (conn new : Conn) (shard : ℕ) (reply : Shown) (received later : ℕ → List Shown) (result : Result (Unit {0}) Stranger) → IsConn conn told → Serves told.shards told.taken told.accepted received → length (received shard) < length (due told.shards shard told.taken) → ReceivesFromShard received shard reply later → Accepts reply result conn new → AcceptsOne told new later
 accepts_one told conn new shard reply received later (Ok done) is serves owed receives accepts =
     let said = accepts.ok told is in
     record {
@@ -346,9 +346,9 @@ accepts_one told conn new shard reply received later (Err stranger) is serves ow
     }
 
 -- a reply was received
-carries_received : (before ends ends' : Ends Near) (ways : List ℕ) (told : Told) (received later : ℕ → List Shown) (accepted : List Shown) (shard left was : ℕ) (reply : Reply) → slice_get ways shard ≡ Some was → was ≡ left + 1 → AtLane (ReceivesReply {Out = Parcel} {In = Shown} {T = Reply} shown (Some reply)) shard ends ends' → AreSameEnds ends ends' → Receives received shard (shown reply) later → Serves told.shards told.taken accepted later → Carries before ends ways told received → Carries before ends' (slice_set ways shard left) (carried told told.out told.lent accepted) later
+carries_received : (before ends ends' : Ends Near) (ways : List ℕ) (told : Told) (received later : ℕ → List Shown) (accepted : List Shown) (shard left was : ℕ) (reply : Reply) → slice_get ways shard ≡ Some was → was ≡ left + 1 → AtLane (Receives {Out = Parcel} {In = Shown} {T = Reply} shown (Some reply)) shard ends ends' → AreSameEnds ends ends' → ReceivesFromShard received shard (shown reply) later → Serves told.shards told.taken accepted later → Carries before ends ways told received → Carries before ends' (slice_set ways shard left) (carried told told.out told.lent accepted) later
 carries_received before ends ends' ways told received later accepted shard left was reply counted less at same receives serves carries =
-    let says : Near → Near → Type 0 = ReceivesReply {Out = Parcel} {In = Shown} {T = Reply} shown (Some reply) in
+    let says : Near → Near → Type 0 = Receives {Out = Parcel} {In = Shown} {T = Reply} shown (Some reply) in
     let longer : received_on ends' shard ≡ received_on ends shard ++ shown reply ∷ [] = at_lane-longer says (λ (end : Near). end.past.received) shard (shown reply ∷ []) ends ends' (λ x y said. ap (λ p. p.received) said.received) at in
     record {
       width = same.count ∙ carries.width;
@@ -380,7 +380,7 @@ carries_received before ends ends' ways told received later accepted shard left 
     }
 
 -- A reply received on a lane, be it accepted or a stranger, is one less that is awaited there, and no piece has left.
-pub received_one : (ends ends' : Ends Near) (ways : List ℕ) (conn new : Conn) (shard left was : ℕ) (reply : Reply) (result : Result (Unit {0}) Stranger) → slice_get ways shard ≡ Some was → was ≡ left + 1 → AtLane (ReceivesReply {Out = Parcel} {In = Shown} {T = Reply} shown (Some reply)) shard ends ends' → AreSameEnds ends ends' → Accepts (shown reply) result conn new → MovesOn NoneOut ends ways conn ends' (slice_set ways shard left) new
+pub received_one : (ends ends' : Ends Near) (ways : List ℕ) (conn new : Conn) (shard left was : ℕ) (reply : Reply) (result : Result (Unit {0}) Stranger) → slice_get ways shard ≡ Some was → was ≡ left + 1 → AtLane (Receives {Out = Parcel} {In = Shown} {T = Reply} shown (Some reply)) shard ends ends' → AreSameEnds ends ends' → Accepts (shown reply) result conn new → MovesOn NoneOut ends ways conn ends' (slice_set ways shard left) new
 received_one ends ends' ways conn new shard left was reply result counted less at same accepts = record {
   moves = λ before told received is carries.
       let old = carries.awaited shard was counted in

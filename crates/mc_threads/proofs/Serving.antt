@@ -25,14 +25,14 @@ use Rattle.mc_conn.proofs.Serving.{serves_none, serves_take}
 use Rattle.mc_conn.proofs.Staying.{is_sound, keeps_take}
 use Rattle.mc_seat.specs.LineServed.{LineServed}
 use Rattle.mc_seat.specs.declared.seat.Turn.{Turn}
-use Rattle.mc_seat.specs.internal.Stands.{Serving, Stands, handed_texts}
+use Rattle.mc_seat.specs.internal.Stands.{Serving, GaveAndTook, handed_texts}
 use Rattle.mc_seat.specs.internal.Steps.{GoOnSays, GoesOn, IsServed, Rests, StopsAt, TurnSays}
 use Rattle.mc_seat.proofs.Along.{serving_along, stops_along}
 use Rattle.mc_seat.proofs.Fronts.{begins_length}
 use Rattle.mc_seat.proofs.Standing.{stands_first, stands_take}
 use Rattle.mc_threads.specs.Serving.{IsIdle}
-use Rattle.mc_threads.specs.internal.Carrying.{AllOut, Carries, CarriesOn, IsKept, MayCarry, MovesOn, carried, sent_to}
-use Rattle.mc_threads.specs.internal.Turns.{Stops, Turns}
+use Rattle.mc_threads.specs.internal.Carrying.{AllOut, Carries, CarriesOn, KeepsReceived, MayCarry, MovesOn, carried, sent_to}
+use Rattle.mc_threads.specs.internal.Turns.{StopsTaking, TurnsOverLanes}
 use Rattle.mc_threads.proofs.Carrying.{some_shards}
 use Rattle.mc_command.specs.declared.rules.Rules.{Rules}
 
@@ -58,7 +58,7 @@ carries_first ends ways rules window each idle = record {
 }
 
 -- A new connection, at lanes where nothing is under way, stands before the first turn of a line, with no command taken.
-pub turns_first : (may_answer : ℕ → Type 0) (now : Sight) (ends : Ends Near) (ways unread : List ℕ) (conn : Conn) (rules : Rules) (window : ℕ) → length ways ≡ length ends.lanes → IsIdle ways → unread ≡ [] → IsConn conn (told_nothing (length ends.lanes) rules window) → Turns (length ends.lanes) rules may_answer now now ends ends ways unread conn 0
+pub turns_first : (may_answer : ℕ → Type 0) (now : Sight) (ends : Ends Near) (ways unread : List ℕ) (conn : Conn) (rules : Rules) (window : ℕ) → length ways ≡ length ends.lanes → IsIdle ways → unread ≡ [] → IsConn conn (told_nothing (length ends.lanes) rules window) → TurnsOverLanes (length ends.lanes) rules may_answer now now ends ends ways unread conn 0
 turns_first may_answer now ends ways unread conn rules window each idle none is = record {
   told = told_nothing (length ends.lanes) rules window;
   received = λ s. [];
@@ -81,11 +81,11 @@ keys_before shards taken one received keys s i p reply asked came =
     keys s i p reply (ap (λ ps. slice_get ps i) (due-append shards s taken (one ∷ [])) ∙ get_front (due shards s taken) more i p asked) came
 
 -- where the keys of more replies fit, those of the first do
-keys_kept : (shards : ℕ) (taken : List Taken) (received later : ℕ → List Shown) → IsKept received later → KeysFit shards taken later → KeysFit shards taken received
+keys_kept : (shards : ℕ) (taken : List Taken) (received later : ℕ → List Shown) → KeepsReceived received later → KeysFit shards taken later → KeysFit shards taken received
 keys_kept shards taken received later kept keys s i p reply asked came = keys s i p reply asked (kept s i reply came)
 
 -- the condition under which nothing was owed is a stronger one
-stands_where : (rules : Rules) (fits after : Type 0) (begin now : Sight) (unread fed : List ℕ) (ended : Bool) (taken : List Taken) (texts : List (List ℕ)) → (after → fits) → Stands rules fits begin now unread fed ended taken texts → Stands rules after begin now unread fed ended taken texts
+stands_where : (rules : Rules) (fits after : Type 0) (begin now : Sight) (unread fed : List ℕ) (ended : Bool) (taken : List Taken) (texts : List (List ℕ)) → (after → fits) → GaveAndTook rules fits begin now unread fed ended taken texts → GaveAndTook rules after begin now unread fed ended taken texts
 stands_where rules fits after begin now unread fed ended taken texts weaker stands = record {
   read_is = stands.read_is;
   ended_is = stands.ended_is;
@@ -115,7 +115,7 @@ carries_take before ends ways told received one conn is carries =
 
 -- What holds between the turns of a line still holds with one command more taken, and that is counted.
 pub turns_take : (shards : ℕ) (rules : Rules) (may_answer : ℕ → Type 0) (begin now : Sight) (before ends : Ends Near) (ways unread : List ℕ) (conn new : Conn) (commands later moment : ℕ) (ticket : Ticket) → may_answer moment → TakeSays conn moment (took.Opened ticket) new → later ≡ min (ticket.0 + 1) (2 ^ 64 - 1) →
-    Turns shards rules may_answer begin now before ends ways unread conn commands → Turns shards rules may_answer begin now before ends ways unread new later
+    TurnsOverLanes shards rules may_answer begin now before ends ways unread conn commands → TurnsOverLanes shards rules may_answer begin now before ends ways unread new later
 turns_take shards rules may_answer begin now before ends ways unread conn new commands later moment ticket may says later_is turns =
     let told = turns.told in
     let opens : Opens told moment ticket new = says told turns.conn_is in
@@ -138,7 +138,7 @@ turns_take shards rules may_answer begin now before ends ways unread conn new co
     }
 
 -- the same, of the connection as it is now
-turns_now : (shards : ℕ) (rules : Rules) (may_answer : ℕ → Type 0) (begin now : Sight) (before ends : Ends Near) (ways unread : List ℕ) (conn new : Conn) (commands : ℕ) → (turns : Turns shards rules may_answer begin now before ends ways unread conn commands) → IsConn new turns.told → Turns shards rules may_answer begin now before ends ways unread new commands
+turns_now : (shards : ℕ) (rules : Rules) (may_answer : ℕ → Type 0) (begin now : Sight) (before ends : Ends Near) (ways unread : List ℕ) (conn new : Conn) (commands : ℕ) → (turns : TurnsOverLanes shards rules may_answer begin now before ends ways unread conn commands) → IsConn new turns.told → TurnsOverLanes shards rules may_answer begin now before ends ways unread new commands
 turns_now shards rules may_answer begin now before ends ways unread conn new commands turns is = record {
   told = turns.told;
   received = turns.received;
@@ -154,7 +154,7 @@ turns_now shards rules may_answer begin now before ends ways unread conn new com
 
 -- Where no command is taken, what holds between the turns of a line still holds, and the reason is the one told.
 pub stops_take : (shards : ℕ) (rules : Rules) (may_answer : ℕ → Type 0) (begin now : Sight) (before ends : Ends Near) (ways unread : List ℕ) (conn new : Conn) (commands moment : ℕ) (stop : Took) → TakeSays conn moment stop new → ((ticket : Ticket) → stop ≡ took.Opened ticket → ⊥) →
-    Turns shards rules may_answer begin now before ends ways unread conn commands → Stops shards rules may_answer begin now before ends ways unread new commands stop
+    TurnsOverLanes shards rules may_answer begin now before ends ways unread conn commands → StopsTaking shards rules may_answer begin now before ends ways unread new commands stop
 unfolding turns_now
 stops_take shards rules may_answer begin now before ends ways unread conn new commands moment (took.Opened ticket) says other turns = absurd (other ticket refl)
 stops_take shards rules may_answer begin now before ends ways unread conn new commands moment took.NeedMore says other turns =
@@ -168,20 +168,20 @@ stops_take shards rules may_answer begin now before ends ways unread conn new co
     record { turns = turns_now shards rules may_answer begin now before ends ways unread conn new commands turns over.1; stops = over.0 }
 
 -- When no further command is taken, pieces and replies may be carried.
-pub can_settle : (shards : ℕ) (rules : Rules) (may_answer : ℕ → Type 0) (begin now : Sight) (before ends : Ends Near) (ways unread : List ℕ) (conn : Conn) (commands : ℕ) (stop : Took) → Stops shards rules may_answer begin now before ends ways unread conn commands stop → MayCarry ends ways conn
+pub can_settle : (shards : ℕ) (rules : Rules) (may_answer : ℕ → Type 0) (begin now : Sight) (before ends : Ends Near) (ways unread : List ℕ) (conn : Conn) (commands : ℕ) (stop : Took) → StopsTaking shards rules may_answer begin now before ends ways unread conn commands stop → MayCarry ends ways conn
 can_settle shards rules may_answer begin now before ends ways unread conn commands stop stops =
     let turns = stops.turns in
     record { before = before; told = turns.told; received = turns.received; conn_is = turns.conn_is; carries = turns.carries }
 
 -- all pieces of the commands taken were sent, and as many replies received
 pub record Settled (shards : ℕ) (rules : Rules) (may_answer : ℕ → Type 0) (begin now : Sight) (before ends : Ends Near) (ways unread : List ℕ) (conn : Conn) (commands : ℕ) (stop : Took) : Type 0 where
-  pub stopped : Stops shards rules may_answer begin now before ends ways unread conn commands stop
+  pub stopped : StopsTaking shards rules may_answer begin now before ends ways unread conn commands stop
   pub all : stopped.turns.told.out ≡ length (all_pieces stopped.turns.told)
   pub idle : IsIdle ways
 
 -- pieces and replies were carried
-stops_on : (shards : ℕ) (rules : Rules) (may_answer : ℕ → Type 0) (begin now : Sight) (before ends ends' : Ends Near) (ways ways' unread : List ℕ) (conn new : Conn) (commands : ℕ) (stop : Took) → (stops : Stops shards rules may_answer begin now before ends ways unread conn commands stop)
-    → CarriesOn before stops.turns.told stops.turns.received ends' ways' new → Stops shards rules may_answer begin now before ends' ways' unread new commands stop
+stops_on : (shards : ℕ) (rules : Rules) (may_answer : ℕ → Type 0) (begin now : Sight) (before ends ends' : Ends Near) (ways ways' unread : List ℕ) (conn new : Conn) (commands : ℕ) (stop : Took) → (stops : StopsTaking shards rules may_answer begin now before ends ways unread conn commands stop)
+    → CarriesOn before stops.turns.told stops.turns.received ends' ways' new → StopsTaking shards rules may_answer begin now before ends' ways' unread new commands stop
 stops_on shards rules may_answer begin now before ends ends' ways ways' unread conn new commands stop stops on =
     let turns = stops.turns in
     let told = turns.told in
@@ -204,13 +204,13 @@ stops_on shards rules may_answer begin now before ends ends' ways ways' unread c
     }
 
 -- the same, of whatever was carried
-pub stops_move : (says : Told → ℕ → Type 0) (shards : ℕ) (rules : Rules) (may_answer : ℕ → Type 0) (begin now : Sight) (before ends ends' : Ends Near) (ways ways' unread : List ℕ) (conn new : Conn) (commands : ℕ) (stop : Took) → MovesOn says ends ways conn ends' ways' new → Stops shards rules may_answer begin now before ends ways unread conn commands stop → Stops shards rules may_answer begin now before ends' ways' unread new commands stop
+pub stops_move : (says : Told → ℕ → Type 0) (shards : ℕ) (rules : Rules) (may_answer : ℕ → Type 0) (begin now : Sight) (before ends ends' : Ends Near) (ways ways' unread : List ℕ) (conn new : Conn) (commands : ℕ) (stop : Took) → MovesOn says ends ways conn ends' ways' new → StopsTaking shards rules may_answer begin now before ends ways unread conn commands stop → StopsTaking shards rules may_answer begin now before ends' ways' unread new commands stop
 stops_move says shards rules may_answer begin now before ends ends' ways ways' unread conn new commands stop moves stops =
     let said = moves.moves before stops.turns.told stops.turns.received stops.turns.conn_is stops.turns.carries in
     stops_on shards rules may_answer begin now before ends ends' ways ways' unread conn new commands stop stops said.0
 
 -- Once every piece has left and no reply is awaited, the commands that were taken are settled.
-pub settles : (shards : ℕ) (rules : Rules) (may_answer : ℕ → Type 0) (begin now : Sight) (before ends ends' : Ends Near) (ways ways' unread : List ℕ) (conn new : Conn) (commands : ℕ) (stop : Took) → MovesOn AllOut ends ways conn ends' ways' new → IsIdle ways' → Stops shards rules may_answer begin now before ends ways unread conn commands stop → Settled shards rules may_answer begin now before ends' ways' unread new commands stop
+pub settles : (shards : ℕ) (rules : Rules) (may_answer : ℕ → Type 0) (begin now : Sight) (before ends ends' : Ends Near) (ways ways' unread : List ℕ) (conn new : Conn) (commands : ℕ) (stop : Took) → MovesOn AllOut ends ways conn ends' ways' new → IsIdle ways' → StopsTaking shards rules may_answer begin now before ends ways unread conn commands stop → Settled shards rules may_answer begin now before ends' ways' unread new commands stop
 unfolding stops_on
 settles shards rules may_answer begin now before ends ends' ways ways' unread conn new commands stop moves idle stops =
     let said = moves.moves before stops.turns.told stops.turns.received stops.turns.conn_is stops.turns.carries in
@@ -255,7 +255,7 @@ turn_said shards rules may_answer begin now after before ends ways unread left c
     says turns.received begin turns.told turns.conn_is turns.serving turns.unbroken settled.stopped.stops (complete_all turns.told turns.received conn turns.conn_is turns.carries.serves many)
 
 -- the replies were handed out, and perhaps more was read
-pub turns_go : (shards : ℕ) (rules : Rules) (may_answer : ℕ → Type 0) (begin now after : Sight) (before ends : Ends Near) (ways left unread : List ℕ) (conn new : Conn) (commands : ℕ) (turns : Turns shards rules may_answer begin now before ends ways left conn commands) → GoesOn turns.received begin after turns.told new unread → Turns shards rules may_answer begin after before ends ways unread new commands
+pub turns_go : (shards : ℕ) (rules : Rules) (may_answer : ℕ → Type 0) (begin now after : Sight) (before ends : Ends Near) (ways left unread : List ℕ) (conn new : Conn) (commands : ℕ) (turns : TurnsOverLanes shards rules may_answer begin now before ends ways left conn commands) → GoesOn turns.received begin after turns.told new unread → TurnsOverLanes shards rules may_answer begin after before ends ways unread new commands
 turns_go shards rules may_answer begin now after before ends ways left unread conn new commands turns goes = record {
   told = record turns.told { fed = goes.fed; ended = goes.ended; handed = length (all_texts turns.told) };
   received = turns.received;
@@ -284,7 +284,7 @@ stops_handed stop told handed stops = stops
 
 -- the replies were handed out, and the line had nothing to give yet
 pub stops_rest : (shards : ℕ) (rules : Rules) (may_answer : ℕ → Type 0) (begin now after : Sight) (before ends : Ends Near) (ways left unread : List ℕ) (conn new : Conn) (commands : ℕ) (stop : Took) → (settled : Settled shards rules may_answer begin now before ends ways left conn commands stop)
-    → Rests settled.stopped.turns.received begin after settled.stopped.turns.told new unread → Stops shards rules may_answer begin after before ends ways unread new commands stop
+    → Rests settled.stopped.turns.received begin after settled.stopped.turns.told new unread → StopsTaking shards rules may_answer begin after before ends ways unread new commands stop
 unfolding turns_go
 stops_rest shards rules may_answer begin now after before ends ways left unread conn new commands stop settled rests =
     let turns = settled.stopped.turns in

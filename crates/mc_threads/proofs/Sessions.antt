@@ -10,10 +10,10 @@ use Rattle.mc_threads.specs.declared.session.Session.{Session}
 use Rattle.mc_threads.specs.declared.session.Stepped.{Stepped}
 use Rattle.mc_threads.specs.declared.session.Stepped.TheVariants as stepped
 use Rattle.mc_seat.specs.Later.{text_in}
-use Rattle.mc_threads.specs.Service.{IsNew, IsServedBy, MayServe, ServiceSays, TakesFor, WasServedBy}
+use Rattle.mc_threads.specs.Service.{IsNew, IsServedBy, ServesSomeLine, ServiceSays, TakesFor, WasServedBy}
 use Rattle.mc_threads.specs.Serving.{IsIdle}
 use Rattle.mc_threads.specs.Session.{IsReady, IsVacant, StepSays}
-use Rattle.mc_threads.specs.internal.Turns.{Turns}
+use Rattle.mc_threads.specs.internal.Turns.{TurnsOverLanes}
 use Rattle.mc_threads.proofs.Serving.{can_settle, turns_first}
 use Rattle.mc_threads.proofs.Writing.{stops_none_waits}
 use Rattle.mc_command.specs.declared.rules.Rules.{Rules}
@@ -44,7 +44,7 @@ steps_on (stepped.Ended served) shards rules may_answer begin now before session
     some_so session.service service (λ it. WasServedBy shards rules may_answer begin now before session.courier it served.commands served.broke) is says
 
 -- What is served may be served on.
-pub may_serve : (shards : ℕ) (rules : Rules) (may_answer : ℕ → Type 0) (begin now : Sight) (before : Ends Near) (courier : Courier) (o : Option Service) → IsSomeAnd o (IsServedBy shards rules may_answer begin now before courier) → IsSomeAnd o (MayServe courier)
+pub may_serve : (shards : ℕ) (rules : Rules) (may_answer : ℕ → Type 0) (begin now : Sight) (before : Ends Near) (courier : Courier) (o : Option Service) → IsSomeAnd o (IsServedBy shards rules may_answer begin now before courier) → IsSomeAnd o (ServesSomeLine courier)
 may_serve shards rules may_answer begin now before courier (Some service) served = can_settle shards rules may_answer begin _ before _ _ _ _ _ _ served.stopped
 may_serve shards rules may_answer begin now before courier None served = absurd served
 
@@ -69,7 +69,7 @@ pub begins_new : (may_answer : ℕ → Type 0) (line : Sight) (rules : Rules) (w
 begins_new may_answer line rules window courier service after idle new takes same =
     let ends = courier.ends in
     let ways = courier.under_way.items in
-    let T : ℕ → Type 0 = λ n. Turns (length ends.lanes) rules may_answer line line ends ends ways service.seat.unread service.conn n in
+    let T : ℕ → Type 0 = λ n. TurnsOverLanes (length ends.lanes) rules may_answer line line ends ends ways service.seat.unread service.conn n in
     let turns = subst T (sym new.none_taken) (turns_first may_answer line ends ways service.seat.unread service.conn rules window courier.each_shard idle new.none_read new.conn_is) in
     record {
       stopped = stops_none_waits _ _ _ _ _ _ _ _ _ _ _ _ _ (same ∙ new.none_waits) (takes (length ends.lanes) rules line line ends ends ways turns);

@@ -13,7 +13,7 @@ use Rattle.mc_seat.specs.internal.Stands.{Serving}
 use Rattle.mc_seat.specs.internal.Steps.{Rests, all_handed}
 use Rattle.mc_seat.proofs.Turns.{hands}
 use Rattle.mc_seat.proofs.Later.{hands_waiting}
-use Rattle.mc_threads.specs.internal.Turns.{Stops}
+use Rattle.mc_threads.specs.internal.Turns.{StopsTaking}
 use Rattle.mc_threads.proofs.Serving.{Settled, complete_all, received_all, stops_rest}
 use Rattle.mc_command.specs.declared.rules.Rules.{Rules}
 
@@ -22,9 +22,9 @@ pub nothing_waits : (waits : List ℕ) (now : Sight) → waits ≡ [] → took w
 nothing_waits waits now none = ap (λ bytes. took bytes now) none ∙ took-nil now
 
 -- what holds of a line holds of it once it took the replies that wait, where none do
-pub stops_none_waits : (shards : ℕ) (rules : Rules) (may_answer : ℕ → Type 0) (begin now : Sight) (before ends : Ends Near) (ways unread : List ℕ) (conn : Conn) (commands : ℕ) (stop : Took) (waits : List ℕ) → waits ≡ [] → Stops shards rules may_answer begin now before ends ways unread conn commands stop → Stops shards rules may_answer begin (took waits now) before ends ways unread conn commands stop
+pub stops_none_waits : (shards : ℕ) (rules : Rules) (may_answer : ℕ → Type 0) (begin now : Sight) (before ends : Ends Near) (ways unread : List ℕ) (conn : Conn) (commands : ℕ) (stop : Took) (waits : List ℕ) → waits ≡ [] → StopsTaking shards rules may_answer begin now before ends ways unread conn commands stop → StopsTaking shards rules may_answer begin (took waits now) before ends ways unread conn commands stop
 stops_none_waits shards rules may_answer begin now before ends ways unread conn commands stop waits none stops =
-    let P : Sight → Type 0 = λ seen. Stops shards rules may_answer begin seen before ends ways unread conn commands stop in subst P (sym (nothing_waits waits now none)) stops
+    let P : Sight → Type 0 = λ seen. StopsTaking shards rules may_answer begin seen before ends ways unread conn commands stop in subst P (sym (nothing_waits waits now none)) stops
 
 -- where all pieces were answered, every command has its reply
 pub complete_settled : (shards : ℕ) (rules : Rules) (may_answer : ℕ → Type 0) (begin now : Sight) (before ends : Ends Near) (ways unread : List ℕ) (conn : Conn) (commands : ℕ) (stop : Took) → (settled : Settled shards rules may_answer begin now before ends ways unread conn commands stop) → let turns = settled.stopped.turns in KeysFit turns.told.shards turns.told.taken turns.received → length (all_texts turns.told) ≡ length turns.told.taken
@@ -40,7 +40,7 @@ handed_out shards rules may_answer begin now before ends ways unread conn new co
     hands turns.received begin (took waited now) (took waits now) unread turns.told conn new count turns.conn_is (hands_waiting turns.told count new waited waits was is now out) turns.serving
 
 -- the line took some of the replies: it is as if it took the rest
-pub stops_flushed : (shards : ℕ) (rules : Rules) (may_answer : ℕ → Type 0) (begin old now : Sight) (before ends : Ends Near) (ways unread : List ℕ) (conn new : Conn) (commands : ℕ) (stop : Took) (waited waits left : List ℕ) → (settled : Settled shards rules may_answer begin (took waited old) before ends ways unread conn commands stop) → let turns = settled.stopped.turns in IsConn new (all_handed turns.told) → Serving turns.received begin (took waits old) unread (all_handed turns.told) → took left now ≡ took waits old → Stops shards rules may_answer begin (took left now) before ends ways unread new commands stop
+pub stops_flushed : (shards : ℕ) (rules : Rules) (may_answer : ℕ → Type 0) (begin old now : Sight) (before ends : Ends Near) (ways unread : List ℕ) (conn new : Conn) (commands : ℕ) (stop : Took) (waited waits left : List ℕ) → (settled : Settled shards rules may_answer begin (took waited old) before ends ways unread conn commands stop) → let turns = settled.stopped.turns in IsConn new (all_handed turns.told) → Serving turns.received begin (took waits old) unread (all_handed turns.told) → took left now ≡ took waits old → StopsTaking shards rules may_answer begin (took left now) before ends ways unread new commands stop
 stops_flushed shards rules may_answer begin old now before ends ways unread conn new commands stop waited waits left settled is serving same =
     let turns = settled.stopped.turns in
     let P : Sight → Type 0 = λ seen. Serving turns.received begin seen unread (all_handed turns.told) in

@@ -14,7 +14,7 @@ use Rattle.mc_threads.specs.declared.session.Stepped.{Stepped}
 use Rattle.mc_threads.specs.declared.session.Stepped.TheVariants as stepped
 use Rattle.mc_threads.specs.Serving.{IsIdle}
 use Rattle.mc_threads.specs.internal.Carrying.{CanCarry}
-use Rattle.mc_threads.specs.internal.Turns.{Stops, Turns}
+use Rattle.mc_threads.specs.internal.Turns.{StopsTaking, TurnsOverLanes}
 use Rattle.mc_command.specs.declared.rules.Rules.{Rules}
 
 -- Nothing was taken of the line, nor read, and no reply waits: nothing is left of an earlier line.
@@ -27,7 +27,7 @@ pub record IsNew (shards : ℕ) (rules : Rules) (window : ℕ) (service : Servic
 -- No further command of the line was taken, by what is seen of the line once it took the replies that wait.
 abbrev pub HasStopped : ℕ → Rules → (ℕ → Type 0) → Sight → Sight → Ends Near → Courier → Service → Type 0
 HasStopped shards rules may_answer begin now before courier service =
-    Stops shards rules may_answer begin now before courier.ends courier.under_way.items service.seat.unread service.conn service.commands service.stop
+    StopsTaking shards rules may_answer begin now before courier.ends courier.under_way.items service.seat.unread service.conn service.commands service.stop
 
 -- The line is being served; it began so and is so now, since the ends were as before.
 pub record IsServedBy (shards : ℕ) (rules : Rules) (may_answer : ℕ → Type 0) (begin now : Sight) (before : Ends Near) (courier : Courier) (service : Service) : Type 0 where
@@ -46,16 +46,16 @@ ServiceSays stepped.Waits shards rules may_answer begin now before courier servi
 ServiceSays (stepped.Ended served) shards rules may_answer begin now before courier service = WasServedBy shards rules may_answer begin now before courier service served.commands served.broke
 
 -- Some line is being served.
-abbrev pub MayServe : Courier → Service → Type 0
-MayServe courier service = CanCarry courier service.conn
+abbrev pub ServesSomeLine : Courier → Service → Type 0
+ServesSomeLine courier service = CanCarry courier service.conn
 
 -- Commands of the line may be taken.
-abbrev pub MayTake : ℕ → Rules → (ℕ → Type 0) → Sight → Sight → Ends Near → Ends Near → List ℕ → Service → Type 0
-MayTake shards rules may_answer begin now before ends under_way service =
-    Turns shards rules may_answer begin now before ends under_way service.seat.unread service.conn service.commands
+abbrev pub MayTakeCommands : ℕ → Rules → (ℕ → Type 0) → Sight → Sight → Ends Near → Ends Near → List ℕ → Service → Type 0
+MayTakeCommands shards rules may_answer begin now before ends under_way service =
+    TurnsOverLanes shards rules may_answer begin now before ends under_way service.seat.unread service.conn service.commands
 
 -- The commands of the line were taken, as far as there are any.
 abbrev pub TakesFor : (ℕ → Type 0) → Service → Service → Type 0
 TakesFor may_answer old new =
-    (shards : ℕ) (rules : Rules) (begin now : Sight) (before ends : Ends Near) (under_way : List ℕ) → MayTake shards rules may_answer begin now before ends under_way old
-    → Stops shards rules may_answer begin now before ends under_way new.seat.unread new.conn new.commands new.stop
+    (shards : ℕ) (rules : Rules) (begin now : Sight) (before ends : Ends Near) (under_way : List ℕ) → MayTakeCommands shards rules may_answer begin now before ends under_way old
+    → StopsTaking shards rules may_answer begin now before ends under_way new.seat.unread new.conn new.commands new.stop

@@ -8,7 +8,7 @@ use Rattle.mc_threads.specs.declared.session.Session.{Session}
 use Rattle.mc_threads.specs.declared.session.Stepped.{Stepped}
 use Rattle.mc_threads.specs.declared.session.Stepped.TheVariants as stepped
 use Rattle.mc_threads.specs.Serving.{IsIdle}
-use Rattle.mc_threads.specs.Service.{IsNew, IsServedBy, MayServe, WasServedBy}
+use Rattle.mc_threads.specs.Service.{IsNew, IsServedBy, ServesSomeLine, WasServedBy}
 use Rattle.mc_command.specs.declared.rules.Rules.{Rules}
 
 -- The room for a line is as new, or is made for so many shards, for these rules and with this window.
@@ -22,8 +22,8 @@ pub record IsVacant (rules : Rules) (window : ℕ) (session : Session) : Type 0 
   pub idle : IsIdle session.courier.under_way.items
 
 -- It serves a line, which began so and is so now, since its ends were as before.
-abbrev pub IsServing : ℕ → Rules → (ℕ → Type 0) → Sight → Sight → Ends Near → Session → Type 0
-IsServing shards rules may_answer begin now before session = IsSomeAnd session.service (IsServedBy shards rules may_answer begin now before session.courier)
+abbrev pub IsServingLine : ℕ → Rules → (ℕ → Type 0) → Sight → Sight → Ends Near → Session → Type 0
+IsServingLine shards rules may_answer begin now before session = IsSomeAnd session.service (IsServedBy shards rules may_answer begin now before session.courier)
 
 -- It has served the line, and nothing is under way.
 abbrev pub HasServed : ℕ → Rules → (ℕ → Type 0) → Sight → Sight → Ends Near → Session → ℕ → Bool → Type 0
@@ -32,10 +32,10 @@ HasServed shards rules may_answer begin now before session commands broke =
 
 -- What a step says of the line.
 abbrev pub StepSays : Stepped → ℕ → Rules → (ℕ → Type 0) → Sight → Sight → Ends Near → Session → Type 0
-StepSays stepped.Did shards rules may_answer begin now before session = IsServing shards rules may_answer begin now before session
-StepSays stepped.Waits shards rules may_answer begin now before session = IsServing shards rules may_answer begin now before session
+StepSays stepped.Did shards rules may_answer begin now before session = IsServingLine shards rules may_answer begin now before session
+StepSays stepped.Waits shards rules may_answer begin now before session = IsServingLine shards rules may_answer begin now before session
 StepSays (stepped.Ended served) shards rules may_answer begin now before session = HasServed shards rules may_answer begin now before session served.commands served.broke
 
 -- It serves some line.
 abbrev pub MayStep : Session → Type 0
-MayStep session = IsSomeAnd session.service (MayServe session.courier)
+MayStep session = IsSomeAnd session.service (ServesSomeLine session.courier)

@@ -30,7 +30,7 @@ pub struct Courier {
 impl Courier {
     ghost use Rattle.mc_threads.specs.Ending.{EndsOne, StandsStill};
     ghost use Rattle.mc_threads.specs.Serving.{IsIdle};
-    ghost use Rattle.mc_threads.specs.internal.Carrying.{AllOutWhere, AnyOut, CanCarry, Goes, NoneOut};
+    ghost use Rattle.mc_threads.specs.internal.Carrying.{AllOutWhere, AnyOut, CanCarry, CourierGoesOn, NoneOut};
 
     /// Nothing is under way on the ends, whose rings have so many places. The wakers are those of the shards.
     pub(crate) fn new(
@@ -76,7 +76,8 @@ impl Courier {
     /// reply is awaited was called then, after the last piece was sent.
     pub(crate) fn carry(&mut self, conn: &mut Conn) -> bool
         requires { CanCarry self.old conn.old }
-        ensures goes { Goes (AllOutWhere ((result ≡ false) × (self.new.blocked ≡ false))) self.old conn.old self.new conn.new }
+        ensures goes { CourierGoesOn (AllOutWhere ((result ≡ false) × (self.new.blocked ≡ false)))
+            self.old conn.old self.new conn.new }
         ensures called { self.new.uncalled ≡ false }
     {
         if self.send_all(conn) {
@@ -89,7 +90,8 @@ impl Courier {
     /// Sends pieces while there is room, and calls the shards; tells whether one was sent.
     fn send_all(&mut self, conn: &mut Conn) -> bool
         requires { CanCarry self.old conn.old }
-        ensures goes { Goes (AllOutWhere ((result ≡ false) × (self.new.blocked ≡ false))) self.old conn.old self.new conn.new }
+        ensures goes { CourierGoesOn (AllOutWhere ((result ≡ false) × (self.new.blocked ≡ false)))
+            self.old conn.old self.new conn.new }
         ensures called { self.new.uncalled ≡ false }
     {
         if !self.send_next(conn) {
@@ -104,7 +106,7 @@ impl Courier {
     /// Sends pieces while there is room.
     fn send_more(&mut self, conn: &mut Conn)
         requires { CanCarry self.old conn.old }
-        ensures { Goes AnyOut self.old conn.old self.new conn.new }
+        ensures { CourierGoesOn AnyOut self.old conn.old self.new conn.new }
     {
         for _ in 0..u64::MAX {
             if !self.send_next(conn) {
@@ -117,7 +119,8 @@ impl Courier {
     /// a ring has places.
     fn send_next(&mut self, conn: &mut Conn) -> bool
         requires { CanCarry self.old conn.old }
-        ensures goes { Goes (AllOutWhere ((result ≡ false) × (self.new.blocked ≡ false))) self.old conn.old self.new conn.new }
+        ensures goes { CourierGoesOn (AllOutWhere ((result ≡ false) × (self.new.blocked ≡ false)))
+            self.old conn.old self.new conn.new }
         // No shard was called since.
         ensures noted { IsTrue result → self.new.shards ≡ [] }
     {
@@ -169,7 +172,7 @@ impl Courier {
     /// Takes in the replies that have come; tells whether there was one.
     fn receive_all(&mut self, conn: &mut Conn) -> bool
         requires { CanCarry self.old conn.old }
-        ensures goes { Goes NoneOut self.old conn.old self.new conn.new }
+        ensures goes { CourierGoesOn NoneOut self.old conn.old self.new conn.new }
         ensures blocked { self.new.blocked ≡ self.old.blocked }
         ensures called { self.new.uncalled ≡ self.old.uncalled }
     {
@@ -186,7 +189,7 @@ impl Courier {
     fn receive_from(&mut self, conn: &mut Conn, shard: usize) -> bool
         requires shard { shard < length self.old.under_way.items }
         requires carries { CanCarry self.old conn.old }
-        ensures goes { Goes NoneOut self.old conn.old self.new conn.new }
+        ensures goes { CourierGoesOn NoneOut self.old conn.old self.new conn.new }
         ensures blocked { self.new.blocked ≡ self.old.blocked }
         ensures called { self.new.uncalled ≡ self.old.uncalled }
         ensures same { length self.new.under_way.items ≡ length self.old.under_way.items }
@@ -205,7 +208,7 @@ impl Courier {
     fn receive_next(&mut self, conn: &mut Conn, shard: usize) -> bool
         requires shard { shard < length self.old.under_way.items }
         requires carries { CanCarry self.old conn.old }
-        ensures goes { Goes NoneOut self.old conn.old self.new conn.new }
+        ensures goes { CourierGoesOn NoneOut self.old conn.old self.new conn.new }
         ensures blocked { self.new.blocked ≡ self.old.blocked }
         ensures called { self.new.uncalled ≡ self.old.uncalled }
         ensures same { length self.new.under_way.items ≡ length self.old.under_way.items }

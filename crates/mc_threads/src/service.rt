@@ -32,7 +32,7 @@ impl Service {
     ghost use Rattle.mc_conn.specs.Told.{Told, IsAtRest, IsOver};
     ghost use Rattle.mc_seat.specs.Later.{text_in};
     ghost use Rattle.mc_threads.specs.Serving.{AreCalled};
-    ghost use Rattle.mc_threads.specs.Service.{IsNew, IsServedBy, MayServe, ServiceSays, TakesFor};
+    ghost use Rattle.mc_threads.specs.Service.{IsNew, IsServedBy, ServesSomeLine, ServiceSays, TakesFor};
 
     /// Of a line of which nothing was taken yet, over so many shards, for these rules and with this window.
     pub(crate) fn new(
@@ -87,12 +87,15 @@ impl Service {
         clock: &K,
         rooms: &mut Rooms,
     ) -> Stepped
-        requires { MayServe courier.old self.old }
+        requires { ServesSomeLine courier.old self.old }
         ensures says { (shards : ℕ) (rules : Rules) (begin : Sight) (before : Ends Near) →
-            IsServedBy shards rules (K.may_answer clock.now) begin (L.sight line.old) before courier.old self.old →
-            ServiceSays result shards rules (K.may_answer clock.now) begin (L.sight line.new) before courier.new self.new }
+            IsServedBy shards rules (K.may_answer clock.now) begin (L.sight line.old) before
+            courier.old self.old →
+            ServiceSays result shards rules (K.may_answer clock.now) begin (L.sight line.new) before
+            courier.new self.new }
         // Where it waits, each shard of which replies are awaited was called after the last piece was sent.
-        ensures called { result ≡ Stepped.Waits → AreCalled courier.new.shards courier.new.under_way.items }
+        ensures called { result ≡ Stepped.Waits →
+            AreCalled courier.new.shards courier.new.under_way.items }
     {
         if courier.carry(&mut self.conn) {
             return Stepped::Did;
@@ -139,8 +142,10 @@ impl Service {
     /// Makes it ready for the next line, in the same room, where the last one has ended and nothing is under way; tells whether
     /// it did.
     pub(crate) fn renew(&mut self) -> bool
-        ensures when { (told : Told) → IsConn self.old.conn told → IsTrue result ↔ (IsAtRest told × IsOver told) }
-        ensures new { IsTrue result → (told : Told) → IsConn self.old.conn told → IsNew told.shards told.rules told.window self.new }
+        ensures when { (told : Told) → IsConn self.old.conn told →
+            IsTrue result ↔ (IsAtRest told × IsOver told) }
+        ensures new { IsTrue result → (told : Told) → IsConn self.old.conn told →
+            IsNew told.shards told.rules told.window self.new }
     {
         self.seat.renew();
         self.unwritten.clear();

@@ -52,7 +52,7 @@ impl Session {
     ghost use Rattle.mc_threads.specs.Ending.{EndsOne, StandsStill};
     ghost use Rattle.mc_threads.specs.Serving.{AreCalled, IsIdle};
     ghost use Rattle.mc_threads.specs.Service.{IsNew};
-    ghost use Rattle.mc_threads.specs.Session.{IsVacant, IsServing, MayStep, StepSays};
+    ghost use Rattle.mc_threads.specs.Session.{IsVacant, IsServingLine, MayStep, StepSays};
 
     /// A seat that serves no line yet, over new ends of its lanes, whose rings have so many places, by these rules. The wakers are those
     /// of the shards.
@@ -85,8 +85,10 @@ impl Session {
 
     /// Begins to serve a line. Where memory for its room is refused nothing has changed, and it may be tried again.
     pub fn begin<K: Clock>(&mut self, clock: &K) -> Result<(), AllocError>
-        ensures serving { OnOk result ((rules : Rules) (window : ℕ) (line : Sight) → IsVacant rules window self.old →
-            IsServing (length self.old.courier.ends.lanes) rules (K.may_answer clock.now) line line self.old.courier.ends self.new) }
+        ensures serving { OnOk result
+            ((rules : Rules) (window : ℕ) (line : Sight) → IsVacant rules window self.old →
+            IsServingLine (length self.old.courier.ends.lanes) rules
+            (K.may_answer clock.now) line line self.old.courier.ends self.new) }
         ensures refused { OnErr result (self.new ≡ self.old) }
         ensures ends { self.new.courier.ends ≡ self.old.courier.ends }
     {
@@ -98,7 +100,8 @@ impl Session {
 
     /// Takes out what lines are served by; where no line has come yet, it is made.
     fn take_service(&mut self) -> Result<Service, AllocError>
-        ensures new { IfOk result (λ service. (rules : Rules) (window : ℕ) → IsVacant rules window self.old →
+        ensures new { IfOk result (λ service.
+            (rules : Rules) (window : ℕ) → IsVacant rules window self.old →
             IsNew (length self.old.courier.ends.lanes) rules window service) }
         ensures refused { OnErr result (self.new ≡ self.old) }
         ensures courier { self.new.courier ≡ self.old.courier }
@@ -113,10 +116,13 @@ impl Session {
     pub fn step<L: Line, K: Clock>(&mut self, line: &mut L, clock: &K, rooms: &mut Rooms) -> Stepped
         requires { MayStep self.old }
         ensures says { (shards : ℕ) (rules : Rules) (begin : Sight) (before : Ends Near) →
-            IsServing shards rules (K.may_answer clock.now) begin (L.sight line.old) before self.old →
-            StepSays result shards rules (K.may_answer clock.now) begin (L.sight line.new) before self.new }
+            IsServingLine shards rules (K.may_answer clock.now) begin (L.sight line.old) before
+            self.old →
+            StepSays result shards rules (K.may_answer clock.now) begin (L.sight line.new) before
+            self.new }
         // Where it waits, each shard of which replies are awaited was called after the last piece was sent.
-        ensures called { result ≡ Stepped.Waits → AreCalled self.new.courier.shards self.new.courier.under_way.items }
+        ensures called { result ≡ Stepped.Waits →
+            AreCalled self.new.courier.shards self.new.courier.under_way.items }
     {
         let Some(service) = &mut self.service else {
             unreachable!()
@@ -127,10 +133,12 @@ impl Session {
     /// Makes it ready for the next line, in the same room, where the last one has ended and nothing is under way; tells whether
     /// it did.
     pub fn renew(&mut self) -> bool
-        ensures when { (service : Service) (told : Told) → self.old.service ≡ Some service → IsConn service.conn told →
-            IsTrue result ↔ (IsAtRest told × IsOver told) }
-        ensures vacant { IsTrue result → (service : Service) (told : Told) → self.old.service ≡ Some service → IsConn service.conn told →
-            told.shards ≡ length self.old.courier.ends.lanes → IsIdle self.old.courier.under_way.items → IsVacant told.rules told.window self.new }
+        ensures when { (service : Service) (told : Told) → self.old.service ≡ Some service →
+            IsConn service.conn told → IsTrue result ↔ (IsAtRest told × IsOver told) }
+        ensures vacant { IsTrue result → (service : Service) (told : Told) →
+            self.old.service ≡ Some service → IsConn service.conn told →
+            told.shards ≡ length self.old.courier.ends.lanes →
+            IsIdle self.old.courier.under_way.items → IsVacant told.rules told.window self.new }
         ensures ends { self.new.courier.ends ≡ self.old.courier.ends }
     {
         let Some(service) = &mut self.service else {

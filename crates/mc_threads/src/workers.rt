@@ -25,7 +25,8 @@ pub fn make_workers<R: RandomSource>(
     requires value { sizes.value ≤ GREATEST_VALUE_LIMIT }
     requires fresh { AllByRecursion (AreFresh sizes.shards) ends.items }
     ensures ends { IfOk result (λ workers. map ends_of workers.items ≡ ends.items) }
-    ensures fresh { (seats : ℕ) → IfOk result (λ workers. AllByRecursion (IsFresh (sizes_of seats sizes)) workers.items) }
+    ensures fresh { (seats : ℕ) →
+        IfOk result (λ workers. AllByRecursion (IsFresh (sizes_of seats sizes)) workers.items) }
 {
     let mut workers = Vec::with_capacity(alloc, ends.len())?;
     for ends in ends {

@@ -146,7 +146,8 @@ impl<G: Gate + Drop> Working<G> {
 
     /// Whether the End of every lane has come.
     pub fn ended(&self) -> bool
-        ensures { OnTrue result ((begun : Desk) → Goes begun self.now.worker → Finishes begun self.now.worker) }
+        ensures { OnTrue result
+            ((begun : Desk) → Goes begun self.now.worker → Finishes begun self.now.worker) }
     {
         self.worker.ended()
     }
@@ -154,7 +155,8 @@ impl<G: Gate + Drop> Working<G> {
     /// How many parcels and how many replies wait on its lane of a seat, whose ends must be of the same call of `lanes`.
     pub fn beside(&mut self, seat: &mut SeatEnds) -> (usize, usize)
         requires { IsLane seat.old self.old.worker.ends }
-        ensures looked { LooksAtBoth seat.old seat.new self.old.worker.ends self.new.worker.ends result.0 result.1 }
+        ensures looked { LooksAtBoth seat.old seat.new self.old.worker.ends self.new.worker.ends
+            result.0 result.1 }
         ensures seat { AreSameEnds seat.old seat.new }
         ensures keeps { AreSameEnds self.old.worker.ends self.new.worker.ends }
     {

@@ -115,7 +115,14 @@ impl Outlet for Asking {
     ghost use Rattle.std.specs.Prelude.{None};
     ghost use Rattle.mc_wire.specs.Outlet.{Untold};
 
-    ghost sight = { λ line. record { given = Untold; ended = line.ended; reads = None; taken = Untold; failed = line.failed } };
+    ghost sight = { λ line.
+        record {
+          given = Untold;
+          ended = line.ended;
+          reads = None;
+          taken = Untold;
+          failed = line.failed;
+        } };
 
     fn write(&mut self, bytes: &[u8]) -> Result<usize, OutFault> {
         if self.failed || self.talk.hear(bytes).is_err() {

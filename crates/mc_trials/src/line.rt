@@ -117,7 +117,14 @@ impl Outlet for MemoryLine {
     ghost use Rattle.std.specs.Prelude.{take};
     ghost use Rattle.mc_wire.specs.Outlet.{Listed};
 
-    ghost sight = { λ line. record { given = Listed (take line.given line.input.items); ended = line.ended; reads = None; taken = Listed line.output.items; failed = line.failed } };
+    ghost sight = { λ line.
+        record {
+          given = Listed (take line.given line.input.items);
+          ended = line.ended;
+          reads = None;
+          taken = Listed line.output.items;
+          failed = line.failed;
+        } };
 
     fn write(&mut self, bytes: &[u8]) -> Result<usize, OutFault> {
         if self.failed || self.cutting.fault == Fault::Writing(self.writes) {

@@ -56,7 +56,8 @@ impl Model for Sleeper {
 
     ghost Value = { ThreadSize };
 
-    ghost view = { λ sleeper. record { callers = sleeper.callers; places = sleeper.places; workers = sleeper.workers } };
+    ghost view = { λ sleeper.
+        record { callers = sleeper.callers; places = sleeper.places; workers = sleeper.workers } };
 }
 
 impl Sleeper {
@@ -69,7 +70,8 @@ impl Sleeper {
         places: usize,
         workers: usize,
     ) -> Result<Sleeper, AllocError>
-        ensures { IfOk result (λ sleeper. sleeper ≡ record { callers = callers; places = places; workers = workers }) }
+        ensures { IfOk result (λ sleeper.
+            sleeper ≡ record { callers = callers; places = places; workers = workers }) }
     {
         let parker = Parker::new(alloc)?;
         let alarm = Alarm::Memory(parker.unparker().clone()?);
@@ -96,7 +98,8 @@ impl Sleeper {
         places: usize,
         workers: usize,
     ) -> io::Result<Sleeper>
-        ensures { IfOk result (λ sleeper. sleeper ≡ record { callers = callers; places = places; workers = workers }) }
+        ensures { IfOk result (λ sleeper.
+            sleeper ≡ record { callers = callers; places = places; workers = workers }) }
     {
         let sockets = Sockets::new(rt, alloc, places)?;
         let alarm = Alarm::Sockets {

@@ -119,7 +119,8 @@ impl Counts {
 
     /// The same counts, for one more.
     pub fn share(&self, alloc: Global) -> Result<Counts, AllocError>
-        ensures { IfOk result (λ shared. length shared.threads.items ≡ length self.now.threads.items) }
+        ensures { IfOk result
+            (λ shared. length shared.threads.items ≡ length self.now.threads.items) }
     {
         let mut threads = Vec::with_capacity(alloc, self.threads.len())?;
         for thread in &self.threads {

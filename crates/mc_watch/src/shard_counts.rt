@@ -3,7 +3,7 @@ ghost use Rattle.std.specs.Prelude.{◌≡◌};
 ghost use Rattle.mc_watch.specs.Totals.{commands_of_both, shards_of_both};
 
 use crate::counter::Counter;
-use mc_item::{Asked, Status};
+use mc_item::{CountedAs, Status};
 use mc_store::Shard;
 
 /// How often a command of one kind came to what.
@@ -123,7 +123,7 @@ impl CommandCounts {
     }
 
     /// Shows what the shard has counted of this kind.
-    fn show(&self, shard: &Shard, asked: Asked) {
+    fn show(&self, shard: &Shard, asked: CountedAs) {
         let tally = shard.tally();
         self.hits.set(tally.count(asked, Status::Hit));
         self.misses.set(tally.count(asked, Status::Miss));
@@ -166,14 +166,14 @@ impl ShardCounts {
         self.items.set(shard.len() as u64);
         self.bytes.set(shard.cost() as u64);
         self.evicted.set(shard.evicted());
-        self.get.show(shard, Asked::Get);
-        self.set.show(shard, Asked::Set);
-        self.cas.show(shard, Asked::Cas);
-        self.touch.show(shard, Asked::Touch);
-        self.delete.show(shard, Asked::Delete);
-        self.incr.show(shard, Asked::Incr);
-        self.decr.show(shard, Asked::Decr);
-        self.flush.show(shard, Asked::Flush);
+        self.get.show(shard, CountedAs::Get);
+        self.set.show(shard, CountedAs::Set);
+        self.cas.show(shard, CountedAs::Cas);
+        self.touch.show(shard, CountedAs::Touch);
+        self.delete.show(shard, CountedAs::Delete);
+        self.incr.show(shard, CountedAs::Incr);
+        self.decr.show(shard, CountedAs::Decr);
+        self.flush.show(shard, CountedAs::Flush);
     }
 
     /// What was shown last.

@@ -40,7 +40,8 @@ impl Model for Key {
 
     ghost view = { λ key. key.bytes.items };
 
-    ghost invariant = { λ key. (0 < length key.bytes.items) × (length key.bytes.items ≤ KEY_LIMIT) };
+    ghost invariant = { λ key.
+        (0 < length key.bytes.items) × (length key.bytes.items ≤ KEY_LIMIT) };
 }
 
 impl Clone for Key {
@@ -91,7 +92,8 @@ impl Key {
     /// are `NoKey`, `KeyTooLong`, `KeyByte` and `Memory`, tested in this order.
     pub fn from_word(alloc: Global, word: &[u8]) -> Result<Key, WireFault>
         ensures ok { IfOk result (λ key. (key ≡ word.now) × (key_fault word.now ≡ None)) }
-        ensures fault { IfErr result (λ fault. fault ≢ WireFault.Memory → key_fault word.now ≡ Some fault) }
+        ensures fault { IfErr result
+            (λ fault. fault ≢ WireFault.Memory → key_fault word.now ≡ Some fault) }
         ensures memory { IsErrOf result WireFault.Memory → key_fault word.now ≡ None }
     {
         if let Some(fault) = key_fault(word) {
@@ -118,12 +120,15 @@ impl Key {
         ensures ok { IfOk result (λ key. base64_key word.now ≡ Some key) }
         ensures text { IfOk result (λ key. IsBase64Of word.now key) }
         ensures fits { OnOk result (base64_fault word.now ≡ None) }
-        ensures fault { IfErr result (λ fault. fault ≢ WireFault.Memory → base64_fault word.now ≡ Some fault) }
-        ensures none { IfErr result (λ fault. fault ≢ WireFault.Memory → base64_key word.now ≡ None) }
+        ensures fault { IfErr result
+            (λ fault. fault ≢ WireFault.Memory → base64_fault word.now ≡ Some fault) }
+        ensures none { IfErr result
+            (λ fault. fault ≢ WireFault.Memory → base64_key word.now ≡ None) }
         ensures memory { IsErrOf result WireFault.Memory → base64_fault word.now ≡ None }
 
         // Whatever the answer is: a word that is the text of a key gives that key.
-        ensures whole { (bytes : List ℕ) → IsBase64Of word.now bytes → base64_key word.now ≡ Some bytes }
+        ensures whole { (bytes : List ℕ) → IsBase64Of word.now bytes →
+            base64_key word.now ≡ Some bytes }
     {
         if word.is_empty() {
             return Err(WireFault::NoKey);

@@ -17,7 +17,8 @@ pub trait Outlet {
     fn write(&mut self, bytes: &[u8]) -> Result<usize, OutFault>
         ensures within { IfOk result (λ count. count ≤ length bytes.now) }
         ensures some { IfOk result (λ count. 0 < length bytes.now → 0 < count) }
-        ensures ok { IfOk result (λ count. sight self.new ≡ took (take count bytes.now) (sight self.old)) }
+        ensures ok { IfOk result
+            (λ count. sight self.new ≡ took (take count bytes.now) (sight self.old)) }
         ensures err { OnErr result (sight self.new ≡ broke (sight self.old)) };
 
     /// Writes all bytes of a block that has several owners, as `put_all` does. An outlet that keeps what it is given may
@@ -55,7 +56,8 @@ pub fn put_all<O: Outlet>(out: &mut O, bytes: &[u8]) -> Result<(), OutFault>
 /// Writes these parts, one after another, as one text. Where the outlet fails, it took a beginning
 /// of the whole text. Takes no memory.
 pub fn put_parts<O: Outlet>(out: &mut O, parts: &[&[u8]]) -> Result<(), OutFault>
-    ensures { Writes (flat_map (λ part. part.now) parts.now) result (O.sight out.old) (O.sight out.new) }
+    ensures { Writes (flat_map (λ part. part.now) parts.now) result (O.sight out.old)
+        (O.sight out.new) }
 {
     for part in parts {
         put_all(out, part)?;

@@ -12,7 +12,8 @@ const OTHER_FILES: u64 = 5;
 
 /// How many files are open while each seat has a connection.
 fn files_for(seats: usize, shards: usize) -> u64
-    ensures { result ≡ min (min (seats + min (shards * 3) (2 ^ 64 - 1)) (2 ^ 64 - 1) + 5) (2 ^ 64 - 1) }
+    ensures { result ≡
+        min (min (seats + min (shards * 3) (2 ^ 64 - 1)) (2 ^ 64 - 1) + 5) (2 ^ 64 - 1) }
 {
     let threads = (shards as u64).saturating_mul(FILES_A_SHARD);
     (seats as u64)

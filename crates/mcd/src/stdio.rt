@@ -1,6 +1,6 @@
 //! Serves one line, as the command line says.
 ghost use Rattle.std.specs.Prelude.{IfOk};
-ghost use Rattle.mc_options.specs.Numbers.{AreWithin};
+ghost use Rattle.mc_options.specs.Numbers.{AreAllowedLimits};
 ghost use Rattle.mc_server.specs.Explains.{IsExplained};
 ghost use Rattle.mc_server.specs.Sizes.{line_sizes};
 ghost use Rattle.mcd.specs.Served.{MayBe, sizes_by};
@@ -21,10 +21,16 @@ pub fn serve_line<R: Wait + RandomSource + time::Clock + Alloc<A = Global>, L: L
     at: Option<u64>,
     limits: Limits,
 ) -> Result<Served, ServeRefusal>
-    requires { AreWithin limits }
+    requires { AreAllowedLimits limits }
     // A server of these limits explains what was read and written, at such moments.
-    ensures explained { IfOk result (λ served. IsExplained (line_sizes (sizes_by limits)) (MayBe at)
-        (record { begin = L.sight line.old; now = L.sight line.new; commands = served.commands; broke = served.broke })) }
+    ensures explained { IfOk result (λ served.
+        IsExplained (line_sizes (sizes_by limits)) (MayBe at)
+        (record {
+          begin = L.sight line.old;
+          now = L.sight line.new;
+          commands = served.commands;
+          broke = served.broke;
+        })) }
 {
     match at {
         Some(moment) => serve_by(rt, line, limits, &StillClock(moment)),
@@ -39,9 +45,15 @@ fn serve_by<R: Wait + RandomSource + Alloc<A = Global>, L: Line, K: Clock>(
     limits: Limits,
     clock: &K,
 ) -> Result<Served, ServeRefusal>
-    requires { AreWithin limits }
-    ensures explained { IfOk result (λ served. IsExplained (line_sizes (sizes_by limits)) (K.may_answer clock.now)
-        (record { begin = L.sight line.old; now = L.sight line.new; commands = served.commands; broke = served.broke })) }
+    requires { AreAllowedLimits limits }
+    ensures explained { IfOk result (λ served.
+        IsExplained (line_sizes (sizes_by limits)) (K.may_answer clock.now)
+        (record {
+          begin = L.sight line.old;
+          now = L.sight line.new;
+          commands = served.commands;
+          broke = served.broke;
+        })) }
 {
     serve_one(rt, rt.alloc(), line, sizes_of(limits), clock)
 }

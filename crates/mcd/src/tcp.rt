@@ -1,7 +1,7 @@
 //! Serves TCP, as the command line says.
 ghost use Rattle.std.specs.Prelude.{◌≤◌};
 ghost use Rattle.mc_core.specs.declared.sizes.TheConstants.{LEAST, MOST_SEATS};
-ghost use Rattle.mc_options.specs.Numbers.{AreWithin};
+ghost use Rattle.mc_options.specs.Numbers.{AreAllowedLimits};
 
 use crate::files::tell_files;
 use crate::refuse;
@@ -51,7 +51,7 @@ pub fn listen<
 ) -> ExitCode
     requires least { LEAST ≤ seats }
     requires most { seats ≤ MOST_SEATS }
-    requires limits { AreWithin limits }
+    requires limits { AreAllowedLimits limits }
 {
     let listener = match TcpListener::bind(rt, address) {
         Ok(listener) => listener,

@@ -5,7 +5,7 @@ use Rattle.std.specs.Str.{byte}
 use Rattle.mc_wire.specs.Number.{number_of, integer_of}
 use Rattle.mc_wire.specs.declared.TheConstants.{OPAQUE_LIMIT}
 use Rattle.mc_command.specs.declared.meta.ReturnFlag.{ReturnFlag}
-use Rattle.mc_command.specs.declared.meta_flags.Asked.{Asked}
+use Rattle.mc_command.specs.declared.meta_flags.FlagsRead.{FlagsRead}
 use Rattle.mc_command.specs.declared.meta_flags.Flag.{Flag}
 use Rattle.mc_command.specs.declared.meta_flags.Flag.TheVariants as flag
 use Rattle.mc_command.specs.declared.meta_flags.FlagReader.{FlagReader}
@@ -19,7 +19,7 @@ use Rattle.mc_command.specs.Field.{then_of}
 use Rattle.mc_command.specs.Meta.{letters_of, is_among, mode_of, direction_of, return_flag}
 
 -- what no flags ask, where the reply follows the rules of this profile
-abbrev pub nothing_asked : Profile → Asked
+abbrev pub nothing_asked : Profile → FlagsRead
 nothing_asked profile = record {
   flags = record { base64 = false; quiet = false; profile = profile; returned = []; opaque = [] };
   value = false;
@@ -66,7 +66,7 @@ flag_of name letter token =
     else Ok flag.Bare))))))))))))))
 
 -- with what a flag says
-abbrev pub with_flag : Asked → Flag → Asked
+abbrev pub with_flag : FlagsRead → Flag → FlagsRead
 with_flag asked flag.Base64 = record asked { flags = record asked.flags { base64 = true } }
 with_flag asked flag.Quiet = record asked { flags = record asked.flags { quiet = true } }
 with_flag asked flag.Value = record asked { value = true }
@@ -86,7 +86,7 @@ with_flag asked (flag.ClientFlags flags) = record asked { client_flags = Some fl
 with_flag asked flag.Bare = asked
 
 -- with a flag given back, where there is one
-abbrev pub with_shown : Asked → Option ReturnFlag → Asked
+abbrev pub with_shown : FlagsRead → Option ReturnFlag → FlagsRead
 with_shown asked None = asked
 with_shown asked (Some shown) = record asked { flags = record asked.flags { returned = asked.flags.returned ++ shown ∷ [] } }
 
@@ -100,7 +100,7 @@ unfoldable pub shown_count : List Bool → ℕ
 shown_count seen = seen_count seen (codes "cfhklOst")
 
 -- As many flags are given back as letters of such flags were seen.
-pub record IsCounted (reader : FlagReader) : Type 0 where
+pub record CountsFlags (reader : FlagReader) : Type 0 where
   pub wide : length reader.seen ≡ 256
   pub shown : length reader.asked.flags.returned ≡ shown_count reader.seen
 

@@ -1,6 +1,6 @@
 //! The events of the rings: pieces go to the shards and are run there, replies come back.
 ghost use Rattle.std.specs.Prelude.{◌≡◌};
-ghost use Rattle.mc_core.specs.Stands.{Steps};
+ghost use Rattle.mc_core.specs.Stands.{StepsByEvent};
 ghost use Rattle.mc_core.specs.Events.Event.{Send, Pop, Give, Receive};
 
 use crate::event::StepReply;
@@ -10,7 +10,7 @@ use std::alloc::Global;
 impl Sim {
     /// The oldest piece that has not left goes to its shard's ring.
     pub(crate) fn send(&mut self, seat: usize) -> StepReply
-        ensures { Steps self.old (Send seat) result self.new }
+        ensures { StepsByEvent self.old (Send seat) result self.new }
     {
         let Some(_) = self.find(seat) else {
             return StepReply::Idle;
@@ -29,7 +29,7 @@ impl Sim {
 
     /// The shard takes the oldest piece that the seat sent, and runs it.
     pub(crate) fn pop(&mut self, alloc: Global, shard: usize, seat: usize) -> StepReply
-        ensures { Steps self.old (Pop shard seat) result self.new }
+        ensures { StepsByEvent self.old (Pop shard seat) result self.new }
     {
         let Some(connection) = self.find(seat) else {
             return StepReply::Idle;
@@ -55,7 +55,7 @@ impl Sim {
 
     /// The shard gives the reply in its worker's hand.
     pub(crate) fn give(&mut self, alloc: Global, shard: usize) -> StepReply
-        ensures { Steps self.old (Give shard) result self.new }
+        ensures { StepsByEvent self.old (Give shard) result self.new }
     {
         if self.rings.give(alloc, shard) {
             StepReply::Done
@@ -66,7 +66,7 @@ impl Sim {
 
     /// The seat receives the oldest reply that the shard gave it.
     pub(crate) fn receive(&mut self, seat: usize, shard: usize) -> StepReply
-        ensures { Steps self.old (Receive seat shard) result self.new }
+        ensures { StepsByEvent self.old (Receive seat shard) result self.new }
     {
         let Some(_) = self.find(seat) else {
             return StepReply::Idle;

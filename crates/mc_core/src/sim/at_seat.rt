@@ -3,7 +3,7 @@ ghost use Rattle.std.specs.Prelude.{◌≡◌, ◌<◌, ◌≤◌, ◌+◌, ◌�
 ghost use Rattle.mc_conn.specs.Conn.{IsConn};
 ghost use Rattle.mc_conn.specs.Told.{IsAllTaken, IsOpen, Told, waiting_text};
 ghost use Rattle.mc_core.specs.Feeding.{FeedsInto, HandsInto, HandsOnto, MayBegin, MayTake, Refreshed, TakesBytes};
-ghost use Rattle.mc_core.specs.Stands.{Steps};
+ghost use Rattle.mc_core.specs.Stands.{StepsByEvent};
 ghost use Rattle.mc_core.specs.Events.Event.{Open, Feed, Take, Hand, End, Break};
 
 use crate::event::StepReply;
@@ -15,7 +15,7 @@ use std::alloc::Global;
 impl Sim {
     /// No more bytes come.
     pub(crate) fn end(&mut self, seat: usize) -> StepReply
-        ensures { Steps self.old (End seat) result self.new }
+        ensures { StepsByEvent self.old (End seat) result self.new }
     {
         let Some(number) = self.find(seat) else {
             return StepReply::Idle;
@@ -30,7 +30,7 @@ impl Sim {
 
     /// The connection breaks.
     pub(crate) fn cut(&mut self, seat: usize) -> StepReply
-        ensures { Steps self.old (Break seat) result self.new }
+        ensures { StepsByEvent self.old (Break seat) result self.new }
     {
         let Some(number) = self.find(seat) else {
             return StepReply::Idle;
@@ -45,7 +45,7 @@ impl Sim {
 
     /// The next command is taken.
     pub(crate) fn take(&mut self, alloc: Global, seat: usize, moment: u64) -> StepReply
-        ensures { Steps self.old (Take seat moment) result self.new }
+        ensures { StepsByEvent self.old (Take seat moment) result self.new }
     {
         let Some(_) = self.find(seat) else {
             return StepReply::Idle;
@@ -60,7 +60,7 @@ impl Sim {
 
     /// A new connection begins on the seat.
     pub(crate) fn begin(&mut self, alloc: Global, seat: usize) -> StepReply
-        ensures { Steps self.old (Open seat) result self.new }
+        ensures { StepsByEvent self.old (Open seat) result self.new }
     {
         if self.seats.len() <= seat {
             return StepReply::Idle;
@@ -87,7 +87,7 @@ impl Sim {
 
     /// Bytes come in.
     pub(crate) fn feed(&mut self, alloc: Global, seat: usize, bytes: &[u8]) -> StepReply
-        ensures { Steps self.old (Feed seat bytes.now) result self.new }
+        ensures { StepsByEvent self.old (Feed seat bytes.now) result self.new }
     {
         let Some(number) = self.find(seat) else {
             return StepReply::Idle;
@@ -102,7 +102,7 @@ impl Sim {
 
     /// All replies whose turn has come go out.
     pub(crate) fn hand(&mut self, alloc: Global, seat: usize) -> StepReply
-        ensures { Steps self.old (Hand seat) result self.new }
+        ensures { StepsByEvent self.old (Hand seat) result self.new }
     {
         let Some(number) = self.find(seat) else {
             return StepReply::Idle;
@@ -118,7 +118,8 @@ impl Sim {
 
 /// Whether a seat has had no connection, or its connection may be followed by another one.
 fn may_begin(place: &Seat) -> bool
-    ensures { (told : Told) → IsConn place.now.conn told → IsTrue result ↔ MayBegin told place.now.current }
+    ensures { (told : Told) → IsConn place.now.conn told →
+        IsTrue result ↔ MayBegin told place.now.current }
 {
     place.current.is_none() || (place.conn.is_at_rest() && place.conn.is_over())
 }
@@ -149,7 +150,8 @@ fn feed_into(alloc: Global, conn: &mut Conn, fed: &mut Vec<u8>, bytes: &[u8]) ->
 /// Feeds a connection, and tells how many bytes it took.
 fn feed_some(alloc: Global, conn: &mut Conn, bytes: &[u8]) -> usize
     ensures within { result ≤ length bytes.now }
-    ensures taken { (told : Told) → IsConn conn.old told → IsOpen told → TakesBytes told bytes.now result conn.new }
+    ensures taken { (told : Told) → IsConn conn.old told → IsOpen told →
+        TakesBytes told bytes.now result conn.new }
 {
     refresh(alloc, conn);
     conn.feed(bytes)

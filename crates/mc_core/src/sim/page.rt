@@ -20,7 +20,14 @@ impl Outlet for Page {
     ghost use Rattle.mc_wire.specs.Outlet.{Counted, Listed};
 
     // It is never read, so what was read of it stays as it is: its limit stands there.
-    ghost sight = { λ page. record { given = Counted page.limit; ended = false; reads = None; taken = Listed page.bytes.items; failed = page.failed } };
+    ghost sight = { λ page.
+        record {
+          given = Counted page.limit;
+          ended = false;
+          reads = None;
+          taken = Listed page.bytes.items;
+          failed = page.failed;
+        } };
 
     fn write(&mut self, bytes: &[u8]) -> Result<usize, OutFault> {
         let Some(byte) = bytes.first() else {

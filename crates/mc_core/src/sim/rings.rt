@@ -44,9 +44,17 @@ impl Model for Rings {
 
     ghost Value = { Laid };
 
-    ghost view = { λ rings. record { seats = rings.seats.items; workers = rings.workers.items; places = rings.places } };
+    ghost view = { λ rings.
+        record
+        { seats = rings.seats.items; workers = rings.workers.items; places = rings.places } };
 
-    ghost invariant = { λ rings. AreLaid (record { seats = rings.seats.items; workers = rings.workers.items; places = rings.places }) };
+    ghost invariant = { λ rings.
+        AreLaid
+        (record {
+          seats = rings.seats.items;
+          workers = rings.workers.items;
+          places = rings.places;
+        }) };
 }
 
 impl Rings {
@@ -57,7 +65,8 @@ impl Rings {
         numbers: Numbers,
     ) -> Result<Rings, AllocError>
         requires { AreWithin (sizes_of numbers) }
-        ensures { IfOk result (λ rings. AreWired (sizes_of numbers) rings (new_wires (sizes_of numbers))) }
+        ensures { IfOk result
+            (λ rings. AreWired (sizes_of numbers) rings (new_wires (sizes_of numbers))) }
     {
         let Ok((seats, shards)) = lanes(alloc, numbers.seats, numbers.shards, numbers.ring) else {
             return Err(AllocError);
@@ -72,17 +81,20 @@ impl Rings {
 
     /// How many shards there are.
     pub(crate) fn shards(&self) -> usize
-        ensures { (sizes : Sizes) (wires : Wires) → AreWired sizes self.now wires → result ≡ sizes.shards }
+        ensures { (sizes : Sizes) (wires : Wires) → AreWired sizes self.now wires →
+            result ≡ sizes.shards }
     {
         self.workers.len()
     }
 
     /// Sends a piece of a seat to a shard, or hands it back where the ring is full.
     pub(crate) fn send(&mut self, seat: usize, shard: usize, piece: Piece) -> Result<(), Piece>
-        ensures sent { IfOk result (λ _. (sizes : Sizes) (wires : Wires) → AreWired sizes self.old wires →
+        ensures sent { IfOk result (λ _.
+            (sizes : Sizes) (wires : Wires) → AreWired sizes self.old wires →
             SendsPiece sizes wires seat shard piece self.new) }
         ensures back { IfErr result (λ back. back ≡ piece) }
-        ensures kept { IfErr result (λ _. (sizes : Sizes) (wires : Wires) → AreWired sizes self.old wires →
+        ensures kept { IfErr result (λ _.
+            (sizes : Sizes) (wires : Wires) → AreWired sizes self.old wires →
             KeepsPiece sizes wires seat shard self.new) }
     {
         if !self.has(seat, shard) {
@@ -115,9 +127,11 @@ impl Rings {
 
     /// Takes the oldest piece of a seat and runs it on the shard, where the worker's hand is empty and one waits.
     pub(crate) fn pop(&mut self, alloc: Global, shard: usize, seat: usize) -> Option<Ran>
-        ensures ran { IfSome result (λ ran. (sizes : Sizes) (wires : Wires) → AreWired sizes self.old wires →
+        ensures ran { IfSome result (λ ran.
+            (sizes : Sizes) (wires : Wires) → AreWired sizes self.old wires →
             RunsOldest sizes wires shard seat ran self.new) }
-        ensures none { IfNone result ((sizes : Sizes) (wires : Wires) → AreWired sizes self.old wires →
+        ensures none { IfNone result
+            ((sizes : Sizes) (wires : Wires) → AreWired sizes self.old wires →
             RunsNone sizes wires shard seat self.new) }
     {
         if !self.has(seat, shard) {
@@ -147,10 +161,10 @@ impl Rings {
 
     /// Gives the reply in a worker's hand to its seat, where there is one and the ring has room, and tells whether it did.
     pub(crate) fn give(&mut self, alloc: Global, shard: usize) -> bool
-        ensures given { IsTrue result → (sizes : Sizes) (wires : Wires) → AreWired sizes self.old wires →
-            GivesReply sizes wires shard self.new }
-        ensures none { result ≡ false → (sizes : Sizes) (wires : Wires) → AreWired sizes self.old wires →
-            GivesNone sizes wires shard self.new }
+        ensures given { IsTrue result → (sizes : Sizes) (wires : Wires) →
+            AreWired sizes self.old wires → GivesReply sizes wires shard self.new }
+        ensures none { result ≡ false → (sizes : Sizes) (wires : Wires) →
+            AreWired sizes self.old wires → GivesNone sizes wires shard self.new }
     {
         if self.workers.len() <= shard {
             return false;
@@ -173,9 +187,11 @@ impl Rings {
 
     /// Receives the oldest reply of a shard for a seat, where one waits.
     pub(crate) fn receive(&mut self, seat: usize, shard: usize) -> Option<Reply>
-        ensures received { IfSome result (λ reply. (sizes : Sizes) (wires : Wires) → AreWired sizes self.old wires →
+        ensures received { IfSome result (λ reply.
+            (sizes : Sizes) (wires : Wires) → AreWired sizes self.old wires →
             ReceivesReply sizes wires seat shard (shown reply) self.new) }
-        ensures none { IfNone result ((sizes : Sizes) (wires : Wires) → AreWired sizes self.old wires →
+        ensures none { IfNone result
+            ((sizes : Sizes) (wires : Wires) → AreWired sizes self.old wires →
             ReceivesNone sizes wires seat shard self.new) }
     {
         if !self.has(seat, shard) {
@@ -214,9 +230,11 @@ fn all_workers<R: RandomSource>(
 ) -> Result<Vec<Worker>, AllocError>
     requires within { AreWithin (sizes_of numbers) }
     requires counted { length shards.items ≡ numbers.shards }
-    requires new { (number : ℕ) (ends : Ends Far) → slice_get shards.items number ≡ Some ends → AreNewEnds number numbers.seats numbers.ring ends }
+    requires new { (number : ℕ) (ends : Ends Far) → slice_get shards.items number ≡ Some ends →
+        AreNewEnds number numbers.seats numbers.ring ends }
     ensures ends { IfOk result (λ workers. map ends_of workers.items ≡ shards.items) }
-    ensures started { IfOk result (λ workers. AllByRecursion (IsStarted (sizes_of numbers)) workers.items) }
+    ensures started { IfOk result
+        (λ workers. AllByRecursion (IsStarted (sizes_of numbers)) workers.items) }
 {
     let mut workers = Vec::with_capacity(alloc, numbers.shards)?;
     for ends in shards {

@@ -1,5 +1,5 @@
 //! An answer of a shard as a short text.
-use mc_item::{Answer, Asked, Marks, MetaDone, MetaHit, Stats, Status, Tally, Value};
+use mc_item::{Answer, CountedAs, Marks, MetaDone, MetaHit, Stats, Status, Tally, Value};
 use std::alloc::{AllocError, Global};
 
 /// The bytes of a value as text, or its length where it is long.
@@ -53,7 +53,7 @@ fn counted_text(
     alloc: Global,
     name: &str,
     tally: &Tally,
-    asked: Asked,
+    asked: CountedAs,
 ) -> Result<String, AllocError> {
     let hits = tally.count(asked, Status::Hit);
     let misses = tally.count(asked, Status::Miss);
@@ -61,10 +61,10 @@ fn counted_text(
 }
 
 fn stats_text(alloc: Global, stats: &Stats) -> Result<String, AllocError> {
-    let get = counted_text(alloc, "get", &stats.tally, Asked::Get)?;
-    let set = counted_text(alloc, "set", &stats.tally, Asked::Set)?;
-    let touch = counted_text(alloc, "touch", &stats.tally, Asked::Touch)?;
-    let own = counted_text(alloc, "stats", &stats.tally, Asked::Stats)?;
+    let get = counted_text(alloc, "get", &stats.tally, CountedAs::Get)?;
+    let set = counted_text(alloc, "set", &stats.tally, CountedAs::Set)?;
+    let touch = counted_text(alloc, "touch", &stats.tally, CountedAs::Touch)?;
+    let own = counted_text(alloc, "stats", &stats.tally, CountedAs::Stats)?;
     format!(in alloc;
         "{get} {set} {touch} {own} n{} b{} of {} e{}",
         stats.items, stats.bytes, stats.budget, stats.evicted

@@ -11,7 +11,7 @@ use Rattle.mc_seat.specs.Reads.{OwesNothing}
 use Rattle.mc_command.specs.declared.rules.Rules.{Rules}
 
 -- Between begin and now the line gave the bytes fed and those unread, and took these texts.
-pub record Stands (rules : Rules) (fits : Type 0) (begin now : Sight) (unread fed : List ℕ) (ended : Bool) (taken : List Taken) (texts : List (List ℕ)) : Type 0 where
+pub record GaveAndTook (rules : Rules) (fits : Type 0) (begin now : Sight) (unread fed : List ℕ) (ended : Bool) (taken : List Taken) (texts : List (List ℕ)) : Type 0 where
   pub read_is : now.given ≡ with_bytes begin.given (fed ++ unread)
   pub ended_is : ended ≡ true → (now.ended ≡ true) × (unread ≡ [])
   pub taken_is : now.taken ≡ with_bytes begin.taken (concat texts)
@@ -28,4 +28,4 @@ handed_texts told = take told.handed (all_texts told)
 -- By what its connection was told, and what the shards sent.
 abbrev pub Serving : (ℕ → List Shown) → Sight → Sight → List ℕ → Told → Type 0
 Serving received begin now unread told =
-    Stands told.rules (KeysFit told.shards told.taken received) begin now unread told.fed told.ended told.taken (handed_texts told)
+    GaveAndTook told.rules (KeysFit told.shards told.taken received) begin now unread told.fed told.ended told.taken (handed_texts told)

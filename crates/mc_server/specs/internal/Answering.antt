@@ -27,7 +27,7 @@ abbrev pub replies_on : List Entry → ℕ → List Shown
 replies_on log shard = replies_in (on_shard shard log)
 
 -- The shards ran the pieces that are out, for the one line, and their answers were accepted.
-pub record Answers (sizes : Sizes) (told : Told) (shards : List Shard) (log : List Entry) : Type 0 where
+pub record ShardsAnswered (sizes : Sizes) (told : Told) (shards : List Shard) (log : List Entry) : Type 0 where
   pub some : 0 < sizes.shards
   pub same : told.shards ≡ sizes.shards
   pub rules_are : told.rules ≡ rules_of sizes
@@ -43,7 +43,7 @@ pub record CanAnswer (conn : Conn) (shards : List Shard) : Type 0 where
   pub told : Told
   pub log : List Entry
   pub conn_is : IsConn conn told
-  pub answers : Answers sizes told shards log
+  pub answers : ShardsAnswered sizes told shards log
 
 -- So many pieces are out now, and all of them were run and answered.
 pub record AnswersMore (sizes : Sizes) (told : Told) (conn : Conn) (shards : List Shard) : Type 0 where
@@ -52,11 +52,11 @@ pub record AnswersMore (sizes : Sizes) (told : Told) (conn : Conn) (shards : Lis
   pub accepted : List Shown
   pub log : List Entry
   pub conn_is : IsConn conn (record told { out = out; lent = lent; accepted = accepted })
-  pub answers : Answers sizes (record told { out = out; lent = lent; accepted = accepted }) shards log
+  pub answers : ShardsAnswered sizes (record told { out = out; lent = lent; accepted = accepted }) shards log
   pub handed : KeepsHanded told (record told { out = out; lent = lent; accepted = accepted })
 
 -- Whatever the shards had answered, they answered the rest of what is due.
 abbrev pub AnswersAll : Conn → List Shard → Conn → List Shard → Type 0
 AnswersAll old before new after =
-    (sizes : Sizes) (told : Told) (log : List Entry) → IsConn old told → Answers sizes told before log →
+    (sizes : Sizes) (told : Told) (log : List Entry) → IsConn old told → ShardsAnswered sizes told before log →
     (more : AnswersMore sizes told new after) × (more.out ≡ length (all_pieces told))

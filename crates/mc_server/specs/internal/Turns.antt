@@ -9,13 +9,13 @@ use Rattle.mc_conn.specs.Told.{Told}
 use Rattle.mc_core.specs.Sizes.{Sizes}
 use Rattle.mc_core.specs.Log.{Entry}
 use Rattle.mc_seat.specs.internal.Stands.{Serving}
-use Rattle.mc_server.specs.internal.Answering.{Answers, replies_on}
+use Rattle.mc_server.specs.internal.Answering.{ShardsAnswered, replies_on}
 
 pub record Turns (sizes : Sizes) (may_answer : ℕ → Type 0) (begin now : Sight) (unread : List ℕ) (conn : Conn) (shards : List Shard) (commands : ℕ) : Type 0 where
   pub told : Told
   pub log : List Entry
   pub conn_is : IsConn conn told
-  pub answers : Answers sizes told shards log
+  pub answers : ShardsAnswered sizes told shards log
   pub serving : Serving (replies_on log) begin now unread told
   pub moments : AllByRecursion (λ one. may_answer one.moment) told.taken
   pub unbroken : told.broken ≡ false

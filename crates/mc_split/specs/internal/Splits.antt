@@ -5,12 +5,12 @@ use Rattle.mc_split.specs.declared.form.Form.{Form}
 use Rattle.mc_split.specs.declared.form.Shape.{Shape}
 use Rattle.mc_split.specs.declared.plan.Piece.{Piece}
 use Rattle.mc_split.specs.declared.plan.Ticket.{Ticket}
-use Rattle.mc_split.specs.Pieces.{Asked}
+use Rattle.mc_split.specs.Pieces.{ShardOp}
 use Rattle.mc_split.specs.Plan.{form_with, parts_from}
 
 -- These pieces stand behind the others, and the form awaits an answer to each. Where memory runs out, which it does for a
 -- command that asks a shard alone, the others are still in front.
-pub record Splits (result : Result Form NoMemory) (ticket : Ticket) (moment : ℕ) (shape : Shape) (asked : List Asked) (old new : List (ℕ × Piece)) : Type 0 where
+pub record Splits (result : Result Form NoMemory) (ticket : Ticket) (moment : ℕ) (shape : Shape) (asked : List ShardOp) (old new : List (ℕ × Piece)) : Type 0 where
   pub form : IfOk result (λ form. form ≡ form_with ticket shape asked)
   pub pieces : OnOk result (new ≡ old ++ parts_from 0 ticket moment asked)
   pub front : OnErr result (take (length old) new ≡ old)

@@ -10,7 +10,7 @@ use Rattle.mc_store.specs.declared.access.Reader.TheVariants.{Classic, Meta}
 use Rattle.mc_store.specs.Rows.{expiry_from, is_won}
 use Rattle.mc_store.specs.Shelf.{Shelf}
 use Rattle.mc_store.specs.internal.Found.{live}
-use Rattle.mc_store.specs.internal.Listed.{Entry}
+use Rattle.mc_store.specs.internal.Listed.{ListedItem}
 
 -- whether a client was told to recompute the item, once it was read
 abbrev pub is_sent_after : Reader → Item → ℕ → Bool
@@ -26,12 +26,12 @@ abbrev pub seen_item : Access → Item → Item
 seen_item access item = record item { expiry = expiry_from access.touch item.expiry access.time; sent = is_sent_after access.reader item access.time }
 
 -- the item that is met under the key, unless it is dead
-abbrev pub met : Access → List ℕ → List Entry → Option Item
+abbrev pub met : Access → List ℕ → List ListedItem → Option Item
 met access key entries = live access.time (lookup (same_key key) entries)
 
 -- The items once that under the key was read, which is this one: it is the most recently used one. Where none is alive, a
 -- dead one is gone.
-abbrev pub read_entries : Access → List ℕ → List Entry → Option Item → List Entry
+abbrev pub read_entries : Access → List ℕ → List ListedItem → Option Item → List ListedItem
 read_entries access key entries None = remove_entry (same_key key) entries
 read_entries access key entries (Some item) = set_value (same_key key) (promoted (same_key key) entries) (read_item access item)
 
@@ -39,7 +39,7 @@ abbrev pub read_shelf : Access → List ℕ → Shelf → Shelf
 read_shelf access key shelf = record shelf { entries = read_entries access key shelf.entries (met access key shelf.entries) }
 
 -- the same once it was looked at: it stays where it is
-abbrev pub seen_entries : Access → List ℕ → List Entry → Option Item → List Entry
+abbrev pub seen_entries : Access → List ℕ → List ListedItem → Option Item → List ListedItem
 seen_entries access key entries None = remove_entry (same_key key) entries
 seen_entries access key entries (Some item) = set_value (same_key key) entries (seen_item access item)
 

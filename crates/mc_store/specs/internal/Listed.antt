@@ -9,14 +9,14 @@ use Rattle.mc_store.specs.declared.TheConstants.{LEAST_BUDGET, GREATEST_BUDGET}
 use Rattle.mc_store.specs.State.{item_overhead, cost}
 use Rattle.mc_store.specs.Shelf.{Shelf}
 
-abbrev pub Entry : Type 0
-Entry = List ℕ × Item
+abbrev pub ListedItem : Type 0
+ListedItem = List ℕ × Item
 
-abbrev pub entry_cost : Entry → ℕ
+abbrev pub entry_cost : ListedItem → ℕ
 entry_cost entry = cost entry.0 entry.1.value
 
 -- what the items of a list cost together
-abbrev pub listed_cost : List Entry → ℕ
+abbrev pub listed_cost : List ListedItem → ℕ
 listed_cost entries = sum_by entry_cost entries
 
 -- what an item under a key of so many bytes cost; nothing where there was none
@@ -25,13 +25,13 @@ freed_by None key_length = 0
 freed_by (Some item) key_length = key_length + length item.value + item_overhead
 
 -- the items from the front on, as many as cost no more than the room together
-abbrev pub within : ℕ → List Entry → List Entry
+abbrev pub within : ℕ → List ListedItem → List ListedItem
 within room [] = []
 within room (entry ∷ entries) =
     if nat_le (entry_cost entry) room then entry ∷ within (room - entry_cost entry) entries else []
 
 -- how many items go where the others are to cost no more than the room
-abbrev pub gone : ℕ → List Entry → ℕ
+abbrev pub gone : ℕ → List ListedItem → ℕ
 gone room entries = length entries - length (within room entries)
 
 -- the items once one was put first, and others went for it
@@ -41,15 +41,15 @@ put_in key item shelf =
     record shelf { entries = within shelf.budget entries; evicted = (shelf.evicted + gone shelf.budget entries) % 2 ^ 64 }
 
 -- No key is empty.
-abbrev pub HaveKeys : List Entry → Type 0
-HaveKeys entries = All (λ (entry : Entry). 0 < length entry.0) entries
+abbrev pub HaveKeys : List ListedItem → Type 0
+HaveKeys entries = All (λ (entry : ListedItem). 0 < length entry.0) entries
 
 -- An item fits the budget. That of a number does, whatever the budget: its key and its digits are few.
-abbrev pub Fits : ℕ → List ℕ → List ℕ → Type 0
-Fits budget key value = (length value ≤ DIGIT_LIMIT) ⊎ (cost key value ≤ budget)
+abbrev pub FitsBudget : ℕ → List ℕ → List ℕ → Type 0
+FitsBudget budget key value = (length value ≤ DIGIT_LIMIT) ⊎ (cost key value ≤ budget)
 
 -- What is known of the items of a shard: the list, how many it may have, what they cost, and their budget.
-pub record IsCounted (entries : List Entry) (capacity cost budget : ℕ) : Type 0 where
+pub record IsCounted (entries : List ListedItem) (capacity cost budget : ℕ) : Type 0 where
   pub counted : cost ≡ listed_cost entries
   pub fits : cost ≤ budget
   pub keys : HaveKeys entries

@@ -94,8 +94,13 @@ impl Shard {
         asked: Counting,
         vivify: Option<Vivify>,
     ) -> Result<MetaDone, Answer>
-        ensures does { (reply : TheDone → TheAnswer) → Does self.old key (λ settled. count_step settled key (counting asked.compare asked.unique asked.direction asked.amount asked.exptime) reply vivify (get settled.items key)) (answered reply result) self.new }
-        ensures refused { asked.compare ≡ None → IfErr result (λ answer. is_lawful Kind.Count answer ≡ true) }
+        ensures does { (reply : TheDone → TheAnswer) →
+            Does self.old key (λ settled.
+            count_step settled key
+            (counting asked.compare asked.unique asked.direction asked.amount asked.exptime)
+            reply vivify (get settled.items key)) (answered reply result) self.new }
+        ensures refused { asked.compare ≡ None →
+            IfErr result (λ answer. is_lawful Kind.Count answer ≡ true) }
         ensures meta_refused { IfErr result (λ answer. is_lawful Kind.MetaCount answer ≡ true) }
     {
         let Some(item) = self.find(&key) else {
@@ -133,7 +138,9 @@ impl Shard {
         token: Option<u64>,
         vivify: Option<Vivify>,
     ) -> Result<MetaDone, Answer>
-        ensures does { (reply : TheDone → TheAnswer) → Does self.old key (λ settled. absent_count settled key token reply vivify) (answered reply result) self.new }
+        ensures does { (reply : TheDone → TheAnswer) →
+            Does self.old key (λ settled. absent_count settled key token reply vivify)
+            (answered reply result) self.new }
         ensures refused { IfErr result (λ answer. is_lawful Kind.Count answer ≡ true) }
         ensures meta_refused { IfErr result (λ answer. is_lawful Kind.MetaCount answer ≡ true) }
     {

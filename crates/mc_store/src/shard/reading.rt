@@ -53,7 +53,17 @@ fn shown(item: Item, access: Access, recache: Option<i64>) -> Answer
 
 /// An empty item that a client is told to fill. It has no unique yet.
 fn empty_item(expiry: PackedExpiry) -> Item
-    ensures { result ≡ record { value = []; flags = 0; expiry = expiry; unique = 0; last_access = 0; fetched = false; stale = false; sent = true } }
+    ensures { result ≡
+        record {
+          value = [];
+          flags = 0;
+          expiry = expiry;
+          unique = 0;
+          last_access = 0;
+          fetched = false;
+          stale = false;
+          sent = true;
+        } }
 {
     Item {
         value: Value::empty(),
@@ -69,7 +79,16 @@ fn empty_item(expiry: PackedExpiry) -> Item
 
 /// What is shown of an empty item that this command made.
 fn made_hit(unique: u64, left: Option<u64>) -> MetaHit
-    ensures { result ≡ record { value = []; flags = 0; unique = unique; fetched = false; idle = 0; left = left; marks = record { won = true; stale = false; sent = false } } }
+    ensures { result ≡
+        record {
+          value = [];
+          flags = 0;
+          unique = unique;
+          fetched = false;
+          idle = 0;
+          left = left;
+          marks = record { won = true; stale = false; sent = false };
+        } }
 {
     MetaHit {
         value: Value::empty(),
@@ -176,7 +195,8 @@ impl Shard {
     /// `mg` of a key that is not there: with an exptime it makes an empty item, and this client is told to fill it.
     #[tactic(auto, unfolding(mc_item::specs::Kind::is_lawful))]
     fn meta_get_absent(&mut self, key: Key, vivify: Option<i64>) -> Answer
-        ensures does { Does self.old key (λ settled. absent_meta_get settled key vivify) result self.new }
+        ensures does { Does self.old key (λ settled. absent_meta_get settled key vivify) result
+            self.new }
         ensures lawful { is_lawful Kind.MetaGet result ≡ true }
     {
         let Some(exptime) = vivify else {

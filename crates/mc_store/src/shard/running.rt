@@ -14,7 +14,8 @@ impl Shard {
         alloc: Global,
         asked: Vec<(Op, u64)>,
     ) -> Result<Vec<Answer>, StoreFault>
-        ensures ran { IfOk result (λ answers. RunsThrough self.old asked.items answers.items self.new) }
+        ensures ran { IfOk result
+            (λ answers. RunsThrough self.old asked.items answers.items self.new) }
         ensures refused { OnErr result (self.new ≡ self.old) }
     {
         let mut answers = Vec::with_capacity(alloc, asked.len())?;

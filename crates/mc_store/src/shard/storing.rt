@@ -111,7 +111,9 @@ impl Shard {
     /// `set`, the plainest of them: the item enters, whatever is there.
     #[tactic(auto, unfolding(mc_item::specs::Kind::is_lawful))]
     fn set(&mut self, key: Key, flags: u32, exptime: i64, value: Value) -> Answer
-        ensures does { Does self.old key (λ settled. stores settled key (storing MetaMode.Set None None flags exptime value) (λ done. Answer.Stored)) result self.new }
+        ensures does { Does self.old key (λ settled.
+            stores settled key (storing MetaMode.Set None None flags exptime value)
+            (λ done. Answer.Stored)) result self.new }
         ensures lawful { is_lawful Kind.Store result ≡ true }
     {
         if self.is_too_large(&key, value.len()) {
@@ -148,7 +150,12 @@ impl Shard {
     /// Stores in the mode that is asked.
     #[tactic(auto, unfolding(mc_item::specs::Kind::is_lawful))]
     fn store(&mut self, alloc: Global, key: Key, asked: Storing) -> Result<MetaDone, Answer>
-        ensures does { (reply : TheDone → TheAnswer) → Does self.old key (λ settled. store_step settled key (storing asked.mode asked.compare asked.unique asked.flags asked.exptime asked.value) reply (get settled.items key)) (answered reply result) self.new }
+        ensures does { (reply : TheDone → TheAnswer) →
+            Does self.old key (λ settled.
+            store_step settled key
+            (storing asked.mode asked.compare asked.unique asked.flags asked.exptime
+            asked.value) reply (get settled.items key)) (answered reply result)
+            self.new }
         ensures refused { IfErr result (λ answer. is_lawful Kind.Store answer ≡ true) }
         ensures meta_refused { IfErr result (λ answer. is_lawful Kind.MetaStore answer ≡ true) }
     {
@@ -187,7 +194,11 @@ impl Shard {
 
     /// Stores what is asked, whatever is there.
     fn store_asked(&mut self, key: Key, asked: Storing) -> Result<MetaDone, Answer>
-        ensures does { (reply : TheDone → TheAnswer) → Does self.old key (λ settled. stores settled key (storing asked.mode asked.compare asked.unique asked.flags asked.exptime asked.value) reply) (answered reply result) self.new }
+        ensures does { (reply : TheDone → TheAnswer) →
+            Does self.old key (λ settled.
+            stores settled key
+            (storing asked.mode asked.compare asked.unique asked.flags asked.exptime
+            asked.value) reply) (answered reply result) self.new }
         ensures refused { IfErr result (λ answer. is_lawful Kind.Store answer ≡ true) }
         ensures meta_refused { IfErr result (λ answer. is_lawful Kind.MetaStore answer ≡ true) }
     {
@@ -199,7 +210,12 @@ impl Shard {
     /// Stores what is asked under a key that is not there, if its mode does so.
     #[tactic(auto, unfolding(mc_item::specs::Kind::is_lawful))]
     fn store_absent(&mut self, key: Key, asked: Storing) -> Result<MetaDone, Answer>
-        ensures does { (reply : TheDone → TheAnswer) → Does self.old key (λ settled. absent_store settled key (storing asked.mode asked.compare asked.unique asked.flags asked.exptime asked.value) reply asked.mode asked.compare) (answered reply result) self.new }
+        ensures does { (reply : TheDone → TheAnswer) →
+            Does self.old key (λ settled.
+            absent_store settled key
+            (storing asked.mode asked.compare asked.unique asked.flags asked.exptime
+            asked.value) reply asked.mode asked.compare) (answered reply result)
+            self.new }
         ensures refused { IfErr result (λ answer. is_lawful Kind.Store answer ≡ true) }
         ensures meta_refused { IfErr result (λ answer. is_lawful Kind.MetaStore answer ≡ true) }
     {
@@ -219,7 +235,10 @@ impl Shard {
     /// Puts the item under the key, unless its value is too large.
     #[tactic(auto, unfolding(mc_item::specs::Kind::is_lawful))]
     fn write_value(&mut self, key: Key, item: Item, token: Option<u64>) -> Result<MetaDone, Answer>
-        ensures does { (reply : TheDone → TheAnswer) → Does self.old key (λ settled. writes settled key token item.value (λ unique. record item { unique = unique }) reply) (answered reply result) self.new }
+        ensures does { (reply : TheDone → TheAnswer) →
+            Does self.old key (λ settled.
+            writes settled key token item.value (λ unique. record item { unique = unique })
+            reply) (answered reply result) self.new }
         ensures refused { IfErr result (λ answer. is_lawful Kind.Store answer ≡ true) }
         ensures meta_refused { IfErr result (λ answer. is_lawful Kind.MetaStore answer ≡ true) }
     {

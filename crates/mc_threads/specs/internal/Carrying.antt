@@ -32,8 +32,8 @@ abbrev pub carried : Told → ℕ → Bool → List Shown → Told
 carried told out lent accepted = record told { out = out; lent = lent; accepted = accepted }
 
 -- What was received is the beginning of what is received now.
-abbrev pub IsKept : (ℕ → List Shown) → (ℕ → List Shown) → Type 0
-IsKept received later = (shard place : ℕ) (reply : Shown) → slice_get (received shard) place ≡ Some reply → slice_get (later shard) place ≡ Some reply
+abbrev pub KeepsReceived : (ℕ → List Shown) → (ℕ → List Shown) → Type 0
+KeepsReceived received later = (shard place : ℕ) (reply : Shown) → slice_get (received shard) place ≡ Some reply → slice_get (later shard) place ≡ Some reply
 
 -- Pieces have left the connection, and replies were accepted, and all of it went over the lanes.
 pub record CarriesOn (before : Ends Near) (told : Told) (received : ℕ → List Shown) (ends : Ends Near) (under_way : List ℕ) (conn : Conn) : Type 0 where
@@ -44,7 +44,7 @@ pub record CarriesOn (before : Ends Near) (told : Told) (received : ℕ → List
   pub conn_is : IsConn conn (carried told out lent accepted)
   pub carries : Carries before ends under_way (carried told out lent accepted) later
   pub handed : KeepsHanded told (carried told out lent accepted)
-  pub kept : IsKept received later
+  pub kept : KeepsReceived received later
 
 -- what is known before anything is carried
 pub record MayCarry (ends : Ends Near) (under_way : List ℕ) (conn : Conn) : Type 0 where
@@ -76,8 +76,8 @@ abbrev pub NoneOut : Told → ℕ → Type 0
 NoneOut told out = out ≡ told.out
 
 -- The courier and the connection carry on.
-abbrev pub Goes : (Told → ℕ → Type 0) → Courier → Conn → Courier → Conn → Type 0
-Goes says courier conn courier' conn' = MovesOn says courier.ends courier.under_way.items conn courier'.ends courier'.under_way.items conn'
+abbrev pub CourierGoesOn : (Told → ℕ → Type 0) → Courier → Conn → Courier → Conn → Type 0
+CourierGoesOn says courier conn courier' conn' = MovesOn says courier.ends courier.under_way.items conn courier'.ends courier'.under_way.items conn'
 
 abbrev pub CanCarry : Courier → Conn → Type 0
 CanCarry courier conn = MayCarry courier.ends courier.under_way.items conn

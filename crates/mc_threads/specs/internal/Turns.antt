@@ -14,7 +14,7 @@ use Rattle.mc_seat.specs.internal.Steps.{StopsAt}
 use Rattle.mc_threads.specs.internal.Carrying.{Carries}
 use Rattle.mc_command.specs.declared.rules.Rules.{Rules}
 
-pub record Turns (shards : ℕ) (rules : Rules) (may_answer : ℕ → Type 0) (begin now : Sight) (before ends : Ends Near) (under_way unread : List ℕ) (conn : Conn) (commands : ℕ) : Type 0 where
+pub record TurnsOverLanes (shards : ℕ) (rules : Rules) (may_answer : ℕ → Type 0) (begin now : Sight) (before ends : Ends Near) (under_way unread : List ℕ) (conn : Conn) (commands : ℕ) : Type 0 where
   pub told : Told
   pub received : ℕ → List Shown
   pub shards_is : told.shards ≡ shards
@@ -27,6 +27,6 @@ pub record Turns (shards : ℕ) (rules : Rules) (may_answer : ℕ → Type 0) (b
   pub counted : commands ≡ length told.taken
 
 -- No further command was taken, for this reason.
-pub record Stops (shards : ℕ) (rules : Rules) (may_answer : ℕ → Type 0) (begin now : Sight) (before ends : Ends Near) (under_way unread : List ℕ) (conn : Conn) (commands : ℕ) (stop : Took) : Type 0 where
-  pub turns : Turns shards rules may_answer begin now before ends under_way unread conn commands
+pub record StopsTaking (shards : ℕ) (rules : Rules) (may_answer : ℕ → Type 0) (begin now : Sight) (before ends : Ends Near) (under_way unread : List ℕ) (conn : Conn) (commands : ℕ) (stop : Took) : Type 0 where
+  pub turns : TurnsOverLanes shards rules may_answer begin now before ends under_way unread conn commands
   pub stops : StopsAt stop turns.told

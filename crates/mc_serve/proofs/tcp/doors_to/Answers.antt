@@ -3,7 +3,7 @@ use Rattle.std.proofs.Common.{◌≡◌, List, [], ◌∷◌, ◌++◌, ◌∙�
 use Rattle.std.specs.List.{AllByRecursion}
 use Rattle.mc_command.specs.Rules.{is_drop_in}
 use Rattle.mc_server.specs.Sizes.{rules_of}
-use Rattle.mc_serve.specs.Told.{Told}
+use Rattle.mc_serve.specs.Told.{TellsLines}
 use Rattle.mc_serve.specs.Tcp.{told_tcp}
 use Rattle.mc_serve.proofs.tcp.doors_to.Goals as goal
 
@@ -19,7 +19,7 @@ loop-preserved g c =
     let was = c.loop.invariant in
     record {
       count = search rules;
-      new = one_more (λ door. told_tcp door.is_out door.gone.items door.is_over ≡ Told None None [] false) c.loop.doors.items c.push.new.self.items c.new.result c.in_ok-push.ensures.items was.new c.new.ensures.told;
+      new = one_more (λ door. told_tcp door.is_out door.gone.items door.is_over ≡ TellsLines None None [] false) c.loop.doors.items c.push.new.self.items c.new.result c.in_ok-push.ensures.items was.new c.new.ensures.told;
       is_wary = was.is_wary;
       wary = one_more (λ door. door.is_wary ≡ is_drop_in (rules_of c.args.sizes)) c.loop.doors.items c.push.new.self.items c.new.result c.in_ok-push.ensures.items was.wary (c.new.ensures.wary ∙ was.is_wary);
     }

@@ -4,12 +4,12 @@ use Rattle.mc_conn.specs.Conn.{IsConn}
 use Rattle.mc_conn.specs.Told.{Told}
 use Rattle.mc_core.specs.Sizes.{Sizes}
 use Rattle.mc_core.specs.Log.{Entry}
-use Rattle.mc_server.specs.internal.Answering.{Answers, AnswersMore}
+use Rattle.mc_server.specs.internal.Answering.{ShardsAnswered, AnswersMore}
 use Rattle.mc_server.proofs.Answering.{unsent_count}
 use Rattle.mc_server.proofs.serve.answer.Given as goal
 
 abbrev pub invariant-loop-place : goal.invariant-loop-place
-invariant-loop-place l = (sizes : Sizes) (told : Told) (log : List Entry) → IsConn l.fn.conn told → Answers sizes told l.fn.shards.items log → AnswersMore sizes told l.conn l.shards.items
+invariant-loop-place l = (sizes : Sizes) (told : Told) (log : List Entry) → IsConn l.fn.conn told → ShardsAnswered sizes told l.fn.shards.items log → AnswersMore sizes told l.conn l.shards.items
 
 abbrev pub decreases-loop-place : goal.decreases-loop-place
 decreases-loop-place l = unsent_count l.conn

@@ -6,7 +6,7 @@ use Rattle.mc_core.specs.declared.worker.Turn.{Turn}
 use Rattle.mc_core.specs.declared.worker.Turn.TheVariants.{Gave, Blocked, Nothing}
 use Rattle.mc_core.specs.Desk.{Desk, Goes}
 use Rattle.mc_core.specs.DeskLaws.{goes_refl, goes_trans}
-use Rattle.mc_core.specs.Serves.{Serves}
+use Rattle.mc_core.specs.Serves.{ServesSeat}
 use Rattle.mc_core.specs.Turns.{Turned}
 use Rattle.mc_core.proofs.Turning.{goes_turn}
 use Rattle.mc_core.proofs.Marking.{is_gave, marks_absurd, marks_gave, marks_none, marks_refl, marks_trans}
@@ -17,18 +17,18 @@ none_yet : (P : Type 0) → 0 < 0 → P
 none_yet P e = absurd (omega (arith, e))
 
 -- after the n turns before it, one more turn that finds something to do
-serves_more : (old mid new : Desk) (seat n : ℕ) (turn : Turn) → (n ≡ 0 → mid ≡ old) → (0 < n → Serves old seat mid) → Turned mid seat turn new → turn ≢ Nothing → Goes mid new → Serves old seat new
+serves_more : (old mid new : Desk) (seat n : ℕ) (turn : Turn) → (n ≡ 0 → mid ≡ old) → (0 < n → ServesSeat old seat mid) → Turned mid seat turn new → turn ≢ Nothing → Goes mid new → ServesSeat old seat new
 serves_more old mid new seat zero turn begins before turned found goes = record { turn = turn; next = new; turned = rw (← begins refl) turned; found = found; more = goes_refl new }
 serves_more old mid new seat (suc n) turn begins before turned found goes =
     let served = before (omega arith) in
     record { turn = served.turn; next = served.next; turned = served.turned; found = served.found; more = goes_trans _ _ _ served.more goes }
 
-after_some : (old mid new : Desk) (seat n : ℕ) → (0 < n → Serves old seat mid) → Goes mid new → OnTrue (nat_lt 0 n) (Serves old seat new)
+after_some : (old mid new : Desk) (seat n : ℕ) → (0 < n → ServesSeat old seat mid) → Goes mid new → OnTrue (nat_lt 0 n) (ServesSeat old seat new)
 after_some old mid new seat zero before goes = tt
 after_some old mid new seat (suc n) before goes =
     let some : nat_lt 0 (suc n) ≡ true = grind (arith, nat_tests) in
     let served = before (omega arith) in
-    let serves : Serves old seat new = record { turn = served.turn; next = served.next; turned = served.turned; found = served.found; more = goes_trans _ _ _ served.more goes } in
+    let serves : ServesSeat old seat new = record { turn = served.turn; next = served.next; turned = served.turned; found = served.found; more = goes_trans _ _ _ served.more goes } in
     rw some serves
 
 pub loop-turns-init : goal.loop-turns-init

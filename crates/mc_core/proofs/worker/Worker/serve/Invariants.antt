@@ -1,7 +1,7 @@
 use Rattle.std.specs.Prelude.{◌≡◌, ◌<◌}
 use Rattle.mc_core.specs.Desk.{Goes}
 use Rattle.mc_core.specs.Marks.{Marks}
-use Rattle.mc_core.specs.Serves.{Serves}
+use Rattle.mc_core.specs.Serves.{ServesSeat}
 use Rattle.mc_core.proofs.worker.Worker.serve.Given as goal
 
 abbrev pub invariant-loop-turns : goal.invariant-loop-turns
@@ -9,5 +9,5 @@ invariant-loop-turns g l = record {
   goes : Goes l.fn.self l.self;
   marks : Marks l.fn.self l.self l.fn.given l.given;
   begins : l.turns ≡ 0 → l.self ≡ l.fn.self;
-  serves : 0 < l.turns → Serves l.fn.self l.fn.seat l.self;
+  serves : 0 < l.turns → ServesSeat l.fn.self l.fn.seat l.self;
 }
