@@ -5,7 +5,8 @@
 
 Each crate is told when it is proved, with how many are left. What was proved stays in crates/NAME/out, so a second start takes
 seconds, and one that was stopped goes on where it was. Nothing is built that isn't proved: where a crate isn't, its words are
-shown and nothing starts. N crates are proved at a time: one for each core and each 3 GiB of memory where nothing is said.
+shown and nothing starts. N crates are proved at a time, each by as many processes as `rt` finds room for: where nothing is said,
+one for two cores and for 8 GiB of memory.
 """
 import argparse
 import concurrent.futures
@@ -19,7 +20,8 @@ import time
 TOP = pathlib.Path(__file__).resolve().parent.parent
 CRATES = TOP / "crates"
 PROGRAM = "mcd"
-BYTES_A_CRATE = 3 * 1024**3
+CORES_A_CRATE = 2
+BYTES_A_CRATE = 8 * 1024**3
 
 # How many of the last lines of a crate that isn't proved are shown.
 SHOWN = 30
@@ -44,7 +46,7 @@ def below(program):
 def jobs_here():
     """How many crates may be proved at a time on this machine."""
     memory = os.sysconf("SC_PAGE_SIZE") * os.sysconf("SC_PHYS_PAGES")
-    return max(1, min(len(os.sched_getaffinity(0)), memory // BYTES_A_CRATE))
+    return max(1, min(len(os.sched_getaffinity(0)) // CORES_A_CRATE, memory // BYTES_A_CRATE))
 
 
 def minutes(seconds):
@@ -84,7 +86,9 @@ def main():
     parser.add_argument("--jobs", type=int, default=jobs_here())
     parser.add_argument("options", nargs="*")
     asked = parser.parse_args()
-    if not prove_all(below(PROGRAM), asked.jobs):
+    needs = below(PROGRAM)
+    print(f"{len(needs)} crates are proved first, {asked.jobs} at a time; a large one takes minutes", flush=True)
+    if not prove_all(needs, asked.jobs):
         return 1
     print(f"{PROGRAM} itself is proved next, built and started", flush=True)
     os.chdir(CRATES / PROGRAM)
