@@ -42,6 +42,7 @@ TESTS = [
 # The tests of what takes no memory once all that it needs was made, and how many allocations that takes at least.
 WITHOUT_MEMORY = [
     ("mc_protocol_tests", "wire::faults_of_words_take_no_memory", 0),
+    ("mc_protocol_tests", "wire::short_keys_take_no_memory", 0),
     ("mc_serving_tests", "without_memory::words_numbers_and_items", 4),
     ("mc_serving_tests", "without_memory::lines_without_a_key_and_skipped_blocks", 1),
     ("mc_serving_tests", "without_memory::operations_on_a_present_key", 10),
@@ -49,10 +50,12 @@ WITHOUT_MEMORY = [
     ("mc_serving_tests", "without_memory::a_connection_whose_commands_are_taken", 8),
 ]
 
-# What the program is run over: each command, and whether it takes memory.
+# What the program is run over: each command, and whether it takes memory. The keys are longer than those that take none.
+A, C = b"a" * 39, b"c" * 39
 COMMANDS = [
-    (b"set a 7 0 2\r\nhi\r\n", True), (b"get a b\r\n", True), (b"append a 0 0 1\r\ny\r\n", True), (b"incr a 1\r\n", True),
-    (b"ms c 1 c\r\nz\r\n", True), (b"mg c v\r\n", True), (b"flush_all\r\n", True), (b"mn\r\n", False), (b"get a\r\n", True),
+    (b"set %s 7 0 2\r\nhi\r\n" % A, True), (b"get %s b\r\n" % A, True), (b"append %s 0 0 1\r\ny\r\n" % A, True),
+    (b"incr %s 1\r\n" % A, True), (b"ms %s 1 c\r\nz\r\n" % C, True), (b"mg %s v\r\n" % C, True), (b"flush_all\r\n", True),
+    (b"mn\r\n", False), (b"get a\r\n", False), (b"get %s\r\n" % A, True),
 ]
 CALL = [TOP / "crates/mcd/out/mcd", "--stdio", "--at", "1000", "--window", "1", "--shards", "2", "--bytes", "1024"]
 MEMORY_LINE = b"SERVER_ERROR out of memory\r\n"

@@ -339,7 +339,7 @@ fn strangers_are_handed_back(rt: HostRuntime) -> Result<(), Fail> {
     Ok(())
 }
 
-/// Holds whichever single allocation is refused.
+/// Holds whichever single allocation is refused. Each key takes memory: those of at most 38 bytes take none.
 #[test]
 fn a_refused_allocation_gives_up_one_command(rt: HostRuntime) {
     let alloc = rt.alloc();
@@ -350,7 +350,10 @@ fn a_refused_allocation_gives_up_one_command(rt: HostRuntime) {
     let Ok(mut conn) = Conn::new(alloc, 2, DEFAULT_VALUE_LIMIT, 4) else {
         return;
     };
-    let bytes = b"get a b\r\nset c 0 0 4\r\nmn\r\n\r\nmn\r\n";
+    let bytes = b"\
+        get a:key:of:39:bytes:lies:in:its:own:block b:key:of:39:bytes:lies:in:its:own:block\r\n\
+        set c:key:of:39:bytes:lies:in:its:own:block 0 0 4\r\nmn\r\n\r\n\
+        mn\r\n";
     equal(&rt, conn.feed(bytes), bytes.len());
     equal(&rt, take_all(alloc, &mut conn), Taken::NeedMore);
     answer_all(&rt, &mut conn);

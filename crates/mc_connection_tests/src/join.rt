@@ -434,6 +434,9 @@ fn replies_across_the_end_of_the_room(rt: HostRuntime) -> Result<(), Fail> {
 /// A value of this length is larger than the room in which replies are gathered.
 const LARGE: usize = 100_000;
 
+/// A key of one byte more than those that take no memory.
+const LONG_KEY: &[u8] = b"a:key:of:39:bytes:lies:in:its:own:block";
+
 /// Counts its writes, those of at least `LARGE` bytes by themselves, and keeps nothing.
 #[derive(Drop)]
 struct Tally {
@@ -454,13 +457,13 @@ impl Outlet for Tally {
     }
 }
 
-/// A large value, as an item holds it, and the form of a get of one key; none where memory was refused.
+/// A large value, as an item holds it, and the form of a get of one key, which takes memory; none where memory was refused.
 fn large_value(alloc: Global) -> Option<(Value, Form)>
     ensures { IfSome result (λ made. made.1.ticket.0 ≡ 0) }
 {
     let bytes = vec![in alloc; 7; LARGE].ok()?;
     let value = Value::new(bytes).ok()?;
-    let keys = Keys::read(alloc, b"a", words(b"")).ok()?;
+    let keys = Keys::read(alloc, LONG_KEY, words(b"")).ok()?;
     let command = Command::Get(Retrieval {
         keys,
         touch: None,
@@ -498,7 +501,9 @@ fn a_hit_copies_no_value(rt: HostRuntime) {
         large: 0,
         bytes: 0,
     };
-    let len = b"VALUE a 0 100000\r\n".len() + LARGE + b"\r\nEND\r\n".len();
+    let len = b"VALUE a:key:of:39:bytes:lies:in:its:own:block 0 100000\r\n".len()
+        + LARGE
+        + b"\r\nEND\r\n".len();
     equal(&rt, joiner.ready(), len as u64);
     equal(&rt, joiner.hand(&mut out), Ok(1));
     equal(&rt, out.bytes, len as u64);

@@ -17,9 +17,21 @@ const TICKET: Ticket = Ticket(7);
 
 const MOMENT: u64 = 1000;
 
+/// Keys that take memory: those of at most 38 bytes take none. The first belongs to the first of two shards, the second to the
+/// second.
+const KEY_A: &[u8] = b"a:key:of:39:bytes:lies:in:its:own:block";
+
+const KEY_B: &[u8] = b"b:key:of:39:bytes:lies:in:its:own:block";
+
+/// Both again, and a third, which belongs to the first of two shards.
+const OTHER_KEYS: &[u8] = b"\
+    b:key:of:39:bytes:lies:in:its:own:block \
+    a:key:of:39:bytes:lies:in:its:own:block \
+    c:key:of:39:bytes:lies:in:its:own:block";
+
 fn get(alloc: Global) -> Result<Command, Refusal> {
     Ok(Command::Get(Retrieval {
-        keys: Keys::read(alloc, b"a", words(b"b a c"))?,
+        keys: Keys::read(alloc, KEY_A, words(OTHER_KEYS))?,
         touch: Some(10),
         with_unique: true,
     }))
@@ -27,7 +39,7 @@ fn get(alloc: Global) -> Result<Command, Refusal> {
 
 fn set(alloc: Global) -> Result<Command, Refusal> {
     Ok(Command::Store(Storage {
-        key: Key::from_word(alloc, b"b")?,
+        key: Key::from_word(alloc, KEY_B)?,
         mode: StoreMode::Set,
         flags: 5,
         exptime: 0,
@@ -43,7 +55,7 @@ fn meta_get(alloc: Global, shows_key: bool) -> Result<Command, Refusal> {
         returned.push(ReturnFlag::Key);
     }
     Ok(Command::MetaGet(MetaGet {
-        key: Key::from_word(alloc, b"a")?,
+        key: Key::from_word(alloc, KEY_A)?,
         flags: MetaFlags {
             base64: false,
             quiet: false,

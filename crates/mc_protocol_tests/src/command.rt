@@ -173,31 +173,84 @@ pub fn refused(alloc: Global, line: &[u8]) -> (Option<Refusal>, u64) {
     refusal_of(&read(alloc, line))
 }
 
-/// Lines with the bytes that stand behind them and their faults, if they have one.
+/// Lines with the bytes that stand behind them and their faults, if they have one. Each key takes memory: those of at most 38
+/// bytes take none.
 static LINES: [(&str, u64, Option<Refusal>); 23] = [
-    ("set a 0 0 3", 5, None),
-    ("add a 0 0 3 noreply", 5, None),
-    ("prepend a 0 0 3", 5, None),
-    ("cas a 0 0 3 9", 5, None),
-    ("set a 0 0 1048577", 1_048_579, Some(Refusal::TooLarge)),
-    ("set a x 0 3", 5, Some(Refusal::BadFormat)),
-    ("set a x 0 y", 0, Some(Refusal::BadFormat)),
-    ("ms a 3 k O1", 5, None),
-    ("ms YQ== 3 b k", 5, None),
-    ("ms a 3 C1 MA", 5, Some(Refusal::BadFormat)),
-    ("get a b c d e f", 0, None),
-    ("get a b\x7f", 0, Some(Refusal::BadKey)),
-    ("get a", 0, None),
-    ("gat 10 a b", 0, None),
-    ("gats 10 a b c", 0, None),
-    ("delete a", 0, None),
-    ("incr a 1", 0, None),
-    ("decr a 1 noreply", 0, None),
-    ("touch a 0", 0, None),
-    ("mg a v k", 0, None),
-    ("mg YQ== b v", 0, None),
-    ("md a q", 0, None),
-    ("ma a N0", 0, None),
+    ("set a:key:of:39:bytes:lies:in:its:own:block 0 0 3", 5, None),
+    (
+        "add a:key:of:39:bytes:lies:in:its:own:block 0 0 3 noreply",
+        5,
+        None,
+    ),
+    (
+        "prepend a:key:of:39:bytes:lies:in:its:own:block 0 0 3",
+        5,
+        None,
+    ),
+    (
+        "cas a:key:of:39:bytes:lies:in:its:own:block 0 0 3 9",
+        5,
+        None,
+    ),
+    (
+        "set a:key:of:39:bytes:lies:in:its:own:block 0 0 1048577",
+        1_048_579,
+        Some(Refusal::TooLarge),
+    ),
+    (
+        "set a:key:of:39:bytes:lies:in:its:own:block x 0 3",
+        5,
+        Some(Refusal::BadFormat),
+    ),
+    (
+        "set a:key:of:39:bytes:lies:in:its:own:block x 0 y",
+        0,
+        Some(Refusal::BadFormat),
+    ),
+    ("ms a:key:of:39:bytes:lies:in:its:own:block 3 k O1", 5, None),
+    (
+        "ms YTprZXk6b2Y6Mzk6Ynl0ZXM6bGllczppbjppdHM6b3duOmJsb2Nr 3 b k",
+        5,
+        None,
+    ),
+    (
+        "ms a:key:of:39:bytes:lies:in:its:own:block 3 C1 MA",
+        5,
+        Some(Refusal::BadFormat),
+    ),
+    (
+        "get a:key:of:39:bytes:lies:in:its:own:block b c d e f",
+        0,
+        None,
+    ),
+    (
+        "get a:key:of:39:bytes:lies:in:its:own:block b\x7f",
+        0,
+        Some(Refusal::BadKey),
+    ),
+    ("get a:key:of:39:bytes:lies:in:its:own:block", 0, None),
+    ("gat 10 a:key:of:39:bytes:lies:in:its:own:block b", 0, None),
+    (
+        "gats 10 a:key:of:39:bytes:lies:in:its:own:block b c",
+        0,
+        None,
+    ),
+    ("delete a:key:of:39:bytes:lies:in:its:own:block", 0, None),
+    ("incr a:key:of:39:bytes:lies:in:its:own:block 1", 0, None),
+    (
+        "decr a:key:of:39:bytes:lies:in:its:own:block 1 noreply",
+        0,
+        None,
+    ),
+    ("touch a:key:of:39:bytes:lies:in:its:own:block 0", 0, None),
+    ("mg a:key:of:39:bytes:lies:in:its:own:block v k", 0, None),
+    (
+        "mg YTprZXk6b2Y6Mzk6Ynl0ZXM6bGllczppbjppdHM6b3duOmJsb2Nr b v",
+        0,
+        None,
+    ),
+    ("md a:key:of:39:bytes:lies:in:its:own:block q", 0, None),
+    ("ma a:key:of:39:bytes:lies:in:its:own:block N0", 0, None),
 ];
 
 /// Where an allocation is refused, the line is refused as out of memory, and as many bytes are skipped.

@@ -183,7 +183,7 @@ fn a_skipped_block_is_not_kept(rt: HostRuntime) -> Result<(), Fail> {
 }
 
 /// Holds whichever one allocation is refused, as by `rt try --test --fail-alloc N` for each N: its command is
-/// given up, its block is skipped, and the commands behind it are read.
+/// given up, its block is skipped, and the commands behind it are read. Each key that is read takes memory.
 #[test]
 fn a_refused_allocation_gives_up_one_command(rt: HostRuntime) {
     let alloc = rt.alloc();
@@ -193,7 +193,12 @@ fn a_refused_allocation_gives_up_one_command(rt: HostRuntime) {
     feed_all(
         &rt,
         &mut reader,
-        b"set a 0 0 4\r\nmn\r\n\r\nget a b c\r\nms YQ== 4 b k\r\nmn\r\n\r\nget d\r\nmn\r\n",
+        b"\
+        set a:key:of:39:bytes:lies:in:its:own:block 0 0 4\r\nmn\r\n\r\n\
+        get a:key:of:39:bytes:lies:in:its:own:block b c\r\n\
+        ms YTprZXk6b2Y6Mzk6Ynl0ZXM6bGllczppbjppdHM6b3duOmJsb2Nr 4 b k\r\nmn\r\n\r\n\
+        get d:key:of:39:bytes:lies:in:its:own:block\r\n\
+        mn\r\n",
     );
     let mut refused = 0u8;
     for wanted in [

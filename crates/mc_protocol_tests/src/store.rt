@@ -723,28 +723,42 @@ fn meta_arithmetic(rt: HostRuntime) -> Result<(), Fail> {
     ask_new(&rt, rt.alloc(), 16_777_216, &META_NUMBERS)
 }
 
+// Keys of the first of two shards that take memory: those of at most 38 bytes take none.
+const KEY_A: &str = "a:key:of:39:bytes:lies:in:its:own:block";
+
+const KEY_C: &str = "c:key:of:39:bytes:lies:in:its:own:block";
+
+const KEY_E: &str = "e:key:of:39:bytes:lies:in:its:own:block";
+
+const KEY_G: &str = "g:key:of:39:bytes:lies:in:its:own:block";
+
 // Rows for refused allocations, and whether the operation takes no memory once it was made: it deletes, touches,
 // marks stale, flushes, or stores under a key that is there.
 static SHORT: [(Row, bool); 18] = [
-    ((1000, "a", Ask::Set("x"), "stored"), false),
-    ((1000, "a", Ask::Get, "0 1 x"), false),
-    ((1000, "a", Ask::Set("7"), "stored"), true),
+    ((1000, KEY_A, Ask::Set("x"), "stored"), false),
+    ((1000, KEY_A, Ask::Get, "0 1 x"), false),
+    ((1000, KEY_A, Ask::Set("7"), "stored"), true),
     (
-        (1000, "a", Ask::Put(StoreMode::Append, "0"), "stored"),
+        (1000, KEY_A, Ask::Put(StoreMode::Append, "0"), "stored"),
         false,
     ),
     (
-        (1000, "a", Ask::Count(Direction::Increment, 1), "71"),
-        false,
-    ),
-    (
-        (1000, "c", Ask::Ms(MetaMode::Set, None, "5"), "c9 s1 t99 0"),
+        (1000, KEY_A, Ask::Count(Direction::Increment, 1), "71"),
         false,
     ),
     (
         (
             1000,
-            "c",
+            KEY_C,
+            Ask::Ms(MetaMode::Set, None, "5"),
+            "c9 s1 t99 0",
+        ),
+        false,
+    ),
+    (
+        (
+            1000,
+            KEY_C,
             Ask::Mg(None, Some(30), None),
             "f9 c9 h0 l0 t99 5",
         ),
@@ -753,36 +767,41 @@ static SHORT: [(Row, bool); 18] = [
     (
         (
             1000,
-            "e",
+            KEY_E,
             Ask::Mg(None, Some(30), None),
             "f0 c11 h0 l0 t30 W ",
         ),
         false,
     ),
-    ((1000, "g", Ask::Get, "miss"), true),
-    ((1000, "c", Ask::Ma(None, 2, None), "c13 s1 t99 7"), false),
-    ((1000, "c", Ask::Md(None, true), "done"), true),
+    ((1000, KEY_G, Ask::Get, "miss"), true),
+    ((1000, KEY_C, Ask::Ma(None, 2, None), "c13 s1 t99 7"), false),
+    ((1000, KEY_C, Ask::Md(None, true), "done"), true),
     (
-        (1000, "c", Ask::Put(StoreMode::Cas(15), "6"), "stored"),
+        (1000, KEY_C, Ask::Put(StoreMode::Cas(15), "6"), "stored"),
         true,
     ),
-    ((1000, "e", Ask::Touch(60), "touched"), true),
-    ((1000, "c", Ask::Delete, "deleted"), true),
-    (
-        (1000, "e", Ask::Mg(None, None, None), "f0 c11 h0 l0 t60 Z "),
-        false,
-    ),
-    ((1000, "e", Ask::Flush(0), "done"), true),
+    ((1000, KEY_E, Ask::Touch(60), "touched"), true),
+    ((1000, KEY_C, Ask::Delete, "deleted"), true),
     (
         (
             1000,
-            "e",
+            KEY_E,
+            Ask::Mg(None, None, None),
+            "f0 c11 h0 l0 t60 Z ",
+        ),
+        false,
+    ),
+    ((1000, KEY_E, Ask::Flush(0), "done"), true),
+    (
+        (
+            1000,
+            KEY_E,
             Ask::Stats,
             "get 4/1 set 4/0 touch 1/0 stats 0/0 n0 b0 of 1024 e0",
         ),
         false,
     ),
-    ((1000, "e", Ask::ResetStats, "reset"), true),
+    ((1000, KEY_E, Ask::ResetStats, "reset"), true),
 ];
 
 /// Makes the operation, in a second try where no memory was left for the first.

@@ -100,6 +100,28 @@ fn keys_have_their_places(rt: HostRuntime) -> Result<(), Fail> {
     Ok(())
 }
 
+/// A key of at most 38 bytes lies in the `Key` itself, a longer one in a block of memory: nothing of that is seen.
+#[test]
+fn keys_are_alike_wherever_they_lie(rt: HostRuntime) -> Result<(), Fail> {
+    let words = [
+        b"k".as_slice(),
+        b"0123456789012345678901234567890123456",
+        b"01234567890123456789012345678901234567",
+        b"012345678901234567890123456789012345678",
+        b"0123456789012345678901234567890123456789",
+    ];
+    for word in words {
+        let key = Key::from_word(rt.alloc(), word)?;
+        equal(&rt, key.bytes(), word);
+        equal(&rt, key.clone()?.bytes(), word);
+        for other in words {
+            let alike = Key::from_word(rt.alloc(), other)? == key;
+            equal(&rt, (word, alike), (word, word == other));
+        }
+    }
+    Ok(())
+}
+
 /// The texts are those of RFC 4648, section 10.
 #[test]
 fn base64_keys_are_shown_as_they_were_read(rt: HostRuntime) -> Result<(), Fail> {
@@ -178,15 +200,27 @@ fn faults_of_words_take_no_memory(rt: HostRuntime) {
     }
 }
 
+/// Also where an allocation is refused: a key of at most 38 bytes asks for none.
+#[test]
+fn short_keys_take_no_memory(rt: HostRuntime) {
+    let key = Key::from_word(rt.alloc(), &[b'k'; 38]);
+    holds(&rt, key.is_ok_and(|key| key.clone().is_ok()));
+    holds(&rt, Key::from_base64(rt.alloc(), b"YQ==").is_ok());
+}
+
 /// With an allocation refused the answer is `Memory`, and else the key.
 #[test]
 fn memory_is_the_only_other_fault(rt: HostRuntime) {
+    let long = [b'a'; 39];
     for key in [
-        Key::from_word(rt.alloc(), b"a"),
-        Key::from_base64(rt.alloc(), b"YQ=="),
+        Key::from_word(rt.alloc(), &long),
+        Key::from_base64(
+            rt.alloc(),
+            b"YWFhYWFhYWFhYWFhYWFhYWFhYWFhYWFhYWFhYWFhYWFhYWFhYWFh",
+        ),
     ] {
         match key {
-            Ok(key) => equal(&rt, key.bytes(), b"a".as_slice()),
+            Ok(key) => equal(&rt, key.bytes(), long.as_slice()),
             Err(fault) => equal(&rt, fault, WireFault::Memory),
         }
     }

@@ -74,22 +74,22 @@ fn a_moment_for_each_command(rt: HostRuntime) -> Result<(), Fail> {
     Ok(())
 }
 
-/// Stores, changes and reads of two shards, after which nothing is read.
+/// Stores, changes and reads of two shards, after which nothing is read. Keys of 39 bytes take memory.
 const SCRIPT: &[u8] =
-    b"set a 0 0 1\r\nx\r\nget a b\r\nappend a 0 0 1\r\ny\r\nincr a 1\r\nms c 1 c\r\nz\r\nmg c v\r\nflush_all\r\nmn\r\nget a\r\nquit\r\n";
+    b"set aaaaaaaaaaaaaaaaaaaaaaaaaaaaaaaaaaaaaaa 0 0 1\r\nx\r\nget aaaaaaaaaaaaaaaaaaaaaaaaaaaaaaaaaaaaaaa b\r\nappend aaaaaaaaaaaaaaaaaaaaaaaaaaaaaaaaaaaaaaa 0 0 1\r\ny\r\nincr aaaaaaaaaaaaaaaaaaaaaaaaaaaaaaaaaaaaaaa 1\r\nms ccccccccccccccccccccccccccccccccccccccc 1 c\r\nz\r\nmg ccccccccccccccccccccccccccccccccccccccc v\r\nflush_all\r\nmn\r\nget aaaaaaaaaaaaaaaaaaaaaaaaaaaaaaaaaaaaaaa\r\nquit\r\n";
 
 /// The replies to the script where all commands were done, and where one found no memory: the set, the get of two
 /// keys, the append, the incr, the ms, the mg, the flush_all, the last get.
 const OUTPUTS: [&[u8]; 9] = [
-    b"STORED\r\nVALUE a 0 1\r\nx\r\nEND\r\nSTORED\r\nCLIENT_ERROR cannot increment or decrement non-numeric value\r\nHD c5\r\nVA 1\r\nz\r\nOK\r\nMN\r\nEND\r\n",
+    b"STORED\r\nVALUE aaaaaaaaaaaaaaaaaaaaaaaaaaaaaaaaaaaaaaa 0 1\r\nx\r\nEND\r\nSTORED\r\nCLIENT_ERROR cannot increment or decrement non-numeric value\r\nHD c5\r\nVA 1\r\nz\r\nOK\r\nMN\r\nEND\r\n",
     b"SERVER_ERROR out of memory\r\nEND\r\nNOT_STORED\r\nNOT_FOUND\r\nHD c1\r\nVA 1\r\nz\r\nOK\r\nMN\r\nEND\r\n",
     b"STORED\r\nSERVER_ERROR out of memory\r\nSTORED\r\nCLIENT_ERROR cannot increment or decrement non-numeric value\r\nHD c5\r\nVA 1\r\nz\r\nOK\r\nMN\r\nEND\r\n",
-    b"STORED\r\nVALUE a 0 1\r\nx\r\nEND\r\nSERVER_ERROR out of memory\r\nCLIENT_ERROR cannot increment or decrement non-numeric value\r\nHD c3\r\nVA 1\r\nz\r\nOK\r\nMN\r\nEND\r\n",
-    b"STORED\r\nVALUE a 0 1\r\nx\r\nEND\r\nSTORED\r\nSERVER_ERROR out of memory\r\nHD c5\r\nVA 1\r\nz\r\nOK\r\nMN\r\nEND\r\n",
-    b"STORED\r\nVALUE a 0 1\r\nx\r\nEND\r\nSTORED\r\nCLIENT_ERROR cannot increment or decrement non-numeric value\r\nSERVER_ERROR out of memory\r\nEN\r\nOK\r\nMN\r\nEND\r\n",
-    b"STORED\r\nVALUE a 0 1\r\nx\r\nEND\r\nSTORED\r\nCLIENT_ERROR cannot increment or decrement non-numeric value\r\nHD c5\r\nSERVER_ERROR out of memory\r\nOK\r\nMN\r\nEND\r\n",
-    b"STORED\r\nVALUE a 0 1\r\nx\r\nEND\r\nSTORED\r\nCLIENT_ERROR cannot increment or decrement non-numeric value\r\nHD c5\r\nVA 1\r\nz\r\nSERVER_ERROR out of memory\r\nMN\r\nVALUE a 0 2\r\nxy\r\nEND\r\n",
-    b"STORED\r\nVALUE a 0 1\r\nx\r\nEND\r\nSTORED\r\nCLIENT_ERROR cannot increment or decrement non-numeric value\r\nHD c5\r\nVA 1\r\nz\r\nOK\r\nMN\r\nSERVER_ERROR out of memory\r\n",
+    b"STORED\r\nVALUE aaaaaaaaaaaaaaaaaaaaaaaaaaaaaaaaaaaaaaa 0 1\r\nx\r\nEND\r\nSERVER_ERROR out of memory\r\nCLIENT_ERROR cannot increment or decrement non-numeric value\r\nHD c3\r\nVA 1\r\nz\r\nOK\r\nMN\r\nEND\r\n",
+    b"STORED\r\nVALUE aaaaaaaaaaaaaaaaaaaaaaaaaaaaaaaaaaaaaaa 0 1\r\nx\r\nEND\r\nSTORED\r\nSERVER_ERROR out of memory\r\nHD c5\r\nVA 1\r\nz\r\nOK\r\nMN\r\nEND\r\n",
+    b"STORED\r\nVALUE aaaaaaaaaaaaaaaaaaaaaaaaaaaaaaaaaaaaaaa 0 1\r\nx\r\nEND\r\nSTORED\r\nCLIENT_ERROR cannot increment or decrement non-numeric value\r\nSERVER_ERROR out of memory\r\nEN\r\nOK\r\nMN\r\nEND\r\n",
+    b"STORED\r\nVALUE aaaaaaaaaaaaaaaaaaaaaaaaaaaaaaaaaaaaaaa 0 1\r\nx\r\nEND\r\nSTORED\r\nCLIENT_ERROR cannot increment or decrement non-numeric value\r\nHD c5\r\nSERVER_ERROR out of memory\r\nOK\r\nMN\r\nEND\r\n",
+    b"STORED\r\nVALUE aaaaaaaaaaaaaaaaaaaaaaaaaaaaaaaaaaaaaaa 0 1\r\nx\r\nEND\r\nSTORED\r\nCLIENT_ERROR cannot increment or decrement non-numeric value\r\nHD c5\r\nVA 1\r\nz\r\nSERVER_ERROR out of memory\r\nMN\r\nVALUE aaaaaaaaaaaaaaaaaaaaaaaaaaaaaaaaaaaaaaa 0 2\r\nxy\r\nEND\r\n",
+    b"STORED\r\nVALUE aaaaaaaaaaaaaaaaaaaaaaaaaaaaaaaaaaaaaaa 0 1\r\nx\r\nEND\r\nSTORED\r\nCLIENT_ERROR cannot increment or decrement non-numeric value\r\nHD c5\r\nVA 1\r\nz\r\nOK\r\nMN\r\nSERVER_ERROR out of memory\r\n",
 ];
 
 #[test]

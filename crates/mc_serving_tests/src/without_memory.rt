@@ -21,8 +21,11 @@ use std::process::Abort;
 
 static LONG: [u8; DEFAULT_LINE_LIMIT] = [b'x'; DEFAULT_LINE_LIMIT];
 
+/// A key that takes memory.
+const LONG_KEY: &[u8] = b"aaaaaaaaaaaaaaaaaaaaaaaaaaaaaaaaaaaaaaa";
+
 fn key_of(alloc: Global) -> Result<Key, AllocError> {
-    Key::from_word(alloc, b"a").map_err(|_| AllocError)
+    Key::from_word(alloc, LONG_KEY).map_err(|_| AllocError)
 }
 
 /// The value `17`.
@@ -77,7 +80,7 @@ fn words_numbers_and_items(rt: HostRuntime) {
     equal(&rt, key_fault(b"a b"), Some(WireFault::KeyByte));
     equal(&rt, number_u64(b"18446744073709551615"), Ok(u64::MAX));
     equal(&rt, number_i64(b"-17"), Ok(-17));
-    equal(&rt, key.bytes(), b"a".as_slice());
+    equal(&rt, key.bytes(), LONG_KEY);
     holds(&rt, key.place(16) < 16);
     equal(&rt, expiry(10, 1_000), Expiry::At(1_010));
     holds(&rt, !item.is_dead(1_009));
@@ -309,7 +312,8 @@ fn a_connection_whose_commands_are_taken(rt: HostRuntime) {
     ) else {
         return;
     };
-    let bytes = b"get a b\r\nmn\r\n";
+    let bytes =
+        b"get aaaaaaaaaaaaaaaaaaaaaaaaaaaaaaaaaaaaaaa bbbbbbbbbbbbbbbbbbbbbbbbbbbbbbbbbbbbbbb\r\nmn\r\n";
     equal(&rt, conn.feed(bytes), bytes.len());
     holds(&rt, matches!(conn.take(alloc, 1_000), Taken::Opened(_)));
     if conn.passes() > 0 {

@@ -2,3 +2,4 @@
 pub mod Steps
 pub mod Eight
 pub mod Parity
+pub mod KeptBytes

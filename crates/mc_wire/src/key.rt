@@ -20,6 +20,9 @@ use std::marker::Model;
 /// Room in which any text of `KEY_LIMIT` bytes is decoded, in bytes.
 const DECODE_ROOM: usize = 189;
 
+/// A key of at most this many bytes lies in the `Key` itself, which takes 40 bytes so.
+const SHORT_KEY: usize = 38;
+
 /// The hash FNV-1a of 32 bits: what it starts from, and what each byte multiplies it by.
 const FNV_BASIS: u32 = 2_166_136_261;
 
@@ -29,27 +32,45 @@ const FNV_PRIME: u32 = 16_777_619;
 /// of its bytes.
 #[derive(Drop)]
 pub struct Key {
-    bytes: Vec<u8>,
+    kept: KeptBytes,
+}
+
+/// Where the bytes of a key lie.
+#[derive(Drop)]
+enum KeptBytes {
+    /// In the front of the room, so that the key takes no block of memory.
+    Short { len: u8, room: [u8; SHORT_KEY] },
+    Long(Vec<u8>),
 }
 
 impl Model for Key {
     ghost use Rattle.std.specs.Prelude.{ℕ, ◌<◌, ◌≤◌, List, length};
     ghost use Rattle.mc_wire.specs.declared.TheConstants.{KEY_LIMIT};
+    ghost use Rattle.mc_wire.specs.internal.KeptBytes.{kept_bytes, FitsItsRoom};
 
     ghost Value = { List ℕ };
 
-    ghost view = { λ key. key.bytes.items };
+    ghost view = { λ key. kept_bytes key.kept };
 
-    ghost invariant = { λ key.
-        (0 < length key.bytes.items) × (length key.bytes.items ≤ KEY_LIMIT) };
+    ghost invariant = { λ key. FitsItsRoom key.kept ×
+        (0 < length (kept_bytes key.kept)) × (length (kept_bytes key.kept) ≤ KEY_LIMIT) };
 }
 
 impl Clone for Key {
     ghost is_clone = { λ key copy. copy ≡ key };
 
     fn clone(&self) -> Result<Key, AllocError> {
-        let bytes = self.bytes.clone()?;
-        Ok(Key { bytes })
+        match &self.kept {
+            KeptBytes::Short { len, room } => {
+                let (len, room) = (*len, *room);
+                let kept = KeptBytes::Short { len, room };
+                Ok(Key { kept })
+            }
+            KeptBytes::Long(bytes) => {
+                let kept = KeptBytes::Long(bytes.clone()?);
+                Ok(Key { kept })
+            }
+        }
     }
 }
 
@@ -83,7 +104,7 @@ impl Hash for Key {
     ghost respects_eq = { (same_Alike (λ key. key ∷ []) bytes_decides).fed };
 
     fn hash<H: Hasher>(&self, state: &mut H) {
-        state.write(&self.bytes);
+        state.write(self.bytes());
     }
 }
 
@@ -108,8 +129,7 @@ impl Key {
         requires { key_fault word.now ≡ None }
         ensures { IfOk result (λ key. key ≡ word.now) }
     {
-        let bytes = Vec::from_slice(alloc, word)?;
-        Ok(Key { bytes })
+        Key::keep(alloc, word)
     }
 
     /// Reads a key word in base64: at most `KEY_LIMIT` bytes of the standard alphabet with padding,
@@ -141,8 +161,25 @@ impl Key {
         let Some(len) = decode(word, &mut room) else {
             return Err(WireFault::NotBase64);
         };
-        let bytes = Vec::from_slice(alloc, room.split_at(len).0)?;
-        Ok(Key { bytes })
+        let key = Key::keep(alloc, room.split_at(len).0)?;
+        Ok(key)
+    }
+
+    /// The key of these bytes. A short one takes no memory.
+    fn keep(alloc: Global, bytes: &[u8]) -> Result<Key, AllocError>
+        requires some { 0 < length bytes.now }
+        requires short { length bytes.now ≤ KEY_LIMIT }
+        ensures { IfOk result (λ key. key ≡ bytes.now) }
+    {
+        if bytes.len() > SHORT_KEY {
+            let kept = KeptBytes::Long(Vec::from_slice(alloc, bytes)?);
+            return Ok(Key { kept });
+        }
+        let mut room = [0; SHORT_KEY];
+        room[..bytes.len()].copy_from_slice(bytes);
+        let len = bytes.len() as u8;
+        let kept = KeptBytes::Short { len, room };
+        Ok(Key { kept })
     }
 
     /// The base64 text of the key, which this writes into the room. Of a key that was read from
@@ -164,7 +201,10 @@ impl Key {
         ensures some { 0 < length result.now }
         ensures short { length result.now ≤ KEY_LIMIT }
     {
-        self.bytes.as_slice()
+        match &self.kept {
+            KeptBytes::Short { len, room } => &room[..usize::from(*len)],
+            KeptBytes::Long(bytes) => bytes.as_slice(),
+        }
     }
 
     /// The shard that the key belongs to, of so many: its hash FNV-1a of 32 bits modulo their number. Of one or two
