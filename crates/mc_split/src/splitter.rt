@@ -62,6 +62,7 @@ impl Splitter {
     }
 
     /// Asks one shard: puts the piece behind those of the queue.
+    #[inline(always)]
     pub fn one(
         self,
         queue: &mut VecDeque<(usize, Piece)>,
