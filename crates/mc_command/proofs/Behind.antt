@@ -8,7 +8,7 @@ use Rattle.mc_command.specs.declared.name.CommandName.TheVariants as name
 use Rattle.mc_command.specs.declared.rules.Rules.{Rules}
 use Rattle.mc_command.specs.Line.{bytes_behind}
 use Rattle.mc_command.specs.Blocks.{bytes_with}
-use Rattle.mc_command.specs.Classic.{count_before}
+use Rattle.mc_command.specs.internal.CasCounts.{count_before}
 use Rattle.mc_command.specs.Hiding.{hides_faults, shown_line}
 use Rattle.mc_command.specs.Table.{line_named, count_named}
 use Rattle.mc_command.proofs.Blocks.{lawful_named}

@@ -9,7 +9,6 @@ use Rattle.mc_command.specs.declared.command.StoreMode.{StoreMode}
 use Rattle.mc_command.specs.declared.command.Direction.{Direction}
 use Rattle.mc_command.specs.declared.meta.MetaKind.{MetaKind}
 use Rattle.mc_command.specs.declared.meta.MetaKind.TheVariants as meta
-use Rattle.mc_command.specs.declared.meta_flags.FlagsRead.{FlagsRead}
 use Rattle.mc_command.specs.declared.name.CommandName.{CommandName}
 use Rattle.mc_command.specs.declared.name.CommandName.TheVariants as name
 use Rattle.mc_command.specs.declared.refusal.Refusal.{Refusal}
@@ -20,7 +19,7 @@ use Rattle.mc_command.specs.Field.{exptime_of, is_key, is_noreply, then_of}
 use Rattle.mc_command.specs.Blocks.{discarded_by, block_count, block_line, whole_line}
 use Rattle.mc_command.specs.Hiding.{hides_faults, shown_line}
 use Rattle.mc_command.specs.Classic.{cas_count_in, cas_words, count_in, count_words, delete_words, flush_of, flush_words, gat_words, get_words, keys_of, request_of, retrieval_of, stats_words, storage_words, touch_words, verbosity_words}
-use Rattle.mc_command.specs.Meta.{asked_of, command_by, compare_refusal, flags_refusal, has_flag, meta_command_of, meta_key_of, meta_line_of, set_by, unless}
+use Rattle.mc_command.specs.Meta.{compare_refusal, flags_refusal, has_flag, keyed_command, meta_command_of, meta_key_of, meta_line_of, meta_set_of, unless}
 use Rattle.mc_command.specs.Name.{name_of}
 use Rattle.mc_command.specs.Table.{line_if_named, line_named, line_of}
 use Rattle.mc_command.specs.Rules.{is_drop_in}
@@ -79,8 +78,8 @@ few_gat most rules with_unique words few = tt
 ruleset fews = (few_then)
 
 few_storage : (most : ℕ) (rules : Rules) (mode : StoreMode) (words : List (List ℕ)) → FewAsked most (storage_words rules mode words)
-few_storage most rules mode (key ∷ flags ∷ exptime ∷ count ∷ []) = search fews
-few_storage most rules mode (key ∷ flags ∷ exptime ∷ count ∷ noreply ∷ []) = search fews
+few_storage most rules mode (key ∷ flags ∷ exptime ∷ count ∷ []) = search fews depth 8
+few_storage most rules mode (key ∷ flags ∷ exptime ∷ count ∷ noreply ∷ []) = search fews depth 8
 few_storage most rules mode words = tt
 
 few_cas : (most : ℕ) (rules : Rules) (words : List (List ℕ)) → FewAsked most (cas_words rules words)
@@ -119,14 +118,14 @@ few_stats : (most : ℕ) (rules : Rules) (words : List (List ℕ)) → FewAsked 
 few_stats most rules words =
     few_cond most (is_drop_in rules) (then_of (ok_or (request_of words) Unknown) (λ request. Ok (command.Stats request))) (Err Unknown) (few_then most (ok_or (request_of words) Unknown) (λ request. Ok (command.Stats request)) (λ asked. tt)) tt
 
-few_meta_by : (most : ℕ) (rules : Rules) (name : MetaKind) (key : List ℕ) (asked : FlagsRead) → FewAsked most (command_by rules name key asked)
-few_meta_by most rules meta.Get key asked = tt
-few_meta_by most rules meta.Set key asked = few_unless most (compare_refusal rules (set_by rules key asked)) (Ok (command.MetaSet (set_by rules key asked))) tt
-few_meta_by most rules meta.Delete key asked = tt
-few_meta_by most rules meta.Arithmetic key asked = tt
+few_meta_by : (most : ℕ) (rules : Rules) (name : MetaKind) (key : List ℕ) (words : List (List ℕ)) → FewAsked most (keyed_command rules name key words)
+few_meta_by most rules meta.Get key words = tt
+few_meta_by most rules meta.Set key words = few_unless most (compare_refusal rules (meta_set_of rules key words)) (Ok (command.MetaSet (meta_set_of rules key words))) tt
+few_meta_by most rules meta.Delete key words = tt
+few_meta_by most rules meta.Arithmetic key words = tt
 
 few_meta : (most : ℕ) (rules : Rules) (name : MetaKind) (word : List ℕ) (words : List (List ℕ)) → FewAsked most (meta_command_of rules name word words)
-few_meta most rules name word words = few_unless most (flags_refusal rules name [] words) (then_of (meta_key_of (has_flag 98 words) word) (λ key. command_by rules name key (asked_of rules name words))) (few_then most (meta_key_of (has_flag 98 words) word) (λ key. command_by rules name key (asked_of rules name words)) (λ key. few_meta_by most rules name key (asked_of rules name words)))
+few_meta most rules name word words = few_unless most (flags_refusal rules name [] words) (then_of (meta_key_of (has_flag 98 words) word) (λ key. keyed_command rules name key words)) (few_then most (meta_key_of (has_flag 98 words) word) (λ key. keyed_command rules name key words) (λ key. few_meta_by most rules name key words))
 
 few_meta_line : (most : ℕ) (rules : Rules) (name : MetaKind) (words : List (List ℕ)) → FewLine most (meta_line_of rules name words)
 unfolding meta_line_of

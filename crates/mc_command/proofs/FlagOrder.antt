@@ -18,12 +18,14 @@ use Rattle.mc_command.specs.declared.refusal.Refusal.TheVariants.{InvalidFlag, D
 use Rattle.mc_command.specs.Blocks.{block_count, block_line, discarded_by, key_set, whole_line}
 use Rattle.mc_command.specs.Hiding.{shown_line}
 use Rattle.mc_command.specs.Field.{then_of}
+use Rattle.mc_command.specs.internal.FlagsAsked.{asked_of, command_by, set_by}
 use Rattle.mc_command.specs.FlagOrder.{with_flags, with_returned, returned_in, IsReordered, SameButOrder, before_flags}
-use Rattle.mc_command.specs.Meta.{has_letter, has_flag, shown_flag, flags_of, flag_refusal, flags_refusal, unless, meta_key_of, compare_refusal, set_by, asked_of, command_by, meta_command_of, meta_line_of}
+use Rattle.mc_command.specs.Meta.{has_letter, has_flag, shown_flag, flags_of, flag_refusal, flags_refusal, unless, meta_key_of, compare_refusal, keyed_command, meta_command_of, meta_line_of}
 use Rattle.mc_command.specs.Name.{name_of}
 use Rattle.mc_command.specs.Rules.{is_drop_in}
 use Rattle.mc_command.specs.Table.{line_of}
 use Rattle.mc_command.proofs.MetaCounts.{eq_comm}
+use Rattle.mc_command.proofs.MetaLaws.{asked_command}
 use Rattle.mc_command.proofs.MetaLookups.{has_flag-append}
 use Rattle.mc_command.proofs.Permuted.{along_permutation, IsPermutation-filter_map}
 use Rattle.mc_command.specs.declared.rules.Rules.{Rules}
@@ -123,6 +125,9 @@ same_then : (read again : Result (List ℕ) Refusal) (one two : List ℕ → Res
 same_then (Ok key) again one two is same = rw (← is) (same key)
 same_then (Err refusal) again one two is same = rw (← is) tt
 
+same_made : (one other made told : Result Command Refusal) → made ≡ one → told ≡ other → SameAsked made told → SameAsked one other
+same_made one other made told one_is other_is same = rw (← one_is, ← other_is) same
+
 with_others : (rules : Rules) (name : MetaKind) (key : List ℕ) (asked : FlagsRead) (returned : List ReturnFlag) → IsPermutation asked.flags.returned returned →
     SameAsked (command_by rules name key asked) (command_by rules name key (record asked { flags = with_flags asked.flags returned }))
 with_others rules Set key asked returned moved =
@@ -137,10 +142,12 @@ module _ (words others : List (List ℕ)) (moved : IsPermutation words others) (
   asked_is rules name = rw (stands 98, stands 113, found 79, stands 118, stands 73, stands 117, found 84, found 78, found 82, found 67, found 69, found 68, found 74, found 70, found 77) refl
 
   pub same_keyed : (rules : Rules) (name : MetaKind) (word : List ℕ) →
-      SameAsked (then_of (meta_key_of (has_flag 98 words) word) (λ key. command_by rules name key (asked_of rules name words))) (then_of (meta_key_of (has_flag 98 others) word) (λ key. command_by rules name key (asked_of rules name others)))
+      SameAsked (then_of (meta_key_of (has_flag 98 words) word) (λ key. keyed_command rules name key words)) (then_of (meta_key_of (has_flag 98 others) word) (λ key. keyed_command rules name key others))
   same_keyed rules name word =
-      same_then _ _ (λ key. command_by rules name key (asked_of rules name words)) (λ key. command_by rules name key (asked_of rules name others)) (ap (λ base64. meta_key_of base64 word) (stands 98))
-      (λ key. rw (asked_is rules name) (with_others rules name key (asked_of rules name words) (filter_map shown_flag others) (IsPermutation-filter_map shown_flag words others moved)))
+      same_then _ _ (λ key. keyed_command rules name key words) (λ key. keyed_command rules name key others) (ap (λ base64. meta_key_of base64 word) (stands 98))
+      (λ key.
+      same_made _ _ _ _ (asked_command rules name key words) (asked_command rules name key others)
+      (rw (asked_is rules name) (with_others rules name key (asked_of rules name words) (filter_map shown_flag others) (IsPermutation-filter_map shown_flag words others moved))))
 
 same_asked : (rules : Rules) (name : MetaKind) (word : List ℕ) (words others : List (List ℕ)) → IsPermutation words others → SameAsked (meta_command_of rules name word words) (meta_command_of rules name word others)
 same_asked rules name word words others moved =

@@ -1,13 +1,29 @@
 -- A line whose faults are hidden, or not.
-use Rattle.std.proofs.Common.{◌≡◌, ℕ, Bool, true, false, None, refl, ap}
+use Rattle.std.proofs.Common.{◌≡◌, ℕ, Bool, true, false, List, [], ◌∷◌, Option, Some, None, unwrap_or, refl, ap}
 use Rattle.std.specs.Prelude.{IsTrue, MatchBool}
+use Rattle.std.specs.List.{last_or}
+use Rattle.std.specs.Option.{option_map}
 use Rattle.mc_command.specs.declared.line.Line.{Line}
 use Rattle.mc_command.specs.declared.line.Line.TheVariants.{Whole, Data, Refused, Skip}
 use Rattle.mc_command.specs.declared.refusal.Refusal.{Refusal}
 use Rattle.mc_command.specs.declared.refusal.Refusal.TheVariants.{Memory, WordCount}
 use Rattle.mc_command.specs.Command.{is_memory, refusal_takes_memory}
-use Rattle.mc_command.specs.Hiding.{shown_line, shown_refusal}
+use Rattle.mc_command.specs.Field.{is_noreply}
+use Rattle.mc_command.specs.Hiding.{ends_in_noreply, shown_line, shown_refusal}
 use Rattle.mc_command.specs.Line.{Says, CanGiveUpLine, CanGiveUpBlock}
+
+-- whether the last of the words is `noreply`; where there is none, whether that was so before
+abbrev pub noreply_from : Bool → List (List ℕ) → Bool
+noreply_from last [] = last
+noreply_from last (word ∷ words) = noreply_from (is_noreply word) words
+
+from_last : (last : Option (List ℕ)) (words : List (List ℕ)) → unwrap_or (option_map is_noreply (last_or last words)) false ≡ noreply_from (unwrap_or (option_map is_noreply last) false) words
+from_last last [] = refl
+from_last last (word ∷ words) = from_last (Some word) words
+
+-- Words end in `noreply` where the last is it, as one after another tells.
+pub ends_from : (words : List (List ℕ)) → ends_in_noreply words ≡ noreply_from false words
+ends_from words = from_last None words
 
 -- Hiding faults neither hides that memory ran out nor makes another refusal say so.
 pub shown_told : (hides : Bool) (refusal : Refusal) → is_memory (shown_refusal hides refusal) ≡ is_memory refusal

@@ -14,7 +14,8 @@ use Rattle.mc_command.specs.Blocks.{MayBeGivenUp}
 use Rattle.mc_command.proofs.Lines.{Yields, may_then, yields_key, yields_or}
 use Rattle.mc_command.specs.Command.{refusal_takes_memory}
 use Rattle.mc_command.specs.Field.{Reads, then_of}
-use Rattle.mc_command.specs.Meta.{letters_of, is_among, has_flag, is_set, is_token, flag_refusal, flags_refusal, unless, decoded_key, meta_key_of, compare_refusal, set_by, asked_of, command_by, meta_command_of}
+use Rattle.mc_command.specs.Meta.{letters_by, is_among, has_flag, is_set, is_token, flag_refusal, flags_refusal, unless, decoded_key, meta_key_of, compare_refusal, keyed_command, meta_command_of, meta_set_of}
+use Rattle.mc_command.specs.internal.FlagsAsked.{asked_of, command_by}
 use Rattle.mc_command.specs.declared.meta_flags.FlagsRead.{FlagsRead}
 use Rattle.mc_command.specs.Rules.{is_drop_in}
 use Rattle.mc_command.specs.declared.rules.Rules.{Rules}
@@ -35,7 +36,7 @@ of_or (Some refusal) second f s = f
 flag_refusal_of_line : (rules : Rules) (name : MetaKind) (before : List (List ℕ)) (word : List ℕ) → IsOfLine (flag_refusal rules name before word)
 flag_refusal_of_line rules name before [] = refl
 flag_refusal_of_line rules name before (letter ∷ token) =
-    of_cond (not (is_among (letters_of rules name) letter)) _ _ refl
+    of_cond (not (is_among (letters_by rules.profile name) letter)) _ _ refl
     (of_cond (has_flag letter before) _ _ refl
     (of_cond (letter == 79 && nat_lt OPAQUE_LIMIT (length token)) _ _ refl
     (of_cond (is_token name letter token) _ _ tt refl)))
@@ -49,13 +50,13 @@ given_up_unless : (refusal : Option Refusal) (asked : Result Command Refusal) �
 given_up_unless None asked of_line may = may
 given_up_unless (Some refusal) asked of_line may = of_line
 
-given_up_command : (rules : Rules) (name : MetaKind) (key : List ℕ) (asked : FlagsRead) → MayBeGivenUp (command_by rules name key asked)
-given_up_command rules Get key asked = refl
-given_up_command rules Set key asked =
-    let set = set_by rules key asked in
+given_up_command : (rules : Rules) (name : MetaKind) (key : List ℕ) (words : List (List ℕ)) → MayBeGivenUp (keyed_command rules name key words)
+given_up_command rules Get key words = refl
+given_up_command rules Set key words =
+    let set = meta_set_of rules key words in
     given_up_unless (compare_refusal rules set) _ (of_cond (not (is_drop_in rules) && (is_some set.compare && not (is_set set.mode))) _ _ refl tt) refl
-given_up_command rules Delete key asked = refl
-given_up_command rules Arithmetic key asked = refl
+given_up_command rules Delete key words = refl
+given_up_command rules Arithmetic key words = refl
 
 yields_meta_key : (base64 : Bool) (word : List ℕ) → Yields (meta_key_of base64 word)
 unfolding decoded_key
@@ -66,14 +67,21 @@ yields_meta_key false word = yields_key word
 pub meta_given_up : (rules : Rules) (name : MetaKind) (word : List ℕ) (words : List (List ℕ)) → MayBeGivenUp (meta_command_of rules name word words)
 meta_given_up rules name word words =
     given_up_unless (flags_refusal rules name [] words) _ (flags_refusal_of_line rules name [] words)
-    (may_then _ _ (yields_meta_key (has_flag 98 words) word) (λ key. given_up_command rules name key (asked_of rules name words)))
+    (may_then _ _ (yields_meta_key (has_flag 98 words) word) (λ key. given_up_command rules name key words))
+
+-- What all that a line's flags ask makes of a key is what the flags themselves make of it.
+pub asked_command : (rules : Rules) (name : MetaKind) (key : List ℕ) (words : List (List ℕ)) → command_by rules name key (asked_of rules name words) ≡ keyed_command rules name key words
+asked_command rules Get key words = refl
+asked_command rules Set key words = refl
+asked_command rules Delete key words = refl
+asked_command rules Arithmetic key words = refl
 
 asked_then : (rules : Rules) (name : MetaKind) (word : List ℕ) (words : List (List ℕ)) (asked : FlagsRead) (key : List ℕ) (refusal : Option Refusal) → Ok asked ≡ unless refusal (Ok (asked_of rules name words)) → meta_key_of asked.flags.base64 word ≡ Ok key →
-    command_by rules name key asked ≡ unless refusal (then_of (meta_key_of (has_flag 98 words) word) (λ bytes. command_by rules name bytes (asked_of rules name words)))
+    command_by rules name key asked ≡ unless refusal (then_of (meta_key_of (has_flag 98 words) word) (λ bytes. keyed_command rules name bytes words))
 asked_then rules name word words asked key (Some refusal) said spelled = absurd cc
 asked_then rules name word words asked key None said spelled =
     let same : asked ≡ asked_of rules name words = cc in
-    rw (same, rw same at spelled)
+    rw (same, rw same at spelled) (asked_command rules name key words)
 
 reads_same : (asked read : Result Command Refusal) → read ≡ asked → Reads asked read
 reads_same asked (Ok command) same = sym same

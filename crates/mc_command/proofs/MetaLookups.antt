@@ -13,7 +13,8 @@ use Rattle.mc_command.specs.declared.meta.ReturnFlag.{ReturnFlag}
 use Rattle.mc_command.specs.declared.meta_flags.FlagsRead.{FlagsRead}
 use Rattle.mc_command.specs.declared.meta.MetaKind.{MetaKind}
 use Rattle.mc_command.specs.declared.rules.Rules.{Rules}
-use Rattle.mc_command.specs.Meta.{has_letter, has_flag, token_of, shown_flag, return_flag, asked_of, mode_in, direction_in}
+use Rattle.mc_command.specs.Meta.{has_letter, has_flag, token_of, shown_flag, return_flag}
+use Rattle.mc_command.specs.internal.FlagsAsked.{asked_of, mode_in, direction_in}
 use Rattle.mc_command.specs.internal.FlagReading.{with_shown}
 
 -- A flag stands among some flags and one more just where it is that one or stands among the others.

@@ -19,7 +19,8 @@ use Rattle.mc_command.specs.declared.rules.Profile.{Profile}
 use Rattle.mc_command.specs.declared.rules.Profile.TheVariants.{Own, DropIn}
 use Rattle.mc_command.specs.declared.rules.Rules.{Rules}
 use Rattle.mc_command.specs.Field.{then_of}
-use Rattle.mc_command.specs.Meta.{letters_by, letters_of, is_among, has_flag, is_token, mode_of, direction_of, return_flag, flags_refusal, flag_refusal, unless, asked_of}
+use Rattle.mc_command.specs.Meta.{letters_by, is_among, has_flag, is_token, mode_of, direction_of, return_flag, flags_refusal, flag_refusal, unless}
+use Rattle.mc_command.specs.internal.FlagsAsked.{asked_of}
 use Rattle.mc_command.specs.internal.FlagReading.{nothing_asked, flag_of, with_flag, with_shown, with_word, unseen}
 use Rattle.mc_command.proofs.MetaCounts.{eq_comm, small_among}
 use Rattle.mc_command.proofs.MetaLookups.{asked_next, asked_of-append, has_flag-append, with_shown_is}
@@ -115,7 +116,7 @@ small_by DropIn Set letter among = small_among letter (letters_by DropIn Set) re
 small_by DropIn Delete letter among = small_among letter (letters_by DropIn Delete) refl among
 small_by DropIn Arithmetic letter among = small_among letter (letters_by DropIn Arithmetic) refl among
 
-small_letter : (rules : Rules) (name : MetaKind) (letter : ℕ) → is_among (letters_of rules name) letter ≡ true → letter < 256
+small_letter : (rules : Rules) (name : MetaKind) (letter : ℕ) → is_among (letters_by rules.profile name) letter ≡ true → letter < 256
 small_letter rules name letter among = small_by rules.profile name letter among
 
 -- The reader has read these flags.
@@ -148,7 +149,7 @@ step : (rules : Rules) (name : MetaKind) (reader : FlagReader) (before : List (L
 unfolding token_refusal
 step rules name reader before [] read = stops InvalidFlag refl refl
 step rules name reader before (letter ∷ token) read =
-    elim (cases_Bool (is_among (letters_of rules name) letter)) [
+    elim (cases_Bool (is_among (letters_by rules.profile name) letter)) [
       | inr t ↦ stops InvalidFlag (rw t refl) (rw t refl)
       | inl t ↦ elim (cases_Bool (has_flag letter before)) [
         | inl stands ↦

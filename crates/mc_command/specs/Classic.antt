@@ -1,7 +1,8 @@
 -- The classic commands: what the words behind each name are (protocol.txt, "Storage commands",
 -- "Retrieval command", "Deletion", "Increment/Decrement", "Touch", "Get And Touch", "Other commands").
 -- The number of words is judged first, then the words from left to right, the first fault deciding.
-use Rattle.std.specs.Prelude.{ℕ, ◌^◌, Bool, true, false, List, [], ◌∷◌, Option, Some, None, ◌||◌, codes, ℤ, pos, if◌then◌else◌, Result, Ok, Err}
+use Rattle.std.specs.Prelude.{ℕ, ◌^◌, Bool, true, false, List, [], ◌∷◌, Option, Some, None, is_none, ◌&&◌, codes, ℤ, pos, if◌then◌else◌, Result, Ok, Err}
+use Rattle.std.specs.Map.{lookup}
 use Rattle.std.specs.Option.{ok_or, option_and_then}
 use Rattle.std.specs.List.{list_all, slice_get}
 use Rattle.std.specs.Str.{bytes_eq}
@@ -30,48 +31,45 @@ is_lenient rules Append = is_drop_in rules
 is_lenient rules Prepend = is_drop_in rules
 is_lenient rules other = false
 
--- a storage command, its block still empty
-abbrev pub storage_of : Rules → StoreMode → List ℕ → List ℕ → List ℕ → Option (List ℕ) → Result Command Refusal
-storage_of rules mode key flags exptime noreply =
+-- what is read where no word stands behind the fields, or one; more are too many
+abbrev pub with_last : Rules → List (List ℕ) → (Option (List ℕ) → Result Command Refusal) → Result Command Refusal
+with_last rules [] read = read None
+with_last rules (word ∷ []) read = read (Some word)
+with_last rules words read = Err (word_count_refusal rules)
+
+-- a storage command, its block still empty; the mode of `cas` is read behind the exptime
+abbrev pub storage_of : Rules → Result StoreMode Refusal → List ℕ → List ℕ → List ℕ → Option (List ℕ) → Result Command Refusal
+storage_of rules mode key flags exptime last =
     then_of (key_of key) (λ key.
     then_of (unsigned_of (2 ^ 32) flags) (λ flags.
     then_of (exptime_of rules exptime) (λ exptime.
-    then_of (last_word_of rules noreply) (λ noreply.
-    Ok (Store (record { key = key; mode = mode; flags = flags; exptime = exptime; noreply = noreply; lenient = is_lenient rules mode; block = [] }))))))
+    then_of mode (λ mode.
+    then_of (last_word_of rules last) (λ noreply.
+    Ok (Store (record { key = key; mode = mode; flags = flags; exptime = exptime; noreply = noreply; lenient = is_lenient rules mode; block = [] })))))))
 
 -- set, add, replace, append and prepend: KEY flags E N [noreply]
 abbrev pub storage_words : Rules → StoreMode → List (List ℕ) → Result Command Refusal
-storage_words rules mode (key ∷ flags ∷ exptime ∷ count ∷ []) = storage_of rules mode key flags exptime None
-storage_words rules mode (key ∷ flags ∷ exptime ∷ count ∷ noreply ∷ []) = storage_of rules mode key flags exptime (Some noreply)
+storage_words rules mode (key ∷ flags ∷ exptime ∷ count ∷ more) =
+    with_last rules more (storage_of rules (Ok mode) key flags exptime)
 storage_words rules mode words = Err (word_count_refusal rules)
 
 abbrev pub storage_line : Rules → StoreMode → List (List ℕ) → Line
 storage_line rules mode words = block_line rules (count_in rules words) (storage_words rules mode words)
 
--- the storage command that a unique guards
-abbrev pub cas_of : Rules → List ℕ → List ℕ → List ℕ → List ℕ → Option (List ℕ) → Result Command Refusal
-cas_of rules key flags exptime unique noreply =
-    then_of (key_of key) (λ key.
-    then_of (unsigned_of (2 ^ 32) flags) (λ flags.
-    then_of (exptime_of rules exptime) (λ exptime.
-    then_of (unsigned_of (2 ^ 64) unique) (λ unique.
-    then_of (last_word_of rules noreply) (λ noreply.
-    Ok (Store (record { key = key; mode = Cas unique; flags = flags; exptime = exptime; noreply = noreply; lenient = false; block = [] })))))))
+-- the mode of `cas`, by the word of its unique
+abbrev pub cas_mode : List ℕ → Result StoreMode Refusal
+cas_mode unique = then_of (unsigned_of (2 ^ 64) unique) (λ unique. Ok (Cas unique))
 
 -- cas: KEY flags E N U [noreply]
 abbrev pub cas_words : Rules → List (List ℕ) → Result Command Refusal
-cas_words rules (key ∷ flags ∷ exptime ∷ count ∷ unique ∷ []) = cas_of rules key flags exptime unique None
-cas_words rules (key ∷ flags ∷ exptime ∷ count ∷ unique ∷ noreply ∷ []) = cas_of rules key flags exptime unique (Some noreply)
+cas_words rules (key ∷ flags ∷ exptime ∷ count ∷ unique ∷ more) =
+    with_last rules more (storage_of rules (cas_mode unique) key flags exptime)
 cas_words rules words = Err (word_count_refusal rules)
 
--- the count of the block of `cas`, by its word and the unique behind it; memcached awaits no block where the unique is
--- missing
-abbrev pub count_before : Rules → Option (List ℕ) → Option (List ℕ) → Option ℕ
-count_before rules count None = if is_drop_in rules then None else option_and_then (block_count rules) count
-count_before rules count (Some unique) = option_and_then (block_count rules) count
-
+-- the count of the block of `cas`; memcached awaits no block where the unique is missing
 abbrev pub cas_count_in : Rules → List (List ℕ) → Option ℕ
-cas_count_in rules words = count_before rules (slice_get words 3) (slice_get words 4)
+cas_count_in rules words =
+    if is_none (slice_get words 4) && is_drop_in rules then None else count_in rules words
 
 abbrev pub cas_line : Rules → List (List ℕ) → Line
 cas_line rules words = block_line rules (cas_count_in rules words) (cas_words rules words)
@@ -107,30 +105,24 @@ delete_words rules (key ∷ word ∷ []) = delete_of key (if is_zero word then O
 delete_words rules (key ∷ word ∷ noreply ∷ []) = delete_of key (if is_zero word then noreply_of (Some noreply) else Err BadFormat)
 delete_words rules words = Err (word_count_refusal rules)
 
-abbrev pub count_of : Rules → Direction → List ℕ → List ℕ → Option (List ℕ) → Result Command Refusal
-count_of rules direction key amount noreply =
-    then_of (key_of key) (λ key.
-    then_of (unsigned_of (2 ^ 64) amount) (λ amount.
-    then_of (last_word_of rules noreply) (λ noreply.
-    Ok (Count key direction amount noreply))))
-
 -- incr and decr: KEY U [noreply]
 abbrev pub count_words : Rules → Direction → List (List ℕ) → Result Command Refusal
-count_words rules direction (key ∷ amount ∷ []) = count_of rules direction key amount None
-count_words rules direction (key ∷ amount ∷ noreply ∷ []) = count_of rules direction key amount (Some noreply)
-count_words rules direction words = Err (word_count_refusal rules)
-
-abbrev pub touch_of : Rules → List ℕ → List ℕ → Option (List ℕ) → Result Command Refusal
-touch_of rules key exptime noreply =
+count_words rules direction (key ∷ amount ∷ more) =
+    with_last rules more (λ last.
     then_of (key_of key) (λ key.
-    then_of (exptime_of rules exptime) (λ exptime.
-    then_of (last_word_of rules noreply) (λ noreply.
-    Ok (Touch key exptime noreply))))
+    then_of (unsigned_of (2 ^ 64) amount) (λ amount.
+    then_of (last_word_of rules last) (λ noreply.
+    Ok (Count key direction amount noreply)))))
+count_words rules direction words = Err (word_count_refusal rules)
 
 -- touch: KEY E [noreply]
 abbrev pub touch_words : Rules → List (List ℕ) → Result Command Refusal
-touch_words rules (key ∷ exptime ∷ []) = touch_of rules key exptime None
-touch_words rules (key ∷ exptime ∷ noreply ∷ []) = touch_of rules key exptime (Some noreply)
+touch_words rules (key ∷ exptime ∷ more) =
+    with_last rules more (λ last.
+    then_of (key_of key) (λ key.
+    then_of (exptime_of rules exptime) (λ exptime.
+    then_of (last_word_of rules last) (λ noreply.
+    Ok (Touch key exptime noreply)))))
 touch_words rules words = Err (word_count_refusal rules)
 
 abbrev pub flush_of : Rules → List ℕ → Option (List ℕ) → Result Command Refusal
@@ -143,21 +135,20 @@ flush_words rules (word ∷ []) = if is_noreply word then Ok (FlushAll (pos 0) t
 flush_words rules (delay ∷ noreply ∷ []) = flush_of rules delay (Some noreply)
 flush_words rules words = Err (word_count_refusal rules)
 
-abbrev pub verbosity_of : Rules → List ℕ → Option (List ℕ) → Result Command Refusal
-verbosity_of rules level noreply = then_of (unsigned_of (2 ^ 64) level) (λ level. then_of (last_word_of rules noreply) (λ noreply. Ok (Verbosity noreply)))
-
 -- verbosity: U [noreply]
 abbrev pub verbosity_words : Rules → List (List ℕ) → Result Command Refusal
-verbosity_words rules (level ∷ []) = verbosity_of rules level None
-verbosity_words rules (level ∷ noreply ∷ []) = verbosity_of rules level (Some noreply)
+verbosity_words rules (level ∷ more) =
+    with_last rules more (λ last.
+    then_of (unsigned_of (2 ^ 64) level) (λ level.
+    then_of (last_word_of rules last) (λ noreply.
+    Ok (Verbosity noreply))))
 verbosity_words rules words = Err (word_count_refusal rules)
 
 -- what `stats` asks for by the word behind it: this server has counts of no other kind
 abbrev pub request_named : List ℕ → Option StatsRequest
 request_named word =
-    if bytes_eq word (codes "reset") then Some Reset
-    else (if bytes_eq word (codes "settings") || (bytes_eq word (codes "items") || (bytes_eq word (codes "slabs") || (bytes_eq word (codes "sizes") || bytes_eq word (codes "conns")))) then Some Empty
-    else None)
+    lookup (bytes_eq word) ((codes "reset", Reset) ∷ (codes "settings", Empty) ∷
+    (codes "items", Empty) ∷ (codes "slabs", Empty) ∷ (codes "sizes", Empty) ∷ (codes "conns", Empty) ∷ [])
 
 -- what the words behind `stats` ask for (protocol.txt, "Statistics"); those behind the first change nothing
 abbrev pub request_of : List (List ℕ) → Option StatsRequest

@@ -2,7 +2,6 @@
 use Rattle.std.specs.Prelude.{ℕ, Bool, true, false, List}
 use Rattle.mc_command.specs.declared.command.Command.{Command}
 use Rattle.mc_command.specs.declared.command.Command.TheVariants as command
-use Rattle.mc_command.specs.declared.command.StatsRequest.{StatsRequest}
 use Rattle.mc_command.specs.declared.command.StatsRequest.TheVariants as request
 use Rattle.mc_command.specs.declared.refusal.Refusal.{Refusal}
 use Rattle.mc_command.specs.declared.refusal.Refusal.TheVariants as refusal
@@ -30,12 +29,6 @@ refusal_takes_memory refusal.LineTooLong = false
 refusal_takes_memory refusal.Memory = false
 refusal_takes_memory other = true
 
--- The counts of shards are asked for.
-abbrev pub asks_shards : StatsRequest → Bool
-asks_shards request.General = true
-asks_shards request.Reset = true
-asks_shards request.Empty = false
-
 -- A command that asks a shard may be given up where memory runs out, and so may a line that is refused
 -- while it is read.
 abbrev pub can_give_up : Command → Bool
@@ -43,6 +36,6 @@ can_give_up (command.Version profile) = false
 can_give_up (command.Verbosity noreply) = false
 can_give_up command.Quit = false
 can_give_up command.MetaNoop = false
-can_give_up (command.Stats asked) = asks_shards asked
+can_give_up (command.Stats request.Empty) = false
 can_give_up (command.Refused told) = refusal_takes_memory told
 can_give_up other = true

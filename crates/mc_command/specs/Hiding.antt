@@ -1,6 +1,8 @@
 -- Which faults are hidden: memcached shows none of a line that ends in `noreply`, but that its name or the number of its
 -- words is wrong (protocol.txt, "Commands": "noreply" instructs the server to not send the reply).
-use Rattle.std.specs.Prelude.{ℕ, Bool, true, false, ◌&&◌, List, [], ◌∷◌}
+use Rattle.std.specs.Prelude.{ℕ, Bool, true, false, ◌&&◌, List, None, unwrap_or}
+use Rattle.std.specs.List.{last_or}
+use Rattle.std.specs.Option.{option_map}
 use Rattle.mc_command.specs.declared.line.Line.{Line}
 use Rattle.mc_command.specs.declared.line.Line.TheVariants.{Refused, Skip}
 use Rattle.mc_command.specs.declared.name.CommandName.{CommandName}
@@ -11,13 +13,9 @@ use Rattle.mc_command.specs.declared.rules.Rules.{Rules}
 use Rattle.mc_command.specs.Field.{is_noreply}
 use Rattle.mc_command.specs.Rules.{is_drop_in}
 
--- whether the last of the words is `noreply`; where there is none, whether that was so before
-abbrev pub noreply_from : Bool → List (List ℕ) → Bool
-noreply_from last [] = last
-noreply_from last (word ∷ words) = noreply_from (is_noreply word) words
-
+-- whether there is a last word, and it is `noreply`
 abbrev pub ends_in_noreply : List (List ℕ) → Bool
-ends_in_noreply words = noreply_from false words
+ends_in_noreply words = unwrap_or (option_map is_noreply (last_or None words)) false
 
 -- whether a line of this name may end in `noreply`
 abbrev pub takes_noreply : CommandName → Bool

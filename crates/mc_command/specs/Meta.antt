@@ -3,6 +3,7 @@
 -- one letter with its token joined to it).
 use Rattle.std.specs.Prelude.{ℕ, zero, ℤ, pos, ◌==◌, ◌^◌, Bool, true, false, ◌&&◌, not, List, [], ◌∷◌, ◌++◌, length, drop, find, Option, Some, None, is_some, unwrap_or, option_and_then, nat_lt, codes, if◌then◌else◌, Result, Ok, Err}
 use Rattle.std.specs.List.{filter_map, list_any, slice_get}
+use Rattle.std.specs.Map.{lookup}
 use Rattle.std.specs.Option.{ok_or, option_map, option_or}
 use Rattle.std.specs.Str.{byte}
 use Rattle.mc_wire.specs.Base64Key.{base64_key}
@@ -23,7 +24,6 @@ use Rattle.mc_command.specs.declared.meta.MetaMode.TheVariants as mode
 use Rattle.mc_command.specs.declared.meta.MetaSet.{MetaSet}
 use Rattle.mc_command.specs.declared.meta.ReturnFlag.{ReturnFlag}
 use Rattle.mc_command.specs.declared.meta.ReturnFlag.TheVariants as shows
-use Rattle.mc_command.specs.declared.meta_flags.FlagsRead.{FlagsRead}
 use Rattle.mc_command.specs.declared.meta.MetaKind.{MetaKind}
 use Rattle.mc_command.specs.declared.meta.MetaKind.TheVariants.{Get, Set, Delete, Arithmetic}
 use Rattle.mc_command.specs.declared.refusal.Refusal.{Refusal}
@@ -47,9 +47,6 @@ letters_by DropIn Set = codes "bkOqcsCEFTMINPL"
 letters_by DropIn Delete = codes "bkOqCEITPL"
 letters_by DropIn Arithmetic = codes "bkOqctvCDEJMNTPL"
 
-abbrev pub letters_of : Rules → MetaKind → List ℕ
-letters_of rules name = letters_by rules.profile name
-
 abbrev pub is_among : List ℕ → ℕ → Bool
 is_among letters letter = list_any (λ other. other == letter) letters
 
@@ -67,30 +64,25 @@ has_flag letter words = list_any (has_letter letter) words
 abbrev pub token_of : ℕ → List (List ℕ) → Option (List ℕ)
 token_of letter words = option_map (λ word. drop 1 word) (find (has_letter letter) words)
 
-abbrev pub signed_token : ℕ → List (List ℕ) → Option ℤ
-signed_token letter words = option_and_then integer_of (token_of letter words)
-
 abbrev pub unsigned_token : ℕ → ℕ → List (List ℕ) → Option ℕ
 unsigned_token bound letter words = option_and_then (number_of bound) (token_of letter words)
 
 -- Tokens.
 
+-- what a token of one letter says, by rows of the letters that say it
+abbrev pub letter_says : {A : Type 0} → List (List ℕ × A) → List ℕ → Option A
+letter_says rows (letter ∷ []) = lookup (λ letters. is_among letters letter) rows
+letter_says rows token = None
+
 -- the mode of `ms`, in either case
 abbrev pub mode_of : List ℕ → Option MetaMode
-mode_of (letter ∷ []) =
-    if is_among (codes "Ee") letter then Some mode.Add
-    else (if is_among (codes "Aa") letter then Some mode.Append
-    else (if is_among (codes "Pp") letter then Some mode.Prepend
-    else (if is_among (codes "Rr") letter then Some mode.Replace
-    else (if is_among (codes "Ss") letter then Some mode.Set else None))))
-mode_of token = None
+mode_of token =
+    letter_says ((codes "Ee", mode.Add) ∷ (codes "Aa", mode.Append) ∷ (codes "Pp", mode.Prepend) ∷
+    (codes "Rr", mode.Replace) ∷ (codes "Ss", mode.Set) ∷ []) token
 
 -- the mode of `ma`
 abbrev pub direction_of : List ℕ → Option Direction
-direction_of (letter ∷ []) =
-    if is_among (codes "Ii+") letter then Some Increment
-    else (if is_among (codes "Dd-") letter then Some Decrement else None)
-direction_of token = None
+direction_of token = letter_says ((codes "Ii+", Increment) ∷ (codes "Dd-", Decrement) ∷ []) token
 
 -- whether a token is one of the flag `M`
 abbrev pub has_mode : MetaKind → List ℕ → Bool
@@ -113,7 +105,7 @@ is_token name letter token =
 abbrev pub flag_refusal : Rules → MetaKind → List (List ℕ) → List ℕ → Option Refusal
 flag_refusal rules name before [] = Some InvalidFlag
 flag_refusal rules name before (letter ∷ token) =
-    if not (is_among (letters_of rules name) letter) then Some InvalidFlag
+    if not (is_among (letters_by rules.profile name) letter) then Some InvalidFlag
     else (if has_flag letter before then Some DuplicateFlag
     else (if letter == byte "O" && nat_lt OPAQUE_LIMIT (length token) then Some OpaqueTooLong
     else (if is_token name letter token then None else Some BadFormat)))
@@ -156,23 +148,19 @@ compared_in mode compare = compare
 abbrev pub compare_by : Rules → MetaMode → Option ℕ → Option ℕ
 compare_by rules mode compare = if is_drop_in rules then compared_in mode compare else compare
 
--- the exptime, or the seconds, that a token gives
-abbrev pub exptime_in : Rules → Option ℤ → Option ℤ
-exptime_in rules token = option_map (exptime_by rules) token
+-- the exptime, or the seconds, that the token of a flag gives
+abbrev pub exptime_token : Rules → ℕ → List (List ℕ) → Option ℤ
+exptime_token rules letter words =
+    option_map (exptime_by rules) (option_and_then integer_of (token_of letter words))
 
 -- Commands.
 
 -- the flag that is given back for a letter
 abbrev pub return_flag : ℕ → Option ReturnFlag
 return_flag letter =
-    if letter == byte "c" then Some shows.Unique
-    else (if letter == byte "f" then Some shows.ClientFlags
-    else (if letter == byte "h" then Some shows.Fetched
-    else (if letter == byte "k" then Some shows.Key
-    else (if letter == byte "l" then Some shows.LastAccess
-    else (if letter == byte "O" then Some shows.Opaque
-    else (if letter == byte "s" then Some shows.Size
-    else (if letter == byte "t" then Some shows.TimeLeft else None)))))))
+    lookup (λ other. letter == other) ((byte "c", shows.Unique) ∷ (byte "f", shows.ClientFlags) ∷
+    (byte "h", shows.Fetched) ∷ (byte "k", shows.Key) ∷ (byte "l", shows.LastAccess) ∷
+    (byte "O", shows.Opaque) ∷ (byte "s", shows.Size) ∷ (byte "t", shows.TimeLeft) ∷ [])
 
 abbrev pub shown_flag : List ℕ → Option ReturnFlag
 shown_flag [] = None
@@ -188,90 +176,67 @@ flags_of profile words = record {
   opaque = unwrap_or (token_of (byte "O") words) [];
 }
 
--- the mode that a token gives in `ms`
-abbrev pub mode_in : MetaKind → Option (List ℕ) → Option MetaMode
-mode_in Set token = option_and_then mode_of token
-mode_in other token = None
+-- the mode that the flags of `ms` give it; S where they give none
+abbrev pub set_mode : List (List ℕ) → MetaMode
+set_mode words = unwrap_or (option_and_then mode_of (token_of (byte "M") words)) mode.Set
 
--- the mode that a token gives in `ma`
-abbrev pub direction_in : MetaKind → Option (List ℕ) → Option Direction
-direction_in Arithmetic token = option_and_then direction_of token
-direction_in other token = None
+-- What a key and the flags of each command ask, with the defaults of flags that do not stand there.
 
--- all that the flags of a line may ask, each by a look-up
-abbrev pub asked_of : Rules → MetaKind → List (List ℕ) → FlagsRead
-asked_of rules name words = record {
+abbrev pub meta_get_of : Rules → List ℕ → List (List ℕ) → MetaGet
+meta_get_of rules key words = record {
+  key = key;
   flags = flags_of rules.profile words;
   value = has_flag (byte "v") words;
-  invalidate = has_flag (byte "I") words;
+  touch = exptime_token rules (byte "T") words;
+  vivify = exptime_token rules (byte "N") words;
+  recache = exptime_token rules (byte "R") words;
   unnoted = has_flag (byte "u") words;
-  exptime = signed_token (byte "T") words;
-  vivify = signed_token (byte "N") words;
-  recache = signed_token (byte "R") words;
-  compare = unsigned_token (2 ^ 64) (byte "C") words;
+}
+
+abbrev pub meta_set_of : Rules → List ℕ → List (List ℕ) → MetaSet
+meta_set_of rules key words = record {
+  key = key;
+  flags = flags_of rules.profile words;
+  mode = set_mode words;
+  compare = compare_by rules (set_mode words) (unsigned_token (2 ^ 64) (byte "C") words);
   unique = unsigned_token (2 ^ 64) (byte "E") words;
-  amount = unsigned_token (2 ^ 64) (byte "D") words;
-  initial = unsigned_token (2 ^ 64) (byte "J") words;
-  client_flags = unsigned_token (2 ^ 32) (byte "F") words;
-  mode = mode_in name (token_of (byte "M") words);
-  direction = direction_in name (token_of (byte "M") words);
-}
-
--- what each command makes of them, with the defaults of flags that do not stand there
-
-abbrev pub get_by : Rules → List ℕ → FlagsRead → MetaGet
-get_by rules key asked = record {
-  key = key;
-  flags = asked.flags;
-  value = asked.value;
-  touch = exptime_in rules asked.exptime;
-  vivify = exptime_in rules asked.vivify;
-  recache = exptime_in rules asked.recache;
-  unnoted = asked.unnoted;
-}
-
-abbrev pub set_by : Rules → List ℕ → FlagsRead → MetaSet
-set_by rules key asked = record {
-  key = key;
-  flags = asked.flags;
-  mode = unwrap_or asked.mode mode.Set;
-  compare = compare_by rules (unwrap_or asked.mode mode.Set) asked.compare;
-  unique = asked.unique;
-  client_flags = unwrap_or asked.client_flags 0;
-  exptime = unwrap_or (exptime_in rules asked.exptime) (pos 0);
+  client_flags = unwrap_or (unsigned_token (2 ^ 32) (byte "F") words) 0;
+  exptime = unwrap_or (exptime_token rules (byte "T") words) (pos 0);
   block = [];
 }
 
-abbrev pub delete_by : Rules → List ℕ → FlagsRead → MetaDelete
-delete_by rules key asked = record {
+abbrev pub meta_delete_of : Rules → List ℕ → List (List ℕ) → MetaDelete
+meta_delete_of rules key words = record {
   key = key;
-  flags = asked.flags;
-  compare = asked.compare;
-  unique = asked.unique;
-  invalidate = asked.invalidate;
-  exptime = exptime_in rules asked.exptime;
+  flags = flags_of rules.profile words;
+  compare = unsigned_token (2 ^ 64) (byte "C") words;
+  unique = unsigned_token (2 ^ 64) (byte "E") words;
+  invalidate = has_flag (byte "I") words;
+  exptime = exptime_token rules (byte "T") words;
 }
 
-abbrev pub arithmetic_by : Rules → List ℕ → FlagsRead → MetaArithmetic
-arithmetic_by rules key asked = record {
+abbrev pub meta_arithmetic_of : Rules → List ℕ → List (List ℕ) → MetaArithmetic
+meta_arithmetic_of rules key words = record {
   key = key;
-  flags = asked.flags;
-  value = asked.value;
-  compare = asked.compare;
-  unique = asked.unique;
-  direction = unwrap_or asked.direction Increment;
-  amount = unwrap_or asked.amount 1;
-  initial = unwrap_or asked.initial 0;
-  vivify = exptime_in rules asked.vivify;
-  exptime = exptime_in rules asked.exptime;
+  flags = flags_of rules.profile words;
+  value = has_flag (byte "v") words;
+  compare = unsigned_token (2 ^ 64) (byte "C") words;
+  unique = unsigned_token (2 ^ 64) (byte "E") words;
+  direction = unwrap_or (option_and_then direction_of (token_of (byte "M") words)) Increment;
+  amount = unwrap_or (unsigned_token (2 ^ 64) (byte "D") words) 1;
+  initial = unwrap_or (unsigned_token (2 ^ 64) (byte "J") words) 0;
+  vivify = exptime_token rules (byte "N") words;
+  exptime = exptime_token rules (byte "T") words;
 }
 
 -- the command of this key and these flags
-abbrev pub command_by : Rules → MetaKind → List ℕ → FlagsRead → Result Command Refusal
-command_by rules Get key asked = Ok (command.MetaGet (get_by rules key asked))
-command_by rules Set key asked = unless (compare_refusal rules (set_by rules key asked)) (Ok (command.MetaSet (set_by rules key asked)))
-command_by rules Delete key asked = Ok (command.MetaDelete (delete_by rules key asked))
-command_by rules Arithmetic key asked = Ok (command.MetaArithmetic (arithmetic_by rules key asked))
+abbrev pub keyed_command : Rules → MetaKind → List ℕ → List (List ℕ) → Result Command Refusal
+keyed_command rules Get key words = Ok (command.MetaGet (meta_get_of rules key words))
+keyed_command rules Set key words =
+    unless (compare_refusal rules (meta_set_of rules key words))
+    (Ok (command.MetaSet (meta_set_of rules key words)))
+keyed_command rules Delete key words = Ok (command.MetaDelete (meta_delete_of rules key words))
+keyed_command rules Arithmetic key words = Ok (command.MetaArithmetic (meta_arithmetic_of rules key words))
 
 -- what was read of mg, as a command
 abbrev pub as_meta_get : Result MetaGet Refusal → Result Command Refusal
@@ -287,7 +252,7 @@ as_meta_set (Err refusal) = Err refusal
 abbrev pub meta_command_of : Rules → MetaKind → List ℕ → List (List ℕ) → Result Command Refusal
 meta_command_of rules name word words =
     unless (flags_refusal rules name [] words)
-    (then_of (meta_key_of (has_flag (byte "b") words) word) (λ key. command_by rules name key (asked_of rules name words)))
+    (then_of (meta_key_of (has_flag (byte "b") words) word) (λ key. keyed_command rules name key words))
 
 abbrev pub line_without_block : Rules → MetaKind → List (List ℕ) → Line
 line_without_block rules name [] = Refused (word_count_refusal rules)

@@ -5,7 +5,8 @@ ghost use Rattle.std.specs.List.{slice_get};
 ghost use Rattle.mc_wire.specs.Words.{words_of, words_left};
 ghost use Rattle.mc_command.specs.Line.{bytes_behind};
 ghost use Rattle.mc_command.specs.Blocks.{block_count, bytes_with};
-ghost use Rattle.mc_command.specs.Classic.{cas_count_in, count_before};
+ghost use Rattle.mc_command.specs.Classic.{cas_count_in};
+ghost use Rattle.mc_command.specs.internal.CasCounts.{count_before};
 ghost use Rattle.mc_command.specs.Rules.{own};
 ghost use Rattle.mc_command.specs.Table.{line_of, count_named};
 

@@ -69,6 +69,7 @@ fn takes_noreply(name: CommandName) -> bool
 }
 
 /// Whether the last of the words is `noreply`.
+#[tactic(auto, using(crate::proofs::Hidings::ends_from))]
 fn ends_in_noreply(words: WordWalk<'_>) -> bool
     ensures { result ≡ ends_in_noreply (words_left words.entry) }
 {

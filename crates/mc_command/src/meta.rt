@@ -144,18 +144,18 @@ pub enum MetaKind {
 }
 
 impl MetaKind {
-    ghost use Rattle.mc_command.specs.Meta.{is_among, letters_of};
+    ghost use Rattle.mc_command.specs.Meta.{is_among, letters_by};
 
     /// Whether the command has a flag of this letter, by these rules.
     pub(crate) fn has_flag(self, rules: Rules, letter: u8) -> bool
-        ensures { result ≡ is_among (letters_of rules self) letter }
+        ensures { result ≡ is_among (letters_by rules.profile self) letter }
     {
         self.letters(rules).contains(&letter)
     }
 
     /// The letters of its flags, by these rules.
     fn letters(self, rules: Rules) -> &'static [u8]
-        ensures { result.now ≡ letters_of rules self }
+        ensures { result.now ≡ letters_by rules.profile self }
     {
         match (rules.profile, self) {
             (Profile::Own, MetaKind::Get) => b"bcfhklOqstvNRT",

@@ -3,7 +3,7 @@ ghost use Rattle.std.specs.Prelude.{◌≡◌, [], OnOk, IfErr};
 ghost use Rattle.mc_wire.specs.Words.{words_left};
 ghost use Rattle.mc_command.specs.Meta.{flags_refusal, unless};
 ghost use Rattle.mc_command.specs.Meta as table;
-ghost use Rattle.mc_command.specs.Meta.{asked_of};
+ghost use Rattle.mc_command.specs.internal.FlagsAsked.{asked_of};
 ghost use Rattle.mc_command.specs.internal.FlagReading.{CountsFlags, nothing_asked, unseen, with_flag, with_word};
 ghost use Rattle.mc_command.specs.internal.FlagReading as spec;
 

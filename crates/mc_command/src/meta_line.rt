@@ -4,7 +4,7 @@ ghost use Rattle.mc_wire.specs.Words.{words_left};
 ghost use Rattle.mc_command.specs.Line.{Says};
 ghost use Rattle.mc_command.specs.Field.{Reads};
 ghost use Rattle.mc_command.specs.Meta.{as_meta_get, as_meta_set, decoded_key, line_with_block, line_without_block, meta_command_of, meta_key_of, meta_line_of};
-ghost use Rattle.mc_command.specs.Meta.{arithmetic_by, command_by, delete_by, get_by, set_by};
+ghost use Rattle.mc_command.specs.internal.FlagsAsked.{arithmetic_by, command_by, delete_by, get_by, set_by};
 
 use crate::announced::read_block_count;
 use crate::block::Block;

@@ -1,7 +1,7 @@
 //! The names of the commands.
 ghost use Rattle.std.specs.Prelude.{◌≡◌};
 ghost use Rattle.mc_command.specs.Name.{name_of};
-ghost use Rattle.mc_command.specs.Name as spec;
+ghost use Rattle.mc_command.specs.internal.NameGroups as spec;
 
 use crate::command::{Direction, StoreMode};
 use crate::meta::MetaKind;
@@ -40,7 +40,7 @@ pub(crate) enum CommandName {
 }
 
 /// The command of that name. Names are lower case.
-#[tactic(auto, unfolding(crate::specs::Name::name_of))]
+#[tactic(auto, using(crate::proofs::Names::name_in_parts))]
 pub(crate) fn read_name(word: &[u8]) -> Option<CommandName>
     ensures { result ≡ name_of word.now }
 {

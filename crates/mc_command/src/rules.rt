@@ -31,7 +31,8 @@ impl Rules {
     ghost use Rattle.mc_command.specs.Blocks.{count_bound};
     ghost use Rattle.mc_command.specs.Classic.{is_lenient};
     ghost use Rattle.mc_command.specs.Field.{exptime_by, word_count_refusal};
-    ghost use Rattle.mc_command.specs.Meta.{compare_by, exptime_in};
+    ghost use Rattle.mc_command.specs.Meta.{compare_by};
+    ghost use Rattle.mc_command.specs.internal.FlagsAsked.{exptime_in};
     ghost use Rattle.mc_command.specs.Rules.{is_drop_in, own};
 
     /// This server's own rules, for values of at most so many bytes and lines of the default limit.

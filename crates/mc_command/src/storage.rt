@@ -1,5 +1,5 @@
 //! The classic storage lines, each with the count of the block behind it.
-ghost use Rattle.std.specs.Prelude.{◌≡◌, ◌^◌};
+ghost use Rattle.std.specs.Prelude.{◌≡◌, ◌^◌, Ok};
 ghost use Rattle.std.specs.Option.{option_copied, option_and_then};
 ghost use Rattle.mc_wire.specs.Words.{words_left};
 ghost use Rattle.mc_wire.specs.Number.{number_of};
@@ -80,8 +80,8 @@ fn storage(
     noreply: Option<&[u8]>,
 ) -> Result<Command, Refusal>
     ensures { Reads
-        (spec.storage_of rules mode key.now flags.now exptime.now (option_copied noreply.entry))
-        result }
+        (spec.storage_of rules (Ok mode) key.now flags.now exptime.now
+        (option_copied noreply.entry)) result }
 {
     let key = read_key(alloc, key)?;
     let flags = read_u32(flags)?;
@@ -109,7 +109,7 @@ fn guarded(
     noreply: Option<&[u8]>,
 ) -> Result<Command, Refusal>
     ensures { Reads
-        (spec.cas_of rules key.now flags.now exptime.now unique.now
+        (spec.storage_of rules (spec.cas_mode unique.now) key.now flags.now exptime.now
         (option_copied noreply.entry)) result }
 {
     let key = read_key(alloc, key)?;

@@ -16,7 +16,7 @@ use Rattle.mc_command.specs.declared.refusal.Refusal.TheVariants.{BadFormat, Inv
 use Rattle.mc_command.specs.declared.rules.Profile.{Profile}
 use Rattle.mc_command.specs.declared.rules.Rules.{Rules}
 use Rattle.mc_command.specs.Field.{then_of}
-use Rattle.mc_command.specs.Meta.{letters_of, is_among, mode_of, direction_of, return_flag}
+use Rattle.mc_command.specs.Meta.{letters_by, is_among, mode_of, direction_of, return_flag}
 
 -- what no flags ask, where the reply follows the rules of this profile
 abbrev pub nothing_asked : Profile → FlagsRead
@@ -108,7 +108,7 @@ pub record CountsFlags (reader : FlagReader) : Type 0 where
 abbrev pub with_word : Rules → MetaKind → FlagReader → List ℕ → Result FlagReader Refusal
 with_word rules name reader [] = Err InvalidFlag
 with_word rules name reader (letter ∷ token) =
-    if not (is_among (letters_of rules name) letter) then Err InvalidFlag
+    if not (is_among (letters_by rules.profile name) letter) then Err InvalidFlag
     else (if slice_index_or reader.seen letter false then Err DuplicateFlag
     else then_of (flag_of name letter token) (λ said. Ok (record {
       seen = slice_set reader.seen letter true;

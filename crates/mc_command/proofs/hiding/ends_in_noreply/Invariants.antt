@@ -1,8 +1,8 @@
 -- What the words say is what those that are left say, behind the last one.
-use Rattle.std.proofs.Common.{◌≡◌}
+use Rattle.std.proofs.Common.{◌≡◌, false}
 use Rattle.mc_wire.specs.Words.{words_left}
-use Rattle.mc_command.specs.Hiding.{ends_in_noreply, noreply_from}
+use Rattle.mc_command.proofs.Hidings.{noreply_from}
 use Rattle.mc_command.proofs.hiding.ends_in_noreply.Given as goal
 
 abbrev pub invariant-loop-word : goal.invariant-loop-word
-invariant-loop-word l = ends_in_noreply (words_left l.fn.words) ≡ noreply_from l.last (words_left l.word-iterator)
+invariant-loop-word l = noreply_from false (words_left l.fn.words) ≡ noreply_from l.last (words_left l.word-iterator)
