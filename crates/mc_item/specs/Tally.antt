@@ -1,5 +1,7 @@
 -- What a piece counts as, and what its answer does, as memcached counts them (protocol.txt, "General-purpose statistics").
-use Rattle.std.specs.Prelude.{ℕ, ◌+◌, ◌*◌, ◌^◌, ◌%◌, ℤ, Option, Some, None, replicate, slice_index, slice_set}
+use Rattle.std.specs.Prelude.{ℕ, ◌+◌, ◌*◌, ◌^◌, ◌%◌, replicate, slice_index, slice_set, if◌then◌else◌}
+use Rattle.std.specs.Option.{is_some}
+use denote.Enum.Declared.{tag_of}
 use Rattle.mc_command.specs.declared.command.Direction.{Direction}
 use Rattle.mc_command.specs.declared.command.Direction.TheVariants as direction
 use Rattle.mc_command.specs.declared.command.StoreMode.TheVariants as mode
@@ -12,32 +14,26 @@ use Rattle.mc_item.specs.declared.tally.CountedAs.TheVariants as asked
 use Rattle.mc_item.specs.declared.tally.Status.{Status}
 use Rattle.mc_item.specs.declared.tally.Status.TheVariants as status
 use Rattle.mc_item.specs.declared.tally.Tally.{Tally}
+use Rattle.mc_item.specs.contracts.tally.CountedAs.{the_type as kinds}
+use Rattle.mc_item.specs.contracts.tally.Status.{the_type as statuses}
 
 abbrev pub counting : Direction → CountedAs
 counting direction.Increment = asked.Incr
 counting direction.Decrement = asked.Decr
 
-abbrev pub getting : Option ℤ → CountedAs
-getting None = asked.Get
-getting (Some exptime) = asked.Touch
-
-abbrev pub storing : Option ℕ → CountedAs
-storing None = asked.Set
-storing (Some unique) = asked.Cas
-
 -- what a piece counts as
 unfoldable pub asked_of : Op → CountedAs
 asked_of (op.Store key (mode.Cas unique) flags exptime value) = asked.Cas
 asked_of (op.Store key _ flags exptime value) = asked.Set
-asked_of (op.Fetch key touch) = getting touch
+asked_of (op.Fetch key touch) = if is_some touch then asked.Touch else asked.Get
 asked_of (op.Count key direction amount) = counting direction
 asked_of (op.Delete key) = asked.Delete
 asked_of (op.Touch key exptime) = asked.Touch
 asked_of (op.Flush delay) = asked.Flush
 asked_of op.Stats = asked.Stats
 asked_of op.ResetStats = asked.Stats
-asked_of (op.MetaGet get) = getting get.touch
-asked_of (op.MetaStore store) = storing store.compare
+asked_of (op.MetaGet get) = if is_some get.touch then asked.Touch else asked.Get
+asked_of (op.MetaStore store) = if is_some store.compare then asked.Cas else asked.Set
 asked_of (op.MetaDelete delete) = asked.Delete
 asked_of (op.MetaCount count) = counting count.direction
 
@@ -53,37 +49,13 @@ status_of answer.NoCas = status.Refused
 status_of answer.NonNumeric = status.Refused
 status_of _ = status.Hit
 
--- the number of a kind
-abbrev pub kind_number : CountedAs → ℕ
-kind_number asked.Get = 0
-kind_number asked.Set = 1
-kind_number asked.Cas = 2
-kind_number asked.Touch = 3
-kind_number asked.Delete = 4
-kind_number asked.Incr = 5
-kind_number asked.Decr = 6
-kind_number asked.Flush = 7
-kind_number asked.Stats = 8
-
--- the number of a status
-abbrev pub status_number : Status → ℕ
-status_number status.Hit = 0
-status_number status.Miss = 1
-status_number status.BadValue = 2
-status_number status.NoMemory = 3
-status_number status.Refused = 4
-
--- so many counters there are: one for each kind and status
-abbrev pub counters : ℕ
-counters = 45
-
--- nothing was counted
+-- nothing was counted: all 45 counters, one for each kind and status, stand at 0
 abbrev pub no_counts : Tally
-no_counts = record { counts = replicate counters 0 }
+no_counts = record { counts = replicate 45 0 }
 
--- the counter of a kind and a status
+-- the counter of a kind and a status, by the places of both in the order in which they are declared
 abbrev pub counter : CountedAs → Status → ℕ
-counter asked status = kind_number asked * 5 + status_number status
+counter asked status = tag_of kinds asked * 5 + tag_of statuses status
 
 -- how often this was asked and came to that
 abbrev pub counted : Tally → CountedAs → Status → ℕ

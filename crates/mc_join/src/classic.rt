@@ -4,8 +4,8 @@ ghost use Rattle.std.specs.List.{concat, list_any};
 ghost use Rattle.mc_wire.specs.Outlet.{Writes};
 ghost use Rattle.mc_wire.specs.Words.{words_left};
 ghost use Rattle.mc_command.specs.Field.{AreKeys};
-ghost use Rattle.mc_split.specs.Text.{answer_line, told, item_text, plain_item, unique_item};
-ghost use Rattle.mc_join.specs.internal.Slots.{fixed_line, slot_text, first_text, items_text, lacks_memory};
+ghost use Rattle.mc_split.specs.Text.{answer_line, told, item_text};
+ghost use Rattle.mc_join.specs.internal.Slots.{fixed_line, slot_text, first_text, items_text, lacks_memory, plain_item, unique_item};
 
 use crate::block::put_block;
 use crate::fixed::MEMORY_LINE;

@@ -23,7 +23,7 @@ use Rattle.mc_core.specs.Alone.{alone}
 use Rattle.mc_split.specs.Pieces.{pieces_of}
 use Rattle.mc_split.specs.Text.{text_of}
 use Rattle.mc_store.specs.State.{State, Used}
-use Rattle.mc_store.specs.Step.{Outcome, fetch_step, store_step, storing, mode_of, compare_of, count_step, counting, delete_step, touch_step, flush_step, coming, meta_get_step, meta_delete_step, stats_of}
+use Rattle.mc_store.specs.Step.{Outcome, fetch_step, store_step, mode_of, compare_of, count_step, delete_step, touch_step, flush_step, coming, meta_get_step, meta_delete_step, stats_of}
 
 -- a line without its end, and the bytes behind it that belong to it
 pub record Sent : Type 0 where
@@ -54,21 +54,19 @@ replies moment sent = alone row_sizes (map (taken_at moment) sent)
 abbrev pub step_on : State → Op → Option Used → Outcome
 step_on state (op.Fetch key touch) found = fetch_step state key touch found
 step_on state (op.Store key mode flags exptime value) found =
-    store_step state key (storing (mode_of mode) (compare_of mode) None flags exptime value) (λ done. Stored) found
+    store_step state (record { key = key; mode = mode_of mode; compare = compare_of mode; unique = None; flags = flags; exptime = exptime; value = value }) (λ done. Stored) found
 step_on state (op.Count key direction amount) found =
-    count_step state key (counting None None direction amount None) (λ done. Number done.number) None found
+    count_step state (record { key = key; compare = None; unique = None; direction = direction; amount = amount; exptime = None; vivify = None }) (λ done. Number done.number) found
 step_on state (op.Delete key) found = delete_step state key found
 step_on state (op.Touch key exptime) found = touch_step state key exptime found
 step_on state (op.Flush delay) found = (Done, flush_step state (coming (expiry_of delay state.time) state.time))
 step_on state op.Stats found = (answer.Stats (stats_of state), state)
 step_on state op.ResetStats found = (answer.Reset, record state { tally = no_counts; evicted = 0 })
-step_on state (op.MetaGet asked) found = meta_get_step state asked.key asked.touch asked.vivify asked.recache asked.unnoted found
-step_on state (op.MetaStore asked) found =
-    store_step state asked.key (storing asked.mode asked.compare asked.unique asked.flags asked.exptime asked.value) (λ done. MetaDone done) found
+step_on state (op.MetaGet asked) found = meta_get_step state asked found
+step_on state (op.MetaStore asked) found = store_step state asked (λ done. MetaDone done) found
 step_on state (op.MetaDelete asked) found =
     meta_delete_step state asked found
-step_on state (op.MetaCount asked) found =
-    count_step state asked.key (counting asked.compare asked.unique asked.direction asked.amount asked.exptime) (λ done. MetaDone done) asked.vivify found
+step_on state (op.MetaCount asked) found = count_step state asked (λ done. MetaDone done) found
 
 -- what stands under the key of an operation
 abbrev pub found_by : State → Op → Option Used

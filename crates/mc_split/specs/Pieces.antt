@@ -37,13 +37,8 @@ pieces_of shards (command.Delete key noreply) = asked_of shards key (op.Delete k
 pieces_of shards (command.Count key direction amount noreply) = asked_of shards key (op.Count key direction amount) ∷ []
 pieces_of shards (command.Touch key exptime noreply) = asked_of shards key (op.Touch key exptime) ∷ []
 pieces_of shards (command.FlushAll delay noreply) = asked_of_all shards (op.Flush delay)
-pieces_of shards (command.Version profile) = []
-pieces_of shards (command.Verbosity noreply) = []
 pieces_of shards (command.Stats request.General) = asked_of_all shards op.Stats
 pieces_of shards (command.Stats request.Reset) = asked_of_all shards op.ResetStats
-pieces_of shards (command.Stats request.Empty) = []
-pieces_of shards command.Quit = []
-pieces_of shards command.MetaNoop = []
 pieces_of shards (command.MetaGet get) = asked_of shards get.key (op.MetaGet (record { key = get.key; touch = get.touch; vivify = get.vivify; recache = get.recache; unnoted = get.unnoted })) ∷ []
 pieces_of shards (command.MetaSet set) =
     asked_of shards set.key (op.MetaStore (record { key = set.key; mode = set.mode; compare = set.compare; unique = set.unique; flags = set.client_flags; exptime = set.exptime; value = set.block })) ∷ []
@@ -51,5 +46,5 @@ pieces_of shards (command.MetaDelete delete) =
     asked_of shards delete.key (op.MetaDelete (record { key = delete.key; compare = delete.compare; unique = delete.unique; invalidate = delete.invalidate; exptime = delete.exptime })) ∷ []
 pieces_of shards (command.MetaArithmetic arithmetic) =
     asked_of shards arithmetic.key (op.MetaCount (record { key = arithmetic.key; compare = arithmetic.compare; unique = arithmetic.unique; direction = arithmetic.direction; amount = arithmetic.amount; exptime = arithmetic.exptime; vivify = vivify_of arithmetic.vivify arithmetic.initial })) ∷ []
-pieces_of shards (command.Refused refusal) = []
 pieces_of shards (command.Discard key refusal) = asked_of shards key (op.Delete key) ∷ []
+pieces_of shards command = []

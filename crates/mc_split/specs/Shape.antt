@@ -8,7 +8,7 @@ use Rattle.mc_command.specs.declared.meta.MetaFlags.{MetaFlags}
 use Rattle.mc_command.specs.declared.meta.MetaMode.{MetaMode}
 use Rattle.mc_command.specs.declared.meta.MetaMode.TheVariants.{Append, Prepend}
 use Rattle.mc_command.specs.declared.meta.ReturnFlag.{ReturnFlag}
-use Rattle.mc_command.specs.declared.meta.ReturnFlag.TheVariants.{Unique, ClientFlags, Fetched, Key, LastAccess, Opaque, Size, TimeLeft}
+use Rattle.mc_command.specs.declared.meta.ReturnFlag.TheVariants.{Key}
 use Rattle.mc_command.specs.declared.rules.Profile.{Profile}
 use Rattle.mc_command.specs.declared.rules.Profile.TheVariants.{DropIn}
 use Rattle.mc_split.specs.declared.form.Shape.{Shape}
@@ -19,13 +19,7 @@ use Rattle.mc_command.specs.declared.meta.MetaKind.TheVariants as kind
 -- the flag k
 abbrev pub is_key_flag : ReturnFlag → Bool
 is_key_flag Key = true
-is_key_flag Unique = false
-is_key_flag ClientFlags = false
-is_key_flag Fetched = false
-is_key_flag LastAccess = false
-is_key_flag Opaque = false
-is_key_flag Size = false
-is_key_flag TimeLeft = false
+is_key_flag flag = false
 
 -- the key, where the flag k asks for it
 abbrev pub shown_key : MetaFlags → List ℕ → Option (List ℕ)

@@ -96,20 +96,11 @@ abbrev pub of_first : (Answer → List ℕ) → List Answer → List ℕ
 of_first text [] = []
 of_first text (answer ∷ answers) = text answer
 
--- an item that was found (protocol.txt, "Retrieval command")
-abbrev pub plain_item : List ℕ → ℕ → List ℕ → List ℕ
-plain_item key flags value =
-    concat (codes "VALUE " ∷ key ∷ codes " " ∷ decimal flags ∷ codes " " ∷ decimal (length value) ∷ codes "\r\n" ∷ value ∷ codes "\r\n" ∷ [])
-
--- and with its unique
-abbrev pub unique_item : List ℕ → ℕ → ℕ → List ℕ → List ℕ
-unique_item key flags unique value =
-    concat (codes "VALUE " ∷ key ∷ codes " " ∷ decimal flags ∷ codes " " ∷ decimal (length value) ∷ codes " " ∷ decimal unique ∷ codes "\r\n" ∷ value ∷ codes "\r\n" ∷ [])
-
--- the item of an answer, with its unique or without; a miss shows nothing
+-- an item that was found (protocol.txt, "Retrieval command"), with its unique or without; a miss shows nothing
 abbrev pub item_text : Bool → List ℕ → Answer → List ℕ
-item_text false key (Hit flags unique value) = plain_item key flags value
-item_text true key (Hit flags unique value) = unique_item key flags unique value
+item_text with_unique key (Hit flags unique value) =
+    concat (codes "VALUE " ∷ key ∷ codes " " ∷ decimal flags ∷ codes " " ∷ decimal (length value)
+    ∷ (if with_unique then codes " " ++ decimal unique else []) ∷ codes "\r\n" ∷ value ∷ codes "\r\n" ∷ [])
 item_text with_unique key answer = []
 
 -- the items found, in the order of the keys, and the line that ends them
@@ -200,18 +191,17 @@ marks_text profile.Own marks =
 abbrev pub head_text : List ℕ → List ℕ → List ℕ → List ℕ
 head_text code flags marks = concat (code ∷ flags ∷ marks ∷ codes "\r\n" ∷ [])
 
--- a reply with a value, whose size stands behind the code
-abbrev pub value_text : List ℕ → List ℕ → List ℕ → List ℕ
-value_text value flags marks =
+-- a reply with this value, whose size stands behind the code, or without it
+abbrev pub value_text : Bool → List ℕ → List ℕ → List ℕ → List ℕ
+value_text true value flags marks =
     concat (codes "VA " ∷ decimal (length value) ∷ flags ∷ marks ∷ codes "\r\n" ∷ value ∷ codes "\r\n" ∷ [])
+value_text false value flags marks = head_text (codes "HD") flags marks
 
 -- the reply of a meta command, with its value or number where that is asked for (protocol.txt, "Meta Commands");
 -- an error line has no flags
 abbrev pub coded_text : MetaKind → MetaFlags → Option (List ℕ) → Answer → Bool → List ℕ
-coded_text kind flags key (answer.MetaHit hit) true = value_text hit.value (flags_text flags key (answer.MetaHit hit)) (marks_text flags.profile hit.marks)
-coded_text kind flags key (answer.MetaHit hit) false = head_text (codes "HD") (flags_text flags key (answer.MetaHit hit)) (marks_text flags.profile hit.marks)
-coded_text kind flags key (answer.MetaDone done) true = value_text (decimal done.number) (flags_text flags key (answer.MetaDone done)) []
-coded_text kind flags key (answer.MetaDone done) false = head_text (codes "HD") (flags_text flags key (answer.MetaDone done)) []
+coded_text kind flags key (answer.MetaHit hit) value = value_text value hit.value (flags_text flags key (answer.MetaHit hit)) (marks_text flags.profile hit.marks)
+coded_text kind flags key (answer.MetaDone done) value = value_text value (decimal done.number) (flags_text flags key (answer.MetaDone done)) []
 coded_text kind flags key Deleted value = head_text (codes "HD") (flags_text flags key Deleted) []
 coded_text kind flags key Done value = head_text (codes "HD") (flags_text flags key Done) []
 coded_text kind flags key Miss value = head_text (codes "EN") (flags_text flags key Miss) []

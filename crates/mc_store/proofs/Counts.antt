@@ -13,19 +13,15 @@ use Rattle.mc_item.specs.declared.answer.Answer.TheVariants.{Exists, NonNumeric,
 use Rattle.mc_item.specs.Expiry.{expiry_of}
 use Rattle.mc_item.specs.Value.{number_in, number_text}
 use Rattle.mc_item.specs.Kind.{kind_of, is_lawful}
-use Rattle.mc_store.specs.declared.shard.counting.Counting as given
+use Rattle.mc_store.specs.internal.Asked.{counting}
 use Rattle.mc_store.specs.internal.Found.{live}
 use Rattle.mc_store.specs.State.{State, without_dead, entered}
 use Rattle.mc_store.specs.Rows.{counted_item, done_of}
-use Rattle.mc_store.specs.Step.{Outcome, Reply, Counting, is_other, numbered, counted, changes, absent_count, count_step, counting, step_of}
+use Rattle.mc_store.specs.Step.{Outcome, Reply, is_other, numbered, counted, changes, absent_count, count_step, step_of}
 use Rattle.mc_store.specs.Shard.{ShardContents, Keeps}
 use Rattle.mc_store.proofs.Writes.{Closes, along, met_time}
 use Rattle.mc_store.proofs.Outcomes.{Ends, ends, absent_as, present_as, unchanged_as}
 use Rattle.mc_store.proofs.Stores.{fresh, fresh_of}
-
--- what counting asks, as the specification writes it
-abbrev pub asked_in : given.Counting → Counting
-asked_in it = counting it.compare it.unique it.direction it.amount it.exptime
 
 -- what is written, with a new unique and what is answered of it
 abbrev pub done_with : State → List ℕ → Option ℕ → (ℕ → Item) → ℕ → Reply → Outcome
@@ -50,66 +46,66 @@ counter_as held state key token made item reply answer new h is closes =
     (written_as (without_dead state (Some key)) key token item (fresh_of (number_text made.initial) 0 (expiry_of made.exptime held.time)) made.initial reply answer new is closes)
 
 -- Where nothing alive is under the key, counting goes as under an absent key.
-pub count_misses : (held : ShardContents) (state : State) (key : List ℕ) (asked : Counting) (vivify : Option Vivify) (reply : Reply) (answer : Answer) (new : ShardContents) → Keeps held state → None ≡ live held.time (lookup (pointwise nat_eq key) held.entries) →
-    Closes (without_dead state (Some key)) (absent_count (without_dead state (Some key)) key asked.unique reply vivify) answer new → Closes (without_dead state (Some key)) (count_step (without_dead state (Some key)) key asked reply vivify (get (without_dead state (Some key)).items key)) answer new
-count_misses held state key asked vivify reply answer new h none closes =
-    along (without_dead state (Some key)) (absent_count (without_dead state (Some key)) key asked.unique reply vivify) (count_step (without_dead state (Some key)) key asked reply vivify (get (without_dead state (Some key)).items key)) answer new
-    (absent_as held state key (λ s o. count_step s key asked reply vivify o) (λ s. absent_count s key asked.unique reply vivify) h none (λ s. refl)) closes
+pub count_misses : (held : ShardContents) (state : State) (asked : op.MetaCount) (reply : Reply) (answer : Answer) (new : ShardContents) → Keeps held state → None ≡ live held.time (lookup (pointwise nat_eq asked.key) held.entries) →
+    Closes (without_dead state (Some asked.key)) (absent_count (without_dead state (Some asked.key)) asked.key asked.unique reply asked.vivify) answer new → Closes (without_dead state (Some asked.key)) (count_step (without_dead state (Some asked.key)) asked reply (get (without_dead state (Some asked.key)).items asked.key)) answer new
+count_misses held state asked reply answer new h none closes =
+    along (without_dead state (Some asked.key)) (absent_count (without_dead state (Some asked.key)) asked.key asked.unique reply asked.vivify) (count_step (without_dead state (Some asked.key)) asked reply (get (without_dead state (Some asked.key)).items asked.key)) answer new
+    (absent_as held state asked.key (λ s o. count_step s asked reply o) (λ s. absent_count s asked.key asked.unique reply asked.vivify) h none (λ s. refl)) closes
 
 -- Counting an item whose unique isn't the one asked for changes nothing and is answered that it exists.
-pub count_exists : (held : ShardContents) (state : State) (key : List ℕ) (item : Item) (asked : Counting) (vivify : Option Vivify) (reply : Reply) → Keeps held state → Some item ≡ live held.time (lookup (pointwise nat_eq key) held.entries) → is_other asked.compare item.unique ≡ true →
-    Closes (without_dead state (Some key)) (count_step (without_dead state (Some key)) key asked reply vivify (get (without_dead state (Some key)).items key)) Exists held
-count_exists held state key item asked vivify reply h is other =
-    unchanged_as held state key item (λ s o. count_step s key asked reply vivify o) Exists h is
+pub count_exists : (held : ShardContents) (state : State) (item : Item) (asked : op.MetaCount) (reply : Reply) → Keeps held state → Some item ≡ live held.time (lookup (pointwise nat_eq asked.key) held.entries) → is_other asked.compare item.unique ≡ true →
+    Closes (without_dead state (Some asked.key)) (count_step (without_dead state (Some asked.key)) asked reply (get (without_dead state (Some asked.key)).items asked.key)) Exists held
+count_exists held state item asked reply h is other =
+    unchanged_as held state asked.key item (λ s o. count_step s asked reply o) Exists h is
     (λ s u i. let o : is_other asked.compare u.item.unique ≡ true = rw i other in rw o)
 
 -- Counting an item whose value is no number, at its unique or at none, changes nothing and is answered so.
-pub count_fails : (held : ShardContents) (state : State) (key : List ℕ) (item : Item) (asked : Counting) (vivify : Option Vivify) (reply : Reply) → Keeps held state → Some item ≡ live held.time (lookup (pointwise nat_eq key) held.entries) → is_other asked.compare item.unique ≡ false → None ≡ number_in item.value →
-    Closes (without_dead state (Some key)) (count_step (without_dead state (Some key)) key asked reply vivify (get (without_dead state (Some key)).items key)) NonNumeric held
-count_fails held state key item asked vivify reply h is other none =
-    unchanged_as held state key item (λ s o. count_step s key asked reply vivify o) NonNumeric h is (λ s u i.
+pub count_fails : (held : ShardContents) (state : State) (item : Item) (asked : op.MetaCount) (reply : Reply) → Keeps held state → Some item ≡ live held.time (lookup (pointwise nat_eq asked.key) held.entries) → is_other asked.compare item.unique ≡ false → None ≡ number_in item.value →
+    Closes (without_dead state (Some asked.key)) (count_step (without_dead state (Some asked.key)) asked reply (get (without_dead state (Some asked.key)).items asked.key)) NonNumeric held
+count_fails held state item asked reply h is other none =
+    unchanged_as held state asked.key item (λ s o. count_step s asked reply o) NonNumeric h is (λ s u i.
     let o : is_other asked.compare u.item.unique ≡ false = rw i other in
     let no_number : None ≡ number_in u.item.value = rw i none in
     rw (o, ← no_number))
 
 -- the item with its new number, before it has a new unique
-pub counted_as : (held : ShardContents) (state : State) (key : List ℕ) (item : Item) (asked : Counting) (vivify : Option Vivify) (reply : Reply) (number : ℕ) (new_item : Item) (answer : Answer) (new : ShardContents) → Keeps held state → Some item ≡ live held.time (lookup (pointwise nat_eq key) held.entries) →
+pub counted_as : (held : ShardContents) (state : State) (item : Item) (asked : op.MetaCount) (reply : Reply) (number : ℕ) (new_item : Item) (answer : Answer) (new : ShardContents) → Keeps held state → Some item ≡ live held.time (lookup (pointwise nat_eq asked.key) held.entries) →
     is_other asked.compare item.unique ≡ false → Some number ≡ number_in item.value → new_item ≡ counted_item item (counted asked.direction number asked.amount) asked.exptime held.time item.unique →
-    Closes (without_dead state (Some key)) (done_with (without_dead state (Some key)) key asked.unique (λ unique. record new_item { unique = unique }) (counted asked.direction number asked.amount) reply) answer new →
-    Closes (without_dead state (Some key)) (count_step (without_dead state (Some key)) key asked reply vivify (get (without_dead state (Some key)).items key)) answer new
-counted_as held state key item asked vivify reply number new_item answer new h is other number_is made closes =
-    let settled = without_dead state (Some key) in
+    Closes (without_dead state (Some asked.key)) (done_with (without_dead state (Some asked.key)) asked.key asked.unique (λ unique. record new_item { unique = unique }) (counted asked.direction number asked.amount) reply) answer new →
+    Closes (without_dead state (Some asked.key)) (count_step (without_dead state (Some asked.key)) asked reply (get (without_dead state (Some asked.key)).items asked.key)) answer new
+counted_as held state item asked reply number new_item answer new h is other number_is made closes =
+    let settled = without_dead state (Some asked.key) in
     let to = counted asked.direction number asked.amount in
-    let time : settled.time ≡ held.time = met_time state key ∙ h.time in
-    let same : done_with settled key asked.unique (λ unique. counted_item item to asked.exptime held.time unique) to reply ≡ changes settled key item asked to reply
-    = subst (λ t. done_with settled key asked.unique (λ unique. counted_item item to asked.exptime t unique) to reply ≡ changes settled key item asked to reply) time refl in
-    along settled (changes settled key item asked to reply) (count_step settled key asked reply vivify (get settled.items key)) answer new
-    (present_as held state key item (λ s o. count_step s key asked reply vivify o) (λ i _ s. changes s key i asked to reply) h is (λ s u i.
+    let time : settled.time ≡ held.time = met_time state asked.key ∙ h.time in
+    let same : done_with settled asked.key asked.unique (λ unique. counted_item item to asked.exptime held.time unique) to reply ≡ changes settled item asked to reply
+    = subst (λ t. done_with settled asked.key asked.unique (λ unique. counted_item item to asked.exptime t unique) to reply ≡ changes settled item asked to reply) time refl in
+    along settled (changes settled item asked to reply) (count_step settled asked reply (get settled.items asked.key)) answer new
+    (present_as held state asked.key item (λ s o. count_step s asked reply o) (λ i _ s. changes s i asked to reply) h is (λ s u i.
     let o : is_other asked.compare u.item.unique ≡ false = rw i other in
     let number_there : Some number ≡ number_in u.item.value = rw i number_is in
     rw (o, ← number_there)))
-    (along settled (done_with settled key asked.unique (λ unique. counted_item item to asked.exptime held.time unique) to reply) (changes settled key item asked to reply) answer new same
-    (written_as settled key asked.unique new_item (counted_item item to asked.exptime held.time item.unique) to reply answer new made closes))
+    (along settled (done_with settled asked.key asked.unique (λ unique. counted_item item to asked.exptime held.time unique) to reply) (changes settled item asked to reply) answer new same
+    (written_as settled asked.key asked.unique new_item (counted_item item to asked.exptime held.time item.unique) to reply answer new made closes))
 
 -- the same, where the new number was computed
-pub counted_by : (held : ShardContents) (state : State) (key : List ℕ) (item : Item) (asked : Counting) (vivify : Option Vivify) (reply : Reply) (number to : ℕ) (new_item : Item) (answer : Answer) (new : ShardContents) → Keeps held state → Some item ≡ live held.time (lookup (pointwise nat_eq key) held.entries) →
+pub counted_by : (held : ShardContents) (state : State) (item : Item) (asked : op.MetaCount) (reply : Reply) (number to : ℕ) (new_item : Item) (answer : Answer) (new : ShardContents) → Keeps held state → Some item ≡ live held.time (lookup (pointwise nat_eq asked.key) held.entries) →
     is_other asked.compare item.unique ≡ false → Some number ≡ number_in item.value → to ≡ counted asked.direction number asked.amount → new_item ≡ counted_item item to asked.exptime held.time item.unique →
-    Closes (without_dead state (Some key)) (done_with (without_dead state (Some key)) key asked.unique (λ unique. record new_item { unique = unique }) to reply) answer new →
-    Closes (without_dead state (Some key)) (count_step (without_dead state (Some key)) key asked reply vivify (get (without_dead state (Some key)).items key)) answer new
-counted_by held state key item asked vivify reply number to new_item answer new h is other number_is to_is made closes =
-    counted_as held state key item asked vivify reply number new_item answer new h is other number_is
+    Closes (without_dead state (Some asked.key)) (done_with (without_dead state (Some asked.key)) asked.key asked.unique (λ unique. record new_item { unique = unique }) to reply) answer new →
+    Closes (without_dead state (Some asked.key)) (count_step (without_dead state (Some asked.key)) asked reply (get (without_dead state (Some asked.key)).items asked.key)) answer new
+counted_by held state item asked reply number to new_item answer new h is other number_is to_is made closes =
+    counted_as held state item asked reply number new_item answer new h is other number_is
     (made ∙ ap (λ n. counted_item item n asked.exptime held.time item.unique) to_is)
-    (subst (λ n. Closes (without_dead state (Some key)) (done_with (without_dead state (Some key)) key asked.unique (λ unique. record new_item { unique = unique }) n reply) answer new) to_is closes)
+    (subst (λ n. Closes (without_dead state (Some asked.key)) (done_with (without_dead state (Some asked.key)) asked.key asked.unique (λ unique. record new_item { unique = unique }) n reply) answer new) to_is closes)
 
 -- `incr` and `decr` count at no unique, make nothing of a miss and leave the expiry.
 pub classic_count : (settled : State) (key : List ℕ) (direction : Direction) (amount : ℕ) (answer : Answer) (new : ShardContents) →
-    Closes settled (count_step settled key (counting None None direction amount None) (λ done. Number done.number) None (get settled.items key)) answer new → Ends settled (Count key direction amount) answer new
+    Closes settled (count_step settled (counting key None None direction amount None None) (λ done. Number done.number) (get settled.items key)) answer new → Ends settled (Count key direction amount) answer new
 unfolding step_of kind_of is_lawful
 classic_count settled key direction amount answer new closes = ends settled (Count key direction amount) answer new (λ _. refl) closes
 
 -- `ma` counts as its flags ask.
 pub meta_count : (settled : State) (asked : op.MetaCount) (answer : Answer) (new : ShardContents) →
-    Closes settled (count_step settled asked.key (counting asked.compare asked.unique asked.direction asked.amount asked.exptime) (λ done. MetaDone done) asked.vivify (get settled.items asked.key)) answer new → Ends settled (MetaCount asked) answer new
+    Closes settled (count_step settled (counting asked.key asked.compare asked.unique asked.direction asked.amount asked.exptime asked.vivify) (λ done. MetaDone done) (get settled.items asked.key)) answer new → Ends settled (MetaCount asked) answer new
 unfolding step_of kind_of is_lawful
 meta_count settled asked answer new closes = ends settled (MetaCount asked) answer new (λ _. refl) closes
 

@@ -68,14 +68,14 @@ pub meta_get_hit : (held : ShardContents) (state : State) (asked : op.MetaGet) (
 unfolding step_of kind_of is_lawful
 meta_get_hit held state asked item noted h is =
     ends (without_dead state (Some asked.key)) (MetaGet asked) (MetaHit (hit_of item asked.touch asked.recache held.time)) _ (λ _. refl)
-    (uses_as held state asked.key item (λ s o. meta_get_step s asked.key asked.touch asked.vivify asked.recache asked.unnoted o) (λ i time. MetaHit (hit_of i asked.touch asked.recache time)) (λ i time. shown_item i asked.touch asked.recache time) (λ _ _. refl) h is (λ s u _. rw noted))
+    (uses_as held state asked.key item (λ s o. meta_get_step s asked o) (λ i time. MetaHit (hit_of i asked.touch asked.recache time)) (λ i time. shown_item i asked.touch asked.recache time) (λ _ _. refl) h is (λ s u _. rw noted))
 
 -- the item that a hit leaves whose use isn't noted
 abbrev pub seen : op.MetaGet → Item → ℕ → Item
 seen asked item time = record (shown_item item asked.touch asked.recache time) { fetched = item.fetched }
 
 sees : (s : State) (asked : op.MetaGet) (u : Used) → asked.unnoted ≡ true →
-    (MetaHit (hit_of u.item asked.touch asked.recache s.time), with_items s (insert s.items asked.key (record u { item = seen asked u.item s.time }))) ≡ meta_get_step s asked.key asked.touch asked.vivify asked.recache asked.unnoted (Some u)
+    (MetaHit (hit_of u.item asked.touch asked.recache s.time), with_items s (insert s.items asked.key (record u { item = seen asked u.item s.time }))) ≡ meta_get_step s asked (Some u)
 sees s asked u unnoted = rw unnoted
 
 -- Where its use isn't noted, `mg` of a live item shows it and leaves it at its place in the order of use.
@@ -83,10 +83,10 @@ pub meta_see_hit : (held : ShardContents) (state : State) (asked : op.MetaGet) (
 unfolding step_of kind_of is_lawful
 meta_see_hit held state asked item unnoted h is =
     ends (without_dead state (Some asked.key)) (MetaGet asked) (MetaHit (hit_of item asked.touch asked.recache held.time)) _ (λ _. refl)
-    (at_live held state asked.key item h is (λ i time settled. Closes settled (here (λ s o. meta_get_step s asked.key asked.touch asked.vivify asked.recache asked.unnoted o) settled asked.key) (MetaHit (hit_of i asked.touch asked.recache time)) (with_entries held (set_value (pointwise nat_eq asked.key) held.entries (seen asked i time))))
+    (at_live held state asked.key item h is (λ i time settled. Closes settled (here (λ s o. meta_get_step s asked o) settled asked.key) (MetaHit (hit_of i asked.touch asked.recache time)) (with_entries held (set_value (pointwise nat_eq asked.key) held.entries (seen asked i time))))
     (λ u found. (
       with_items state (insert state.items asked.key (record u { item = seen asked u.item state.time })),
-      inr (sees state asked u unnoted ∙ sym (ap (λ o. meta_get_step state asked.key asked.touch asked.vivify asked.recache asked.unnoted o) found)),
+      inr (sees state asked u unnoted ∙ sym (ap (λ o. meta_get_step state asked o) found)),
       set_in_place held state asked.key u (seen asked u.item state.time) h found refl,
     )))
 
@@ -98,8 +98,8 @@ meta_get_absent held state asked answer new h none closes =
     let settled = without_dead state (Some asked.key) in
     let once = subst (λ s. Closes s (absent_meta_get s asked.key asked.vivify) answer new) (settled_again settled asked.key (misses held state asked.key h none).gone) closes in
     ends settled (MetaGet asked) answer new (λ _. refl)
-    (along settled (absent_meta_get settled asked.key asked.vivify) (meta_get_step settled asked.key asked.touch asked.vivify asked.recache asked.unnoted (get settled.items asked.key)) answer new
-    (absent_as held state asked.key (λ s o. meta_get_step s asked.key asked.touch asked.vivify asked.recache asked.unnoted o) (λ s. absent_meta_get s asked.key asked.vivify) h none (λ s. refl)) once)
+    (along settled (absent_meta_get settled asked.key asked.vivify) (meta_get_step settled asked (get settled.items asked.key)) answer new
+    (absent_as held state asked.key (λ s o. meta_get_step s asked o) (λ s. absent_meta_get s asked.key asked.vivify) h none (λ s. refl)) once)
 
 -- an item that mg makes, before it has a unique
 abbrev pub empty_item : Expiry → ℕ → Item

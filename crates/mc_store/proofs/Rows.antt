@@ -9,11 +9,13 @@ use Rattle.mc_item.specs.declared.item.Expiry.TheVariants.{Never, At}
 use Rattle.mc_item.specs.declared.answer.Answer.{Answer}
 use Rattle.mc_item.specs.declared.answer.Answer.TheVariants.{Stored, Exists, NotFound, NoCas, MetaDone}
 use Rattle.mc_item.specs.declared.answer.MetaDone as done
+use Rattle.mc_item.specs.declared.op.MetaStore.{MetaStore}
 use Rattle.mc_item.specs.Expiry.{expiry_of, is_dead, seconds_left}
 use Rattle.mc_item.specs.Tally.{no_counts}
+use Rattle.mc_store.specs.internal.Asked.{storing}
 use Rattle.mc_store.specs.State.{Used, Items, State, is_dead_at, next_unique}
 use Rattle.mc_store.specs.Rows.{joined_item, stale_item, marks_of, hit_of, vivified_item, made_hit}
-use Rattle.mc_store.specs.Step.{Outcome, Storing, storing, mode_of, compare_of, store_step, numbered, counted, coming}
+use Rattle.mc_store.specs.Step.{Outcome, mode_of, compare_of, store_step, numbered, counted, coming}
 
 -- the first of two shards that has given so many uniques
 abbrev at : Items → ℕ → State
@@ -30,18 +32,18 @@ abbrev plain : done.MetaDone → Answer
 plain _ = Stored
 
 -- cas at the unique 1
-abbrev swap : List ℕ → Storing
-swap value = storing (mode_of (mode.Cas 1)) (compare_of (mode.Cas 1)) None 0 (pos 0) value
+abbrev swap : List ℕ → List ℕ → MetaStore
+swap key value = storing key (mode_of (mode.Cas 1)) (compare_of (mode.Cas 1)) None 0 (pos 0) value
 
 -- The rows, of which each computes.
 record WorkedRows : Type 0 where
   -- compare and swap: the unique 1 is there, then 3
-  swapped : (m : Items) → (store_step (at m 1) (codes "a") (swap (codes "y")) plain (Some (used (item 1)))).0 ≡ Stored
-  swapped_too_late : (m : Items) → (store_step (at m 2) (codes "a") (swap (codes "z")) plain (Some (used (item 3)))) ≡ (Exists, at m 2)
-  nothing_to_swap : (m : Items) → (store_step (at m 2) (codes "c") (swap (codes "z")) plain None) ≡ (NotFound, at m 2)
+  swapped : (m : Items) → (store_step (at m 1) (swap (codes "a") (codes "y")) plain (Some (used (item 1)))).0 ≡ Stored
+  swapped_too_late : (m : Items) → (store_step (at m 2) (swap (codes "a") (codes "z")) plain (Some (used (item 3)))) ≡ (Exists, at m 2)
+  nothing_to_swap : (m : Items) → (store_step (at m 2) (swap (codes "c") (codes "z")) plain None) ≡ (NotFound, at m 2)
   -- a stored item has the next unique, which counts as given
   second_unique : (m : Items) →
-      (store_step (at m 1) (codes "a") (storing Replace None None 0 (pos 0) (codes "y")) (λ done. MetaDone done) (Some (used (item 1)))).0 ≡
+      (store_step (at m 1) (storing (codes "a") Replace None None 0 (pos 0) (codes "y")) (λ done. MetaDone done) (Some (used (item 1)))).0 ≡
       MetaDone (record { unique = 3; size = 1; left = None; number = 0 })
   -- append keeps flags and expiry
   appended : joined_item (record (item 1) { flags = 7; expiry = At 1030; fetched = true; stale = true }) (codes "xy") 3 ≡

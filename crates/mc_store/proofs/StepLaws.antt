@@ -12,6 +12,9 @@ use Rattle.mc_item.specs.declared.item.Item.{Item}
 use Rattle.mc_item.specs.declared.op.Op.{Op}
 use Rattle.mc_item.specs.declared.op.Op.TheVariants.{Store, Fetch, Count, Delete, Touch, Flush, Stats, ResetStats, MetaGet, MetaStore, MetaDelete, MetaCount}
 use Rattle.mc_item.specs.declared.op.MetaDelete as op
+use Rattle.mc_item.specs.declared.op.MetaGet as mg
+use Rattle.mc_item.specs.declared.op.MetaStore as ms
+use Rattle.mc_item.specs.declared.op.MetaCount as ma
 use Rattle.mc_item.specs.declared.op.Vivify.{Vivify}
 use Rattle.mc_item.specs.declared.answer.Kind.{Kind}
 use Rattle.mc_item.specs.declared.answer.Kind.TheVariants as kind
@@ -27,7 +30,8 @@ use Rattle.mc_item.specs.Kind.{kind_of, key_of, is_lawful}
 use Rattle.mc_item.specs.Tally.{no_counts}
 use Rattle.mc_store.specs.State.{Used, Items, State, is_due, arrived, is_dead_at, with_items, without_dead, settle, first, entered, next_unique, with_given}
 use Rattle.mc_store.specs.Rows.{fetched_item, touched_item, stored_item, joined_item, counted_item, counter_item, vivified_item, stale_item, shown_item, hit_of, made_hit, done_of, is_won, has_fewer_left}
-use Rattle.mc_store.specs.Step.{Outcome, Reply, Storing, Counting, is_other, compared, numbered, is_too_large, writes, stores, joins, absent_store, present_store, store_step, storing, mode_of, compare_of, counting, absent_count, counts, count_step, fetch_step, touch_step, absent_meta_get, meta_get_step, shows, delete_step, deletes, stales, meta_delete_step, counted, coming, flush_step, stats_of, noted_in, step_of, Answers, IsStep}
+use Rattle.mc_store.specs.Step.{Outcome, Reply, is_other, compared, numbered, is_too_large, writes, stores, joins, absent_store, present_store, store_step, mode_of, compare_of, absent_count, counts, count_step, fetch_step, touch_step, absent_meta_get, meta_get_step, shows, delete_step, stales, meta_delete_step, counted, coming, flush_step, stats_of, noted_in, step_of, Answers, IsStep}
+use Rattle.mc_store.specs.internal.Asked.{storing, counting}
 use Rattle.mc_store.specs.Laws.{StaysUnless, tells_stored, IsEvicted, SameStored, IsKept, HasNewUnique, token_of, is_sent, may_clear_sent, AnswersAreLawful, StepsAgree, OthersStay, UniquesRise, UniquesDiffer, UniquesTell, TokensAreTaken, TimeRises, WinnersAreFirst, SentStays}
 use Rattle.mc_store.proofs.Lists.{same, same_is, by_key, nothing, get_nothing, get_gone, get_apart, get_here, get_other, get_kept, inserted_all}
 use Rattle.mc_store.proofs.Costs.{fitting_key, fitting_other}
@@ -220,40 +224,40 @@ record Refusals (asked : Kind) (reply : Reply) : Type 0 where
   not_no_cas : (shown : done.MetaDone) → ¬ (reply shown ≡ NoCas)
   told : (shown : done.MetaDone) (before : Option Used) → tells_stored (reply shown) before ≡ true
 
-module _ (s : State) (asked : Kind) (key : List ℕ) (what : Storing) (reply : Reply) (may : Refusals asked reply) where
+module _ (s : State) (asked : Kind) (what : ms.MetaStore) (reply : Reply) (may : Refusals asked reply) where
   writing : (value : List ℕ) (item : Item) →
-      Follows s asked what.unique (Some key) (writes s key what.unique value (λ unique. record item { unique = unique }) reply)
-  writing value item = elim (cases_Bool (is_too_large s key value)) [
-    | inl t ↦ rw t (unchanged s asked what.unique (Some key) TooLarge (λ _ _ e. cc) may.large)
+      Follows s asked what.unique (Some what.key) (writes s what.key what.unique value (λ unique. record item { unique = unique }) reply)
+  writing value item = elim (cases_Bool (is_too_large s what.key value)) [
+    | inl t ↦ rw t (unchanged s asked what.unique (Some what.key) TooLarge (λ _ _ e. cc) may.large)
     | inr f ↦
         let shown : ℕ → done.MetaDone = λ u. done_of (record item { unique = u }) 0 s.time in
-        rw f (numbers_first s asked what.unique key (λ u. reply (shown u)) item (λ u. may.not_no_cas (shown u))
-        (λ u. may.told (shown u) (get s.items key)) (λ keeps _. absurd (both_ways (may_clear_sent asked) keeps may.clears)) may.no_cas (λ u. may.replies (shown u)))
+        rw f (numbers_first s asked what.unique what.key (λ u. reply (shown u)) item (λ u. may.not_no_cas (shown u))
+        (λ u. may.told (shown u) (get s.items what.key)) (λ keeps _. absurd (both_ways (may_clear_sent asked) keeps may.clears)) may.no_cas (λ u. may.replies (shown u)))
   ]
 
-  stores_follow : Follows s asked what.unique (Some key) (stores s key what reply)
+  stores_follow : Follows s asked what.unique (Some what.key) (stores s what reply)
   stores_follow = writing what.value (stored_item what.value what.flags what.exptime s.time 0)
 
-  joins_follow : (item : Item) (value : List ℕ) → Follows s asked what.unique (Some key) (joins s key item what value reply)
+  joins_follow : (item : Item) (value : List ℕ) → Follows s asked what.unique (Some what.key) (joins s item what value reply)
   joins_follow item value = writing value (joined_item item value 0)
 
-  storing_absent : (mode : MetaMode) (compare : Option ℕ) → Follows s asked what.unique (Some key) (absent_store s key what reply mode compare)
-  storing_absent mode (Some unique) = unchanged s asked what.unique (Some key) NotFound (λ _ _ e. cc) may.absent
+  storing_absent : (mode : MetaMode) (compare : Option ℕ) → Follows s asked what.unique (Some what.key) (absent_store s what reply mode compare)
+  storing_absent mode (Some unique) = unchanged s asked what.unique (Some what.key) NotFound (λ _ _ e. cc) may.absent
   storing_absent Set None = stores_follow
   storing_absent Add None = stores_follow
-  storing_absent mode None = unchanged s asked what.unique (Some key) NotStored (λ _ _ e. cc) may.not_stored
+  storing_absent mode None = unchanged s asked what.unique (Some what.key) NotStored (λ _ _ e. cc) may.not_stored
 
-  storing_present : (mode : MetaMode) (u : Used) → get s.items key ≡ Some u →
-      Follows s asked what.unique (Some key) (present_store s key what reply mode u.item)
-  storing_present Add u is = uses s asked what.unique key u u.item NotStored (λ _ _ e. cc) is (assumption) (λ h. h) may.not_stored
-  storing_present Append u is = compares s asked what.unique (Some key) what.compare u.item
-      (joins s key u.item what (u.item.value ++ what.value) reply) may.exists (joins_follow u.item (u.item.value ++ what.value))
+  storing_present : (mode : MetaMode) (u : Used) → get s.items what.key ≡ Some u →
+      Follows s asked what.unique (Some what.key) (present_store s what reply mode u.item)
+  storing_present Add u is = uses s asked what.unique what.key u u.item NotStored (λ _ _ e. cc) is (assumption) (λ h. h) may.not_stored
+  storing_present Append u is = compares s asked what.unique (Some what.key) what.compare u.item
+      (joins s u.item what (u.item.value ++ what.value) reply) may.exists (joins_follow u.item (u.item.value ++ what.value))
   storing_present Prepend u is =
-      compares s asked what.unique (Some key) what.compare u.item (joins s key u.item what (what.value ++ u.item.value) reply) may.exists
+      compares s asked what.unique (Some what.key) what.compare u.item (joins s u.item what (what.value ++ u.item.value) reply) may.exists
       (joins_follow u.item (what.value ++ u.item.value))
-  storing_present mode u is = compares s asked what.unique (Some key) what.compare u.item (stores s key what reply) may.exists stores_follow
+  storing_present mode u is = compares s asked what.unique (Some what.key) what.compare u.item (stores s what reply) may.exists stores_follow
 
-  storing_follows : (o : Option Used) → get s.items key ≡ o → Follows s asked what.unique (Some key) (store_step s key what reply o)
+  storing_follows : (o : Option Used) → get s.items what.key ≡ o → Follows s asked what.unique (Some what.key) (store_step s what reply o)
   storing_follows None is = storing_absent what.mode what.compare
   storing_follows (Some u) is = storing_present what.mode u is
 
@@ -282,12 +286,13 @@ module _ (s : State) (asked : Kind) (key : List ℕ) (reply : Reply) (may : Coun
   counting_absent token none (Some made) =
       numbers_to token (counter_item made.initial made.exptime s.time 0) made.initial (λ had. absurd (let h = rw none at had in cc))
 
-  counting_present : (what : Counting) (u : Used) → get s.items key ≡ Some u → (number : Option ℕ) →
-      Follows s asked what.unique (Some key) (counts s key u.item what reply number)
-  counting_present what u is None = unchanged s asked what.unique (Some key) NonNumeric (λ _ _ e. cc) may.no_number
-  counting_present what u is (Some number) =
+module _ (s : State) (asked : Kind) (what : ma.MetaCount) (reply : Reply) (may : CountRefusals asked reply) where
+  counting_present : (u : Used) → get s.items what.key ≡ Some u → (number : Option ℕ) →
+      Follows s asked what.unique (Some what.key) (counts s u.item what reply number)
+  counting_present u is None = unchanged s asked what.unique (Some what.key) NonNumeric (λ _ _ e. cc) may.no_number
+  counting_present u is (Some number) =
       let to = counted what.direction number what.amount in
-      numbers_to what.unique (counted_item u.item to what.exptime s.time 0) to (λ had. rw is at had)
+      numbers_to s asked what.key reply may what.unique (counted_item u.item to what.exptime s.time 0) to (λ had. rw is at had)
 
 -- Each kind
 
@@ -307,7 +312,11 @@ touch_follows s key exptime (Some u) is = uses s kind.Touch None key u (touched_
 abbrev seen : State → Used → Option ℤ → Option ℤ → Used
 seen s u touch recache = record u { item = record (shown_item u.item touch recache s.time) { fetched = u.item.fetched } }
 
-meta_get_follows : (s : State) (key : List ℕ) (touch vivify recache : Option ℤ) (unnoted : Bool) (o : Option Used) → get s.items key ≡ o → Follows s kind.MetaGet None (Some key) (meta_get_step s key touch vivify recache unnoted o)
+-- what mg asks
+abbrev getting : List ℕ → Option ℤ → Option ℤ → Option ℤ → Bool → mg.MetaGet
+getting key touch vivify recache unnoted = record { key = key; touch = touch; vivify = vivify; recache = recache; unnoted = unnoted }
+
+meta_get_follows : (s : State) (key : List ℕ) (touch vivify recache : Option ℤ) (unnoted : Bool) (o : Option Used) → get s.items key ≡ o → Follows s kind.MetaGet None (Some key) (meta_get_step s (getting key touch vivify recache unnoted) o)
 unfolding is_lawful
 meta_get_follows s key touch None recache unnoted None is = unchanged s kind.MetaGet None (Some key) Miss (λ _ _ e. cc) refl
 meta_get_follows s key touch (Some exptime) recache unnoted None is =
@@ -346,7 +355,7 @@ stale_follows s asked u =
 meta_delete_follows : (s : State) (asked : op.MetaDelete) (o : Option Used) → Follows s kind.MetaDelete asked.unique (Some asked.key) (meta_delete_step s asked o)
 unfolding is_lawful
 meta_delete_follows s asked None = unchanged s kind.MetaDelete asked.unique (Some asked.key) NotFound (λ _ _ e. cc) refl
-meta_delete_follows s asked (Some u) = compares s kind.MetaDelete asked.unique (Some asked.key) asked.compare u.item (if asked.invalidate then stales s asked u else deletes s asked.key) refl (elim (cases_Bool asked.invalidate) [
+meta_delete_follows s asked (Some u) = compares s kind.MetaDelete asked.unique (Some asked.key) asked.compare u.item (if asked.invalidate then stales s asked u else delete_step s asked.key (Some u)) refl (elim (cases_Bool asked.invalidate) [
   | inl t ↦ rw t (stale_follows s asked u)
   | inr f ↦ rw f (goes s kind.MetaDelete asked.unique asked.key Deleted (λ _ _ e. cc) refl)
 ])
@@ -372,31 +381,31 @@ reset_follows s = follows s kind.ResetStats None None Reset s.items s.uses s.flu
   sent = λ _ k h. inr h;
 })
 
-classic_count_follows : (s : State) (key : List ℕ) (what : Counting) (reply : Reply) → what.compare ≡ None → CountRefusals kind.Count reply → (o : Option Used) → get s.items key ≡ o → Follows s kind.Count what.unique (Some key) (count_step s key what reply None o)
-classic_count_follows s key what reply free may None is = counting_absent s kind.Count key reply may what.unique is None
-classic_count_follows s key what reply free may (Some u) is = rw free (counting_present s kind.Count key reply may what u is (number_in u.item.value))
+classic_count_follows : (s : State) (what : ma.MetaCount) (reply : Reply) → what.compare ≡ None → CountRefusals kind.Count reply → (o : Option Used) → get s.items what.key ≡ o → Follows s kind.Count what.unique (Some what.key) (count_step s what reply o)
+classic_count_follows s what reply free may None is = counting_absent s kind.Count what.key reply may what.unique is what.vivify
+classic_count_follows s what reply free may (Some u) is = rw free (counting_present s kind.Count what reply may u is (number_in u.item.value))
 
-meta_count_follows : (s : State) (key : List ℕ) (what : Counting) (reply : Reply) (vivify : Option Vivify) → CountRefusals kind.MetaCount reply → (o : Option Used) → get s.items key ≡ o → Follows s kind.MetaCount what.unique (Some key) (count_step s key what reply vivify o)
+meta_count_follows : (s : State) (what : ma.MetaCount) (reply : Reply) → CountRefusals kind.MetaCount reply → (o : Option Used) → get s.items what.key ≡ o → Follows s kind.MetaCount what.unique (Some what.key) (count_step s what reply o)
 unfolding is_lawful
-meta_count_follows s key what reply vivify may None is = counting_absent s kind.MetaCount key reply may what.unique is vivify
-meta_count_follows s key what reply vivify may (Some u) is =
-    compares s kind.MetaCount what.unique (Some key) what.compare u.item (counts s key u.item what reply (number_in u.item.value)) refl
-    (counting_present s kind.MetaCount key reply may what u is (number_in u.item.value))
+meta_count_follows s what reply may None is = counting_absent s kind.MetaCount what.key reply may what.unique is what.vivify
+meta_count_follows s what reply may (Some u) is =
+    compares s kind.MetaCount what.unique (Some what.key) what.compare u.item (counts s u.item what reply (number_in u.item.value)) refl
+    (counting_present s kind.MetaCount what reply may u is (number_in u.item.value))
 
 step_follows : (s : State) (op : Op) → Follows s (kind_of op) (token_of op) (key_of op) (step_of s op)
 unfolding step_of kind_of key_of is_lawful
 step_follows s (Fetch key touch) = fetch_follows s key touch (get s.items key) refl
-step_follows s (Store key m flags exptime value) = storing_follows s kind.Store key (storing (mode_of m) (compare_of m) None flags exptime value) (λ _. Stored) (record { clears = refl; absent = refl; not_stored = refl; exists = refl; large = refl; no_cas = refl; replies = λ _. refl; not_no_cas = λ _ e. cc; told = λ _ _. refl }) (get s.items key) refl
-step_follows s (Count key direction amount) = classic_count_follows s key (counting None None direction amount None) (λ shown. Number shown.number) refl (record { absent = refl; no_number = refl; no_cas = refl; replies = λ _. refl; not_no_cas = λ _ e. cc; told = λ _ _. refl }) (get s.items key) refl
+step_follows s (Store key m flags exptime value) = storing_follows s kind.Store (storing key (mode_of m) (compare_of m) None flags exptime value) (λ _. Stored) (record { clears = refl; absent = refl; not_stored = refl; exists = refl; large = refl; no_cas = refl; replies = λ _. refl; not_no_cas = λ _ e. cc; told = λ _ _. refl }) (get s.items key) refl
+step_follows s (Count key direction amount) = classic_count_follows s (counting key None None direction amount None None) (λ shown. Number shown.number) refl (record { absent = refl; no_number = refl; no_cas = refl; replies = λ _. refl; not_no_cas = λ _ e. cc; told = λ _ _. refl }) (get s.items key) refl
 step_follows s (Delete key) = delete_follows s key (get s.items key)
 step_follows s (Touch key exptime) = touch_follows s key exptime (get s.items key) refl
 step_follows s (Flush delay) = flush_follows s (coming (expiry_of delay s.time) s.time)
 step_follows s Stats = unchanged s kind.Stats None None (shown.Stats (stats_of s)) (λ _ _ e. cc) refl
 step_follows s ResetStats = reset_follows s
 step_follows s (MetaGet asked) = meta_get_follows s asked.key asked.touch asked.vivify asked.recache asked.unnoted (get s.items asked.key) refl
-step_follows s (MetaStore asked) = storing_follows s kind.MetaStore asked.key (storing asked.mode asked.compare asked.unique asked.flags asked.exptime asked.value) (λ shown. MetaDone shown) (record { clears = refl; absent = refl; not_stored = refl; exists = refl; large = refl; no_cas = refl; replies = λ _. refl; not_no_cas = λ _ e. cc; told = λ _ _. refl }) (get s.items asked.key) refl
+step_follows s (MetaStore asked) = storing_follows s kind.MetaStore asked (λ shown. MetaDone shown) (record { clears = refl; absent = refl; not_stored = refl; exists = refl; large = refl; no_cas = refl; replies = λ _. refl; not_no_cas = λ _ e. cc; told = λ _ _. refl }) (get s.items asked.key) refl
 step_follows s (MetaDelete asked) = meta_delete_follows s asked (get s.items asked.key)
-step_follows s (MetaCount asked) = meta_count_follows s asked.key (counting asked.compare asked.unique asked.direction asked.amount asked.exptime) (λ shown. MetaDone shown) asked.vivify (record { absent = refl; no_number = refl; no_cas = refl; replies = λ _. refl; not_no_cas = λ _ e. cc; told = λ _ _. refl }) (get s.items asked.key) refl
+step_follows s (MetaCount asked) = meta_count_follows s asked (λ shown. MetaDone shown) (record { absent = refl; no_number = refl; no_cas = refl; replies = λ _. refl; not_no_cas = λ _ e. cc; told = λ _ _. refl }) (get s.items asked.key) refl
 
 -- The laws
 
@@ -548,7 +557,7 @@ shown_wins : (s : State) (key : List ℕ) (touch recache : Option ℤ) (unnoted 
 shown_wins s key touch recache false u sent = sent_at s.items key (put_at s (shown_item u.item touch recache s.time)) sent
 shown_wins s key touch recache true u sent = sent_at s.items key (seen s u touch recache) sent
 
-get_wins : (s : State) (key : List ℕ) (touch vivify recache : Option ℤ) (unnoted : Bool) (shown : hit.MetaHit) (new : State) (o : Option Used) → get s.items key ≡ o → ◌≡◌ {A = Outcome} (MetaHit shown, new) (meta_get_step s key touch vivify recache unnoted o) → shown.marks.won ≡ true → Wins s key new
+get_wins : (s : State) (key : List ℕ) (touch vivify recache : Option ℤ) (unnoted : Bool) (shown : hit.MetaHit) (new : State) (o : Option Used) → get s.items key ≡ o → ◌≡◌ {A = Outcome} (MetaHit shown, new) (meta_get_step s (getting key touch vivify recache unnoted) o) → shown.marks.won ≡ true → Wins s key new
 get_wins s key touch vivify recache unnoted shown new None is step won = made_wins s key vivify shown new is step
 get_wins s key touch vivify recache unnoted shown new (Some u) is step won =
     let answer : MetaHit shown ≡ MetaHit (hit_of u.item touch recache s.time) = ap (λ o. o.0) step in

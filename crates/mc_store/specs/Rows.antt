@@ -1,6 +1,6 @@
 -- What each operation makes of the item that it meets: a row a definition. An item that is made the most recently
 -- used one is accessed at that time, whatever the row says of its last access.
-use Rattle.std.specs.Prelude.{ℕ, ◌-◌, Bool, true, false, ◌||◌, ◌&&◌, not, ℤ, pos, negsuc, List, [], length, Option, Some, None, nat_lt}
+use Rattle.std.specs.Prelude.{ℕ, ◌-◌, Bool, true, false, ◌||◌, ◌&&◌, not, ℤ, pos, List, [], length, Option, Some, None, nat_lt}
 use Rattle.mc_item.specs.declared.item.Item.{Item}
 use Rattle.mc_item.specs.declared.item.Expiry.{Expiry}
 use Rattle.mc_item.specs.declared.answer.Marks.{Marks}
@@ -51,9 +51,7 @@ stale_item item exptime time unique = record item { unique = unique; expiry = ex
 -- Fewer seconds are left than the token of R; an item that never dies has no seconds left.
 abbrev pub has_fewer_left : Option ℕ → Option ℤ → Bool
 has_fewer_left (Some left) (Some (pos token)) = nat_lt left token
-has_fewer_left (Some left) (Some (negsuc below)) = false
-has_fewer_left (Some left) None = false
-has_fewer_left None recache = false
+has_fewer_left left recache = false
 
 -- W: nobody was told to recompute the item, and it is stale or soon dead.
 abbrev pub is_won : Item → Option ℤ → ℕ → Bool

@@ -49,8 +49,7 @@ empty_state index shards budget given limit = record { items = empty; uses = 0; 
 
 -- whether a pending flush runs at the time
 abbrev pub is_due : Option ℕ → ℕ → Bool
-is_due None time = false
-is_due (Some second) time = nat_le second time
+is_due flush time = option_map_or (λ second. nat_le second time) flush false
 
 -- No item is left, and no flush is pending.
 abbrev pub flushed : State → State
@@ -64,8 +63,7 @@ abbrev pub arrived : State → ℕ → State
 arrived state moment = at_time state (max state.time (min moment latest_moment))
 
 abbrev pub is_dead_at : ℕ → Option Used → Bool
-is_dead_at time None = false
-is_dead_at time (Some used) = is_dead used.item.expiry time
+is_dead_at time found = option_map_or (λ used. is_dead used.item.expiry time) found false
 
 -- the same state with these items
 abbrev pub with_items : State → Items → State

@@ -14,7 +14,10 @@ use Rattle.mc_item.specs.declared.item.Expiry.TheVariants.{Never, At}
 use Rattle.mc_item.specs.declared.op.Op.{Op}
 use Rattle.mc_item.specs.declared.op.Op.TheVariants.{Store, Fetch, Count, Delete, Touch, Flush, MetaGet, MetaStore, MetaDelete, MetaCount}
 use Rattle.mc_item.specs.declared.op.Op.TheVariants as op
-use Rattle.mc_item.specs.declared.op.MetaDelete as asked
+use Rattle.mc_item.specs.declared.op.MetaGet as mg
+use Rattle.mc_item.specs.declared.op.MetaStore as ms
+use Rattle.mc_item.specs.declared.op.MetaDelete as md
+use Rattle.mc_item.specs.declared.op.MetaCount as ma
 use Rattle.mc_item.specs.declared.op.Vivify.{Vivify}
 use Rattle.mc_item.specs.declared.answer.Answer.{Answer}
 use Rattle.mc_item.specs.declared.answer.MetaDone as done
@@ -42,6 +45,11 @@ abbrev pub numbered : State → Option ℕ → (ℕ → State → Outcome) → O
 numbered state (Some token) outcome = outcome token state
 numbered state None outcome = if nat_lt (next_unique state) (2 ^ 64) then outcome (next_unique state) (with_given state) else (NoCas, state)
 
+-- The item that is made with its unique enters, and the answer tells of it.
+abbrev pub puts : State → List ℕ → Option ℕ → (ℕ → Item) → (Item → Answer) → Outcome
+puts state key given item_of answer_of =
+    numbered state given (λ unique after. (answer_of (item_of unique), entered after key (item_of unique)))
+
 -- A unique is asked for, and it is not this one.
 abbrev pub is_other : Option ℕ → ℕ → Bool
 is_other None unique = false
@@ -62,10 +70,7 @@ fetch_step state key exptime (Some used) =
 abbrev pub absent_meta_get : State → List ℕ → Option ℤ → Outcome
 absent_meta_get state key None = (Miss, state)
 absent_meta_get state key (Some exptime) =
-    numbered state None (λ unique given. (
-      MetaHit (made_hit (vivified_item exptime state.time unique) state.time),
-      entered given key (vivified_item exptime state.time unique),
-    ))
+    puts state key None (vivified_item exptime state.time) (λ made. MetaHit (made_hit made state.time))
 
 -- What a hit of mg leaves of the item that it showed. Where its use isn't noted, the item keeps its place in the order, its
 -- last access, and whether it was fetched.
@@ -73,22 +78,12 @@ abbrev pub shows : Bool → State → List ℕ → Used → Item → State
 shows false state key used shown = first state key shown
 shows true state key used shown = with_items state (insert state.items key (record used { item = record shown { fetched = used.item.fetched } }))
 
-abbrev pub meta_get_step : State → List ℕ → Option ℤ → Option ℤ → Option ℤ → Bool → Option Used → Outcome
-meta_get_step state key touch vivify recache unnoted None = absent_meta_get state key vivify
-meta_get_step state key touch vivify recache unnoted (Some used) =
-    (MetaHit (hit_of used.item touch recache state.time), shows unnoted state key used (shown_item used.item touch recache state.time))
+abbrev pub meta_get_step : State → mg.MetaGet → Option Used → Outcome
+meta_get_step state asked None = absent_meta_get state asked.key asked.vivify
+meta_get_step state asked (Some used) =
+    (MetaHit (hit_of used.item asked.touch asked.recache state.time), shows asked.unnoted state asked.key used (shown_item used.item asked.touch asked.recache state.time))
 
--- Storing
-
--- what a storage command asks: in which mode, at which unique, the unique that the item is given, and what is to be
--- stored
-pub record Storing : Type 0 where
-  pub mode : MetaMode
-  pub compare : Option ℕ
-  pub unique : Option ℕ
-  pub flags : ℕ
-  pub exptime : ℤ
-  pub value : List ℕ
+-- Storing, where each command asks as ms does
 
 -- A value is too large where it passes the limit, or where its item would cost more than the budget alone.
 abbrev pub is_too_large : State → List ℕ → List ℕ → Bool
@@ -98,101 +93,71 @@ is_too_large state key value = nat_lt state.limit (length value) || nat_lt state
 abbrev pub writes : State → List ℕ → Option ℕ → List ℕ → (ℕ → Item) → Reply → Outcome
 writes state key given value item_of reply =
     if is_too_large state key value then (TooLarge, state)
-    else numbered state given (λ unique after. (reply (done_of (item_of unique) 0 state.time), entered after key (item_of unique)))
+    else puts state key given item_of (λ made. reply (done_of made 0 state.time))
 
 -- what is asked is stored
-abbrev pub stores : State → List ℕ → Storing → Reply → Outcome
-stores state key asked reply = writes state key asked.unique asked.value (stored_item asked.value asked.flags asked.exptime state.time) reply
+abbrev pub stores : State → ms.MetaStore → Reply → Outcome
+stores state asked reply = writes state asked.key asked.unique asked.value (stored_item asked.value asked.flags asked.exptime state.time) reply
 
 -- what is asked is joined to the value that is there
-abbrev pub joins : State → List ℕ → Item → Storing → List ℕ → Reply → Outcome
-joins state key item asked value reply = writes state key asked.unique value (joined_item item value) reply
+abbrev pub joins : State → Item → ms.MetaStore → List ℕ → Reply → Outcome
+joins state item asked value reply = writes state asked.key asked.unique value (joined_item item value) reply
 
--- under an absent key
-abbrev pub absent_store : State → List ℕ → Storing → Reply → MetaMode → Option ℕ → Outcome
-absent_store state key asked reply mode (Some unique) = (NotFound, state)
-absent_store state key asked reply Set None = stores state key asked reply
-absent_store state key asked reply Add None = stores state key asked reply
-absent_store state key asked reply Replace None = (NotStored, state)
-absent_store state key asked reply Append None = (NotStored, state)
-absent_store state key asked reply Prepend None = (NotStored, state)
+-- under an absent key, where Set and Add store
+abbrev pub absent_store : State → ms.MetaStore → Reply → MetaMode → Option ℕ → Outcome
+absent_store state asked reply mode (Some unique) = (NotFound, state)
+absent_store state asked reply Set None = stores state asked reply
+absent_store state asked reply Add None = stores state asked reply
+absent_store state asked reply mode None = (NotStored, state)
 
--- under a key that is there; a refused add makes the item the most recently used one
-abbrev pub present_store : State → List ℕ → Storing → Reply → MetaMode → Item → Outcome
-present_store state key asked reply Add item = (NotStored, first state key item)
-present_store state key asked reply Set item = compared state asked.compare item (stores state key asked reply)
-present_store state key asked reply Replace item = compared state asked.compare item (stores state key asked reply)
-present_store state key asked reply Append item = compared state asked.compare item (joins state key item asked (item.value ++ asked.value) reply)
-present_store state key asked reply Prepend item = compared state asked.compare item (joins state key item asked (asked.value ++ item.value) reply)
+-- under a key that is there, where Set and Replace store; a refused add makes the item the most recently used one
+abbrev pub present_store : State → ms.MetaStore → Reply → MetaMode → Item → Outcome
+present_store state asked reply Add item = (NotStored, first state asked.key item)
+present_store state asked reply Append item = compared state asked.compare item (joins state item asked (item.value ++ asked.value) reply)
+present_store state asked reply Prepend item = compared state asked.compare item (joins state item asked (asked.value ++ item.value) reply)
+present_store state asked reply mode item = compared state asked.compare item (stores state asked reply)
 
-abbrev pub store_step : State → List ℕ → Storing → Reply → Option Used → Outcome
-store_step state key asked reply None = absent_store state key asked reply asked.mode asked.compare
-store_step state key asked reply (Some used) = present_store state key asked reply asked.mode used.item
+abbrev pub store_step : State → ms.MetaStore → Reply → Option Used → Outcome
+store_step state asked reply None = absent_store state asked reply asked.mode asked.compare
+store_step state asked reply (Some used) = present_store state asked reply asked.mode used.item
 
--- the classic commands are those of ms: cas is set at a unique
+-- the mode of ms that a classic command has: that of set, and of cas, which is set at a unique, is Set
 abbrev pub mode_of : StoreMode → MetaMode
-mode_of store.Set = Set
 mode_of store.Add = Add
 mode_of store.Replace = Replace
 mode_of store.Append = Append
 mode_of store.Prepend = Prepend
-mode_of (store.Cas unique) = Set
+mode_of mode = Set
 
 abbrev pub compare_of : StoreMode → Option ℕ
 compare_of (store.Cas unique) = Some unique
-compare_of store.Set = None
-compare_of store.Add = None
-compare_of store.Replace = None
-compare_of store.Append = None
-compare_of store.Prepend = None
+compare_of mode = None
 
-abbrev pub storing : MetaMode → Option ℕ → Option ℕ → ℕ → ℤ → List ℕ → Storing
-storing mode compare unique flags exptime value = record { mode = mode; compare = compare; unique = unique; flags = flags; exptime = exptime; value = value }
-
--- Counting (protocol.txt, "Increment/Decrement")
+-- Counting, where each command asks as ma does (protocol.txt, "Increment/Decrement")
 
 -- It grows modulo 2^64, and falls to 0 at least.
 abbrev pub counted : Direction → ℕ → ℕ → ℕ
 counted Increment number amount = (number + amount) % 2 ^ 64
 counted Decrement number amount = number - amount
 
--- what counting asks: at which unique, the unique that the item is given, in which direction, by how much, and the
--- exptime that it sets
-pub record Counting : Type 0 where
-  pub compare : Option ℕ
-  pub unique : Option ℕ
-  pub direction : Direction
-  pub amount : ℕ
-  pub exptime : Option ℤ
-
 -- the item with its new number and a new unique
-abbrev pub changes : State → List ℕ → Item → Counting → ℕ → Reply → Outcome
-changes state key item asked number reply =
-    numbered state asked.unique (λ unique after. (
-      reply (done_of (counted_item item number asked.exptime state.time unique) number state.time),
-      entered after key (counted_item item number asked.exptime state.time unique),
-    ))
+abbrev pub changes : State → Item → ma.MetaCount → ℕ → Reply → Outcome
+changes state item asked number reply =
+    puts state asked.key asked.unique (counted_item item number asked.exptime state.time) (λ changed. reply (done_of changed number state.time))
 
-abbrev pub counts : State → List ℕ → Item → Counting → Reply → Option ℕ → Outcome
-counts state key item asked reply None = (NonNumeric, state)
-counts state key item asked reply (Some number) = changes state key item asked (counted asked.direction number asked.amount) reply
+abbrev pub counts : State → Item → ma.MetaCount → Reply → Option ℕ → Outcome
+counts state item asked reply None = (NonNumeric, state)
+counts state item asked reply (Some number) = changes state item asked (counted asked.direction number asked.amount) reply
 
 -- under an absent key
 abbrev pub absent_count : State → List ℕ → Option ℕ → Reply → Option Vivify → Outcome
 absent_count state key given reply None = (NotFound, state)
-absent_count state key given reply (Some made) =
-    numbered state given (λ unique after. (
-      reply (done_of (counter_item made.initial made.exptime state.time unique) made.initial state.time),
-      entered after key (counter_item made.initial made.exptime state.time unique),
-    ))
+absent_count state key given reply (Some asked) =
+    puts state key given (counter_item asked.initial asked.exptime state.time) (λ made. reply (done_of made asked.initial state.time))
 
-abbrev pub count_step : State → List ℕ → Counting → Reply → Option Vivify → Option Used → Outcome
-count_step state key asked reply vivify None = absent_count state key asked.unique reply vivify
-count_step state key asked reply vivify (Some used) =
-    compared state asked.compare used.item (counts state key used.item asked reply (number_in used.item.value))
-
-abbrev pub counting : Option ℕ → Option ℕ → Direction → ℕ → Option ℤ → Counting
-counting compare unique direction amount exptime = record { compare = compare; unique = unique; direction = direction; amount = amount; exptime = exptime }
+abbrev pub count_step : State → ma.MetaCount → Reply → Option Used → Outcome
+count_step state asked reply None = absent_count state asked.key asked.unique reply asked.vivify
+count_step state asked reply (Some used) = compared state asked.compare used.item (counts state used.item asked reply (number_in used.item.value))
 
 -- Touching, deleting and flushing
 
@@ -200,22 +165,19 @@ abbrev pub touch_step : State → List ℕ → ℤ → Option Used → Outcome
 touch_step state key exptime None = (NotFound, state)
 touch_step state key exptime (Some used) = (Touched, first state key (touched_item used.item exptime state.time))
 
-abbrev pub deletes : State → List ℕ → Outcome
-deletes state key = (Deleted, with_items state (remove state.items key))
-
 abbrev pub delete_step : State → List ℕ → Option Used → Outcome
 delete_step state key None = (NotFound, state)
-delete_step state key (Some used) = deletes state key
+delete_step state key (Some used) = (Deleted, with_items state (remove state.items key))
 
 -- md with I: the item becomes stale where it stands
-abbrev pub stales : State → asked.MetaDelete → Used → Outcome
+abbrev pub stales : State → md.MetaDelete → Used → Outcome
 stales state asked used =
     numbered state asked.unique (λ unique after. (Done, with_items after (insert state.items asked.key (record used { item = stale_item used.item asked.exptime state.time unique }))))
 
-abbrev pub meta_delete_step : State → asked.MetaDelete → Option Used → Outcome
+abbrev pub meta_delete_step : State → md.MetaDelete → Option Used → Outcome
 meta_delete_step state asked None = (NotFound, state)
 meta_delete_step state asked (Some used) =
-    compared state asked.compare used.item (if asked.invalidate then stales state asked used else deletes state asked.key)
+    compared state asked.compare used.item (if asked.invalidate then stales state asked used else delete_step state asked.key (Some used))
 
 -- the second at which a flush is to come, if that is in the future
 abbrev pub coming : Expiry → ℕ → Option ℕ
@@ -243,20 +205,20 @@ noted_in state op answer = record state { tally = noted state.tally (asked_of op
 unfoldable pub step_of : State → Op → Outcome
 step_of state (Fetch key touch) = fetch_step state key touch (get state.items key)
 step_of state (Store key mode flags exptime value) =
-    store_step state key (storing (mode_of mode) (compare_of mode) None flags exptime value) (λ done. Stored) (get state.items key)
+    store_step state (record { key = key; mode = mode_of mode; compare = compare_of mode; unique = None; flags = flags; exptime = exptime; value = value })
+    (λ done. Stored) (get state.items key)
 step_of state (Count key direction amount) =
-    count_step state key (counting None None direction amount None) (λ done. Number done.number) None (get state.items key)
+    count_step state (record { key = key; compare = None; unique = None; direction = direction; amount = amount; exptime = None; vivify = None })
+    (λ done. Number done.number) (get state.items key)
 step_of state (Delete key) = delete_step state key (get state.items key)
 step_of state (Touch key exptime) = touch_step state key exptime (get state.items key)
 step_of state (Flush delay) = (Done, flush_step state (coming (expiry_of delay state.time) state.time))
 step_of state op.Stats = (answer.Stats (stats_of state), state)
 step_of state op.ResetStats = (answer.Reset, record state { tally = no_counts; evicted = 0 })
-step_of state (MetaGet asked) = meta_get_step state asked.key asked.touch asked.vivify asked.recache asked.unnoted (get state.items asked.key)
-step_of state (MetaStore asked) =
-    store_step state asked.key (storing asked.mode asked.compare asked.unique asked.flags asked.exptime asked.value) (λ done. MetaDone done) (get state.items asked.key)
+step_of state (MetaGet asked) = meta_get_step state asked (get state.items asked.key)
+step_of state (MetaStore asked) = store_step state asked (λ done. MetaDone done) (get state.items asked.key)
 step_of state (MetaDelete asked) = meta_delete_step state asked (get state.items asked.key)
-step_of state (MetaCount asked) =
-    count_step state asked.key (counting asked.compare asked.unique asked.direction asked.amount asked.exptime) (λ done. MetaDone done) asked.vivify (get state.items asked.key)
+step_of state (MetaCount asked) = count_step state asked (λ done. MetaDone done) (get state.items asked.key)
 
 -- What a settled shard may answer, and its state then: memory may be wanting where the kind of the operation can
 -- want it, and nothing changes; else all is determined.

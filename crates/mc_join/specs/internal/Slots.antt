@@ -1,8 +1,8 @@
 -- The texts of replies over slots, some of which may be empty still: an empty slot shows nothing.
-use Rattle.std.specs.Prelude.{ℕ, ◌%◌, ◌^◌, Bool, false, List, [], ◌∷◌, ◌++◌, length, codes, decimal, Option, Some, None, if◌then◌else◌}
+use Rattle.std.specs.Prelude.{ℕ, ◌%◌, ◌^◌, Bool, true, false, List, [], ◌∷◌, ◌++◌, length, codes, decimal, Option, Some, None, if◌then◌else◌}
 use Rattle.std.specs.List.{concat, flat_map, list_any, sum_by}
 use Rattle.mc_item.specs.declared.answer.Answer.{Answer}
-use Rattle.mc_item.specs.declared.answer.Answer.TheVariants.{Number}
+use Rattle.mc_item.specs.declared.answer.Answer.TheVariants.{Hit, Number}
 use Rattle.mc_split.specs.declared.form.Shape.{Shape}
 use Rattle.mc_split.specs.declared.form.Shape.TheVariants as shape
 use Rattle.mc_item.specs.declared.stat.Stat.{Stat}
@@ -13,6 +13,14 @@ use Rattle.mc_split.specs.Text.{memory_line, fixed_text, answer_line, is_no_memo
 abbrev pub fixed_line : Answer → List ℕ
 fixed_line (Number number) = []
 fixed_line answer = answer_line answer
+
+-- an item that was found, without its unique
+abbrev pub plain_item : List ℕ → ℕ → List ℕ → List ℕ
+plain_item key flags value = item_text false key (Hit flags 0 value)
+
+-- an item that was found, with its unique
+abbrev pub unique_item : List ℕ → ℕ → ℕ → List ℕ → List ℕ
+unique_item key flags unique value = item_text true key (Hit flags unique value)
 
 -- the text of an answer that is there
 abbrev pub slot_text : (Answer → List ℕ) → Option Answer → List ℕ

@@ -38,7 +38,8 @@ fn counted(direction: Direction, number: u64, amount: u64) -> u64
 }
 
 impl Shard {
-    ghost use Rattle.mc_store.specs.Step.{absent_count, count_step, counting};
+    ghost use Rattle.mc_store.specs.Step.{absent_count, count_step};
+    ghost use Rattle.mc_store.specs.internal.Asked.{counting_at};
     ghost use Rattle.mc_store.specs.internal.Parts.{Acts, Does, answered};
 
     /// `incr`, `decr`.
@@ -96,9 +97,8 @@ impl Shard {
     ) -> Result<MetaDone, Answer>
         ensures does { (reply : TheDone → TheAnswer) →
             Does self.old key (λ settled.
-            count_step settled key
-            (counting asked.compare asked.unique asked.direction asked.amount asked.exptime)
-            reply vivify (get settled.items key)) (answered reply result) self.new }
+            count_step settled (counting_at key asked vivify) reply (get settled.items key))
+            (answered reply result) self.new }
         ensures refused { asked.compare ≡ None →
             IfErr result (λ answer. is_lawful Kind.Count answer ≡ true) }
         ensures meta_refused { IfErr result (λ answer. is_lawful Kind.MetaCount answer ≡ true) }

@@ -74,7 +74,8 @@ fn is_unconditional(mode: MetaMode, compare: Option<u64>) -> bool
 }
 
 impl Shard {
-    ghost use Rattle.mc_store.specs.Step.{writes, stores, store_step, storing, absent_store};
+    ghost use Rattle.mc_store.specs.Step.{writes, stores, store_step, absent_store};
+    ghost use Rattle.mc_store.specs.internal.Asked.{storing, storing_at};
     ghost use Rattle.mc_store.specs.internal.Parts.{Acts, Does, answered};
 
     /// The classic storage commands.
@@ -112,7 +113,7 @@ impl Shard {
     #[tactic(auto, unfolding(mc_item::specs::Kind::is_lawful))]
     fn set(&mut self, key: Key, flags: u32, exptime: i64, value: Value) -> Answer
         ensures does { Does self.old key (λ settled.
-            stores settled key (storing MetaMode.Set None None flags exptime value)
+            stores settled (storing key MetaMode.Set None None flags exptime value)
             (λ done. Answer.Stored)) result self.new }
         ensures lawful { is_lawful Kind.Store result ≡ true }
     {
@@ -152,10 +153,8 @@ impl Shard {
     fn store(&mut self, alloc: Global, key: Key, asked: Storing) -> Result<MetaDone, Answer>
         ensures does { (reply : TheDone → TheAnswer) →
             Does self.old key (λ settled.
-            store_step settled key
-            (storing asked.mode asked.compare asked.unique asked.flags asked.exptime
-            asked.value) reply (get settled.items key)) (answered reply result)
-            self.new }
+            store_step settled (storing_at key asked) reply (get settled.items key))
+            (answered reply result) self.new }
         ensures refused { IfErr result (λ answer. is_lawful Kind.Store answer ≡ true) }
         ensures meta_refused { IfErr result (λ answer. is_lawful Kind.MetaStore answer ≡ true) }
     {
@@ -196,9 +195,7 @@ impl Shard {
     fn store_asked(&mut self, key: Key, asked: Storing) -> Result<MetaDone, Answer>
         ensures does { (reply : TheDone → TheAnswer) →
             Does self.old key (λ settled.
-            stores settled key
-            (storing asked.mode asked.compare asked.unique asked.flags asked.exptime
-            asked.value) reply) (answered reply result) self.new }
+            stores settled (storing_at key asked) reply) (answered reply result) self.new }
         ensures refused { IfErr result (λ answer. is_lawful Kind.Store answer ≡ true) }
         ensures meta_refused { IfErr result (λ answer. is_lawful Kind.MetaStore answer ≡ true) }
     {
@@ -212,10 +209,8 @@ impl Shard {
     fn store_absent(&mut self, key: Key, asked: Storing) -> Result<MetaDone, Answer>
         ensures does { (reply : TheDone → TheAnswer) →
             Does self.old key (λ settled.
-            absent_store settled key
-            (storing asked.mode asked.compare asked.unique asked.flags asked.exptime
-            asked.value) reply asked.mode asked.compare) (answered reply result)
-            self.new }
+            absent_store settled (storing_at key asked) reply asked.mode asked.compare)
+            (answered reply result) self.new }
         ensures refused { IfErr result (λ answer. is_lawful Kind.Store answer ≡ true) }
         ensures meta_refused { IfErr result (λ answer. is_lawful Kind.MetaStore answer ≡ true) }
     {
