@@ -24,7 +24,7 @@ use Rattle.mc_core.specs.World.{IsAt, Link, World, ran, sent_to, with_link}
 use Rattle.mc_core.specs.Events.{IsEmptyHand, MaySend, one_more}
 use Rattle.mc_core.specs.Events.Event.{Send, Give}
 use Rattle.mc_core.specs.Schedule.{Happens}
-use Rattle.mc_core.specs.Schedule.StepReply.{Done}
+use Rattle.mc_core.specs.declared.event.StepReply.TheVariants.{Done}
 use Rattle.mc_core.specs.Rings.{AreWired, GivesNone, GivesReply, KeepsPiece, SendsPiece, Wires, with_lane, with_shard}
 use Rattle.mc_core.specs.Stands.{HandIs, IsHolding, IsServing, IsWorld, KeepsLink, SeatIs, Stands, StepsByEvent, told_of, unreceived, unrun}
 use Rattle.mc_core.proofs.Lists.{at_once, set_cases, take_next}
@@ -131,7 +131,7 @@ sends old new c number shard piece place after finds below conn same set connect
     let all = pieces sizes.shards link.taken in
     let next : Link = record link { sent = link.sent + 1 } in
     let w' = with_link w number next in
-    let happens : Happens sizes w (Send c) Done w' = (number, link, at, record { piece = (shard, piece); next = o.0; room = omega (arith, count, room) }, refl) in
+    let happens : Happens sizes w (Send c) Done w' = (number, link, (at, record { piece = (shard, piece); next = o.0; room = omega (arith, count, room) }), refl) in
     let law = event_kept sizes w (Send c) Done w' world.within.shards.0 happens world.law in
     let serving : IsServing sizes (of_asker number w.log) next after.conn = record { lent = true; accepted = s.accepted; is = o.1; fits = s.fits } in
     let is : SeatIs sizes w' c after.conn after.current = subst (λ x. SeatIs sizes w' c after.conn x) (sym (same ∙ finds.current)) (next, at_same w c number link next at refl, serving) in
@@ -182,8 +182,8 @@ sends_none old new c number place after finds conn same set connections log ring
       w,
       (
         inl (λ e.
-            let one = one_at w c number e.0 link e.1 f.1 e.2 in
-            let may : MaySend sizes w number link = subst (λ x. MaySend sizes w number x) (sym one.1) (subst (λ n. MaySend sizes w n e.1) (sym one.0) e.3) in
+            let one = one_at w c number e.0 link e.1 f.1 e.2.0 in
+            let may : MaySend sizes w number link = subst (λ x. MaySend sizes w number x) (sym one.1) (subst (λ n. MaySend sizes w n e.1) (sym one.0) e.2.1) in
             let within = slice_get_within (pieces sizes.shards link.taken) link.sent may.piece may.next in
             let all = o.0 in
             absurd (omega (arith, within, all))),
@@ -212,8 +212,8 @@ sends_full old new c number shard piece place after finds conn same set connecti
       w,
       (
         inl (λ e.
-            let one = one_at w c number e.0 link e.1 at e.2 in
-            let may : MaySend sizes w number link = subst (λ x. MaySend sizes w number x) (sym one.1) (subst (λ n. MaySend sizes w n e.1) (sym one.0) e.3) in
+            let one = one_at w c number e.0 link e.1 at e.2.0 in
+            let may : MaySend sizes w number link = subst (λ x. MaySend sizes w number x) (sym one.1) (subst (λ n. MaySend sizes w n e.1) (sym one.0) e.2.1) in
             let this : may.piece ≡ (shard, piece) = same_Some may.piece (shard, piece) (sym may.next ∙ o.0) in
             let to : may.piece.0 ≡ shard = ap (λ (p : ℕ × Piece). p.0) this in
             let room : sent_to sizes shard link < ran w number shard + sizes.ring = subst (λ t. sent_to sizes t link < ran w number t + sizes.ring) to may.room in
@@ -299,7 +299,7 @@ gives old new shard give seats connections log sizes w world =
     let room = g.room in
     let next : Link = record link { given = one_more link.given shard } in
     let w' = with_link w k next in
-    let happens : Happens sizes w (Give shard) Done w' = (k, link, (at.here, ungiven), omega (arith, count, room), refl) in
+    let happens : Happens sizes w (Give shard) Done w' = (k, link, (at.here, ungiven, omega (arith, count, room)), refl) in
     let law = event_kept sizes w (Give shard) Done w' world.within.shards.0 happens world.law in
     let rs : ℕ → List Shown = λ t. replies_in (on_shard t (of_asker k w.log)) in
     let old_replies = world.wires.replies in
@@ -376,7 +376,7 @@ gives_none old new shard give seats connections log sizes w world =
             let link = e.1 in
             let here = e.2.0 in
             let ungiven = e.2.1 in
-            let room = e.3 in
+            let room = e.2.2 in
             let below : shard < sizes.shards = elim (cases_lt shard sizes.shards) [
               | inl less ↦ less
               | inr beyond ↦

@@ -26,10 +26,10 @@ use Rattle.mc_core.specs.Log.{of_asker, replies_in}
 use Rattle.mc_core.specs.Sized.{SpellAll, SpellFirst}
 use Rattle.mc_core.specs.World.{IsAt, Link, World, entries, ran, with_link}
 use Rattle.mc_core.specs.Rest.{HasWindow, IsAllTaken, IsNextCommand}
-use Rattle.mc_core.specs.Events.{Concerns, Event}
+use Rattle.mc_core.specs.Events.{Allows, Event}
 use Rattle.mc_core.specs.Events.Event.{Take, End, Break}
 use Rattle.mc_core.specs.Schedule.{Happens}
-use Rattle.mc_core.specs.Schedule.StepReply.{Done}
+use Rattle.mc_core.specs.declared.event.StepReply.TheVariants.{Done}
 use Rattle.mc_core.specs.Headline.{handed_bytes}
 use Rattle.mc_core.specs.Law.{Law, LinkLaw}
 use Rattle.mc_core.specs.Rings.{AreWired}
@@ -91,10 +91,10 @@ world_stays sizes w old new world same = record {
 }
 
 -- nothing was found at the seat
-pub finds_none : (old new : Sim) (event : Event) (c : ℕ) → ((w : World) (k : ℕ) (link : Link) → Concerns w event k link → IsAt w c k link) → ((sizes : Sizes) (w : World) → Stands sizes old w → (k : ℕ) (link : Link) → IsAt w c k link → ⊥) → IsSame old new → StepsByEvent old event replied.Idle new
+pub finds_none : (old new : Sim) (event : Event) (c : ℕ) → ((sizes : Sizes) (w : World) (k : ℕ) (link : Link) → Allows sizes w event k link → IsAt w c k link) → ((sizes : Sizes) (w : World) → Stands sizes old w → (k : ℕ) (link : Link) → IsAt w c k link → ⊥) → IsSame old new → StepsByEvent old event replied.Idle new
 unfolding Stands
 finds_none old new event c speaks none same sizes w world =
-    (w, none_there sizes w event c (speaks w) (none sizes w world), world_stays sizes w old new world same)
+    (w, none_there sizes w event c (speaks sizes w) (none sizes w world), world_stays sizes w old new world same)
 
 -- The connection ends.
 pub ends : (old new : Sim) (c number : ℕ) (place after : Seat) (kept : Connection) → Finds old c number place → slice_get old.connections.items number ≡ Some kept → kept.ended ≡ false →
@@ -108,7 +108,7 @@ ends old new c number place after kept finds at_kept unset conn same differs con
     let s = f.2 in
     let next : Link = record link { ended = true } in
     let h = world.keeps number link kept at.here at_kept in
-    let happens : Happens sizes w (End c) Done (with_link w number next) = (number, link, at, sym h.ended ∙ unset, refl) in
+    let happens : Happens sizes w (End c) Done (with_link w number next) = (number, link, (at, sym h.ended ∙ unset), refl) in
     let law = event_kept sizes w (End c) Done (with_link w number next) world.within.shards.0 happens world.law in
     let serving : IsServing sizes (of_asker number w.log) next after.conn = record { lent = s.lent; accepted = s.accepted; is = conn (told_of sizes link s.lent s.accepted) s.is; fits = s.fits } in
     let keeps : KeepsLink sizes (with_link w number next) number next (record kept { ended = true }) = record { seat = h.seat; ended = refl; broken = h.broken; fed = h.fed; handed = h.handed } in (
@@ -128,8 +128,8 @@ ended_before old new c number place kept finds at_kept ended same sizes w world 
       w,
       (
         inl (λ e.
-            let one = one_at w c number e.0 f.0 e.1 f.1 e.2 in
-            let unset : f.0.ended ≡ false = ap (λ (x : Link). x.ended) one.1 ∙ e.3 in
+            let one = one_at w c number e.0 f.0 e.1 f.1 e.2.0 in
+            let unset : f.0.ended ≡ false = ap (λ (x : Link). x.ended) one.1 ∙ e.2.1 in
             absurd (let a : true ≡ false = sym ended ∙ (h.ended ∙ unset) in cc)),
         refl,
       ),
@@ -148,7 +148,7 @@ breaks old new c number place after kept finds at_kept unset conn same differs c
     let s = f.2 in
     let next : Link = record link { broken = true } in
     let h = world.keeps number link kept at.here at_kept in
-    let happens : Happens sizes w (Break c) Done (with_link w number next) = (number, link, at, sym h.broken ∙ unset, refl) in
+    let happens : Happens sizes w (Break c) Done (with_link w number next) = (number, link, (at, sym h.broken ∙ unset), refl) in
     let law = event_kept sizes w (Break c) Done (with_link w number next) world.within.shards.0 happens world.law in
     let serving : IsServing sizes (of_asker number w.log) next after.conn = record { lent = s.lent; accepted = s.accepted; is = conn (told_of sizes link s.lent s.accepted) s.is; fits = s.fits } in
     let keeps : KeepsLink sizes (with_link w number next) number next (record kept { broken = true }) = record { seat = h.seat; ended = h.ended; broken = refl; fed = h.fed; handed = h.handed } in (
@@ -168,8 +168,8 @@ broken_before old new c number place kept finds at_kept broken same sizes w worl
       w,
       (
         inl (λ e.
-            let one = one_at w c number e.0 f.0 e.1 f.1 e.2 in
-            let unset : f.0.broken ≡ false = ap (λ (x : Link). x.broken) one.1 ∙ e.3 in
+            let one = one_at w c number e.0 f.0 e.1 f.1 e.2.0 in
+            let unset : f.0.broken ≡ false = ap (λ (x : Link). x.broken) one.1 ∙ e.2.1 in
             absurd (let a : true ≡ false = sym broken ∙ (h.broken ∙ unset) in cc)),
         refl,
       ),
@@ -225,7 +225,7 @@ takes old new c number moment ticket place after finds below conn same differs c
     let h = world.keeps number link kept.0 at.here kept.1 in
     let own = world.law.links number link at.here in
     let spelled : IsNextCommand sizes link one.entry = subst (λ es. SpellFirst sizes link.fed es) (map-append (λ (t : Taken). t.entry) link.taken (one ∷ [])) o.next in
-    let happens : Happens sizes w (Take c moment) Done w' = (number, link, at, ((one.entry, spelled), o.room, o.whole), (one, record { next = spelled; moment_is = o.moment_is; may = o.may }, refl)) in
+    let happens : Happens sizes w (Take c moment) Done w' = (number, link, (at, (one.entry, spelled), o.room, o.whole), (one, record { next = spelled; moment_is = o.moment_is; may = o.may }, refl)) in
     let law = event_kept sizes w (Take c moment) Done w' world.within.shards.0 happens world.law in
     let serving : IsServing sizes (of_asker number w.log) next after.conn =
     record { lent = s.lent; accepted = s.accepted; is = o.now; fits = fits_take sizes.shards link.taken one s.accepted (received_by link (of_asker number w.log)) s.fits } in
@@ -265,9 +265,9 @@ takes_none old new c number moment place after finds same differs connections co
       w,
       (
         inl (λ e.
-            let one = one_at w c number e.0 link e.1 f.1 e.2 in
+            let one = one_at w c number e.0 link e.1 f.1 e.2.0 in
             let may : ((command : Command) × IsNextCommand sizes link command) × HasWindow sizes link × (link.broken ≡ false) =
-            subst (λ x. ((command : Command) × IsNextCommand sizes x command) × HasWindow sizes x × (x.broken ≡ false)) (sym one.1) e.3 in
+            subst (λ x. ((command : Command) × IsNextCommand sizes x command) × HasWindow sizes x × (x.broken ≡ false)) (sym one.1) (e.2.1, e.2.2, e.2.3) in
             none sizes link s.lent s.accepted may.0.0 s.is may.0.1 may.1 may.2),
         refl,
       ),

@@ -12,10 +12,10 @@ use Rattle.mc_core.specs.Sizes.{AreWithin, Sizes, rules_of}
 use Rattle.mc_core.specs.Log.{Entry}
 use Rattle.mc_core.specs.World.{IsAt, Link, World, empty_world, new_link, ran, sent_to}
 use Rattle.mc_core.specs.Rest.{IsAllTaken, IsClosed, IsUsedUp, MayRenew}
-use Rattle.mc_core.specs.Events.{Allows, Concerns, Event, MayFeed}
+use Rattle.mc_core.specs.Events.{Allows, Event, MayFeed}
 use Rattle.mc_core.specs.Events.Event.{Open, Feed, Take, Send, Pop, Give, Receive, Hand, End, Break}
 use Rattle.mc_core.specs.Schedule.{Happens}
-use Rattle.mc_core.specs.Schedule.StepReply.{Done, Idle, NoMemory}
+use Rattle.mc_core.specs.declared.event.StepReply.TheVariants.{Done, Idle, NoMemory}
 use Rattle.mc_core.specs.Headline.{handed_bytes}
 use Rattle.mc_core.proofs.Rows.{alone, at_alone, begins, broken, come, ended, entry, fed, flush, given, handed, line, one, one_each, received, sent, spells_flush, taken}
 
@@ -86,20 +86,20 @@ are_out = record {
 
 -- What is idle
 
--- An event is idle where it is allowed for no connection that it concerns.
-idle : (sizes : Sizes) (w : World) (event : Event) → ((k : ℕ) (link : Link) → Concerns w event k link → Allows sizes w event k link → ⊥) → Happens sizes w event Idle w
-idle sizes w event never = (inl (λ enabled. never enabled.0 enabled.1 enabled.2 enabled.3), refl)
+-- An event is idle where it is allowed for no connection.
+idle : (sizes : Sizes) (w : World) (event : Event) → ((k : ℕ) (link : Link) → Allows sizes w event k link → ⊥) → Happens sizes w event Idle w
+idle sizes w event never = (inl (λ enabled. never enabled.0 enabled.1 enabled.2), refl)
 
 -- The same, where there is one connection.
-idle_alone : (sizes : Sizes) (log : List Entry) (here : Link) (event : Event) → ((k : ℕ) (link : Link) → Concerns (alone log here) event k link → slice_get (here ∷ []) k ≡ Some link)
-    → (Concerns (alone log here) event 0 here → Allows sizes (alone log here) event 0 here → ⊥) → Happens sizes (alone log here) event Idle (alone log here)
-idle_alone sizes log here event at never = idle sizes (alone log here) event concerned where
-  concerned : (k : ℕ) (link : Link) → Concerns (alone log here) event k link → Allows sizes (alone log here) event k link → ⊥
-  concerned zero link is may =
-      let found = at zero link is in
+idle_alone : (sizes : Sizes) (log : List Entry) (here : Link) (event : Event) → ((k : ℕ) (link : Link) → Allows sizes (alone log here) event k link → slice_get (here ∷ []) k ≡ Some link)
+    → (Allows sizes (alone log here) event 0 here → ⊥) → Happens sizes (alone log here) event Idle (alone log here)
+idle_alone sizes log here event at never = idle sizes (alone log here) event allowed where
+  allowed : (k : ℕ) (link : Link) → Allows sizes (alone log here) event k link → ⊥
+  allowed zero link may =
+      let found = at zero link may in
       let same : link ≡ here = cc in
-      never (subst (λ (l : Link). Concerns (alone log here) event 0 l) same is) (subst (λ (l : Link). Allows sizes (alone log here) event 0 l) same may)
-  concerned (suc k) link is may = let found = at (suc k) link is in absurd cc
+      never (subst (λ (l : Link). Allows sizes (alone log here) event 0 l) same may)
+  allowed (suc k) link may = let found = at (suc k) link may in absurd cc
 
 -- a connection whose window is full: it took as many commands as may be open
 abbrev full : Link
@@ -166,31 +166,31 @@ open_still (suc k) link at may = let found = at.here in absurd cc
 are_idle : AreIdle
 unfolding pieces_of
 are_idle = record {
-  nothing_fed = idle one_each empty_world (Feed 0 line) (λ k link is may. none k link is.here);
-  nothing_to_end = idle one_each empty_world (End 0) (λ k link is may. none k link is.here);
-  no_such_seat = idle one_each empty_world (Open 1) (λ k link is may. let bad : 1 < 1 = may.0 in absurd (omega (arith, bad)));
-  not_over = idle one_each (alone [] (new_link 0)) (Open 0) (λ k link is may. elim may.1 [
+  nothing_fed = idle one_each empty_world (Feed 0 line) (λ k link may. none k link may.0.here);
+  nothing_to_end = idle one_each empty_world (End 0) (λ k link may. none k link may.0.here);
+  no_such_seat = idle one_each empty_world (Open 1) (λ k link may. let bad : 1 < 1 = may.2 in absurd (omega (arith, bad)));
+  not_over = idle one_each (alone [] (new_link 0)) (Open 0) (λ k link may. elim may.3 [
     | inl unused ↦ unused 0 (new_link 0) refl refl
     | inr free ↦ open_still free.0 free.1 free.2 free.3
   ]);
-  fed_after_the_end = idle_alone one_each [] ended (Feed 0 line) (λ k link is. is.here) (λ is may. let bad : true ≡ false = may.0 in absurd cc);
-  fed_when_broken = idle_alone one_each [] broken (Feed 0 line) (λ k link is. is.here) (λ is may. let bad : true ≡ false = may.1 in absurd cc);
-  fed_nothing = idle_alone one_each [] fed (Feed 0 []) (λ k link is. is.here) (λ is may. let bad : 0 < 0 = may.2 in absurd (omega (arith, bad)));
-  window_full = idle_alone one_each [] full (Take 0 1000) (λ k link is. is.here) (λ is may. let bad : 1 < 1 = may.1 in absurd (omega (arith, bad)));
-  all_sent = idle_alone one_each [] sent (Send 0) (λ k link is. is.here) (λ is may. let next = may.next in absurd cc);
-  ring_full = idle_alone two [] half_sent (Send 0) (λ k link is. is.here) (λ is may.
-      let next = may.next in
-      let to : may.piece.0 ≡ 0 = cc in
-      let bad : 1 < 0 + 1 = subst (λ s. sent_to two s half_sent < ran (alone [] half_sent) 0 s + 1) to may.room in
+  fed_after_the_end = idle_alone one_each [] ended (Feed 0 line) (λ k link may. may.0.here) (λ may. let bad : true ≡ false = may.1 in absurd cc);
+  fed_when_broken = idle_alone one_each [] broken (Feed 0 line) (λ k link may. may.0.here) (λ may. let bad : true ≡ false = may.2 in absurd cc);
+  fed_nothing = idle_alone one_each [] fed (Feed 0 []) (λ k link may. may.0.here) (λ may. let bad : 0 < 0 = may.3 in absurd (omega (arith, bad)));
+  window_full = idle_alone one_each [] full (Take 0 1000) (λ k link may. may.0.here) (λ may. let bad : 1 < 1 = may.2 in absurd (omega (arith, bad)));
+  all_sent = idle_alone one_each [] sent (Send 0) (λ k link may. may.0.here) (λ may. let next = may.1.next in absurd cc);
+  ring_full = idle_alone two [] half_sent (Send 0) (λ k link may. may.0.here) (λ may.
+      let next = may.1.next in
+      let to : may.1.piece.0 ≡ 0 = cc in
+      let bad : 1 < 0 + 1 = subst (λ s. sent_to two s half_sent < ran (alone [] half_sent) 0 s + 1) to may.1.room in
       absurd (omega (arith, bad)));
-  ring_empty = idle_alone one_each [] taken (Pop 0 0) (λ k link is. is.here) (λ is may. let bad : 0 < 0 = may.1 in absurd (omega (arith, bad)));
-  hand_full = idle_alone one_each (entry ∷ []) sent (Pop 0 0) (λ k link is. is.here) (λ is may. let bad : 1 ≤ 0 = may.0 0 sent refl in absurd (omega (arith, bad)));
-  hand_empty = idle_alone one_each (entry ∷ []) given (Give 0) (λ k link is. is.0) (λ is may. let bad : 1 < 1 = is.1 in absurd (omega (arith, bad)));
-  nothing_given = idle_alone one_each (entry ∷ []) sent (Receive 0 0) (λ k link is. is.here) (λ is may. let bad : 0 < 0 = may in absurd (omega (arith, bad)));
-  no_answer = idle_alone one_each (entry ∷ []) given (Hand 0) (λ k link is. is.here) (λ is may. let bad : 1 ≤ 0 = may.1 0 in absurd (omega (arith, bad)));
-  all_handed = idle_alone one_each (entry ∷ []) handed (Hand 0) (λ k link is. is.here) (λ is may. let bad : 1 < 1 = may.0 in absurd (omega (arith, bad)));
-  ended_twice = idle_alone one_each (entry ∷ []) ended (End 0) (λ k link is. is.here) (λ is may. let bad : true ≡ false = may in absurd cc);
-  broken_twice = idle_alone one_each [] broken (Break 0) (λ k link is. is.here) (λ is may. let bad : true ≡ false = may in absurd cc);
+  ring_empty = idle_alone one_each [] taken (Pop 0 0) (λ k link may. may.0.here) (λ may. let bad : 0 < 0 = may.2 in absurd (omega (arith, bad)));
+  hand_full = idle_alone one_each (entry ∷ []) sent (Pop 0 0) (λ k link may. may.0.here) (λ may. let bad : 1 ≤ 0 = may.1 0 sent refl in absurd (omega (arith, bad)));
+  hand_empty = idle_alone one_each (entry ∷ []) given (Give 0) (λ k link may. may.0) (λ may. let bad : 1 < 1 = may.1 in absurd (omega (arith, bad)));
+  nothing_given = idle_alone one_each (entry ∷ []) sent (Receive 0 0) (λ k link may. may.0.here) (λ may. let bad : 0 < 0 = may.1 in absurd (omega (arith, bad)));
+  no_answer = idle_alone one_each (entry ∷ []) given (Hand 0) (λ k link may. may.0.here) (λ may. let bad : 1 ≤ 0 = may.2 0 in absurd (omega (arith, bad)));
+  all_handed = idle_alone one_each (entry ∷ []) handed (Hand 0) (λ k link may. may.0.here) (λ may. let bad : 1 < 1 = may.1 in absurd (omega (arith, bad)));
+  ended_twice = idle_alone one_each (entry ∷ []) ended (End 0) (λ k link may. may.0.here) (λ may. let bad : true ≡ false = may.1 in absurd cc);
+  broken_twice = idle_alone one_each [] broken (Break 0) (λ k link may. may.0.here) (λ may. let bad : true ≡ false = may.1 in absurd cc);
 }
 
 -- What lacks memory
@@ -213,11 +213,11 @@ record AreLacking : Type 0 where
 are_lacking : AreLacking
 unfolding pieces_of
 are_lacking = record {
-  opened = ((tt, (0, new_link 0, (refl, refl), (lit< tt, inl (λ k link here same. none k link here)))), refl);
-  bytes_fed = ((tt, (0, new_link 0, at_alone [] (new_link 0) refl, (refl, refl, lit< tt))), refl);
-  popped = ((tt, (0, sent, at_alone [] sent refl, (λ k link here. omega arith, lit< tt))), refl);
-  handed_out = ((tt, (0, received, at_alone (entry ∷ []) received refl, (lit< tt, come, refl))), refl);
-  never_idle = λ lacks. let bad : 0 < 0 = lacks.0.1.3.2 in absurd (omega (arith, bad));
+  opened = ((tt, (0, new_link 0, (refl, refl, lit< tt, inl (λ k link here same. none k link here)))), refl);
+  bytes_fed = ((tt, (0, new_link 0, (at_alone [] (new_link 0) refl, refl, refl, lit< tt))), refl);
+  popped = ((tt, (0, sent, (at_alone [] sent refl, λ k link here. omega arith, lit< tt))), refl);
+  handed_out = ((tt, (0, received, (at_alone (entry ∷ []) received refl, lit< tt, come, refl))), refl);
+  never_idle = λ lacks. let bad : 0 < 0 = lacks.0.1.2.3 in absurd (omega (arith, bad));
   never_of_take = λ w w' lacks. lacks.0.0;
   never_of_send = λ w w' lacks. lacks.0.0;
   never_of_give = λ w w' lacks. lacks.0.0;
@@ -249,7 +249,7 @@ untaken all = subst (λ bytes. SpellsNothing (rules_of one_each) bytes) (sym all
 
 fed_in_part : FedInPart
 fed_in_part = record {
-  some = (0, fed, at_alone [] fed refl, (refl, refl, lit< tt), (2, record { within = lit≤ tt; whole = λ used short. absurd cc; some = λ all room some. lit< tt }, lit< tt, refl));
+  some = (0, fed, (at_alone [] fed refl, refl, refl, lit< tt), (2, record { within = lit≤ tt; whole = λ used short. absurd cc; some = λ all room some. lit< tt }, lit< tt, refl));
   none = (inr (0, fed, at_alone [] fed refl, record { within = lit≤ tt; whole = λ used short. absurd cc; some = λ all room some. absurd (untaken all) }), refl);
   all = record { within = lit≤ tt; whole = λ used short. refl; some = λ all room some. lit< tt };
   not_some = λ may. let bad : 2 ≡ 4 = may.whole used_up (lit≤ tt) in absurd (omega (arith, bad));
@@ -278,8 +278,8 @@ nothing_due s = lit≤ tt
 given_up : GivenUp
 unfolding pieces_of shape_of shape_text kind_of
 given_up = record {
-  took = (0, fed, at_alone [] fed refl, ((flush, begins), lit< tt, refl), (record one { given_up = true }, record { next = begins; moment_is = refl; may = λ gone. refl }, refl));
-  asks_none = idle_alone one_each [] gave (Send 0) (λ k link is. is.here) (λ is may. let next = may.next in absurd cc);
-  hands = (0, gave, at_alone [] gave refl, (lit< tt, nothing_due, refl), (1, record { within = lit≤ tt; come = nothing_due; most = λ count within has. within }, refl));
+  took = (0, fed, (at_alone [] fed refl, (flush, begins), lit< tt, refl), (record one { given_up = true }, record { next = begins; moment_is = refl; may = λ gone. refl }, refl));
+  asks_none = idle_alone one_each [] gave (Send 0) (λ k link may. may.0.here) (λ may. let next = may.1.next in absurd cc);
+  hands = (0, gave, (at_alone [] gave refl, lit< tt, nothing_due, refl), (1, record { within = lit≤ tt; come = nothing_due; most = λ count within has. within }, refl));
   replied = refl;
 }

@@ -23,7 +23,7 @@ use Rattle.mc_core.specs.Rest.{AtRest, MayRenew}
 use Rattle.mc_core.specs.Events.{Event, IsEmptyHand, IsUnusedSeat, RunsNext, one_more}
 use Rattle.mc_core.specs.Events.Event.{Open, Feed, Take, Send, Pop, Give, Receive, Hand, Break}
 use Rattle.mc_core.specs.Schedule.{Happens, Leads, Schedule}
-use Rattle.mc_core.specs.Schedule.StepReply.{Done, Idle}
+use Rattle.mc_core.specs.declared.event.StepReply.TheVariants.{Done, Idle}
 use Rattle.mc_core.specs.Headline.{handed_bytes}
 use Rattle.mc_core.proofs.Rows.{alone, begins, flush, line, one}
 
@@ -212,7 +212,7 @@ waits : Happens two_each (world log_1 a_received b_broken) (Hand 0) Idle (world 
 unfolding pieces_of
 waits = (
   inl (λ may.
-      let come = subst (λ (l : Link). HasCome 2 l.taken l.received (l.handed + 1)) (first_is log_1 a_received b_broken may.0 may.1 refl may.2) may.3.1 in
+      let come = subst (λ (l : Link). HasCome 2 l.taken l.received (l.handed + 1)) (first_is log_1 a_received b_broken may.0 may.1 refl may.2.0) may.2.2 in
       let bad : 1 ≤ 0 = come 0 in
       absurd (omega (arith, bad))),
   refl,
@@ -232,7 +232,7 @@ come s = elim (eqb_tells 0 s) [
 not_at_rest : Happens two_each (world log_2 a_received b_received) (Open 1) Idle (world log_2 a_received b_received)
 unfolding pieces_of
 not_at_rest = (
-  inl (λ may. elim may.3.1 [
+  inl (λ may. elim may.2.3 [
     | inl unused ↦ unused 1 b_received refl refl
     | inr free ↦
         let renews = subst (λ (l : Link). MayRenew two_each l) (second_is log_2 a_received b_received free.0 free.1 refl free.2) free.3 in
@@ -268,27 +268,27 @@ leads_on sizes w mid w' (event ∷ front) rest first second = (first.0, first.1,
 -- Both connections send a piece to each shard, and the second breaks.
 begins_all : Leads two_each empty_world begun (world [] (a_sent 2) b_broken)
 unfolding pieces_of
-begins_all = (Done, alone [] (new_link 0), (0, new_link 0, (refl, refl), (lit< tt, inl (λ k link here same. absurd cc)), refl), (Done, world [] (new_link 0) (new_link 1), (1, new_link 1, (refl, refl), (lit< tt, inl second_is_unused), refl), (Done, world [] a_fed (new_link 1), (0, new_link 0, at_first [] (new_link 0) (new_link 1) refl refl, (refl, refl, lit< tt), (11, record { within = lit≤ tt; whole = λ used short. refl; some = λ all room some. lit< tt }, lit< tt, refl)), (Done, world [] a_fed b_fed, (1, new_link 1, at_second [] a_fed (new_link 1) refl, (refl, refl, lit< tt), (11, record { within = lit≤ tt; whole = λ used short. refl; some = λ all room some. lit< tt }, lit< tt, refl)), (Done, world [] a_taken b_fed, (0, a_fed, at_first [] a_fed b_fed refl refl, ((flush, begins), lit< tt, refl), (one, record { next = begins; moment_is = refl; may = λ gone. absurd cc }, refl)), (Done, world [] a_taken b_taken, (1, b_fed, at_second [] a_taken b_fed refl, ((flush, begins), lit< tt, refl), (later, record { next = begins; moment_is = refl; may = λ gone. absurd cc }, refl)), (Done, world [] (a_sent 1) b_taken, (0, a_taken, at_first [] a_taken b_taken refl refl, record { piece = (0, piece 0 1000); next = refl; room = lit< tt }, refl), (Done, world [] (a_sent 2) b_taken, (0, a_sent 1, at_first [] (a_sent 1) b_taken refl refl, record { piece = (1, piece 1 1000); next = refl; room = lit< tt }, refl), (Done, world [] (a_sent 2) (b_sent 1), (1, b_taken, at_second [] (a_sent 2) b_taken refl, record { piece = (0, piece 0 1001); next = refl; room = lit< tt }, refl), (Done, world [] (a_sent 2) (b_sent 2), (1, b_sent 1, at_second [] (a_sent 2) (b_sent 1) refl, record { piece = (1, piece 1 1001); next = refl; room = lit< tt }, refl), (Done, world [] (a_sent 2) b_broken, (1, b_sent 2, at_second [] (a_sent 2) (b_sent 2) refl, refl, refl), refl)))))))))))
+begins_all = (Done, alone [] (new_link 0), (0, new_link 0, (refl, refl, lit< tt, inl (λ k link here same. absurd cc)), refl), (Done, world [] (new_link 0) (new_link 1), (1, new_link 1, (refl, refl, lit< tt, inl second_is_unused), refl), (Done, world [] a_fed (new_link 1), (0, new_link 0, (at_first [] (new_link 0) (new_link 1) refl refl, refl, refl, lit< tt), (11, record { within = lit≤ tt; whole = λ used short. refl; some = λ all room some. lit< tt }, lit< tt, refl)), (Done, world [] a_fed b_fed, (1, new_link 1, (at_second [] a_fed (new_link 1) refl, refl, refl, lit< tt), (11, record { within = lit≤ tt; whole = λ used short. refl; some = λ all room some. lit< tt }, lit< tt, refl)), (Done, world [] a_taken b_fed, (0, a_fed, (at_first [] a_fed b_fed refl refl, (flush, begins), lit< tt, refl), (one, record { next = begins; moment_is = refl; may = λ gone. absurd cc }, refl)), (Done, world [] a_taken b_taken, (1, b_fed, (at_second [] a_taken b_fed refl, (flush, begins), lit< tt, refl), (later, record { next = begins; moment_is = refl; may = λ gone. absurd cc }, refl)), (Done, world [] (a_sent 1) b_taken, (0, a_taken, (at_first [] a_taken b_taken refl refl, record { piece = (0, piece 0 1000); next = refl; room = lit< tt }), refl), (Done, world [] (a_sent 2) b_taken, (0, a_sent 1, (at_first [] (a_sent 1) b_taken refl refl, record { piece = (1, piece 1 1000); next = refl; room = lit< tt }), refl), (Done, world [] (a_sent 2) (b_sent 1), (1, b_taken, (at_second [] (a_sent 2) b_taken refl, record { piece = (0, piece 0 1001); next = refl; room = lit< tt }), refl), (Done, world [] (a_sent 2) (b_sent 2), (1, b_sent 1, (at_second [] (a_sent 2) (b_sent 1) refl, record { piece = (1, piece 1 1001); next = refl; room = lit< tt }), refl), (Done, world [] (a_sent 2) b_broken, (1, b_sent 2, (at_second [] (a_sent 2) (b_sent 2) refl, refl), refl), refl)))))))))))
 
 -- Shard 1 answers the first connection, whose reply waits for the other answer.
 crosses : Leads two_each (world [] (a_sent 2) b_broken) crossed (world log_1 a_received b_broken)
 unfolding pieces_of
-crosses = (Done, world log_1 (a_sent 2) b_broken, (0, a_sent 2, at_first [] (a_sent 2) b_broken refl refl, (empty_hand [] (a_sent 2) b_broken 1 (lit≤ tt) (lit≤ tt), lit< tt), (entry 1 0 1000, runs_1, refl)), (Done, world log_1 a_given b_broken, (0, a_sent 2, (refl, lit< tt), lit< tt, refl), (Done, world log_1 a_received b_broken, (0, a_given, at_first log_1 a_given b_broken refl refl, lit< tt, refl), (Idle, world log_1 a_received b_broken, waits, refl))))
+crosses = (Done, world log_1 (a_sent 2) b_broken, (0, a_sent 2, (at_first [] (a_sent 2) b_broken refl refl, empty_hand [] (a_sent 2) b_broken 1 (lit≤ tt) (lit≤ tt), lit< tt), (entry 1 0 1000, runs_1, refl)), (Done, world log_1 a_given b_broken, (0, a_sent 2, (refl, lit< tt, lit< tt), refl), (Done, world log_1 a_received b_broken, (0, a_given, (at_first log_1 a_given b_broken refl refl, lit< tt), refl), (Idle, world log_1 a_received b_broken, waits, refl))))
 
 -- Shard 0 answers the second connection before the first, and no other follows it yet.
 waits_on : Leads two_each (world log_1 a_received b_broken) waited (world log_2 a_received b_received)
 unfolding pieces_of
-waits_on = (Done, world log_2 a_received b_broken, (1, b_broken, at_second log_1 a_received b_broken refl, (empty_hand log_1 a_received b_broken 0 (lit≤ tt) (lit≤ tt), lit< tt), (entry 0 1 1001, runs_2, refl)), (Done, world log_2 a_received b_given, (1, b_broken, (refl, lit< tt), lit< tt, refl), (Done, world log_2 a_received b_received, (1, b_given, at_second log_2 a_received b_given refl, lit< tt, refl), (Idle, world log_2 a_received b_received, not_at_rest, refl))))
+waits_on = (Done, world log_2 a_received b_broken, (1, b_broken, (at_second log_1 a_received b_broken refl, empty_hand log_1 a_received b_broken 0 (lit≤ tt) (lit≤ tt), lit< tt), (entry 0 1 1001, runs_2, refl)), (Done, world log_2 a_received b_given, (1, b_broken, (refl, lit< tt, lit< tt), refl), (Done, world log_2 a_received b_received, (1, b_given, (at_second log_2 a_received b_given refl, lit< tt), refl), (Idle, world log_2 a_received b_received, not_at_rest, refl))))
 
 -- It answers the first, which has its reply.
 finishes : Leads two_each (world log_2 a_received b_received) finished (world log_3 a_handed b_received)
 unfolding pieces_of
-finishes = (Done, world log_3 a_received b_received, (0, a_received, at_first log_2 a_received b_received refl refl, (empty_hand log_2 a_received b_received 0 (lit≤ tt) (lit≤ tt), lit< tt), (entry 0 0 1000, runs_3, refl)), (Done, world log_3 a_all_given b_received, (0, a_received, (refl, lit< tt), lit< tt, refl), (Done, world log_3 a_all_received b_received, (0, a_all_given, at_first log_3 a_all_given b_received refl refl, lit< tt, refl), (Done, world log_3 a_handed b_received, (0, a_all_received, at_first log_3 a_all_received b_received refl refl, (lit< tt, come, refl), (1, record { within = lit≤ tt; come = come; most = λ count within has. within }, refl)), refl))))
+finishes = (Done, world log_3 a_received b_received, (0, a_received, (at_first log_2 a_received b_received refl refl, empty_hand log_2 a_received b_received 0 (lit≤ tt) (lit≤ tt), lit< tt), (entry 0 0 1000, runs_3, refl)), (Done, world log_3 a_all_given b_received, (0, a_received, (refl, lit< tt, lit< tt), refl), (Done, world log_3 a_all_received b_received, (0, a_all_given, (at_first log_3 a_all_given b_received refl refl, lit< tt), refl), (Done, world log_3 a_handed b_received, (0, a_all_received, (at_first log_3 a_all_received b_received refl refl, lit< tt, come, refl), (1, record { within = lit≤ tt; come = come; most = λ count within has. within }, refl)), refl))))
 
 -- Shard 1 answers the second, which another follows.
 renews : Leads two_each (world log_3 a_handed b_received) followed renewed
 unfolding pieces_of
-renews = (Done, world log_4 a_handed b_received, (1, b_received, at_second log_3 a_handed b_received refl, (empty_hand log_3 a_handed b_received 1 (lit≤ tt) (lit≤ tt), lit< tt), (entry 1 1 1001, runs_4, refl)), (Done, world log_4 a_handed b_all_given, (1, b_received, (refl, lit< tt), lit< tt, refl), (Done, world log_4 a_handed b_all_received, (1, b_all_given, at_second log_4 a_handed b_all_given refl, lit< tt, refl), (Done, renewed, (2, new_link 1, (refl, refl), (lit< tt, inr (1, b_all_received, at_second log_4 a_handed b_all_received refl, (at_rest, inr refl))), refl), refl))))
+renews = (Done, world log_4 a_handed b_received, (1, b_received, (at_second log_3 a_handed b_received refl, empty_hand log_3 a_handed b_received 1 (lit≤ tt) (lit≤ tt), lit< tt), (entry 1 1 1001, runs_4, refl)), (Done, world log_4 a_handed b_all_given, (1, b_received, (refl, lit< tt, lit< tt), refl), (Done, world log_4 a_handed b_all_received, (1, b_all_given, (at_second log_4 a_handed b_all_given refl, lit< tt), refl), (Done, renewed, (2, new_link 1, (refl, refl, lit< tt, inr (1, b_all_received, at_second log_4 a_handed b_all_received refl, (at_rest, inr refl))), refl), refl))))
 
 goes : Schedule two_each (begun ++ (crossed ++ (waited ++ (finished ++ followed)))) renewed
 goes =

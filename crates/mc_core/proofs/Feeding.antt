@@ -12,7 +12,7 @@ use Rattle.mc_conn.specs.declared.conn.Taken.TheVariants as took
 use Rattle.mc_conn.specs.History.{Taken}
 use Rattle.mc_conn.specs.Conn.{IsAwaiting, IsConn, TakeSays}
 use Rattle.mc_conn.specs.Told.{IsAllTaken, IsOpen, IsOver, IsShut, IsUsedUp, Told, commands_of}
-use Rattle.mc_core.specs.declared.event.StepReply.{StepReply as Replied}
+use Rattle.mc_core.specs.declared.event.StepReply.{StepReply}
 use Rattle.mc_core.specs.declared.event.StepReply.TheVariants as replied
 use Rattle.mc_core.specs.declared.sim.Connection.{Connection}
 use Rattle.mc_core.specs.declared.sim.Seat.{Seat}
@@ -24,7 +24,7 @@ use Rattle.mc_core.specs.World.{IsAt, IsLink, Link, World, with_link}
 use Rattle.mc_core.specs.Events.{MayFeed}
 use Rattle.mc_core.specs.Events.Event.{Feed}
 use Rattle.mc_core.specs.Schedule.{Happens}
-use Rattle.mc_core.specs.Schedule.StepReply.{Done}
+use Rattle.mc_core.specs.declared.event.StepReply.TheVariants.{Done}
 use Rattle.mc_core.specs.Feeding.{FeedsInto, MayTake, Refreshed, TakesBytes}
 use Rattle.mc_core.specs.Stands.{IsServing, IsWorld, KeepsLink, SeatIs, Stands, StepsByEvent, told_of}
 use Rattle.mc_core.proofs.Every.{event_kept}
@@ -90,7 +90,7 @@ feeds old new c number bytes count place after kept kept' finds at_kept comes wh
     let next : Link = record link { fed = link.fed ++ take count bytes } in
     let w' = with_link w number next in
     let may : MayFeed sizes link bytes count = record { within = t.within; whole = t.whole; some = t.some } in
-    let happens : Happens sizes w (Feed c bytes) Done w' = (number, link, at, (sym h.ended ∙ comes, sym h.broken ∙ whole, filled), (count, may, some, refl)) in
+    let happens : Happens sizes w (Feed c bytes) Done w' = (number, link, (at, sym h.ended ∙ comes, sym h.broken ∙ whole, filled), (count, may, some, refl)) in
     let law = event_kept sizes w (Feed c bytes) Done w' world.within.shards.0 happens world.law in
     let serving : IsServing sizes (of_asker number w.log) next after.conn = record { lent = s.lent; accepted = s.accepted; is = t.now; fits = s.fits } in
     let keeps : KeepsLink sizes w' number next kept' = record {
@@ -156,7 +156,7 @@ feeds_none sizes w old new c number place after kept kept' world finds at_kept l
     (subst (λ rings. AreWired sizes rings world.wires) (sym fed.differs.rings) world.wired)
 
 -- However it is answered, a feed leads the core on.
-pub feeds_into : (old new : Sim) (c number : ℕ) (bytes : List ℕ) (reply : Replied) (place after : Seat) (kept kept' : Connection) → Finds old c number place → slice_get old.connections.items number ≡ Some kept → MayTake kept bytes →
+pub feeds_into : (old new : Sim) (c number : ℕ) (bytes : List ℕ) (reply : StepReply) (place after : Seat) (kept kept' : Connection) → Finds old c number place → slice_get old.connections.items number ≡ Some kept → MayTake kept bytes →
     FeedsInto place.conn kept.fed.items bytes reply after.conn kept'.fed.items → after.current ≡ place.current → Fed old new c number after kept kept' kept'.fed.items → StepsByEvent old (Feed c bytes) reply new
 unfolding Stands
 feeds_into old new c number bytes replied.Done place after kept kept' finds at_kept may into same fed sizes w world =
@@ -182,7 +182,7 @@ feeds_into old new c number bytes replied.NoMemory place after kept kept' finds 
     let h = world.keeps number link kept at.here at_kept in
     let is : IsConn after.conn (told_of sizes link s.lent s.accepted) = subst (λ x. IsConn x (told_of sizes link s.lent s.accepted)) (sym into.1) s.is in (
       w,
-      ((tt, (number, link, at, (sym h.ended ∙ may.0, sym h.broken ∙ may.1, may.2))), refl),
+      ((tt, (number, link, (at, sym h.ended ∙ may.0, sym h.broken ∙ may.1, may.2))), refl),
       feeds_none sizes w old new c number place after kept kept' world finds at_kept link at (record { lent = s.lent; accepted = s.accepted; is = is; fits = s.fits }) same
           (record { differs = fed.differs; connections = fed.connections; seat = fed.seat; ended = fed.ended; broken = fed.broken; fed_is = into.0; handed = fed.handed }),
     )
@@ -196,8 +196,8 @@ feeds_not old new c number bytes f kept at_kept not same sizes w world =
       w,
       (
         inl (λ e.
-            let one = one_at w c number e.0 g.0 e.1 g.1 e.2 in
-            not (h.ended ∙ (ap (λ (x : Link). x.ended) one.1 ∙ e.3.0), h.broken ∙ (ap (λ (x : Link). x.broken) one.1 ∙ e.3.1), e.3.2)),
+            let one = one_at w c number e.0 g.0 e.1 g.1 e.2.0 in
+            not (h.ended ∙ (ap (λ (x : Link). x.ended) one.1 ∙ e.2.1), h.broken ∙ (ap (λ (x : Link). x.broken) one.1 ∙ e.2.2), e.2.3)),
         refl,
       ),
       world_stays sizes w old new world same,

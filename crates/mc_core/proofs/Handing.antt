@@ -22,19 +22,18 @@ use Rattle.mc_conn.proofs.Counting.{come_from_count, count_from_come, due_first}
 use Rattle.mc_conn.proofs.Places.{lane_there}
 use Rattle.mc_conn.proofs.Staying.{is_sound}
 use Rattle.mc_conn.proofs.Telling.{tells}
-use Rattle.mc_core.specs.declared.event.StepReply.{StepReply as Replied}
+use Rattle.mc_core.specs.declared.event.StepReply.{StepReply}
 use Rattle.mc_core.specs.declared.event.StepReply.TheVariants as replied
 use Rattle.mc_core.specs.declared.sim.Connection.{Connection}
 use Rattle.mc_core.specs.declared.sim.Seat.{Seat}
 use Rattle.mc_core.specs.declared.sim.Sim.{Sim}
-use Rattle.mc_core.specs.Asked.{reply_of}
 use Rattle.mc_core.specs.Sizes.{Sizes}
 use Rattle.mc_core.specs.Log.{Entry, of_asker, on_shard, replies_in, reply_to}
 use Rattle.mc_core.specs.World.{Link, World, with_link}
-use Rattle.mc_core.specs.Events.{IsTurn}
+use Rattle.mc_core.specs.Events.{Allows, IsTurn}
 use Rattle.mc_core.specs.Events.Event.{Hand}
 use Rattle.mc_core.specs.Schedule.{Happens}
-use Rattle.mc_core.specs.Schedule.StepReply.{Done}
+use Rattle.mc_core.specs.declared.event.StepReply.TheVariants.{Done}
 use Rattle.mc_core.specs.Feeding.{HandsInto}
 use Rattle.mc_core.specs.Rings.{AreWired}
 use Rattle.mc_core.specs.Law.{LinkLaw}
@@ -156,7 +155,7 @@ handed_now sizes w k link conn law s =
     ∙ (sym (concat-append (take link.handed texts) (drop link.handed texts)) ∙ (ap (λ ts. concat ts) (take-append-drop link.handed texts) ∙ ap (λ ts. concat ts) same))
 
 -- However it is answered, a Hand leads the core on.
-pub hands : (old new : Sim) (c number : ℕ) (reply : Replied) (place after : Seat) (kept kept' : Connection) (passes : ℕ) → Finds old c number place → slice_get old.connections.items number ≡ Some kept → 0 < passes →
+pub hands : (old new : Sim) (c number : ℕ) (reply : StepReply) (place after : Seat) (kept kept' : Connection) (passes : ℕ) → Finds old c number place → slice_get old.connections.items number ≡ Some kept → 0 < passes →
     ((told : Told) → IsConn place.conn told → told.broken ≡ false → told.handed + passes ≡ length (all_texts told)) → ((told : Told) → IsConn place.conn told → IsTrue told.broken → passes ≡ 0) →
     HandsInto place.conn kept.handed.items reply after.conn kept'.handed.items → after.current ≡ place.current → Differs old new c after → new.connections.items ≡ slice_set old.connections.items number kept' →
     kept'.seat ≡ kept.seat → kept'.ended ≡ kept.ended → kept'.broken ≡ kept.broken → kept'.fed ≡ kept.fed → StepsByEvent old (Hand c) reply new
@@ -179,14 +178,14 @@ hands old new c number reply place after kept kept' passes finds at_kept some pa
     let within = turn.within in
     let next_come : HasCome sizes.shards link.taken link.received (link.handed + 1) =
     come_back sizes own link (link.handed + 1) law (come_from_count sizes.shards (link.handed + 1) link.taken s.accepted (received_by link own) s.fits (omega (arith, count, some))) in
-    let allows : (link.handed < length link.taken) × HasCome sizes.shards link.taken link.received (link.handed + 1) × (link.broken ≡ false) = (omega (arith, count, some, within), next_come, whole) in
-    elim reply as (λ r. HandsInto place.conn kept.handed.items r after.conn kept'.handed.items → (w' : World) × Happens sizes w (Hand c) (reply_of r) w' × IsWorld sizes new w') [
+    let allows : Allows sizes w (Hand c) number link = (at, omega (arith, count, some, within), next_come, whole) in
+    elim reply as (λ r. HandsInto place.conn kept.handed.items r after.conn kept'.handed.items → (w' : World) × Happens sizes w (Hand c) r w' × IsWorld sizes new w') [
       | replied.Done ↦ λ done.
           let d = done told s.is whole in
           let n = length (all_texts told) in
           let next : Link = record link { handed = n } in
           let w' = with_link w number next in
-          let happens : Happens sizes w (Hand c) Done w' = (number, link, at, allows, (n, turn, refl)) in
+          let happens : Happens sizes w (Hand c) Done w' = (number, link, allows, (n, turn, refl)) in
           let law' = event_kept sizes w (Hand c) Done w' world.within.shards.0 happens world.law in
           let serving : IsServing sizes own next after.conn = record { lent = s.lent; accepted = s.accepted; is = subst (λ m. IsConn after.conn (record told { handed = m })) d.all d.now; fits = s.fits } in
           let keeps : KeepsLink sizes w' number next kept' = record {
@@ -208,7 +207,7 @@ hands old new c number reply place after kept kept' passes finds at_kept some pa
           let is : SeatIs sizes w c after.conn after.current = subst (λ o. SeatIs sizes w c after.conn o) (sym (same ∙ finds.current)) (link, at, record { lent = s.lent; accepted = s.accepted; is = d.1; fits = s.fits }) in
           let keeps : KeepsLink sizes w number link kept' = record { seat = seat ∙ h.seat; ended = ended ∙ h.ended; broken = broken ∙ h.broken; fed = ap (λ v. v.items) fed ∙ h.fed; handed = d.0 ∙ h.handed } in (
             w,
-            ((tt, (number, link, at, allows)), refl),
+            ((tt, (number, link, allows)), refl),
             world_again sizes w c number link old new world at.here
                 (seats_set sizes w c old.seats.items new.seats.items place after finds.here differs.seats is)
                 (kept_set sizes w number link old.connections.items new.connections.items kept kept' at_kept connections keeps)
@@ -231,9 +230,9 @@ hands_none old new c number passes place finds pass none same sizes w world =
       w,
       (
         inl (λ e.
-            let one = one_at w c number e.0 link e.1 at e.2 in
+            let one = one_at w c number e.0 link e.1 at e.2.0 in
             let may : (link.handed < length link.taken) × HasCome sizes.shards link.taken link.received (link.handed + 1) × (link.broken ≡ false) =
-            subst (λ (x : Link). (x.handed < length x.taken) × HasCome sizes.shards x.taken x.received (x.handed + 1) × (x.broken ≡ false)) (sym one.1) e.3 in
+            subst (λ (x : Link). (x.handed < length x.taken) × HasCome sizes.shards x.taken x.received (x.handed + 1) × (x.broken ≡ false)) (sym one.1) (e.2.1, e.2.2, e.2.3) in
             let less = may.0 in
             let count = pass told s.is may.2 in
             let more = count_from_come sizes.shards (link.handed + 1) link.taken s.accepted (received_by link own) (omega (arith, less)) s.fits (come_on sizes own link (link.handed + 1) law may.1) in

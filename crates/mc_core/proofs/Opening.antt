@@ -28,7 +28,7 @@ use Rattle.mc_core.specs.Rest.{AtRest, IsAllReceived, IsAllSent, IsAllTaken, IsC
 use Rattle.mc_core.specs.Events.{IsRenewable, IsUnusedSeat}
 use Rattle.mc_core.specs.Events.Event.{Open}
 use Rattle.mc_core.specs.Schedule.{Happens}
-use Rattle.mc_core.specs.Schedule.StepReply.{Done}
+use Rattle.mc_core.specs.declared.event.StepReply.TheVariants.{Done}
 use Rattle.mc_core.specs.Rings.{AreWired}
 use Rattle.mc_core.specs.Feeding.{MayBegin}
 use Rattle.mc_core.specs.Law.{LinkLaw}
@@ -178,7 +178,7 @@ opens old new c place after kept here free current set connections seat ended br
     let w' : World = record w { links = w.links ++ new_link c ∷ [] } in
     let below = slice_get_within old.seats.items c place here in
     let counted = world.seat_count in
-    let happens : Happens sizes w (Open c) Done w' = (n, new_link c, (refl, refl), (omega (arith, below, counted), f.0), refl) in
+    let happens : Happens sizes w (Open c) Done w' = (n, new_link c, (refl, refl, omega (arith, below, counted), f.0), refl) in
     let law = event_kept sizes w (Open c) Done w' world.within.shards.0 happens world.law in
     let long = length-append w.links (new_link c ∷ []) in
     let nothing : of_asker n w.log ≡ [] = none_of (λ (e : Entry). e.shard < sizes.shards) n n w.log world.law.owned (omega arith) in
@@ -294,7 +294,7 @@ pub opens_beyond : (old new : Sim) (c : ℕ) → length old.seats.items ≤ c �
 unfolding Stands
 opens_beyond old new c beyond same sizes w world =
     let counted = world.seat_count in
-    (w, (inl (λ e. let below = e.3.0 in absurd (omega (arith, below, counted, beyond))), refl), world_stays sizes w old new world same)
+    (w, (inl (λ e. let below = e.2.2 in absurd (omega (arith, below, counted, beyond))), refl), world_stays sizes w old new world same)
 
 -- The seat's connection may not be followed yet.
 pub opens_not : (old new : Sim) (c : ℕ) (place : Seat) → slice_get old.seats.items c ≡ Some place → ((told : Told) → IsConn place.conn told → MayBegin told place.current → ⊥) → IsSame old new → StepsByEvent old (Open c) replied.Idle new
@@ -309,7 +309,7 @@ opens_not old new c place here not same sizes w world = (
               let link = is.0 in
               let at = is.1 in
               let s = is.2 in
-              elim e.3.1 [
+              elim e.2.3 [
                 | inl unused ↦ unused k link at.here at.seat_is
                 | inr free ↦
                     let one = one_at w c free.0 k free.1 link free.2 at in
@@ -340,4 +340,4 @@ opens_unkept old new c place here may same sizes w world =
           ] in
           inr (k, link, at, (rests sizes (of_asker k w.log) link place.conn (world.law.links k link at.here) s both.0, overs sizes link s.lent s.accepted both.1))
     ] may (world.each_seat c place here) in
-    (w, ((tt, (length w.links, new_link c, (refl, refl), (omega (arith, below, counted), free))), refl), world_stays sizes w old new world same)
+    (w, ((tt, (length w.links, new_link c, (refl, refl, omega (arith, below, counted), free))), refl), world_stays sizes w old new world same)

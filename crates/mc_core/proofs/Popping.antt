@@ -26,7 +26,7 @@ use Rattle.mc_core.specs.World.{IsAt, IsLink, Link, World, ran, sent_to, with_en
 use Rattle.mc_core.specs.Events.{IsEmptyHand, RunsNext}
 use Rattle.mc_core.specs.Events.Event.{Pop}
 use Rattle.mc_core.specs.Schedule.{Happens}
-use Rattle.mc_core.specs.Schedule.StepReply.{Done}
+use Rattle.mc_core.specs.declared.event.StepReply.TheVariants.{Done}
 use Rattle.mc_core.specs.Headline.{handed_bytes}
 use Rattle.mc_core.specs.Law.{LinkLaw}
 use Rattle.mc_core.specs.Rings.{AreThere, AreWired, RunsOldest, TellsWaiting, Wires, with_lane, with_shard}
@@ -150,7 +150,7 @@ pops old new c number shard ran' f run seats connections log sizes w world =
       left = world.mirrors.left shard may.0;
       step = r.step;
     } in
-    let happens : Happens sizes w (Pop shard c) Done w' = (number, link, at, (may.1, may.2), (entry, runs, refl)) in
+    let happens : Happens sizes w (Pop shard c) Done w' = (number, link, (at, may.1, may.2), (entry, runs, refl)) in
     let law' = event_kept sizes w (Pop shard c) Done w' world.within.shards.0 happens world.law in
     let now_pieces = with_lane old_pieces c shard r.rest in
     let one_more_run : ran w' number shard ≡ ran w number shard + 1 = elim (ran_push w.log entry number shard) [
@@ -271,9 +271,9 @@ pops_none old new c number shard f run seats connections log sizes w world =
         inl (λ e.
             let k = e.0 in
             let link = e.1 in
-            let at = e.2 in
-            let empty = e.3.0 in
-            let less = e.3.1 in
+            let at = e.2.0 in
+            let empty = e.2.1 in
+            let less = e.2.2 in
             let seat : c < sizes.seats = let below = world.seated k link at.here in let is = at.seat_is in omega (arith, below, is) in
             let there = sent_there sizes link shard world.within.shards.0 (omega (arith, less)) in
             let count = waiting sizes w old c k link shard world at in
@@ -296,4 +296,4 @@ pops_unkept old new c number shard f waits seats connections log sizes w world =
     let t = waits sizes world.wires world.wired in
     let some = t.some refl in
     let may = may_run sizes w old c number g.0 shard world g.1 some.0 some.1 in
-    (w, ((tt, (number, g.0, g.1, (may.1, may.2))), refl), only_rings sizes w old new world seats connections log t.now)
+    (w, ((tt, (number, g.0, (g.1, may.1, may.2))), refl), only_rings sizes w old new world seats connections log t.now)

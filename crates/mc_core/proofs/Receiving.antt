@@ -26,7 +26,7 @@ use Rattle.mc_core.specs.World.{Link, with_link}
 use Rattle.mc_core.specs.Events.{one_more}
 use Rattle.mc_core.specs.Events.Event.{Receive}
 use Rattle.mc_core.specs.Schedule.{Happens}
-use Rattle.mc_core.specs.Schedule.StepReply.{Done}
+use Rattle.mc_core.specs.declared.event.StepReply.TheVariants.{Done}
 use Rattle.mc_core.specs.Law.{LinkLaw}
 use Rattle.mc_core.specs.Rings.{AreWired, ReceivesNone, ReceivesReply, Wires, with_lane}
 use Rattle.mc_core.specs.Stands.{IsServing, KeepsLink, SeatIs, Stands, StepsByEvent, received_by, told_of, unreceived}
@@ -94,7 +94,7 @@ receives old new c number shard reply place after finds below receive conn same 
     let a = answers sizes own link shard reply law got.0 got.1 in
     let next : Link = record link { received = one_more link.received shard } in
     let w' = with_link w number next in
-    let happens : Happens sizes w (Receive c shard) Done w' = (number, link, at, got.0, refl) in
+    let happens : Happens sizes w (Receive c shard) Done w' = (number, link, (at, got.0), refl) in
     let law' = event_kept sizes w (Receive c shard) Done w' world.within.shards.0 happens world.law in
     let less = got.0 in
     let given = law.given shard in
@@ -152,8 +152,8 @@ receives_none old new c number shard f receive seats connections log sizes w wor
       (
         inl (λ e.
             let link = e.1 in
-            let at = e.2 in
-            let less = e.3 in
+            let at = e.2.0 in
+            let less = e.2.1 in
             let law = world.law.links e.0 link at.here in
             let given = law.given shard in
             let seat : c < sizes.seats = let below = world.seated e.0 link at.here in let is = at.seat_is in omega (arith, below, is) in

@@ -33,7 +33,7 @@ use Rattle.mc_core.specs.Rest.{AtRest}
 use Rattle.mc_core.specs.Events.{RunsNext, one_more}
 use Rattle.mc_core.specs.Events.Event.{Open, Feed, Take, Send, Pop, Give, Receive, Hand, End, Break}
 use Rattle.mc_core.specs.Schedule.{Schedule}
-use Rattle.mc_core.specs.Schedule.StepReply.{Done}
+use Rattle.mc_core.specs.declared.event.StepReply.TheVariants.{Done}
 use Rattle.mc_core.specs.Headline.{handed_bytes}
 
 -- a server of one seat and one shard, with one place on a ring and one open command
@@ -172,44 +172,44 @@ unfolding pieces_of
 goes = (
   Done,
   alone [] (new_link 0),
-  (0, new_link 0, (refl, refl), (lit< tt, inl (λ k link here same. absurd (cc))), refl),
+  (0, new_link 0, (refl, refl, lit< tt, inl (λ k link here same. absurd (cc))), refl),
   (
     Done,
     alone [] fed,
-    (0, new_link 0, at_alone [] (new_link 0) refl, (refl, refl, lit< tt), (11, record { within = omega arith; whole = λ used short. refl; some = λ all room some. lit< tt }, lit< tt, refl)),
+    (0, new_link 0, (at_alone [] (new_link 0) refl, refl, refl, lit< tt), (11, record { within = omega arith; whole = λ used short. refl; some = λ all room some. lit< tt }, lit< tt, refl)),
     (
       Done,
       alone [] taken,
-      (0, fed, at_alone [] fed refl, ((flush, begins), lit< tt, refl), (one, record { next = begins; moment_is = refl; may = λ gone. absurd (cc) }, refl)),
+      (0, fed, (at_alone [] fed refl, (flush, begins), lit< tt, refl), (one, record { next = begins; moment_is = refl; may = λ gone. absurd (cc) }, refl)),
       (
         Done,
         alone [] sent,
-        (0, taken, at_alone [] taken refl, record { piece = (0, piece); next = refl; room = lit< tt }, refl),
+        (0, taken, (at_alone [] taken refl, record { piece = (0, piece); next = refl; room = lit< tt }), refl),
         (
           Done,
           alone (entry ∷ []) sent,
-          (0, sent, at_alone [] sent refl, (λ k link here. omega arith, lit< tt), (entry, runs, refl)),
+          (0, sent, (at_alone [] sent refl, λ k link here. omega arith, lit< tt), (entry, runs, refl)),
           (
             Done,
             alone (entry ∷ []) given,
-            (0, sent, (refl, lit< tt), lit< tt, refl),
+            (0, sent, (refl, lit< tt, lit< tt), refl),
             (
               Done,
               alone (entry ∷ []) received,
-              (0, given, at_alone (entry ∷ []) given refl, lit< tt, refl),
+              (0, given, (at_alone (entry ∷ []) given refl, lit< tt), refl),
               (
                 Done,
                 alone (entry ∷ []) handed,
-                (0, received, at_alone (entry ∷ []) received refl, (lit< tt, come, refl), (1, record { within = omega arith; come = come; most = λ more within has. within }, refl)),
+                (0, received, (at_alone (entry ∷ []) received refl, lit< tt, come, refl), (1, record { within = omega arith; come = come; most = λ more within has. within }, refl)),
                 (
                   Done,
                   alone (entry ∷ []) ended,
-                  (0, handed, at_alone (entry ∷ []) handed refl, refl, refl),
+                  (0, handed, (at_alone (entry ∷ []) handed refl, refl), refl),
                   (
                     Done,
                     both (new_link 0),
-                    (1, new_link 0, (refl, refl), (lit< tt, inr (0, ended, at_alone (entry ∷ []) ended refl, (at_rest, inl (inr (refl, all_taken))))), refl),
-                    (Done, both broken, (1, new_link 0, record { here = refl; seat_is = refl; last = λ j other less here same. only_two ended (new_link 0) other j less here }, refl, refl), refl),
+                    (1, new_link 0, (refl, refl, lit< tt, inr (0, ended, at_alone (entry ∷ []) ended refl, (at_rest, inl (inr (refl, all_taken))))), refl),
+                    (Done, both broken, (1, new_link 0, (record { here = refl; seat_is = refl; last = λ j other less here same. only_two ended (new_link 0) other j less here }, refl), refl), refl),
                   ),
                 ),
               ),

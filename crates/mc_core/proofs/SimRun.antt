@@ -3,15 +3,15 @@ use Rattle.std.proofs.Common.{◌≡◌, ◌≢◌, ℕ, suc, ◌+◌, ◌<◌, 
 use Rattle.std.proofs.Math.Seq.{drop-cons}
 use Rattle.std.proofs.lemmas.List.{map-append, take-append-drop, take_all, take_more}
 use Rattle.mc_core.specs.declared.event.Event.{Event as Asked}
-use Rattle.mc_core.specs.declared.event.StepReply.{StepReply as Replied}
+use Rattle.mc_core.specs.declared.event.StepReply.{StepReply}
 use Rattle.mc_core.specs.declared.event.StepReply.TheVariants as replied
 use Rattle.mc_core.specs.declared.sim.Sim.{Sim}
-use Rattle.mc_core.specs.Asked.{event_of, reply_of}
+use Rattle.mc_core.specs.Asked.{event_of}
 use Rattle.mc_core.specs.Sizes.{Sizes}
 use Rattle.mc_core.specs.World.{World}
 use Rattle.mc_core.specs.Events.{Event}
-use Rattle.mc_core.specs.Schedule.{Happens, Leads, StepReply}
-use Rattle.mc_core.specs.Schedule.StepReply.{NoMemory}
+use Rattle.mc_core.specs.Schedule.{Happens, Leads}
+use Rattle.mc_core.specs.declared.event.StepReply.TheVariants.{NoMemory}
 use Rattle.mc_core.specs.Stands.{Stands, StepsByEvent}
 use Rattle.mc_core.specs.Runs.{FoundMemory, Runs, Stops, done_in, is_done}
 
@@ -24,20 +24,21 @@ leads_more sizes w mid w' (event ∷ front) last reply led found happens memory 
 
 -- A core that stays as it is ran no events, of which none were done.
 pub runs_none : (sim : Sim) → Runs sim [] 0 sim
-runs_none sim sizes w stands = (w, refl, tt, refl, stands)
+runs_none sim sizes w stands = (record { later = w; led = refl; memory = tt; stands = stands }, refl)
 
-runs_more : (old mid new : Sim) (front : List Event) (last : Event) (reply : Replied) (done : ℕ) → Runs old front done mid → StepsByEvent mid last reply new → reply_of reply ≢ NoMemory → Runs old (front ++ last ∷ []) (done + is_done (reply_of reply)) new
+runs_more : (old mid new : Sim) (front : List Event) (last : Event) (reply : StepReply) (done : ℕ) → Runs old front done mid → StepsByEvent mid last reply new → reply ≢ NoMemory → Runs old (front ++ last ∷ []) (done + is_done reply) new
 runs_more old mid new front last reply done runs steps memory sizes w stands =
     let ran = runs sizes w stands in
-    let step = steps sizes ran.0 ran.4 in
-    let more = leads_more sizes w ran.0 step.0 front last (reply_of reply) ran.1 ran.2 step.1 memory in
-    (step.0, more.0, more.1, ap (λ n. n + is_done (reply_of reply)) ran.3 ∙ sym more.2, step.2)
+    let step = steps sizes ran.0.later ran.0.stands in
+    let more = leads_more sizes w ran.0.later step.0 front last reply ran.0.led ran.0.memory step.1 memory in
+    (record { later = step.0; led = more.0; memory = more.1; stands = step.2 }, ap (λ n. n + is_done reply) ran.1 ∙ sym more.2)
 
 runs_stop : (old mid new : Sim) (front : List Event) (last : Event) (rest : List Event) (done : ℕ) → Runs old front done mid → StepsByEvent mid last replied.NoMemory new → Stops old (front ++ last ∷ rest) new
 runs_stop old mid new front last rest done runs steps sizes w stands =
-    let ran = runs sizes w stands in
-    let step = steps sizes ran.0 ran.4 in
-    (front, last, rest, ran.0, refl, ran.1, ran.2, subst (λ v. Happens sizes ran.0 last NoMemory v) step.1.1 step.1, subst (λ v. Stands sizes new v) step.1.1 step.2)
+    let ran = (runs sizes w stands).0 in
+    let step = steps sizes ran.later ran.stands in
+    let now = subst (λ v. Stands sizes new v) step.1.1 step.2 in
+    (front, last, rest, refl, record { later = ran.later; led = ran.led; memory = ran.memory; stands = now }, subst (λ v. Happens sizes ran.later last NoMemory v) step.1.1 step.1)
 
 map_next : (events : List Asked) (i : ℕ) (event : Asked) → i < length events → event ≡ get_or events i event → map event_of (take (i + 1) events) ≡ map event_of (take i events) ++ event_of event ∷ []
 map_next events i event within here =
@@ -50,8 +51,8 @@ map_around events i event within here =
     ap (λ some. map event_of some) (sym (take-append-drop i events) ∙ ap (λ some. take i events ++ some) rest) ∙ map-append event_of (take i events) (event ∷ drop (i + 1) events)
 
 -- The step was answered so: it counts where it was done.
-pub runs_next : (old mid new : Sim) (events : List Asked) (i : ℕ) (event : Asked) (reply : Replied) (done more : ℕ) → i < length events → event ≡ get_or events i event →
-    Runs old (map event_of (take i events)) done mid → StepsByEvent mid (event_of event) reply new → reply_of reply ≢ NoMemory → more ≡ done + is_done (reply_of reply) → Runs old (map event_of (take (i + 1) events)) more new
+pub runs_next : (old mid new : Sim) (events : List Asked) (i : ℕ) (event : Asked) (reply : StepReply) (done more : ℕ) → i < length events → event ≡ get_or events i event →
+    Runs old (map event_of (take i events)) done mid → StepsByEvent mid (event_of event) reply new → reply ≢ NoMemory → more ≡ done + is_done reply → Runs old (map event_of (take (i + 1) events)) more new
 runs_next old mid new events i event reply done more within here runs steps memory count =
     let one = runs_more old mid new (map event_of (take i events)) (event_of event) reply done runs steps memory in
     subst (λ some. Runs old some more new) (sym (map_next events i event within here)) (subst (λ n. Runs old (map event_of (take i events) ++ event_of event ∷ []) n new) (sym count) one)

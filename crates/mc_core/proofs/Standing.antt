@@ -11,9 +11,9 @@ use Rattle.mc_core.specs.declared.sim.Sim.{Sim}
 use Rattle.mc_core.specs.Sizes.{Sizes}
 use Rattle.mc_core.specs.Log.{of_asker}
 use Rattle.mc_core.specs.World.{IsAt, Link, World, with_link}
-use Rattle.mc_core.specs.Events.{Concerns, Event}
+use Rattle.mc_core.specs.Events.{Allows, Event}
 use Rattle.mc_core.specs.Schedule.{Happens}
-use Rattle.mc_core.specs.Schedule.StepReply.{Idle}
+use Rattle.mc_core.specs.declared.event.StepReply.TheVariants.{Idle}
 use Rattle.mc_core.specs.Law.{Law}
 use Rattle.mc_core.specs.Rings.{AreWired, Wires}
 use Rattle.mc_core.specs.Stands.{IsServing, IsWorld, KeepsLink, Mirrors, SeatIs}
@@ -114,5 +114,5 @@ pub found : (sizes : Sizes) (w : World) (sim : Sim) (c number : ℕ) (place : Se
 found sizes w sim c number place world here current = subst (λ o. SeatIs sizes w c place.conn o) current (world.each_seat c place here)
 
 -- a seat without a connection, or one that isn't there
-pub none_there : (sizes : Sizes) (w : World) (event : Event) (c : ℕ) → ((k : ℕ) (link : Link) → Concerns w event k link → IsAt w c k link) → ((k : ℕ) (link : Link) → IsAt w c k link → ⊥) → Happens sizes w event Idle w
+pub none_there : (sizes : Sizes) (w : World) (event : Event) (c : ℕ) → ((k : ℕ) (link : Link) → Allows sizes w event k link → IsAt w c k link) → ((k : ℕ) (link : Link) → IsAt w c k link → ⊥) → Happens sizes w event Idle w
 none_there sizes w event c speaks none = (inl (λ e. none e.0 e.1 (speaks e.0 e.1 e.2)), refl)

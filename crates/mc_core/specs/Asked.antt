@@ -1,13 +1,10 @@
--- The events that are asked for, and the replies, as the schedules name them.
+-- The events that are asked for, as the schedules name them.
 use Rattle.mc_core.specs.declared.event.Event.{Event as Asked}
 use Rattle.mc_core.specs.declared.event.Event.TheVariants as asked
-use Rattle.mc_core.specs.declared.event.StepReply.{StepReply as Replied}
-use Rattle.mc_core.specs.declared.event.StepReply.TheVariants as replied
 use Rattle.mc_core.specs.Events.{Event}
 use Rattle.mc_core.specs.Events.Event.{Open, Feed, Take, Send, Pop, Give, Receive, Hand, End, Break}
-use Rattle.mc_core.specs.Schedule.{StepReply}
-use Rattle.mc_core.specs.Schedule.StepReply.{Done, Idle, NoMemory}
 
+-- an event as the schedules name it
 abbrev pub event_of : Asked → Event
 event_of (asked.Open seat) = Open seat
 event_of (asked.Feed seat bytes) = Feed seat bytes.items
@@ -19,8 +16,3 @@ event_of (asked.Receive seat shard) = Receive seat shard
 event_of (asked.Hand seat) = Hand seat
 event_of (asked.End seat) = End seat
 event_of (asked.Break seat) = Break seat
-
-abbrev pub reply_of : Replied → StepReply
-reply_of replied.Done = Done
-reply_of replied.Idle = Idle
-reply_of replied.NoMemory = NoMemory

@@ -2,7 +2,7 @@
 use Rattle.std.specs.Prelude.{ℕ, ◌≡◌, ◌+◌, ◌<◌, ◌≤◌, ◌⊎◌, false, Option, None, List, [], ◌++◌, length, take}
 use Rattle.mc_reader.specs.Spelling.{SpellsFront}
 use Rattle.mc_conn.specs.declared.conn.Conn.{Conn}
-use Rattle.mc_core.specs.declared.event.StepReply.{StepReply as Replied}
+use Rattle.mc_core.specs.declared.event.StepReply.{StepReply}
 use Rattle.mc_core.specs.declared.event.StepReply.TheVariants as replied
 use Rattle.mc_core.specs.declared.sim.Connection.{Connection}
 use Rattle.mc_conn.specs.Conn.{IsAwaiting, IsConn}
@@ -29,7 +29,7 @@ abbrev pub MayTake : Connection → List ℕ → Type 0
 MayTake kept bytes = (kept.ended ≡ false) × (kept.broken ≡ false) × (0 < length bytes)
 
 -- A connection that is neither ended nor broken was fed, and what it took stands behind what it was fed before.
-abbrev pub FeedsInto : Conn → List ℕ → List ℕ → Replied → Conn → List ℕ → Type 0
+abbrev pub FeedsInto : Conn → List ℕ → List ℕ → StepReply → Conn → List ℕ → Type 0
 FeedsInto old fed bytes replied.Done new fed' =
     (count : ℕ) × (0 < count) × (fed' ≡ fed ++ take count bytes) × ((told : Told) → IsConn old told → IsOpen told → TakesBytes told bytes count new)
 FeedsInto old fed bytes replied.Idle new fed' = (fed' ≡ fed) × ((told : Told) → IsConn old told → IsOpen told → TakesBytes told bytes 0 new)
@@ -43,13 +43,13 @@ pub record HandsAll (told : Told) (new : Conn) (before after : List ℕ) : Type 
   pub bytes : after ≡ before ++ waiting_text told
 
 -- A connection that isn't broken hands out all of them, or there is no memory and nothing changes.
-abbrev pub HandsInto : Conn → List ℕ → Replied → Conn → List ℕ → Type 0
+abbrev pub HandsInto : Conn → List ℕ → StepReply → Conn → List ℕ → Type 0
 HandsInto old handed replied.Done new handed' = (told : Told) → IsConn old told → told.broken ≡ false → HandsAll told new handed handed'
 HandsInto old handed replied.Idle new handed' = (told : Told) → IsConn old told → told.broken ≡ false → ⊥
 HandsInto old handed replied.NoMemory new handed' = (told : Told) → IsConn old told → told.broken ≡ false → (handed' ≡ handed) × IsConn new told
 
 -- Onto a page with more room than is needed, all are handed out.
-abbrev pub HandsOnto : Told → List ℕ → Replied → Conn → List ℕ → Type 0
+abbrev pub HandsOnto : Told → List ℕ → StepReply → Conn → List ℕ → Type 0
 HandsOnto told before replied.Done new after = HandsAll told new before after
 HandsOnto told before replied.Idle new after = ⊥
 HandsOnto told before replied.NoMemory new after = ⊥

@@ -1,10 +1,10 @@
 -- When a connection is at rest, and when it is closed.
 use Rattle.std.specs.Prelude.{ℕ, ◌≡◌, ◌+◌, ◌<◌, ◌⊎◌, [], ◌∷◌, ◌++◌, length, IsTrue, MatchBool}
 use Rattle.mc_command.specs.declared.command.Command.{Command}
-use Rattle.mc_reader.specs.Spelling.{is_closed}
+use Rattle.mc_reader.specs.Spelling.{SpellsFront, is_closed}
 use Rattle.mc_conn.specs.Due.{due, pieces}
-use Rattle.mc_core.specs.Sizes.{Sizes}
-use Rattle.mc_core.specs.Sized.{SpellAll, SpellFirst, SpellJust}
+use Rattle.mc_core.specs.Sizes.{Sizes, rules_of}
+use Rattle.mc_core.specs.Sized.{SpellAll, SpellFirst}
 use Rattle.mc_core.specs.World.{Link, entries}
 
 -- Every command that the bytes fed spell is taken.
@@ -17,7 +17,7 @@ IsNextCommand sizes link command = SpellFirst sizes link.fed (entries link ++ co
 
 -- Every byte fed stands in a command taken.
 abbrev pub IsUsedUp : Sizes → Link → Type 0
-IsUsedUp sizes link = SpellJust sizes link.fed (entries link)
+IsUsedUp sizes link = SpellsFront (rules_of sizes) 0 link.fed (entries link) []
 
 -- Every piece of the commands taken was sent.
 abbrev pub IsAllSent : Sizes → Link → Type 0

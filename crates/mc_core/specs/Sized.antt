@@ -1,7 +1,7 @@
 -- What the crates below say of streams and of shards, at the sizes of a server.
-use Rattle.std.specs.Prelude.{ℕ, List, []}
+use Rattle.std.specs.Prelude.{ℕ, List}
 use Rattle.mc_command.specs.declared.command.Command.{Command}
-use Rattle.mc_reader.specs.Spelling.{AreCommands, BeginCommands, SpellsFront}
+use Rattle.mc_reader.specs.Spelling.{AreCommands, BeginCommands}
 use Rattle.mc_store.specs.State.{State, empty_state}
 use Rattle.mc_core.specs.Sizes.{Sizes, rules_of}
 
@@ -12,10 +12,6 @@ SpellAll sizes bytes commands = AreCommands (rules_of sizes) bytes commands
 -- These are the first commands that the bytes spell.
 abbrev pub SpellFirst : Sizes → List ℕ → List Command → Type 0
 SpellFirst sizes bytes commands = BeginCommands (rules_of sizes) bytes commands
-
--- The bytes are the text of these commands, and nothing more.
-abbrev pub SpellJust : Sizes → List ℕ → List Command → Type 0
-SpellJust sizes bytes commands = SpellsFront (rules_of sizes) 0 bytes commands []
 
 -- a shard without items that has given no cas unique
 abbrev pub empty_shard : Sizes → ℕ → State

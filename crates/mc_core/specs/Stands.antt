@@ -8,12 +8,11 @@ use Rattle.mc_conn.specs.Conn.{IsConn}
 use Rattle.mc_conn.specs.Told.{Told, told_nothing}
 use Rattle.mc_conn.specs.Due.{lane, pieces}
 use Rattle.mc_conn.specs.Fits.{Fits}
-use Rattle.mc_core.specs.declared.event.StepReply.{StepReply as Replied}
+use Rattle.mc_core.specs.declared.event.StepReply.{StepReply}
 use Rattle.mc_core.specs.declared.sim.Connection.{Connection}
 use Rattle.mc_core.specs.declared.sim.LogEntry.{LogEntry}
 use Rattle.mc_core.specs.declared.sim.Seat.{Seat}
 use Rattle.mc_core.specs.declared.sim.Sim.{Sim}
-use Rattle.mc_core.specs.Asked.{reply_of}
 use Rattle.mc_core.specs.Sizes.{AreWithin, Sizes, rules_of}
 use Rattle.mc_core.specs.Log.{Entry, Leaves, of_asker, on_shard, replies_in}
 use Rattle.mc_core.specs.World.{HoldsAnswerFor, IsAt, IsLink, Link, World, ran}
@@ -104,5 +103,5 @@ unfoldable pub Stands : Sizes → Sim → World → Type 0
 Stands sizes sim w = IsWorld sizes sim w
 
 -- From whatever world the core stood in, the event leads it to one, and is answered as the world's events are.
-abbrev pub StepsByEvent : Sim → Event → Replied → Sim → Type 0
-StepsByEvent old event reply new = (sizes : Sizes) (w : World) → Stands sizes old w → (w' : World) × Happens sizes w event (reply_of reply) w' × Stands sizes new w'
+abbrev pub StepsByEvent : Sim → Event → StepReply → Sim → Type 0
+StepsByEvent old event reply new = (sizes : Sizes) (w : World) → Stands sizes old w → (w' : World) × Happens sizes w event reply w' × Stands sizes new w'

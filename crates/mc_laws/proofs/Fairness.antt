@@ -10,11 +10,12 @@ use Rattle.mc_core.specs.World.{IsAt, IsLink, Link, World, empty_world, with_lin
 use Rattle.mc_core.specs.Rest.{IsAllReceived, IsAllSent, IsAllTaken}
 use Rattle.mc_core.specs.Events.{Event, one_more}
 use Rattle.mc_core.specs.Events.Event.{Open, Feed, Take, Send, Pop, Give, Receive, Hand, End, Break}
-use Rattle.mc_core.specs.Schedule.{Enabled, Happens, Leads, Spared, StepReply}
-use Rattle.mc_core.specs.Schedule.StepReply.{Done, Idle, NoMemory}
+use Rattle.mc_core.specs.declared.event.StepReply.{StepReply}
+use Rattle.mc_core.specs.Schedule.{Enabled, Happens, Leads, Spared}
+use Rattle.mc_core.specs.declared.event.StepReply.TheVariants.{Done, Idle, NoMemory}
 use Rattle.mc_core.specs.Law.{Law}
 use Rattle.mc_laws.specs.Progress.{HasWork, IsWork}
-use Rattle.mc_laws.specs.Fair.{ComesToRest, EndlessRun, HasNoInput, IsOfServer, IsSameStep, IsWeaklyFair, TakesBytesAtRest, TriesAll}
+use Rattle.mc_laws.specs.Fair.{ComesToRest, EndlessRun, HasNoInput, IsWorkOf, IsSameStep, IsWeaklyFair, TakesBytesAtRest, TriesAll}
 use Rattle.mc_core.proofs.Every.{event_kept}
 use Rattle.mc_core.proofs.Links.{ran_within}
 use Rattle.mc_core.proofs.Lists.{at_once, push_cases, set_cases}
@@ -39,22 +40,22 @@ seated_link sizes w k link new w' seated here seat is = subst (λ v. AreSeated s
 ])
 
 done_seated : (sizes : Sizes) (w : World) (event : Event) (w' : World) → Happens sizes w event Done w' → AreSeated sizes w → AreSeated sizes w'
-done_seated sizes w (Open seat) w' h seated = subst (λ v. AreSeated sizes v) (sym h.4) (λ j one at. elim (push_cases w.links h.1 j one at) [
+done_seated sizes w (Open seat) w' h seated = subst (λ v. AreSeated sizes v) (sym h.3) (λ j one at. elim (push_cases w.links h.1 j one at) [
   | inl old ↦ seated j one old
   | inr new ↦
       let e = ap (λ (x : Link). x.seat) (new.1 ∙ h.2.1) in
-      let below = h.3.0 in
+      let below = h.2.2 in
       omega (arith, e, below)
 ])
-done_seated sizes w (Feed seat bytes) w' h seated = seated_link sizes w h.0 h.1 (record h.1 { fed = h.1.fed ++ take h.4.0 bytes }) w' seated h.2.here refl h.4.3
-done_seated sizes w (Take seat moment) w' h seated = seated_link sizes w h.0 h.1 (record h.1 { taken = h.1.taken ++ h.4.0 ∷ [] }) w' seated h.2.here refl h.4.2
-done_seated sizes w (Send seat) w' h seated = seated_link sizes w h.0 h.1 (record h.1 { sent = h.1.sent + 1 }) w' seated h.2.here refl h.4
-done_seated sizes w (Pop shard seat) w' h seated = subst (λ v. AreSeated sizes v) (sym h.4.2) seated
-done_seated sizes w (Give shard) w' h seated = seated_link sizes w h.0 h.1 (record h.1 { given = one_more h.1.given shard }) w' seated h.2.0 refl h.4
-done_seated sizes w (Receive seat shard) w' h seated = seated_link sizes w h.0 h.1 (record h.1 { received = one_more h.1.received shard }) w' seated h.2.here refl h.4
-done_seated sizes w (Hand seat) w' h seated = seated_link sizes w h.0 h.1 (record h.1 { handed = h.4.0 }) w' seated h.2.here refl h.4.2
-done_seated sizes w (End seat) w' h seated = seated_link sizes w h.0 h.1 (record h.1 { ended = true }) w' seated h.2.here refl h.4
-done_seated sizes w (Break seat) w' h seated = seated_link sizes w h.0 h.1 (record h.1 { broken = true }) w' seated h.2.here refl h.4
+done_seated sizes w (Feed seat bytes) w' h seated = seated_link sizes w h.0 h.1 (record h.1 { fed = h.1.fed ++ take h.3.0 bytes }) w' seated h.2.0.here refl h.3.3
+done_seated sizes w (Take seat moment) w' h seated = seated_link sizes w h.0 h.1 (record h.1 { taken = h.1.taken ++ h.3.0 ∷ [] }) w' seated h.2.0.here refl h.3.2
+done_seated sizes w (Send seat) w' h seated = seated_link sizes w h.0 h.1 (record h.1 { sent = h.1.sent + 1 }) w' seated h.2.0.here refl h.3
+done_seated sizes w (Pop shard seat) w' h seated = subst (λ v. AreSeated sizes v) (sym h.3.2) seated
+done_seated sizes w (Give shard) w' h seated = seated_link sizes w h.0 h.1 (record h.1 { given = one_more h.1.given shard }) w' seated h.2.0 refl h.3
+done_seated sizes w (Receive seat shard) w' h seated = seated_link sizes w h.0 h.1 (record h.1 { received = one_more h.1.received shard }) w' seated h.2.0.here refl h.3
+done_seated sizes w (Hand seat) w' h seated = seated_link sizes w h.0 h.1 (record h.1 { handed = h.3.0 }) w' seated h.2.0.here refl h.3.2
+done_seated sizes w (End seat) w' h seated = seated_link sizes w h.0 h.1 (record h.1 { ended = true }) w' seated h.2.0.here refl h.3
+done_seated sizes w (Break seat) w' h seated = seated_link sizes w h.0 h.1 (record h.1 { broken = true }) w' seated h.2.0.here refl h.3
 
 pub event_seated : (sizes : Sizes) (w : World) (event : Event) (reply : StepReply) (w' : World) → Happens sizes w event reply w' → AreSeated sizes w → AreSeated sizes w'
 event_seated sizes w event Done w' h seated = done_seated sizes w event w' h seated
@@ -81,26 +82,26 @@ at_shard sizes link s some due_there = elim (cases_lt s sizes.shards) [
 ]
 
 -- Work that can be done names a seat and a shard that are there.
-pub enabled_in : (sizes : Sizes) (w : World) (event : Event) → 0 < sizes.shards → Law sizes w → AreSeated sizes w → Enabled sizes w event → IsWork event → IsOfServer sizes event
+pub enabled_in : (sizes : Sizes) (w : World) (event : Event) → 0 < sizes.shards → Law sizes w → AreSeated sizes w → Enabled sizes w event → IsWork event → IsWorkOf sizes event
 enabled_in sizes w (Open seat) some l seated e work = absurd work
 enabled_in sizes w (Feed seat bytes) some l seated e work = absurd work
-enabled_in sizes w (Take seat moment) some l seated e work = at_seat sizes w seat e.0 e.1 seated e.2
-enabled_in sizes w (Send seat) some l seated e work = at_seat sizes w seat e.0 e.1 seated e.2
+enabled_in sizes w (Take seat moment) some l seated e work = at_seat sizes w seat e.0 e.1 seated e.2.0
+enabled_in sizes w (Send seat) some l seated e work = at_seat sizes w seat e.0 e.1 seated e.2.0
 enabled_in sizes w (Pop shard seat) some l seated e work =
-    let waits = e.3.1 in
+    let waits = e.2.2 in
     let sent = sent_within sizes e.1 shard in
-    (at_shard sizes e.1 shard some (omega (arith, waits, sent)), at_seat sizes w seat e.0 e.1 seated e.2)
+    (at_shard sizes e.1 shard some (omega (arith, waits, sent)), at_seat sizes w seat e.0 e.1 seated e.2.0)
 enabled_in sizes w (Give shard) some l seated e work =
     let ungiven = e.2.1 in
     let within = ran_within sizes (of_asker e.0 w.log) e.1 (l.links e.0 e.1 e.2.0) shard in
     at_shard sizes e.1 shard some (omega (arith, ungiven, within))
 enabled_in sizes w (Receive seat shard) some l seated e work =
-    let own = l.links e.0 e.1 e.2.here in
-    let waits = e.3 in
+    let own = l.links e.0 e.1 e.2.0.here in
+    let waits = e.2.1 in
     let given = own.given shard in
     let within = ran_within sizes (of_asker e.0 w.log) e.1 own shard in
-    (at_seat sizes w seat e.0 e.1 seated e.2, at_shard sizes e.1 shard some (omega (arith, waits, given, within)))
-enabled_in sizes w (Hand seat) some l seated e work = at_seat sizes w seat e.0 e.1 seated e.2
+    (at_seat sizes w seat e.0 e.1 seated e.2.0, at_shard sizes e.1 shard some (omega (arith, waits, given, within)))
+enabled_in sizes w (Hand seat) some l seated e work = at_seat sizes w seat e.0 e.1 seated e.2.0
 enabled_in sizes w (End seat) some l seated e work = absurd work
 enabled_in sizes w (Break seat) some l seated e work = absurd work
 
@@ -109,12 +110,12 @@ work_alike : (sizes : Sizes) (w : World) (event other : Event) → IsWork event 
 work_alike sizes w (Open seat) other work alike e = absurd work
 work_alike sizes w (Feed seat bytes) other work alike e = absurd work
 work_alike sizes w (Take seat moment) other work alike e =
-    subst (λ x. Enabled sizes w x × (Spared sizes w x → ⊥)) (sym alike.1) ((e.0, e.1, e.2, e.3), λ spared. absurd spared.3)
-work_alike sizes w (Send seat) other work alike e = subst (λ x. Enabled sizes w x × (Spared sizes w x → ⊥)) (sym alike) (e, λ spared. absurd spared.3)
-work_alike sizes w (Pop shard seat) other work alike e = subst (λ x. Enabled sizes w x × (Spared sizes w x → ⊥)) (sym alike) (e, λ spared. absurd spared.3)
-work_alike sizes w (Give shard) other work alike e = subst (λ x. Enabled sizes w x × (Spared sizes w x → ⊥)) (sym alike) (e, λ spared. absurd spared.3)
-work_alike sizes w (Receive seat shard) other work alike e = subst (λ x. Enabled sizes w x × (Spared sizes w x → ⊥)) (sym alike) (e, λ spared. absurd spared.3)
-work_alike sizes w (Hand seat) other work alike e = subst (λ x. Enabled sizes w x × (Spared sizes w x → ⊥)) (sym alike) (e, λ spared. absurd spared.3)
+    subst (λ x. Enabled sizes w x × (Spared sizes w x → ⊥)) (sym alike.1) ((e.0, e.1, e.2), λ spared. spared)
+work_alike sizes w (Send seat) other work alike e = subst (λ x. Enabled sizes w x × (Spared sizes w x → ⊥)) (sym alike) (e, λ spared. spared)
+work_alike sizes w (Pop shard seat) other work alike e = subst (λ x. Enabled sizes w x × (Spared sizes w x → ⊥)) (sym alike) (e, λ spared. spared)
+work_alike sizes w (Give shard) other work alike e = subst (λ x. Enabled sizes w x × (Spared sizes w x → ⊥)) (sym alike) (e, λ spared. spared)
+work_alike sizes w (Receive seat shard) other work alike e = subst (λ x. Enabled sizes w x × (Spared sizes w x → ⊥)) (sym alike) (e, λ spared. spared)
+work_alike sizes w (Hand seat) other work alike e = subst (λ x. Enabled sizes w x × (Spared sizes w x → ⊥)) (sym alike) (e, λ spared. spared)
 work_alike sizes w (End seat) other work alike e = absurd work
 work_alike sizes w (Break seat) other work alike e = absurd work
 
@@ -127,14 +128,27 @@ try_tells sizes w event other Idle w' work same h memory = inr (λ enabled. elim
 ])
 try_tells sizes w event other NoMemory w' work same h memory = absurd (memory refl)
 
+-- Work of a server is work.
+is_work : (sizes : Sizes) (event : Event) → IsWorkOf sizes event → IsWork event
+is_work sizes (Open seat) there = there
+is_work sizes (Feed seat bytes) there = there
+is_work sizes (Take seat moment) there = tt
+is_work sizes (Send seat) there = tt
+is_work sizes (Pop shard seat) there = tt
+is_work sizes (Give shard) there = tt
+is_work sizes (Receive seat shard) there = tt
+is_work sizes (Hand seat) there = tt
+is_work sizes (End seat) there = there
+is_work sizes (Break seat) there = there
+
 -- A run that tries all work again and again is weakly fair.
 pub tries_fairly : (sizes : Sizes) (w : World) (run : EndlessRun sizes w) → TriesAll run → IsWeaklyFair run
-tries_fairly sizes w run tries n event work there =
-    let tried = tries n event work there in
+tries_fairly sizes w run tries n event there =
+    let tried = tries n event there in
     let m = tried.later in
-    elim (try_tells sizes (run.worlds m) event (run.events m) (run.replies m) (run.worlds (m + 1)) work tried.same (run.happens m) tried.memory) [
-      | inl done ↦ inl (record { later = m; after = tried.after; same = tried.same; done = done })
-      | inr never ↦ inr (record { later = m; after = tried.after; never = never })
+    elim (try_tells sizes (run.worlds m) event (run.events m) (run.replies m) (run.worlds (m + 1)) (is_work sizes event there) tried.holds.0 (run.happens m) tried.holds.1) [
+      | inl done ↦ inl (record { later = m; after = tried.after; holds = (tried.holds.0, done) })
+      | inr never ↦ inr (record { later = m; after = tried.after; holds = never })
     ]
 
 -- Whether a step is done, or changes nothing.
@@ -183,10 +197,10 @@ by_then sizes w run n m after otherwise =
 goes_done : (sizes : Sizes) (w : World) (run : EndlessRun sizes w) (n : ℕ) → 0 < sizes.shards → Law sizes (run.worlds n) → AreSeated sizes (run.worlds n) → IsWeaklyFair run → HasWork sizes (run.worlds n) → FirstDone run n
 goes_done sizes w run n some l seated fair goes =
     let h = goes.happens in
-    let enabled : Enabled sizes (run.worlds n) goes.event = (h.0, h.1, h.2, h.3) in
-    elim (fair n goes.event goes.work (enabled_in sizes (run.worlds n) goes.event some l seated enabled goes.work)) [
-      | inl d ↦ by_then sizes w run n d.later d.after (λ same. record { place = d.later; same = same; done = d.done })
-      | inr off ↦ by_then sizes w run n off.later off.after (λ same. absurd (off.never (subst (λ v. Enabled sizes v goes.event) (sym same) enabled)))
+    let enabled : Enabled sizes (run.worlds n) goes.event = (h.0, h.1, h.2) in
+    elim (fair n goes.event (enabled_in sizes (run.worlds n) goes.event some l seated enabled goes.work)) [
+      | inl d ↦ by_then sizes w run n d.later d.after (λ same. record { place = d.later; same = same; done = d.holds.1 })
+      | inr off ↦ by_then sizes w run n off.later off.after (λ same. absurd (off.holds (subst (λ v. Enabled sizes v goes.event) (sym same) enabled)))
     ]
 
 -- At each place of a run it rests, or less is left at another.
@@ -198,7 +212,7 @@ rests_or_lowers : (sizes : Sizes) (w : World) (run : EndlessRun sizes w) (n : �
 rests_or_lowers sizes w run n within l seated quiet fair =
     let here = law_along sizes w run within.shards.0 l seated n in
     elim (rests_or_goes sizes (run.worlds n) within here.0) [
-      | inl rest ↦ inl (record { place = n; rest = rest; replied = all_replied sizes (run.worlds n) here.0 rest })
+      | inl rest ↦ inl (record { later = n; after = omega arith; holds = (rest, all_replied sizes (run.worlds n) here.0 rest) })
       | inr goes ↦
           let done = goes_done sizes w run n within.shards.0 here.0 here.1 fair goes in
           let happens = subst (λ r. Happens sizes (run.worlds done.place) (run.events done.place) r (run.worlds (done.place + 1))) done.done (run.happens done.place) in
@@ -239,7 +253,7 @@ one_at w c k j link one a b = at_once w.links k j link one a.here b.here (one_pl
 -- On a server whose sizes are within limits, a connection at rest that has neither ended nor broken takes bytes.
 pub takes_bytes : (sizes : Sizes) (w : World) → AreWithin sizes → TakesBytesAtRest sizes w
 takes_bytes sizes w within seat k link bytes at rest goes_on whole some = (
-  (k, link, at, (goes_on, whole, some)),
+  (k, link, (at, goes_on, whole, some)),
   λ spared.
       let same : link ≡ spared.1 = one_at w seat k spared.0 link spared.1 at spared.2 in
       let r = subst (λ b. MatchBool b (IsAllSent sizes link × IsAllReceived sizes link) (IsAllTaken sizes link × IsAllSent sizes link × (link.handed ≡ length link.taken))) whole rest in

@@ -21,11 +21,12 @@ use Rattle.mc_core.specs.World.{IsLink, Link, World, entries, ran, with_entry, w
 use Rattle.mc_core.specs.Rest.{IsNextCommand}
 use Rattle.mc_core.specs.Events.{Event, one_more}
 use Rattle.mc_core.specs.Events.Event.{Open, Feed, Take, Send, Pop, Give, Receive, Hand, End, Break}
-use Rattle.mc_core.specs.Schedule.{Happens, Leads, StepReply}
-use Rattle.mc_core.specs.Schedule.StepReply.{Done, Idle, NoMemory}
+use Rattle.mc_core.specs.declared.event.StepReply.{StepReply}
+use Rattle.mc_core.specs.Schedule.{Happens, Leads}
+use Rattle.mc_core.specs.declared.event.StepReply.TheVariants.{Done, Idle, NoMemory}
 use Rattle.mc_core.specs.Law.{Law, LinkLaw}
 use Rattle.mc_core.specs.Runs.{done_in, is_done}
-use Rattle.mc_laws.specs.Progress.{AllAtRest, AllReplied, CanComeToRest, DoesAtMost, IsBounded, IsNoInput, IsWork, steps_of, steps_of_all}
+use Rattle.mc_laws.specs.Progress.{AllAtRest, AllReplied, CanComeToRest, IsBounded, IsNoInput, IsWork, steps_of, steps_of_all}
 use Rattle.mc_core.proofs.Every.{event_kept}
 use Rattle.mc_core.proofs.Follows.{headline}
 use Rattle.mc_core.proofs.Links.{ran_within}
@@ -211,39 +212,39 @@ inside_lowers sizes w (Feed seat bytes) w' some l work h = absurd work
 inside_lowers sizes w (Take seat moment) w' some l work h =
     let k = h.0 in
     let link = h.1 in
-    let one = h.4.0 in
-    subst (λ v. left sizes v < left sizes w) (sym h.4.2) (link_lowers sizes w k link (record link { taken = link.taken ++ one ∷ [] }) h.2.here (take_lowers sizes (of_asker k w.log) link one h.4.1.next))
+    let one = h.3.0 in
+    subst (λ v. left sizes v < left sizes w) (sym h.3.2) (link_lowers sizes w k link (record link { taken = link.taken ++ one ∷ [] }) h.2.0.here (take_lowers sizes (of_asker k w.log) link one h.3.1.next))
 inside_lowers sizes w (Send seat) w' some l work h =
     let k = h.0 in
     let link = h.1 in
-    let unsent = slice_get_within (pieces sizes.shards link.taken) link.sent h.3.piece h.3.next in
-    subst (λ v. left sizes v < left sizes w) (sym h.4) (link_lowers sizes w k link (record link { sent = link.sent + 1 }) h.2.here (send_lowers sizes (of_asker k w.log) link unsent))
+    let unsent = slice_get_within (pieces sizes.shards link.taken) link.sent h.2.1.piece h.2.1.next in
+    subst (λ v. left sizes v < left sizes w) (sym h.3) (link_lowers sizes w k link (record link { sent = link.sent + 1 }) h.2.0.here (send_lowers sizes (of_asker k w.log) link unsent))
 inside_lowers sizes w (Pop shard seat) w' some l work h =
     let k = h.0 in
     let link = h.1 in
-    let entry = h.4.0 in
-    let runs = h.4.1 in
+    let entry = h.3.0 in
+    let runs = h.3.1 in
     let waits = slice_get_within (due sizes.shards shard link.taken) (ran w k shard) entry.piece runs.next in
-    subst (λ v. left sizes v < left sizes w) (sym h.4.2) (entry_lowers sizes w shard k link entry some l h.2.here runs.asker_is runs.shard_is waits)
+    subst (λ v. left sizes v < left sizes w) (sym h.3.2) (entry_lowers sizes w shard k link entry some l h.2.0.here runs.asker_is runs.shard_is waits)
 inside_lowers sizes w (Give shard) w' some l work h =
     let k = h.0 in
     let link = h.1 in
-    subst (λ v. left sizes v < left sizes w) (sym h.4) (link_lowers sizes w k link (record link { given = one_more link.given shard }) h.2.0 (give_lowers sizes (of_asker k w.log) link shard some (l.links k link h.2.0) h.2.1))
+    subst (λ v. left sizes v < left sizes w) (sym h.3) (link_lowers sizes w k link (record link { given = one_more link.given shard }) h.2.0 (give_lowers sizes (of_asker k w.log) link shard some (l.links k link h.2.0) h.2.1))
 inside_lowers sizes w (Receive seat shard) w' some l work h =
     let k = h.0 in
     let link = h.1 in
-    subst (λ v. left sizes v < left sizes w) (sym h.4) (link_lowers sizes w k link (record link { received = one_more link.received shard }) h.2.here (receive_lowers sizes (of_asker k w.log) link shard some (l.links k link h.2.here) h.3))
+    subst (λ v. left sizes v < left sizes w) (sym h.3) (link_lowers sizes w k link (record link { received = one_more link.received shard }) h.2.0.here (receive_lowers sizes (of_asker k w.log) link shard some (l.links k link h.2.0.here) h.2.1))
 inside_lowers sizes w (Hand seat) w' some l work h =
     let k = h.0 in
     let link = h.1 in
-    let count = h.4.0 in
-    let turn = h.4.1 in
-    let more = turn.most (link.handed + 1) (let less = h.3.0 in omega (arith, less)) h.3.1 in
-    subst (λ v. left sizes v < left sizes w) (sym h.4.2) (link_lowers sizes w k link (record link { handed = count }) h.2.here (hand_lowers sizes (of_asker k w.log) link count (omega (arith, more)) turn.within))
+    let count = h.3.0 in
+    let turn = h.3.1 in
+    let more = turn.most (link.handed + 1) (let less = h.2.1 in omega (arith, less)) h.2.2 in
+    subst (λ v. left sizes v < left sizes w) (sym h.3.2) (link_lowers sizes w k link (record link { handed = count }) h.2.0.here (hand_lowers sizes (of_asker k w.log) link count (omega (arith, more)) turn.within))
 inside_lowers sizes w (End seat) w' some l work h =
-    subst (λ v. left sizes v < left sizes w) (sym h.4) (link_lowers sizes w h.0 h.1 (record h.1 { ended = true }) h.2.here (end_lowers sizes (of_asker h.0 w.log) h.1 h.3))
+    subst (λ v. left sizes v < left sizes w) (sym h.3) (link_lowers sizes w h.0 h.1 (record h.1 { ended = true }) h.2.0.here (end_lowers sizes (of_asker h.0 w.log) h.1 h.2.1))
 inside_lowers sizes w (Break seat) w' some l work h =
-    subst (λ v. left sizes v < left sizes w) (sym h.4) (link_lowers sizes w h.0 h.1 (record h.1 { broken = true }) h.2.here (break_lowers sizes (of_asker h.0 w.log) h.1 h.3))
+    subst (λ v. left sizes v < left sizes w) (sym h.3) (link_lowers sizes w h.0 h.1 (record h.1 { broken = true }) h.2.0.here (break_lowers sizes (of_asker h.0 w.log) h.1 h.2.1))
 
 -- While nothing comes in no more events are done than are left.
 pub at_most : (sizes : Sizes) (w : World) (events : List Event) (later : World) → 0 < sizes.shards → Law sizes w → (led : Leads sizes w events later) → AllByRecursion IsNoInput events → done_in sizes w events later led + left sizes later ≤ left sizes w
@@ -256,9 +257,6 @@ at_most sizes w (event ∷ events) later some l led work =
     step Done mid h led rest = let less = inside_lowers sizes w event mid some l work.0 h in omega (arith, less, rest)
     step Idle mid h led rest = let same = ap (λ v. left sizes v) h.1 in omega (arith, same, rest)
     step NoMemory mid h led rest = let same = ap (λ v. left sizes v) h.1 in omega (arith, same, rest)
-
-pub does_at_most : (sizes : Sizes) (w : World) → 0 < sizes.shards → Law sizes w → DoesAtMost sizes w (left sizes w)
-does_at_most sizes w some l events later led work = let all = at_most sizes w events later some l led work in omega (arith, all)
 
 steps_join : (shards : ℕ) (xs ys : List Command) → steps_of shards (xs ++ ys) ≡ steps_of shards xs + steps_of shards ys
 steps_join shards [] ys = omega arith
@@ -331,7 +329,7 @@ is_bounded sizes w some l =
       commands = map (spelled_by sizes) w.links;
       of_each = length-map w.links (spelled_by sizes);
       spelled = λ k link own here at. spelled_at sizes w.links k link own here at;
-      most = λ events later led inside. let done = does_at_most sizes w some l events later led inside in omega (arith, done, few);
+      most = λ events later led inside. let done = at_most sizes w events later some l led inside in omega (arith, done, few);
     }
 
 -- What the parts do by themselves lets nothing in.

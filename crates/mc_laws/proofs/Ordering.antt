@@ -16,8 +16,9 @@ use Rattle.mc_core.specs.Log.{Entry, of_asker, on_shard, pieces_in, reply_to}
 use Rattle.mc_core.specs.World.{IsLink, Link, World, entries}
 use Rattle.mc_core.specs.Events.{Event}
 use Rattle.mc_core.specs.Events.Event.{Open, Feed, Take, Send, Pop, Give, Receive, Hand, End, Break}
-use Rattle.mc_core.specs.Schedule.{Happens, Leads, StepReply}
-use Rattle.mc_core.specs.Schedule.StepReply.{Done, Idle, NoMemory}
+use Rattle.mc_core.specs.declared.event.StepReply.{StepReply}
+use Rattle.mc_core.specs.Schedule.{Happens, Leads}
+use Rattle.mc_core.specs.declared.event.StepReply.TheVariants.{Done, Idle, NoMemory}
 use Rattle.mc_core.specs.Law.{Law, LinkLaw}
 use Rattle.mc_laws.specs.Order.{IsHandedOut, IsNotYetAsked, RunsBefore, WasRun, world_at}
 use Rattle.mc_core.proofs.Every.{all_kept, event_kept}
@@ -61,26 +62,26 @@ adds_none : (w w' : World) → w'.log ≡ w.log → Adds w w'
 adds_none w w' same = record { more = []; log = same ∙ sym (append-nil w.log); later = λ k link here. tt }
 
 done_adds : (sizes : Sizes) (w : World) (event : Event) (w' : World) → Law sizes w → Happens sizes w event Done w' → Adds w w'
-done_adds sizes w (Open seat) w' l h = adds_none w w' (ap (λ (v : World). v.log) h.4)
-done_adds sizes w (Feed seat bytes) w' l h = adds_none w w' (ap (λ (v : World). v.log) h.4.3)
-done_adds sizes w (Take seat moment) w' l h = adds_none w w' (ap (λ (v : World). v.log) h.4.2)
-done_adds sizes w (Send seat) w' l h = adds_none w w' (ap (λ (v : World). v.log) h.4)
+done_adds sizes w (Open seat) w' l h = adds_none w w' (ap (λ (v : World). v.log) h.3)
+done_adds sizes w (Feed seat bytes) w' l h = adds_none w w' (ap (λ (v : World). v.log) h.3.3)
+done_adds sizes w (Take seat moment) w' l h = adds_none w w' (ap (λ (v : World). v.log) h.3.2)
+done_adds sizes w (Send seat) w' l h = adds_none w w' (ap (λ (v : World). v.log) h.3)
 done_adds sizes w (Pop shard seat) w' l h =
     let k = h.0 in
     let link = h.1 in
-    let entry = h.4.0 in
-    let runs = h.4.1 in
-    let from = ticket_from sizes (of_asker k w.log) link shard entry.piece (l.links k link h.2.here) runs.next in
+    let entry = h.3.0 in
+    let runs = h.3.1 in
+    let from = ticket_from sizes (of_asker k w.log) link shard entry.piece (l.links k link h.2.0.here) runs.next in
     record {
       more = entry ∷ [];
-      log = ap (λ (v : World). v.log) h.4.2;
-      later = λ j other here. (λ asks. subst (λ (x : Link). x.handed ≤ entry.piece.ticket.0) (at_once w.links k j link other h.2.here here (sym runs.asker_is ∙ asks)) from, tt);
+      log = ap (λ (v : World). v.log) h.3.2;
+      later = λ j other here. (λ asks. subst (λ (x : Link). x.handed ≤ entry.piece.ticket.0) (at_once w.links k j link other h.2.0.here here (sym runs.asker_is ∙ asks)) from, tt);
     }
-done_adds sizes w (Give shard) w' l h = adds_none w w' (ap (λ (v : World). v.log) h.4)
-done_adds sizes w (Receive seat shard) w' l h = adds_none w w' (ap (λ (v : World). v.log) h.4)
-done_adds sizes w (Hand seat) w' l h = adds_none w w' (ap (λ (v : World). v.log) h.4.2)
-done_adds sizes w (End seat) w' l h = adds_none w w' (ap (λ (v : World). v.log) h.4)
-done_adds sizes w (Break seat) w' l h = adds_none w w' (ap (λ (v : World). v.log) h.4)
+done_adds sizes w (Give shard) w' l h = adds_none w w' (ap (λ (v : World). v.log) h.3)
+done_adds sizes w (Receive seat shard) w' l h = adds_none w w' (ap (λ (v : World). v.log) h.3)
+done_adds sizes w (Hand seat) w' l h = adds_none w w' (ap (λ (v : World). v.log) h.3.2)
+done_adds sizes w (End seat) w' l h = adds_none w w' (ap (λ (v : World). v.log) h.3)
+done_adds sizes w (Break seat) w' l h = adds_none w w' (ap (λ (v : World). v.log) h.3)
 
 event_adds : (sizes : Sizes) (w : World) (event : Event) (reply : StepReply) (w' : World) → Law sizes w → Happens sizes w event reply w' → Adds w w'
 event_adds sizes w event Done w' l h = done_adds sizes w event w' l h

@@ -9,14 +9,15 @@ use Rattle.mc_core.specs.Sizes.{AreWithin, Sizes}
 use Rattle.mc_core.specs.World.{World}
 use Rattle.mc_core.specs.Events.{Event}
 use Rattle.mc_core.specs.Events.Event.{Open, Feed, Take, Send, Pop, Give, Receive, Hand, End, Break}
-use Rattle.mc_core.specs.Schedule.{Enabled, Happens, Leads, Spared, StepReply}
-use Rattle.mc_core.specs.Schedule.StepReply.{Done, Idle, NoMemory}
-use Rattle.mc_core.specs.Runs.{FoundMemory, Runs, Stops, done_in, is_done}
+use Rattle.mc_core.specs.declared.event.StepReply.{StepReply}
+use Rattle.mc_core.specs.Schedule.{Enabled, Happens, Leads, Spared}
+use Rattle.mc_core.specs.declared.event.StepReply.TheVariants.{Done, Idle, NoMemory}
+use Rattle.mc_core.specs.Runs.{FoundMemory, Runs, StandsAfter, Stops, done_in, is_done}
 use Rattle.mc_core.specs.Stands.{Stands}
 use Rattle.mc_core.specs.Law.{Law}
-use Rattle.mc_laws.specs.Progress.{AllAtRest, IsNoInput, IsWork}
-use Rattle.mc_laws.specs.Fair.{IsOfServer}
-use Rattle.mc_laws.specs.Settling.{IsSettled, Settles, Works, lane_round, lanes_round, repeated, round, seat_round}
+use Rattle.mc_laws.specs.Progress.{AllAtRest, AllReplied, IsNoInput, IsWork}
+use Rattle.mc_laws.specs.Fair.{IsWorkOf}
+use Rattle.mc_laws.specs.Settling.{Settles, Works, lane_round, lanes_round, repeated, round, seat_round}
 use Rattle.mc_laws.specs.internal.Rounds.{HasRepeated, IsQuiet, Repeats, Tried}
 use Rattle.mc_laws.proofs.Fairness.{AreSeated, enabled_in}
 use Rattle.mc_laws.proofs.Few.{all_few}
@@ -90,7 +91,7 @@ abbrev Cannot : Sizes → World → Event → Type 0
 Cannot sizes w event = Enabled sizes w event → Spared sizes w event
 
 -- Where a whole round can't be done nothing can.
-none_left : (sizes : Sizes) (w : World) (moment : ℕ) (event : Event) → AreWithin sizes → IsWork event → IsOfServer sizes event → AllByRecursion (Cannot sizes w) (round sizes.seats sizes.shards moment) → Cannot sizes w event
+none_left : (sizes : Sizes) (w : World) (moment : ℕ) (event : Event) → AreWithin sizes → IsWork event → IsWorkOf sizes event → AllByRecursion (Cannot sizes w) (round sizes.seats sizes.shards moment) → Cannot sizes w event
 none_left sizes w moment (Open seat) within work there all = absurd work
 none_left sizes w moment (Feed seat bytes) within work there all = absurd work
 none_left sizes w moment (Take seat when) within work there all =
@@ -136,7 +137,7 @@ quiet_rests sizes w moment within l seated quiet = elim (rests_or_goes sizes w w
   | inl rest ↦ rest
   | inr goes ↦
       let h = goes.happens in
-      let enabled : Enabled sizes w goes.event = (h.0, h.1, h.2, h.3) in
+      let enabled : Enabled sizes w goes.event = (h.0, h.1, h.2) in
       let there = enabled_in sizes w goes.event within.shards.0 l seated enabled goes.work in
       let all = (all_idle sizes w (round sizes.seats sizes.shards moment) w quiet.led quiet.memory quiet.none).1 in
       absurd (goes.sure (none_left sizes w moment goes.event within goes.work there all enabled))
@@ -166,21 +167,21 @@ pub tried_more : (old mid new : Sim) (events : List Event) (least more done : �
 tried_more old mid new events least more done tried runs enough sizes w stands =
     let was = tried sizes w stands in
     let ran = runs sizes was.later was.stands in
-    let both = leads_join sizes w was.later ran.0 (repeated was.times events) events was.led was.memory ran.1 ran.2 in
+    let both = leads_join sizes w was.later ran.0.later (repeated was.times events) events was.led was.memory ran.0.led ran.0.memory in
     let before = was.enough in
     let count = both.2 in
-    let one = ran.3 in
-    record { times = suc was.times; later = ran.0; led = both.0; memory = both.1; enough = omega (arith, before, count, one, enough); stands = ran.4 }
+    let one = ran.1 in
+    record { times = suc was.times; later = ran.0.later; led = both.0; memory = both.1; enough = omega (arith, before, count, one, enough); stands = ran.0.stands }
 
 -- They were tried once more, and none was done.
 pub tried_quiet : (old mid new : Sim) (events : List Event) (least : ℕ) → Tried old events least mid → Runs mid events 0 new → Repeats old events true new
 tried_quiet old mid new events least tried runs sizes w stands =
     let was = tried sizes w stands in
     let ran = runs sizes was.later was.stands in
-    let none = sym ran.3 in
-    let same = (all_idle sizes was.later events ran.0 ran.1 ran.2 none).0 in
-    let again = subst (λ v. (led : Leads sizes was.later events v) × FoundMemory sizes was.later events v led × (done_in sizes was.later events v led ≡ 0)) same (ran.1, ran.2, none) in
-    (record { times = was.times; later = was.later; led = was.led; memory = was.memory; enough = omega arith; stands = subst (λ v. Stands sizes new v) same ran.4 }, record { led = again.0; memory = again.1; none = again.2 })
+    let none = sym ran.1 in
+    let same = (all_idle sizes was.later events ran.0.later ran.0.led ran.0.memory none).0 in
+    let again = subst (λ v. (led : Leads sizes was.later events v) × FoundMemory sizes was.later events v led × (done_in sizes was.later events v led ≡ 0)) same (ran.0.led, ran.0.memory, none) in
+    (record { times = was.times; later = was.later; led = was.led; memory = was.memory; enough = omega arith; stands = subst (λ v. Stands sizes new v) same ran.0.stands }, record { led = again.0; memory = again.1; none = again.2 })
 
 -- They were tried again and again.
 pub tried_again : (old mid new : Sim) (events : List Event) (least more : ℕ) → Tried old events least mid → Repeats mid events false new → more ≤ least + (2 ^ 128 - 1) → Tried old events more new
@@ -199,20 +200,22 @@ pub tried_stops : (old mid new : Sim) (events : List Event) (least : ℕ) → Tr
 tried_stops old mid new events least tried stops work sizes w stands =
     let was = tried sizes w stands in
     let ran = stops sizes was.later was.stands in
-    let both = leads_join sizes w was.later ran.3 (repeated was.times events) ran.0 was.led was.memory ran.5 ran.6 in
-    let front = all_left IsWork ran.0 (ran.1 ∷ ran.2) (subst (AllByRecursion IsWork) ran.4 work) in
-    record { events = repeated was.times events ++ ran.0; work = all_both IsWork (repeated was.times events) ran.0 (all_repeated IsWork was.times events work) front; later = ran.3; led = both.0; memory = both.1; stands = ran.8 }
+    let after = ran.4 in
+    let both = leads_join sizes w was.later after.later (repeated was.times events) ran.0 was.led was.memory after.led after.memory in
+    let front = all_left IsWork ran.0 (ran.1 ∷ ran.2) (subst (AllByRecursion IsWork) ran.3 work) in
+    (repeated was.times events ++ ran.0, all_both IsWork (repeated was.times events) ran.0 (all_repeated IsWork was.times events work) front, record { later = after.later; led = both.0; memory = both.1; stands = after.stands })
 
 -- Work after the events were tried.
 pub tried_works : (old mid new : Sim) (events : List Event) (least : ℕ) → Tried old events least mid → Works mid new → AllByRecursion IsWork events → Works old new
 tried_works old mid new events least tried works work sizes w stands =
     let was = tried sizes w stands in
     let ran = works sizes was.later was.stands in
-    let both = leads_join sizes w was.later ran.later (repeated was.times events) ran.events was.led was.memory ran.led ran.memory in
-    record { events = repeated was.times events ++ ran.events; work = all_both IsWork (repeated was.times events) ran.events (all_repeated IsWork was.times events work) ran.work; later = ran.later; led = both.0; memory = both.1; stands = ran.stands }
+    let after = ran.2 in
+    let both = leads_join sizes w was.later after.later (repeated was.times events) ran.0 was.led was.memory after.led after.memory in
+    (repeated was.times events ++ ran.0, all_both IsWork (repeated was.times events) ran.0 (all_repeated IsWork was.times events work) ran.1, record { later = after.later; led = both.0; memory = both.1; stands = after.stands })
 
 pub works_none : (sim : Sim) → Works sim sim
-works_none sim sizes w stands = record { events = []; work = tt; later = w; led = refl; memory = tt; stands = stands }
+works_none sim sizes w stands = ([], tt, record { later = w; led = refl; memory = tt; stands = stands })
 
 -- What a core stands in.
 
@@ -225,10 +228,15 @@ standing : (sizes : Sizes) (sim : Sim) (w : World) → Stands sizes sim w → St
 unfolding Stands
 standing sizes sim w world = record { within = world.within; law = world.law; seated = world.seated }
 
+-- The round was tried, and all connections are at rest.
+abbrev IsSettled : Sizes → World → ℕ → Sim → Type 0
+IsSettled sizes w moment new =
+    (times : ℕ) × (ran : StandsAfter sizes w (repeated times (round sizes.seats sizes.shards moment)) new) × AllAtRest sizes ran.later × AllReplied sizes ran.later
+
 settled : (sizes : Sizes) (w : World) (moment : ℕ) (new : Sim) (was : HasRepeated sizes w (round sizes.seats sizes.shards moment) 0 new) → AllAtRest sizes was.later → IsSettled sizes w moment new
 settled sizes w moment new was rest =
     let there = standing sizes new was.later was.stands in
-    record { times = was.times; later = was.later; led = was.led; memory = was.memory; stands = was.stands; rest = rest; replied = all_replied sizes was.later there.law rest }
+    (was.times, record { later = was.later; led = was.led; memory = was.memory; stands = was.stands }, rest, all_replied sizes was.later there.law rest)
 
 -- At last none of the round was done.
 pub quiet_settles : (old mid new : Sim) (events : List Event) (least seats shards moment : ℕ) → events ≡ round seats shards moment →

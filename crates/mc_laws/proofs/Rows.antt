@@ -30,10 +30,11 @@ use Rattle.mc_core.specs.World.{IsAt, Link, World, new_link, ran, sent_to}
 use Rattle.mc_core.specs.Rest.{AtRest, IsAllTaken}
 use Rattle.mc_core.specs.Events.{Event, RunsNext, one_more}
 use Rattle.mc_core.specs.Events.Event.{Open, Feed, Take, Send, Pop, Give, Receive, Hand, End, Break}
-use Rattle.mc_core.specs.Schedule.{Enabled, Happens, Leads, Schedule, StepReply}
-use Rattle.mc_core.specs.Schedule.StepReply.{Done, Idle, NoMemory}
+use Rattle.mc_core.specs.declared.event.StepReply.{StepReply}
+use Rattle.mc_core.specs.Schedule.{Enabled, Happens, Leads, Schedule}
+use Rattle.mc_core.specs.declared.event.StepReply.TheVariants.{Done, Idle, NoMemory}
 use Rattle.mc_laws.specs.Progress.{IsWork}
-use Rattle.mc_laws.specs.Fair.{EndlessRun, HasNoInput, IsFairToSeats, IsSameStep, IsTried, TriesAll}
+use Rattle.mc_laws.specs.Fair.{EndlessRun, Eventually, HasNoInput, IsFairToSeats, IsSameStep, TriesAll}
 use Rattle.mc_laws.specs.Order.{HappensBefore, IsPieceOf}
 use Rattle.mc_laws.proofs.Measure.{work_inside}
 use Rattle.mc_laws.proofs.Working.{none_next}
@@ -163,51 +164,51 @@ at_rest = (all_taken, refl, refl)
 
 -- the steps of the server for the first connection
 took : Happens one_each (alone [] fed) (Take 0 1000) Done (alone [] taken)
-took = (0, fed, first_at [] fed refl, ((flush, begins), lit< tt, refl), (one, record { next = begins; moment_is = refl; may = λ gone. absurd (cc) }, refl))
+took = (0, fed, (first_at [] fed refl, (flush, begins), lit< tt, refl), (one, record { next = begins; moment_is = refl; may = λ gone. absurd (cc) }, refl))
 
 sends : Happens one_each (alone [] taken) (Send 0) Done (alone [] sent)
 unfolding pieces_of
-sends = (0, taken, first_at [] taken refl, record { piece = (0, piece); next = refl; room = lit< tt }, refl)
+sends = (0, taken, (first_at [] taken refl, record { piece = (0, piece); next = refl; room = lit< tt }), refl)
 
 popped : Happens one_each (alone [] sent) (Pop 0 0) Done (alone (ran_for 0 ∷ []) sent)
 unfolding pieces_of
-popped = (0, sent, first_at [] sent refl, (λ k link here. omega arith, lit< tt), (ran_for 0, runs, refl))
+popped = (0, sent, (first_at [] sent refl, λ k link here. omega arith, lit< tt), (ran_for 0, runs, refl))
 
 gave : Happens one_each (alone (ran_for 0 ∷ []) sent) (Give 0) Done (alone (ran_for 0 ∷ []) given)
-gave = (0, sent, (refl, lit< tt), lit< tt, refl)
+gave = (0, sent, (refl, lit< tt, lit< tt), refl)
 
 got : Happens one_each (alone (ran_for 0 ∷ []) given) (Receive 0 0) Done (alone (ran_for 0 ∷ []) received)
-got = (0, given, first_at (ran_for 0 ∷ []) given refl, lit< tt, refl)
+got = (0, given, (first_at (ran_for 0 ∷ []) given refl, lit< tt), refl)
 
 gone_out : Happens one_each (alone (ran_for 0 ∷ []) received) (Hand 0) Done (alone (ran_for 0 ∷ []) handed)
-gone_out = (0, received, first_at (ran_for 0 ∷ []) received refl, (lit< tt, come, refl), (1, record { within = omega arith; come = come; most = λ more within has. within }, refl))
+gone_out = (0, received, (first_at (ran_for 0 ∷ []) received refl, lit< tt, come, refl), (1, record { within = omega arith; come = come; most = λ more within has. within }, refl))
 
 opened : Happens one_each (record { log = []; links = [] }) (Open 0) Done (alone [] (new_link 0))
-opened = (0, new_link 0, (refl, refl), (lit< tt, inl (λ k link here same. absurd (cc))), refl)
+opened = (0, new_link 0, (refl, refl, lit< tt, inl (λ k link here same. absurd (cc))), refl)
 
 came : Happens one_each (alone [] (new_link 0)) (Feed 0 line) Done (alone [] fed)
-came = (0, new_link 0, first_at [] (new_link 0) refl, (refl, refl, lit< tt), (11, record { within = omega arith; whole = λ used short. refl; some = λ all room some. lit< tt }, lit< tt, refl))
+came = (0, new_link 0, (first_at [] (new_link 0) refl, refl, refl, lit< tt), (11, record { within = omega arith; whole = λ used short. refl; some = λ all room some. lit< tt }, lit< tt, refl))
 
 has_ended : Happens one_each (alone (ran_for 0 ∷ []) handed) (End 0) Done (alone (ran_for 0 ∷ []) ended)
-has_ended = (0, handed, first_at (ran_for 0 ∷ []) handed refl, refl, refl)
+has_ended = (0, handed, (first_at (ran_for 0 ∷ []) handed refl, refl), refl)
 
 -- and for the second, on the same seat
 opened_again : Happens one_each (alone (ran_for 0 ∷ []) ended) (Open 0) Done (both (ran_for 0 ∷ []) (new_link 0))
-opened_again = (1, new_link 0, (refl, refl), (lit< tt, inr (0, ended, first_at (ran_for 0 ∷ []) ended refl, (at_rest, inl (inr (refl, all_taken))))), refl)
+opened_again = (1, new_link 0, (refl, refl, lit< tt, inr (0, ended, first_at (ran_for 0 ∷ []) ended refl, (at_rest, inl (inr (refl, all_taken))))), refl)
 
 came_again : Happens one_each (both (ran_for 0 ∷ []) (new_link 0)) (Feed 0 line) Done (both (ran_for 0 ∷ []) fed)
-came_again = (1, new_link 0, second_at (ran_for 0 ∷ []) (new_link 0) refl, (refl, refl, lit< tt), (11, record { within = omega arith; whole = λ used short. refl; some = λ all room some. lit< tt }, lit< tt, refl))
+came_again = (1, new_link 0, (second_at (ran_for 0 ∷ []) (new_link 0) refl, refl, refl, lit< tt), (11, record { within = omega arith; whole = λ used short. refl; some = λ all room some. lit< tt }, lit< tt, refl))
 
 took_again : Happens one_each (both (ran_for 0 ∷ []) fed) (Take 0 1000) Done (both (ran_for 0 ∷ []) taken)
-took_again = (1, fed, second_at (ran_for 0 ∷ []) fed refl, ((flush, begins), lit< tt, refl), (one, record { next = begins; moment_is = refl; may = λ gone. absurd (cc) }, refl))
+took_again = (1, fed, (second_at (ran_for 0 ∷ []) fed refl, (flush, begins), lit< tt, refl), (one, record { next = begins; moment_is = refl; may = λ gone. absurd (cc) }, refl))
 
 sends_again : Happens one_each (both (ran_for 0 ∷ []) taken) (Send 0) Done (both (ran_for 0 ∷ []) sent)
 unfolding pieces_of
-sends_again = (1, taken, second_at (ran_for 0 ∷ []) taken refl, record { piece = (0, piece); next = refl; room = lit< tt }, refl)
+sends_again = (1, taken, (second_at (ran_for 0 ∷ []) taken refl, record { piece = (0, piece); next = refl; room = lit< tt }), refl)
 
 popped_again : Happens one_each (both (ran_for 0 ∷ []) sent) (Pop 0 0) Done (both (ran_for 0 ∷ ran_for 1 ∷ []) sent)
 unfolding pieces_of
-popped_again = (1, sent, second_at (ran_for 0 ∷ []) sent refl, (empty_hand, lit< tt), (ran_for 1, runs_again, refl))
+popped_again = (1, sent, (second_at (ran_for 0 ∷ []) sent refl, empty_hand, lit< tt), (ran_for 1, runs_again, refl))
   where
     empty_hand : (k : ℕ) (link : Link) → slice_get (ended ∷ sent ∷ []) k ≡ Some link → ran (both (ran_for 0 ∷ []) sent) k 0 ≤ link.given 0
     empty_hand zero link here = subst (λ (x : Link). 1 ≤ x.given 0) (same_Some ended link here) (omega arith)
@@ -315,12 +316,12 @@ all_run k shard link here same =
 none_enabled : (event : Event) → IsWork event → Enabled one_each resting event → ⊥
 none_enabled (Open seat) work e = work
 none_enabled (Feed seat bytes) work e = work
-none_enabled (Take seat moment) work e = none_next one_each e.1 e.3.0.0 (subst (λ x. IsAllTaken one_each x) (sole e.0 e.1 e.2.here).1 all_taken) e.3.0.1
-none_enabled (Send seat) work e = let none = none_more e.1 (sole e.0 e.1 e.2.here).1 in let some = e.3.next in cc
+none_enabled (Take seat moment) work e = none_next one_each e.1 e.2.1.0 (subst (λ x. IsAllTaken one_each x) (sole e.0 e.1 e.2.0.here).1 all_taken) e.2.1.1
+none_enabled (Send seat) work e = let none = none_more e.1 (sole e.0 e.1 e.2.0.here).1 in let some = e.2.1.next in cc
 none_enabled (Pop shard seat) work e =
-    let same = sole e.0 e.1 e.2.here in
+    let same = sole e.0 e.1 e.2.0.here in
     let run = (all_run e.0 shard e.1 same.0 same.1).0 in
-    let waits = e.3.1 in
+    let waits = e.2.2 in
     omega (arith, run, waits)
 none_enabled (Give shard) work e =
     let same = sole e.0 e.1 e.2.0 in
@@ -328,12 +329,12 @@ none_enabled (Give shard) work e =
     let waits = e.2.1 in
     omega (arith, run, waits)
 none_enabled (Receive seat shard) work e =
-    let same = (sole e.0 e.1 e.2.here).1 in
-    let waits = subst (λ (x : Link). x.received shard < x.given shard) (sym same) e.3 in
+    let same = (sole e.0 e.1 e.2.0.here).1 in
+    let waits = subst (λ (x : Link). x.received shard < x.given shard) (sym same) e.2.1 in
     omega (arith, waits)
 none_enabled (Hand seat) work e =
-    let same = (sole e.0 e.1 e.2.here).1 in
-    let open_ones = subst (λ (x : Link). x.handed < length x.taken) (sym same) e.3.0 in
+    let same = (sole e.0 e.1 e.2.0.here).1 in
+    let open_ones = subst (λ (x : Link). x.handed < length x.taken) (sym same) e.2.1 in
     omega (arith, open_ones)
 none_enabled (End seat) work e = work
 none_enabled (Break seat) work e = work
@@ -360,30 +361,30 @@ no_input : HasNoInput run
 no_input n = work_inside (cycle n) (cycle_work n)
 
 -- the event at a place of some later round
-tried_at : (n i : ℕ) (event : Event) → IsSameStep event (cycle (6 * n + i)) → IsTried run n event
-tried_at n i event same = record { later = 6 * n + i; after = omega arith; same = same; memory = has_memory (6 * n + i) }
+tried_at : (n i : ℕ) (event : Event) → IsSameStep event (cycle (6 * n + i)) → Eventually n (λ m. IsSameStep event (cycle m) × (told m ≢ NoMemory))
+tried_at n i event same = record { later = 6 * n + i; after = omega arith; holds = (same, has_memory (6 * n + i)) }
 
 tries_all : TriesAll run
-tries_all n (Open seat) work there = absurd work
-tries_all n (Feed seat bytes) work there = absurd work
-tries_all n (Take seat moment) work there = let at : 0 ≡ seat = omega (arith, there) in tried_at n 0 (Take seat moment) (1000, cycle_at n 0 ∙ ap (λ s. Take s 1000) at)
-tries_all n (Send seat) work there = let at : 0 ≡ seat = omega (arith, there) in tried_at n 1 (Send seat) (cycle_at n 1 ∙ ap (λ s. Send s) at)
-tries_all n (Pop shard seat) work there =
+tries_all n (Open seat) there = absurd there
+tries_all n (Feed seat bytes) there = absurd there
+tries_all n (Take seat moment) there = let at : 0 ≡ seat = omega (arith, there) in tried_at n 0 (Take seat moment) (1000, cycle_at n 0 ∙ ap (λ s. Take s 1000) at)
+tries_all n (Send seat) there = let at : 0 ≡ seat = omega (arith, there) in tried_at n 1 (Send seat) (cycle_at n 1 ∙ ap (λ s. Send s) at)
+tries_all n (Pop shard seat) there =
     let on = there.0 in
     let of = there.1 in
     let at : 0 ≡ seat = omega (arith, of) in
     let by : 0 ≡ shard = omega (arith, on) in
     tried_at n 2 (Pop shard seat) (cycle_at n 2 ∙ (ap (λ s. Pop 0 s) at ∙ ap (λ s. Pop s seat) by))
-tries_all n (Give shard) work there = let by : 0 ≡ shard = omega (arith, there) in tried_at n 3 (Give shard) (cycle_at n 3 ∙ ap (λ s. Give s) by)
-tries_all n (Receive seat shard) work there =
+tries_all n (Give shard) there = let by : 0 ≡ shard = omega (arith, there) in tried_at n 3 (Give shard) (cycle_at n 3 ∙ ap (λ s. Give s) by)
+tries_all n (Receive seat shard) there =
     let of = there.0 in
     let on = there.1 in
     let at : 0 ≡ seat = omega (arith, of) in
     let by : 0 ≡ shard = omega (arith, on) in
     tried_at n 4 (Receive seat shard) (cycle_at n 4 ∙ (ap (λ s. Receive 0 s) by ∙ ap (λ s. Receive s shard) at))
-tries_all n (Hand seat) work there = let at : 0 ≡ seat = omega (arith, there) in tried_at n 5 (Hand seat) (cycle_at n 5 ∙ ap (λ s. Hand s) at)
-tries_all n (End seat) work there = absurd work
-tries_all n (Break seat) work there = absurd work
+tries_all n (Hand seat) there = let at : 0 ≡ seat = omega (arith, there) in tried_at n 5 (Hand seat) (cycle_at n 5 ∙ ap (λ s. Hand s) at)
+tries_all n (End seat) there = absurd there
+tries_all n (Break seat) there = absurd there
 
 rests_from : (m : ℕ) → 6 ≤ m → world_of m ≡ resting
 rests_from zero from = absurd (omega (arith, from))
@@ -396,4 +397,4 @@ rests_from (suc (suc (suc (suc (suc (suc n)))))) from = refl
 
 fair_to_seats : IsFairToSeats run
 fair_to_seats n shard seat by of =
-    inr (record { later = n + 6; after = omega arith; never = λ m from e. none_enabled (Pop shard seat) tt (subst (λ v. Enabled one_each v (Pop shard seat)) (rests_from m (omega (arith, from))) e) })
+    inr (record { later = n + 6; after = omega arith; holds = λ m from e. none_enabled (Pop shard seat) tt (subst (λ v. Enabled one_each v (Pop shard seat)) (rests_from m (omega (arith, from))) e) })

@@ -23,11 +23,12 @@ use Rattle.mc_core.specs.World.{IsAt, IsLink, Link, World, entries, ran, sent_to
 use Rattle.mc_core.specs.Rest.{AtRest, HasWindow, IsAllReceived, IsAllSent, IsAllTaken, IsNextCommand}
 use Rattle.mc_core.specs.Events.{Event, IsEmptyHand, one_more}
 use Rattle.mc_core.specs.Events.Event.{Open, Feed, Take, Send, Pop, Give, Receive, Hand, End, Break}
-use Rattle.mc_core.specs.Schedule.{Enabled, Happens, StepReply}
-use Rattle.mc_core.specs.Schedule.StepReply.{Done, Idle, NoMemory}
+use Rattle.mc_core.specs.declared.event.StepReply.{StepReply}
+use Rattle.mc_core.specs.Schedule.{Enabled, Happens}
+use Rattle.mc_core.specs.declared.event.StepReply.TheVariants.{Done, Idle, NoMemory}
 use Rattle.mc_core.specs.Law.{Law}
 use Rattle.mc_laws.specs.Progress.{IsWork}
-use Rattle.mc_laws.specs.Fair.{EndlessRun, IsSameStep, IsFairToSeats, IsOfServer, IsWeaklyFair, GetsReply, NoneWaitsForever}
+use Rattle.mc_laws.specs.Fair.{EndlessRun, IsSameStep, IsFairToSeats, IsWorkOf, IsWeaklyFair, GetsReply, NoneWaitsForever}
 use Rattle.mc_laws.proofs.After.{IsMore, Later, event_later, lane_grows, later_same, later_then, sent_grows, sent_stays, set_here}
 use Rattle.mc_core.proofs.Links.{ran_within}
 use Rattle.mc_core.proofs.Lists.{at_once, push_cases, set_cases}
@@ -67,12 +68,12 @@ record Grown {sizes : Sizes} {w : World} (run : EndlessRun sizes w) (n k : ℕ) 
   more : before < count (run.worlds place) link
 
 -- Work is done, or at some place it isn't enabled.
-by_fair : (sizes : Sizes) (w : World) (run : EndlessRun sizes w) → Load sizes w run → (G : Type 0) (n : ℕ) (event : Event) → IsWork event → IsOfServer sizes event →
+by_fair : (sizes : Sizes) (w : World) (run : EndlessRun sizes w) → Load sizes w run → (G : Type 0) (n : ℕ) (event : Event) → IsWork event → IsWorkOf sizes event →
     ((m : ℕ) → n ≤ m → (Enabled sizes (run.worlds m) event → ⊥) → G) →
     ((m : ℕ) (other : Event) → n ≤ m → IsSameStep event other → Happens sizes (run.worlds m) other Done (run.worlds (m + 1)) → G) → G
-by_fair sizes w run c G n event work there never done = elim (c.fair n event work there) [
-  | inl d ↦ done d.later (run.events d.later) d.after d.same (subst (λ r. Happens sizes (run.worlds d.later) (run.events d.later) r (run.worlds (d.later + 1))) d.done (run.happens d.later))
-  | inr o ↦ never o.later o.after o.never
+by_fair sizes w run c G n event work there never done = elim (c.fair n event there) [
+  | inl d ↦ done d.later (run.events d.later) d.after d.holds.0 (subst (λ r. Happens sizes (run.worlds d.later) (run.events d.later) r (run.worlds (d.later + 1))) d.holds.1 (run.happens d.later))
+  | inr o ↦ never o.later o.after o.holds
 ]
 
 -- A shard takes a piece of the seat, or from some place on it never may.
@@ -80,8 +81,8 @@ by_seats : (sizes : Sizes) (w : World) (run : EndlessRun sizes w) → Load sizes
     ((m : ℕ) → n ≤ m → ((i : ℕ) → m ≤ i → Enabled sizes (run.worlds i) (Pop s seat) → ⊥) → G) →
     ((m : ℕ) (other : Event) → n ≤ m → IsSameStep (Pop s seat) other → Happens sizes (run.worlds m) other Done (run.worlds (m + 1)) → G) → G
 by_seats sizes w run c G n s seat there on never done = elim (c.seats n s seat there on) [
-  | inl d ↦ done d.later (run.events d.later) d.after d.same (subst (λ r. Happens sizes (run.worlds d.later) (run.events d.later) r (run.worlds (d.later + 1))) d.done (run.happens d.later))
-  | inr o ↦ never o.later o.after o.never
+  | inl d ↦ done d.later (run.events d.later) d.after d.holds.0 (subst (λ r. Happens sizes (run.worlds d.later) (run.events d.later) r (run.worlds (d.later + 1))) d.holds.1 (run.happens d.later))
+  | inr o ↦ never o.later o.after o.holds
 ]
 
 one_more-here : (counts : ℕ → ℕ) (s : ℕ) → one_more counts s s ≡ counts s + 1
@@ -122,17 +123,17 @@ receive_later sizes w run c n k s link here waits =
     elim (still n (omega arith)) [
       | inl grown ↦ grown
       | inr now ↦
-          let enabled : Enabled sizes (run.worlds n) (Receive link.seat s) = (k, now.0, now.1, now.2) in
+          let enabled : Enabled sizes (run.worlds n) (Receive link.seat s) = (k, now.0, (now.1, now.2)) in
           by_fair sizes w run c (Grown run n k (λ v x. x.received s) (link.received s)) n (Receive link.seat s) tt (enabled_in sizes (run.worlds n) (Receive link.seat s) c.within.shards.0 (c.law n) (c.seated n) enabled tt)
           (λ m after never. elim (still m after) [
             | inl grown ↦ grown
-            | inr x ↦ absurd (never (k, x.0, x.1, x.2))
+            | inr x ↦ absurd (never (k, x.0, (x.1, x.2)))
           ])
           (λ m other after alike done. elim (still m after) [
             | inl grown ↦ grown
             | inr x ↦
                 let h = subst (λ e. Happens sizes (run.worlds m) e Done (run.worlds (m + 1))) alike done in
-                let same : h.1 ≡ x.0 = at_once (run.worlds m).links h.0 k h.1 x.0 h.2.here x.1.here (one_place (run.worlds m) link.seat h.0 k h.1 x.0 h.2 x.1) in
+                let same : h.1 ≡ x.0 = at_once (run.worlds m).links h.0 k h.1 x.0 h.2.0.here x.1.here (one_place (run.worlds m) link.seat h.0 k h.1 x.0 h.2.0 x.1) in
                 let one = one_more-here h.1.received s in
                 let was = ap (λ (y : Link). y.received s) same in
                 let before = x.3 in
@@ -140,7 +141,7 @@ receive_later sizes w run c n k s link here waits =
                   place = m + 1;
                   after = omega (arith, after);
                   link = record h.1 { received = one_more h.1.received s };
-                  here = changed_here (run.worlds m) link.seat k h.0 x.0 h.1 (record h.1 { received = one_more h.1.received s }) (run.worlds (m + 1)) x.1 h.2 h.4;
+                  here = changed_here (run.worlds m) link.seat k h.0 x.0 h.1 (record h.1 { received = one_more h.1.received s }) (run.worlds (m + 1)) x.1 h.2.0 h.3;
                   more = omega (arith, one, was, before);
                 }
           ])
@@ -160,22 +161,22 @@ past links j x here at = let within = slice_get_within links j x here in absurd 
 
 -- The worker gave its reply, or no connection was given any more by the shard.
 given_or : (sizes : Sizes) (w : World) (event : Event) (reply : StepReply) (w' : World) (s : ℕ) → Happens sizes w event reply w' → Happens sizes w (Give s) Done w' ⊎ ((j : ℕ) (x y : Link) → IsLink w j x → IsLink w' j y → y.given s ≡ x.given s)
-given_or sizes w (Open seat) Done w' s h = inr (λ j x y at_x at_y. elim (push_cases w.links h.1 j y (subst (λ v. IsLink v j y) h.4 at_y)) [
+given_or sizes w (Open seat) Done w' s h = inr (λ j x y at_x at_y. elim (push_cases w.links h.1 j y (subst (λ v. IsLink v j y) h.3 at_y)) [
   | inl old ↦ ap (λ (z : Link). z.given s) (at_once w.links j j y x old at_x refl)
   | inr new ↦ absurd (past w.links j x at_x new.0)
 ])
-given_or sizes w (Feed seat bytes) Done w' s h = inr (λ j x y at_x at_y. set_given w h.0 h.1 (record h.1 { fed = h.1.fed ++ take h.4.0 bytes }) w' s h.2.here refl h.4.3 j x y at_x at_y)
-given_or sizes w (Take seat moment) Done w' s h = inr (λ j x y at_x at_y. set_given w h.0 h.1 (record h.1 { taken = h.1.taken ++ h.4.0 ∷ [] }) w' s h.2.here refl h.4.2 j x y at_x at_y)
-given_or sizes w (Send seat) Done w' s h = inr (λ j x y at_x at_y. set_given w h.0 h.1 (record h.1 { sent = h.1.sent + 1 }) w' s h.2.here refl h.4 j x y at_x at_y)
-given_or sizes w (Pop shard seat) Done w' s h = inr (λ j x y at_x at_y. ap (λ (z : Link). z.given s) (at_once w.links j j y x (subst (λ v. IsLink v j y) h.4.2 at_y) at_x refl))
+given_or sizes w (Feed seat bytes) Done w' s h = inr (λ j x y at_x at_y. set_given w h.0 h.1 (record h.1 { fed = h.1.fed ++ take h.3.0 bytes }) w' s h.2.0.here refl h.3.3 j x y at_x at_y)
+given_or sizes w (Take seat moment) Done w' s h = inr (λ j x y at_x at_y. set_given w h.0 h.1 (record h.1 { taken = h.1.taken ++ h.3.0 ∷ [] }) w' s h.2.0.here refl h.3.2 j x y at_x at_y)
+given_or sizes w (Send seat) Done w' s h = inr (λ j x y at_x at_y. set_given w h.0 h.1 (record h.1 { sent = h.1.sent + 1 }) w' s h.2.0.here refl h.3 j x y at_x at_y)
+given_or sizes w (Pop shard seat) Done w' s h = inr (λ j x y at_x at_y. ap (λ (z : Link). z.given s) (at_once w.links j j y x (subst (λ v. IsLink v j y) h.3.2 at_y) at_x refl))
 given_or sizes w (Give shard) Done w' s h = elim (cases_eq shard s) [
   | inl same ↦ inl (subst (λ t. Happens sizes w (Give t) Done w') same h)
-  | inr apart ↦ inr (λ j x y at_x at_y. set_given w h.0 h.1 (record h.1 { given = one_more h.1.given shard }) w' s h.2.0 (one_more-other h.1.given shard s apart) h.4 j x y at_x at_y)
+  | inr apart ↦ inr (λ j x y at_x at_y. set_given w h.0 h.1 (record h.1 { given = one_more h.1.given shard }) w' s h.2.0 (one_more-other h.1.given shard s apart) h.3 j x y at_x at_y)
 ]
-given_or sizes w (Receive seat shard) Done w' s h = inr (λ j x y at_x at_y. set_given w h.0 h.1 (record h.1 { received = one_more h.1.received shard }) w' s h.2.here refl h.4 j x y at_x at_y)
-given_or sizes w (Hand seat) Done w' s h = inr (λ j x y at_x at_y. set_given w h.0 h.1 (record h.1 { handed = h.4.0 }) w' s h.2.here refl h.4.2 j x y at_x at_y)
-given_or sizes w (End seat) Done w' s h = inr (λ j x y at_x at_y. set_given w h.0 h.1 (record h.1 { ended = true }) w' s h.2.here refl h.4 j x y at_x at_y)
-given_or sizes w (Break seat) Done w' s h = inr (λ j x y at_x at_y. set_given w h.0 h.1 (record h.1 { broken = true }) w' s h.2.here refl h.4 j x y at_x at_y)
+given_or sizes w (Receive seat shard) Done w' s h = inr (λ j x y at_x at_y. set_given w h.0 h.1 (record h.1 { received = one_more h.1.received shard }) w' s h.2.0.here refl h.3 j x y at_x at_y)
+given_or sizes w (Hand seat) Done w' s h = inr (λ j x y at_x at_y. set_given w h.0 h.1 (record h.1 { handed = h.3.0 }) w' s h.2.0.here refl h.3.2 j x y at_x at_y)
+given_or sizes w (End seat) Done w' s h = inr (λ j x y at_x at_y. set_given w h.0 h.1 (record h.1 { ended = true }) w' s h.2.0.here refl h.3 j x y at_x at_y)
+given_or sizes w (Break seat) Done w' s h = inr (λ j x y at_x at_y. set_given w h.0 h.1 (record h.1 { broken = true }) w' s h.2.0.here refl h.3 j x y at_x at_y)
 given_or sizes w event Idle w' s h = inr (λ j x y at_x at_y. ap (λ (z : Link). z.given s) (at_once w.links j j y x (subst (λ v. IsLink v j y) h.1 at_y) at_x refl))
 given_or sizes w event NoMemory w' s h = inr (λ j x y at_x at_y. ap (λ (z : Link). z.given s) (at_once w.links j j y x (subst (λ v. IsLink v j y) h.1 at_y) at_x refl))
 
@@ -187,7 +188,7 @@ record Empties {sizes : Sizes} {w : World} (run : EndlessRun sizes w) (n s : ℕ
 
 -- after a Give the hand is empty
 give_empties : (sizes : Sizes) (w : World) (s : ℕ) (w' : World) → Law sizes w → Happens sizes w (Give s) Done w' → IsEmptyHand w' s
-give_empties sizes w s w' l h = subst (λ v. IsEmptyHand v s) (sym h.4) (λ j one at. elim (set_cases w.links h.0 (record h.1 { given = one_more h.1.given s }) j one at) [
+give_empties sizes w s w' l h = subst (λ v. IsEmptyHand v s) (sym h.3) (λ j one at. elim (set_cases w.links h.0 (record h.1 { given = one_more h.1.given s }) j one at) [
   | inl this ↦
       let bound = l.one_ungiven s h.0 h.1 h.2.0 in
       let more = one_more-here h.1.given s in
@@ -228,7 +229,7 @@ gives_with_room sizes w run c n s k x there here ungiven room = by_fair sizes w 
       | inl same ↦
           let ran_more = y.ran s in
           let got = y.more.received s in
-          absurd (never (k, y.link', (y.here, omega (arith, same, ungiven, ran_more)), omega (arith, same, room, got)))
+          absurd (never (k, y.link', (y.here, omega (arith, same, ungiven, ran_more), omega (arith, same, room, got))))
     ])
     (λ m other after alike done.
     let h = subst (λ e. Happens sizes (run.worlds m) e Done (run.worlds (m + 1))) alike done in
@@ -295,19 +296,19 @@ run_later sizes w run c n k s link here waits =
                 let past_m = free.after in
                 elim (still free.place (omega (arith, after, past_m))) [
                   | inl grown ↦ grown
-                  | inr y ↦ absurd (never free.place past_m (k, y.0, y.1, (free.empty, y.2)))
+                  | inr y ↦ absurd (never free.place past_m (k, y.0, (y.1, free.empty, y.2)))
                 ]
           ])
           (λ m other after alike done. elim (still m after) [
             | inl grown ↦ grown
             | inr x ↦
                 let h = subst (λ e. Happens sizes (run.worlds m) e Done (run.worlds (m + 1))) alike done in
-                let place = one_place (run.worlds m) link.seat h.0 k h.1 x.0 h.2 x.1 in
-                let entry = h.4.0 in
-                let runs = h.4.1 in
-                let one = ap (λ v. ran v k s) h.4.2 ∙ ran_here (run.worlds m).log entry k s (runs.asker_is ∙ place) runs.shard_is in
+                let place = one_place (run.worlds m) link.seat h.0 k h.1 x.0 h.2.0 x.1 in
+                let entry = h.3.0 in
+                let runs = h.3.1 in
+                let one = ap (λ v. ran v k s) h.3.2 ∙ ran_here (run.worlds m).log entry k s (runs.asker_is ∙ place) runs.shard_is in
                 let before = x.3 in
-                record { place = m + 1; after = omega (arith, after); link = x.0; here = subst (λ v. IsLink v k x.0) (sym h.4.2) x.1.here; more = omega (arith, one, before) }
+                record { place = m + 1; after = omega (arith, after); link = x.0; here = subst (λ v. IsLink v k x.0) (sym h.3.2) x.1.here; more = omega (arith, one, before) }
           ])
     ]
 
@@ -371,20 +372,20 @@ send_with_room sizes w run c n k link next here unsent at room =
                 let both = next_stays sizes link z.0 next ((c.law n).links k link here).sent more z.3 at in
                 let stays = both.1 in
                 let ran_more = later.ran next.0 in
-                absurd (never (k, z.0, z.1, record { piece = next; next = both.0; room = omega (arith, stays, room, ran_more) }))
+                absurd (never (k, z.0, (z.1, record { piece = next; next = both.0; room = omega (arith, stays, room, ran_more) })))
           ])
           (λ m other after alike done. elim (still m after) [
             | inl grown ↦ grown
             | inr x ↦
                 let h = subst (λ e. Happens sizes (run.worlds m) e Done (run.worlds (m + 1))) alike done in
-                let same : h.1 ≡ x.0 = at_once (run.worlds m).links h.0 k h.1 x.0 h.2.here x.1.here (one_place (run.worlds m) link.seat h.0 k h.1 x.0 h.2 x.1) in
+                let same : h.1 ≡ x.0 = at_once (run.worlds m).links h.0 k h.1 x.0 h.2.0.here x.1.here (one_place (run.worlds m) link.seat h.0 k h.1 x.0 h.2.0 x.1) in
                 let was = ap (λ (y : Link). y.sent) same in
                 let before = x.3 in
                 record {
                   place = m + 1;
                   after = omega (arith, after);
                   link = record h.1 { sent = h.1.sent + 1 };
-                  here = changed_here (run.worlds m) link.seat k h.0 x.0 h.1 (record h.1 { sent = h.1.sent + 1 }) (run.worlds (m + 1)) x.1 h.2 h.4;
+                  here = changed_here (run.worlds m) link.seat k h.0 x.0 h.1 (record h.1 { sent = h.1.sent + 1 }) (run.worlds (m + 1)) x.1 h.2.0 h.3;
                   more = omega (arith, was, before);
                 }
           ])
@@ -481,7 +482,7 @@ all_are sizes link commands all spelled =
 
 -- it is broken
 broke : (sizes : Sizes) (w : World) (run : EndlessRun sizes w) (n k number m : ℕ) (x : Link) → n ≤ m → IsLink (run.worlds m) k x → x.broken ≡ true → GetsReply run n k number
-broke sizes w run n k number m x after here broken = record { place = m; after = after; link = x; here = here; out = inl broken }
+broke sizes w run n k number m x after here broken = record { later = m; after = after; holds = (x, here, inl broken) }
 
 -- The next command is taken, where all that were taken are handed out.
 take_later : (sizes : Sizes) (w : World) (run : EndlessRun sizes w) → Load sizes w run → (n k number : ℕ) (link : Link) (commands : List Command) → IsLink (run.worlds n) k link → SpellFirst sizes link.fed commands → length link.taken < length commands → link.handed ≡ length link.taken → Grown run n k (λ v x. length x.taken) (length link.taken) ⊎ GetsReply run n k number
@@ -516,21 +517,21 @@ take_later sizes w run c n k number link commands here spelled less handed =
           by_fair sizes w run c G n (Take link.seat 0) tt (at_seat sizes (run.worlds n) link.seat k now.0 (c.seated n) now.1)
           (λ m after never. elim (still m after) [
             | inl grown ↦ grown
-            | inr x ↦ absurd (never (k, x.0, x.1, x.2))
+            | inr x ↦ absurd (never (k, x.0, (x.1, x.2.0, x.2.1, x.2.2)))
           ])
           (λ m other after alike done. elim (still m after) [
             | inl grown ↦ grown
             | inr x ↦
                 let h = subst (λ e. Happens sizes (run.worlds m) e Done (run.worlds (m + 1))) alike.1 done in
-                let same : h.1 ≡ x.0 = at_once (run.worlds m).links h.0 k h.1 x.0 h.2.here x.1.here (one_place (run.worlds m) link.seat h.0 k h.1 x.0 h.2 x.1) in
+                let same : h.1 ≡ x.0 = at_once (run.worlds m).links h.0 k h.1 x.0 h.2.0.here x.1.here (one_place (run.worlds m) link.seat h.0 k h.1 x.0 h.2.0 x.1) in
                 let was = ap (λ (y : Link). length y.taken) same in
-                let longer = length-append h.1.taken (h.4.0 ∷ []) in
+                let longer = length-append h.1.taken (h.3.0 ∷ []) in
                 let enough = x.3 in
                 inl (record {
                   place = m + 1;
                   after = omega (arith, after);
-                  link = record h.1 { taken = h.1.taken ++ h.4.0 ∷ [] };
-                  here = changed_here (run.worlds m) link.seat k h.0 x.0 h.1 (record h.1 { taken = h.1.taken ++ h.4.0 ∷ [] }) (run.worlds (m + 1)) x.1 h.2 h.4.2;
+                  link = record h.1 { taken = h.1.taken ++ h.3.0 ∷ [] };
+                  here = changed_here (run.worlds m) link.seat k h.0 x.0 h.1 (record h.1 { taken = h.1.taken ++ h.3.0 ∷ [] }) (run.worlds (m + 1)) x.1 h.2.0 h.3.2;
                   more = omega (arith, was, longer, enough);
                 })
           ])
@@ -571,22 +572,22 @@ hand_later sizes w run c n k number link here waits come =
           by_fair sizes w run c G n (Hand link.seat) tt (at_seat sizes (run.worlds n) link.seat k now.0 (c.seated n) now.1)
           (λ m after never. elim (still m after) [
             | inl grown ↦ grown
-            | inr x ↦ absurd (never (k, x.0, x.1, x.2))
+            | inr x ↦ absurd (never (k, x.0, (x.1, x.2.0, x.2.1, x.2.2)))
           ])
           (λ m other after alike done. elim (still m after) [
             | inl grown ↦ grown
             | inr x ↦
                 let h = subst (λ e. Happens sizes (run.worlds m) e Done (run.worlds (m + 1))) alike done in
-                let same : h.1 ≡ x.0 = at_once (run.worlds m).links h.0 k h.1 x.0 h.2.here x.1.here (one_place (run.worlds m) link.seat h.0 k h.1 x.0 h.2 x.1) in
+                let same : h.1 ≡ x.0 = at_once (run.worlds m).links h.0 k h.1 x.0 h.2.0.here x.1.here (one_place (run.worlds m) link.seat h.0 k h.1 x.0 h.2.0 x.1) in
                 let was = ap (λ (y : Link). y.handed) same in
                 let before = x.3 in
-                let some = h.3.0 in
-                let most = h.4.1.most (h.1.handed + 1) (omega (arith, some)) h.3.1 in
+                let some = h.2.1 in
+                let most = h.3.1.most (h.1.handed + 1) (omega (arith, some)) h.2.2 in
                 inl (record {
                   place = m + 1;
                   after = omega (arith, after);
-                  link = record h.1 { handed = h.4.0 };
-                  here = changed_here (run.worlds m) link.seat k h.0 x.0 h.1 (record h.1 { handed = h.4.0 }) (run.worlds (m + 1)) x.1 h.2 h.4.2;
+                  link = record h.1 { handed = h.3.0 };
+                  here = changed_here (run.worlds m) link.seat k h.0 x.0 h.1 (record h.1 { handed = h.3.0 }) (run.worlds (m + 1)) x.1 h.2.0 h.3.2;
                   more = omega (arith, was, before, most);
                 })
           ])
@@ -649,7 +650,7 @@ all_come sizes w run c n k link need here sent (suc shards) within =
 
 -- What comes of a later place comes of this one.
 replied_on : (sizes : Sizes) (w : World) (run : EndlessRun sizes w) (n m k number : ℕ) → n ≤ m → GetsReply run m k number → GetsReply run n k number
-replied_on sizes w run n m k number after replied = let past_m = replied.after in record { place = replied.place; after = omega (arith, after, past_m); link = replied.link; here = replied.here; out = replied.out }
+replied_on sizes w run n m k number after replied = let past_m = replied.after in record { later = replied.later; after = omega (arith, after, past_m); holds = replied.holds }
 
 handed_on : (sizes : Sizes) (w : World) (run : EndlessRun sizes w) (n m k number before less : ℕ) → n ≤ m → less ≤ before → Grown run m k (λ v x. x.handed) before ⊎ GetsReply run m k number → Grown run n k (λ v x. x.handed) less ⊎ GetsReply run n k number
 handed_on sizes w run n m k number before less after within either = elim either [
@@ -758,9 +759,9 @@ one_reply sizes w run c n k number link commands here spelled less = elim (cases
 ]
 
 replied_in : (fuel : ℕ) (sizes : Sizes) (w : World) (run : EndlessRun sizes w) → Load sizes w run → (n k number : ℕ) (link : Link) (commands : List Command) → IsLink (run.worlds n) k link → SpellFirst sizes link.fed commands → number < length commands → number < link.handed + fuel → GetsReply run n k number
-replied_in zero sizes w run c n k number link commands here spelled less few = record { place = n; after = omega arith; link = link; here = here; out = inr (omega (arith, few)) }
+replied_in zero sizes w run c n k number link commands here spelled less few = record { later = n; after = omega arith; holds = (link, here, inr (omega (arith, few))) }
 replied_in (suc fuel) sizes w run c n k number link commands here spelled less few = elim (cases_lt number link.handed) [
-  | inl out ↦ record { place = n; after = omega arith; link = link; here = here; out = inr out }
+  | inl out ↦ record { later = n; after = omega arith; holds = (link, here, inr out) }
   | inr waits ↦ elim (one_reply sizes w run c n k number link commands here spelled (omega (arith, waits, less))) [
     | inr replied ↦ replied
     | inl grown ↦

@@ -82,8 +82,8 @@ receive_goes sizes w k link s l here some =
       event = Receive link.seat s;
       work = tt;
       next = with_link w k (record link { received = one_more link.received s });
-      happens = (k, link, at, some, refl);
-      sure = λ spared. absurd spared.3;
+      happens = (k, link, (at, some), refl);
+      sure = λ spared. spared;
     }
 
 -- A worker whose hand is full can give, or its seat can receive.
@@ -93,8 +93,8 @@ hand_goes sizes w k link s places l here ungiven = elim (cases_lt (link.given s)
     event = Give s;
     work = tt;
     next = with_link w k (record link { given = one_more link.given s });
-    happens = (k, link, (here, ungiven), room, refl);
-    sure = λ spared. absurd spared.3;
+    happens = (k, link, (here, ungiven, room), refl);
+    sure = λ spared. spared;
   }
   | inr full ↦ receive_goes sizes w k link s l here (omega (arith, full, places))
 ]
@@ -109,8 +109,8 @@ pop_goes sizes w k link s entry at empty some runs = record {
   event = Pop s link.seat;
   work = tt;
   next = with_entry w entry;
-  happens = (k, link, at, (empty, some), (entry, runs, refl));
-  sure = λ spared. absurd spared.3;
+  happens = (k, link, (at, empty, some), (entry, runs, refl));
+  sure = λ spared. spared;
 }
 
 -- A shard that was sent a piece can run it, or its worker's hand is full.
@@ -165,8 +165,8 @@ send_goes sizes w k link within l here unsent =
             event = Send link.seat;
             work = tt;
             next = with_link w k (record link { sent = link.sent + 1 });
-            happens = (k, link, at, may, refl);
-            sure = λ spared. absurd spared.3;
+            happens = (k, link, (at, may), refl);
+            sure = λ spared. spared;
           }
       | inr full ↦ shard_goes sizes w k link s within l here (let places : 0 < sizes.ring = within.ring.0 in omega (arith, full, places))
     ]
@@ -274,8 +274,8 @@ whole_goes sizes w k link within l here whole sent to =
               event = Hand link.seat;
               work = tt;
               next = with_link w k (record link { handed = turn.0 });
-              happens = (k, link, at, (waiting, come, whole), (turn.0, turn.1, refl));
-              sure = λ spared. absurd spared.3;
+              happens = (k, link, (at, waiting, come, whole), (turn.0, turn.1, refl));
+              sure = λ spared. spared;
             })
       ]
       | inr all_handed ↦
@@ -294,8 +294,8 @@ whole_goes sizes w k link within l here whole sent to =
                   event = Take link.seat 0;
                   work = tt;
                   next = with_link w k (record link { taken = link.taken ++ one ∷ [] });
-                  happens = (k, link, at, (next, window, whole), (one, takes, refl));
-                  sure = λ spared. absurd spared.3;
+                  happens = (k, link, (at, next, window, whole), (one, takes, refl));
+                  sure = λ spared. spared;
                 })
           ]
     ]

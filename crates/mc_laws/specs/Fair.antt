@@ -6,23 +6,21 @@ use Rattle.mc_core.specs.Sized.{SpellFirst}
 use Rattle.mc_core.specs.World.{IsAt, IsLink, Link, World}
 use Rattle.mc_core.specs.Rest.{AtRest}
 use Rattle.mc_core.specs.Events.{Event}
-use Rattle.mc_core.specs.Events.Event.{Open, Feed, Take, Send, Pop, Give, Receive, Hand, End, Break}
-use Rattle.mc_core.specs.Schedule.{Enabled, Happens, Spared, StepReply}
-use Rattle.mc_core.specs.Schedule.StepReply.{Done, NoMemory}
-use Rattle.mc_laws.specs.Progress.{AllAtRest, AllReplied, IsNoInput, IsWork}
+use Rattle.mc_core.specs.Events.Event.{Feed, Take, Send, Pop, Give, Receive, Hand}
+use Rattle.mc_core.specs.declared.event.StepReply.{StepReply}
+use Rattle.mc_core.specs.Schedule.{Enabled, Happens, Spared}
+use Rattle.mc_core.specs.declared.event.StepReply.TheVariants.{Done, NoMemory}
+use Rattle.mc_laws.specs.Progress.{AllAtRest, AllReplied, IsNoInput}
 
--- The seat and the shard that the event names are there.
-abbrev pub IsOfServer : Sizes → Event → Type 0
-IsOfServer sizes (Open seat) = seat < sizes.seats
-IsOfServer sizes (Feed seat bytes) = seat < sizes.seats
-IsOfServer sizes (Take seat moment) = seat < sizes.seats
-IsOfServer sizes (Send seat) = seat < sizes.seats
-IsOfServer sizes (Pop shard seat) = (shard < sizes.shards) × (seat < sizes.seats)
-IsOfServer sizes (Give shard) = shard < sizes.shards
-IsOfServer sizes (Receive seat shard) = (seat < sizes.seats) × (shard < sizes.shards)
-IsOfServer sizes (Hand seat) = seat < sizes.seats
-IsOfServer sizes (End seat) = seat < sizes.seats
-IsOfServer sizes (Break seat) = seat < sizes.seats
+-- The server does it by itself, and the seat and the shard that it names are there.
+abbrev pub IsWorkOf : Sizes → Event → Type 0
+IsWorkOf sizes (Take seat moment) = seat < sizes.seats
+IsWorkOf sizes (Send seat) = seat < sizes.seats
+IsWorkOf sizes (Pop shard seat) = (shard < sizes.shards) × (seat < sizes.seats)
+IsWorkOf sizes (Give shard) = shard < sizes.shards
+IsWorkOf sizes (Receive seat shard) = (seat < sizes.seats) × (shard < sizes.shards)
+IsWorkOf sizes (Hand seat) = seat < sizes.seats
+IsWorkOf sizes event = ⊥
 
 -- It is the same event, but for the moment of a Take.
 abbrev pub IsSameStep : Event → Event → Type 0
@@ -41,49 +39,35 @@ pub record EndlessRun (sizes : Sizes) (w : World) : Type 0 where
 abbrev pub HasNoInput : {sizes : Sizes} {w : World} → EndlessRun sizes w → Type 0
 HasNoInput run = (n : ℕ) → IsNoInput (run.events n)
 
+-- It holds at this place of a run, or at a later one.
+pub record Eventually (n : ℕ) (P : ℕ → Type 0) : Type 0 where
+  pub later : ℕ
+  pub after : n ≤ later
+  pub holds : P later
+
 -- The event is done, there or later.
-pub record IsDoneLater {sizes : Sizes} {w : World} (run : EndlessRun sizes w) (n : ℕ) (event : Event) : Type 0 where
-  pub later : ℕ
-  pub after : n ≤ later
-  pub same : IsSameStep event (run.events later)
-  pub done : run.replies later ≡ Done
+abbrev pub IsDoneLater : {sizes : Sizes} {w : World} → EndlessRun sizes w → ℕ → Event → Type 0
+IsDoneLater run n event = Eventually n (λ m. IsSameStep event (run.events m) × (run.replies m ≡ Done))
 
--- The event is not enabled, there or at some later place.
-pub record IsDisabledLater {sizes : Sizes} {w : World} (run : EndlessRun sizes w) (n : ℕ) (event : Event) : Type 0 where
-  pub later : ℕ
-  pub after : n ≤ later
-  pub never : Enabled sizes (run.worlds later) event → ⊥
-
--- From some later place on the event is never enabled.
-pub record IsDisabledForGood {sizes : Sizes} {w : World} (run : EndlessRun sizes w) (n : ℕ) (event : Event) : Type 0 where
-  pub later : ℕ
-  pub after : n ≤ later
-  pub never : (m : ℕ) → later ≤ m → Enabled sizes (run.worlds m) event → ⊥
-
--- Work that stays enabled is done.
+-- Work is done, or at some later place it isn't enabled.
 abbrev pub IsWeaklyFair : {sizes : Sizes} {w : World} → EndlessRun sizes w → Type 0
-IsWeaklyFair {sizes} run = (n : ℕ) (event : Event) → IsWork event → IsOfServer sizes event → IsDoneLater run n event ⊎ IsDisabledLater run n event
+IsWeaklyFair {sizes} run =
+    (n : ℕ) (event : Event) → IsWorkOf sizes event → IsDoneLater run n event ⊎ Eventually n (λ m. ¬ Enabled sizes (run.worlds m) event)
 
--- No shard passes over a seat for ever: a seat whose piece it may take again and again has pieces taken again and again.
+-- No shard passes over a seat for ever: it takes a piece of the seat, or from some later place on it never may.
 abbrev pub IsFairToSeats : {sizes : Sizes} {w : World} → EndlessRun sizes w → Type 0
-IsFairToSeats {sizes} run = (n shard seat : ℕ) → shard < sizes.shards → seat < sizes.seats → IsDoneLater run n (Pop shard seat) ⊎ IsDisabledForGood run n (Pop shard seat)
+IsFairToSeats {sizes} run =
+    (n shard seat : ℕ) → shard < sizes.shards → seat < sizes.seats →
+    IsDoneLater run n (Pop shard seat) ⊎ Eventually n (λ later. (m : ℕ) → later ≤ m → ¬ Enabled sizes (run.worlds m) (Pop shard seat))
 
--- The event is tried, there or later, and memory is there for it.
-pub record IsTried {sizes : Sizes} {w : World} (run : EndlessRun sizes w) (n : ℕ) (event : Event) : Type 0 where
-  pub later : ℕ
-  pub after : n ≤ later
-  pub same : IsSameStep event (run.events later)
-  pub memory : run.replies later ≢ NoMemory
-
--- All work is tried again and again.
+-- All work is tried again and again, and memory is there for it.
 abbrev pub TriesAll : {sizes : Sizes} {w : World} → EndlessRun sizes w → Type 0
-TriesAll {sizes} run = (n : ℕ) (event : Event) → IsWork event → IsOfServer sizes event → IsTried run n event
+TriesAll {sizes} run =
+    (n : ℕ) (event : Event) → IsWorkOf sizes event → Eventually n (λ m. IsSameStep event (run.events m) × (run.replies m ≢ NoMemory))
 
 -- The run comes to a world where all are at rest, and all replies are out.
-pub record ComesToRest {sizes : Sizes} {w : World} (run : EndlessRun sizes w) : Type 0 where
-  pub place : ℕ
-  pub rest : AllAtRest sizes (run.worlds place)
-  pub replied : AllReplied sizes (run.worlds place)
+abbrev pub ComesToRest : {sizes : Sizes} {w : World} → EndlessRun sizes w → Type 0
+ComesToRest {sizes} run = Eventually 0 (λ m. AllAtRest sizes (run.worlds m) × AllReplied sizes (run.worlds m))
 
 -- A connection at rest that has neither ended nor broken takes bytes.
 abbrev pub TakesBytesAtRest : Sizes → World → Type 0
@@ -91,12 +75,9 @@ TakesBytesAtRest sizes w =
     (seat k : ℕ) (link : Link) (bytes : List ℕ) → IsAt w seat k link → AtRest sizes link → link.ended ≡ false → link.broken ≡ false → 0 < length bytes → Enabled sizes w (Feed seat bytes) × (Spared sizes w (Feed seat bytes) → ⊥)
 
 -- The connection is handed the reply to its command of this number, or breaks.
-pub record GetsReply {sizes : Sizes} {w : World} (run : EndlessRun sizes w) (n k number : ℕ) : Type 0 where
-  pub place : ℕ
-  pub after : n ≤ place
-  pub link : Link
-  pub here : IsLink (run.worlds place) k link
-  pub out : IsTrue link.broken ⊎ (number < link.handed)
+abbrev pub GetsReply : {sizes : Sizes} {w : World} → EndlessRun sizes w → ℕ → ℕ → ℕ → Type 0
+GetsReply run n k number =
+    Eventually n (λ m. (link : Link) × IsLink (run.worlds m) k link × (IsTrue link.broken ⊎ (number < link.handed)))
 
 -- So it is for each command that a connection's bytes spell.
 abbrev pub NoneWaitsForever : {sizes : Sizes} {w : World} → EndlessRun sizes w → Type 0

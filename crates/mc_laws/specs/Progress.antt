@@ -8,9 +8,9 @@ use Rattle.mc_core.specs.Sized.{SpellAll}
 use Rattle.mc_core.specs.World.{IsLink, Link, World}
 use Rattle.mc_core.specs.Rest.{AtRest}
 use Rattle.mc_core.specs.Events.{Event}
-use Rattle.mc_core.specs.Events.Event.{Open, Feed, Take, Send, Pop, Give, Receive, Hand, End, Break}
+use Rattle.mc_core.specs.Events.Event.{Open, Feed, End, Break}
 use Rattle.mc_core.specs.Schedule.{Happens, Leads, Spared}
-use Rattle.mc_core.specs.Schedule.StepReply.{Done}
+use Rattle.mc_core.specs.declared.event.StepReply.TheVariants.{Done}
 use Rattle.mc_core.specs.Headline.{AreAllReplies, OfEach}
 use Rattle.mc_core.specs.Runs.{done_in}
 
@@ -18,14 +18,9 @@ use Rattle.mc_core.specs.Runs.{done_in}
 abbrev pub IsWork : Event → Type 0
 IsWork (Open seat) = ⊥
 IsWork (Feed seat bytes) = ⊥
-IsWork (Take seat moment) = Unit {0}
-IsWork (Send seat) = Unit {0}
-IsWork (Pop shard seat) = Unit {0}
-IsWork (Give shard) = Unit {0}
-IsWork (Receive seat shard) = Unit {0}
-IsWork (Hand seat) = Unit {0}
 IsWork (End seat) = ⊥
 IsWork (Break seat) = ⊥
+IsWork event = Unit {0}
 
 -- Nothing comes in by it: no connection begins, and no bytes come.
 abbrev pub IsNoInput : Event → Type 0
@@ -49,11 +44,6 @@ pub record HasWork (sizes : Sizes) (w : World) : Type 0 where
   pub happens : Happens sizes w event Done next
   pub sure : Spared sizes w event → ⊥
 
--- While nothing comes in no more than so many events are done, however many are tried.
-abbrev pub DoesAtMost : Sizes → World → ℕ → Type 0
-DoesAtMost sizes w most =
-    (events : List Event) (later : World) (led : Leads sizes w events later) → AllByRecursion IsNoInput events → done_in sizes w events later led ≤ most
-
 -- two steps for each command, which is taken and whose reply is handed out, and four for each of its pieces, which is sent,
 -- run, given and received
 abbrev pub steps_of : ℕ → List Command → ℕ
@@ -65,12 +55,14 @@ abbrev pub steps_of_all : ℕ → List (List Command) → ℕ
 steps_of_all shards [] = 0
 steps_of_all shards (commands ∷ others) = 2 + steps_of shards commands + steps_of_all shards others
 
--- No more events are done than there are steps for the commands that the bytes of all connections spell.
+-- While nothing comes in no more events are done, however many are tried, than there are steps for the commands that the bytes
+-- of all connections spell.
 pub record IsBounded (sizes : Sizes) (w : World) : Type 0 where
   pub commands : List (List Command)
   pub of_each : length commands ≡ length w.links
   pub spelled : (k : ℕ) (link : Link) (own : List Command) → IsLink w k link → slice_get commands k ≡ Some own → SpellAll sizes link.fed own
-  pub most : DoesAtMost sizes w (steps_of_all sizes.shards commands)
+  pub most : (events : List Event) (later : World) (led : Leads sizes w events later) → AllByRecursion IsNoInput events →
+      done_in sizes w events later led ≤ steps_of_all sizes.shards commands
 
 -- Some work leads to a world where all are at rest, and then all replies are out.
 pub record CanComeToRest (sizes : Sizes) (w : World) : Type 0 where

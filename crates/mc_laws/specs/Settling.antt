@@ -6,8 +6,7 @@ use Rattle.mc_core.specs.Sizes.{Sizes}
 use Rattle.mc_core.specs.World.{World}
 use Rattle.mc_core.specs.Events.{Event}
 use Rattle.mc_core.specs.Events.Event.{Take, Send, Pop, Give, Receive, Hand}
-use Rattle.mc_core.specs.Schedule.{Leads}
-use Rattle.mc_core.specs.Runs.{FoundMemory}
+use Rattle.mc_core.specs.Runs.{StandsAfter}
 use Rattle.mc_core.specs.Stands.{Stands}
 use Rattle.mc_laws.specs.Progress.{AllAtRest, AllReplied, IsWork}
 
@@ -34,29 +33,15 @@ abbrev pub repeated : ℕ → List Event → List Event
 repeated zero events = []
 repeated (suc times) events = repeated times events ++ events
 
--- The core tried the round so many times. Now all connections are at rest, and each that isn't broken was handed the replies to
--- all its commands.
-pub record IsSettled (sizes : Sizes) (w : World) (moment : ℕ) (new : Sim) : Type 0 where
-  pub times : ℕ
-  pub later : World
-  pub led : Leads sizes w (repeated times (round sizes.seats sizes.shards moment)) later
-  pub memory : FoundMemory sizes w (repeated times (round sizes.seats sizes.shards moment)) later led
-  pub stands : Stands sizes new later
-  pub rest : AllAtRest sizes later
-  pub replied : AllReplied sizes later
-
--- From whatever world the core stood in, it was settled.
+-- From whatever world the core stood in, it tried the round so many times. Now all connections are at rest, and each that isn't
+-- broken was handed the replies to all its commands.
 abbrev pub Settles : Sim → ℕ → Sim → Type 0
-Settles old moment new = (sizes : Sizes) (w : World) → Stands sizes old w → IsSettled sizes w moment new
+Settles old moment new =
+    (sizes : Sizes) (w : World) → Stands sizes old w →
+    (times : ℕ) × (ran : StandsAfter sizes w (repeated times (round sizes.seats sizes.shards moment)) new)
+    × AllAtRest sizes ran.later × AllReplied sizes ran.later
 
 -- From whatever world the core stood in, it did some work, and each step found its memory.
-pub record HasWorked (sizes : Sizes) (w : World) (new : Sim) : Type 0 where
-  pub events : List Event
-  pub work : AllByRecursion IsWork events
-  pub later : World
-  pub led : Leads sizes w events later
-  pub memory : FoundMemory sizes w events later led
-  pub stands : Stands sizes new later
-
 abbrev pub Works : Sim → Sim → Type 0
-Works old new = (sizes : Sizes) (w : World) → Stands sizes old w → HasWorked sizes w new
+Works old new =
+    (sizes : Sizes) (w : World) → Stands sizes old w → (events : List Event) × AllByRecursion IsWork events × StandsAfter sizes w events new

@@ -1,16 +1,13 @@
 -- The options without a value: each is given or not.
-use Rattle.std.specs.Prelude.{ℕ, List, Option, Some, None, Bool, false, codes, if◌then◌else◌}
+use Rattle.std.specs.Prelude.{ℕ, List, Option, Bool, false, codes, if◌then◌else◌}
+use Rattle.std.specs.Option.{option_map_or}
 use Rattle.std.specs.Str.{bytes_eq}
 use Rattle.mc_command.specs.declared.rules.Profile.{Profile}
 use Rattle.mc_command.specs.declared.rules.Profile.TheVariants.{DropIn, Own}
 
-abbrev pub is_true : Option (List ℕ) → Bool
-is_true None = false
-is_true (Some text) = bytes_eq text (codes "true")
-
 -- An option without a value is given.
 abbrev pub is_flag : (List ℕ → Option (List ℕ)) → List ℕ → Bool
-is_flag given name = is_true (given name)
+is_flag given name = option_map_or (λ text. bytes_eq text (codes "true")) (given name) false
 
 -- whose rules the server follows
 abbrev pub profile_by : (List ℕ → Option (List ℕ)) → Profile

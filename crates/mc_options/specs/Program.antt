@@ -1,5 +1,5 @@
 -- The options of the program, as the command line is read.
-use Rattle.std.specs.Prelude.{ℕ, List, [], ◌∷◌, Some, codes}
+use Rattle.std.specs.Prelude.{ℕ, List, [], ◌∷◌, Some, codes, fold}
 use Rattle.clap.specs.Words.{App, Kinds, Row, Rule, fault_of, matches_of, new_app, new_rule, with_rule}
 use Rattle.clap.specs.declared.builder.ArgAction.TheVariants.{Set, SetTrue}
 
@@ -13,8 +13,7 @@ flag_rule name = record (new_rule name) { long = Some name; action = Some SetTru
 
 -- a program with these options more
 abbrev pub with_rules : App → List Rule → App
-with_rules app [] = app
-with_rules app (rule ∷ rules) = with_rules (with_rule app rule) rules
+with_rules app rules = fold with_rule app rules
 
 abbrev pub call_rules : List Rule
 call_rules = option_rule (codes "listen") ∷ flag_rule (codes "stdio") ∷ option_rule (codes "replay") ∷ option_rule (codes "at") ∷ flag_rule (codes "version") ∷ []

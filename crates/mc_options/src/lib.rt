@@ -6,4 +6,4 @@ mod options;
 mod program;
 
 pub use fault::OptionFault;
-pub use options::{Limits, Options, read_options};
+pub use options::{Options, read_options};

@@ -1,11 +1,13 @@
 //! The calls of the program, with the sizes that they give.
 ghost use Rattle.std.specs.Prelude.{◌≡◌, ◌≤◌, ◌^◌, [], ok_or, codes, Ok, Err, IfOk, IfErr, IfSome, OnOk, map, option_map, string_bytes};
 ghost use Rattle.clap.specs.Words.{FailsBy, first_value, found_of, rows_of};
+ghost use Rattle.mc_core.specs.Sizes.{AreWithin};
+ghost use Rattle.mc_server.specs.Sizes.{line_sizes};
 ghost use Rattle.mc_options.specs.Program.{rows_in, word_faults};
 ghost use Rattle.mc_options.specs.Wrong.{wrong_of};
-ghost use Rattle.mc_options.specs.Numbers.{AreAllowedLimits, budget_of, bytes_of, default_line, digits_of, limits_by, number_given, number_if_given, size_given, size_in, unit_of};
+ghost use Rattle.mc_options.specs.Numbers.{budget_of, bytes_of, default_line, digits_of, number_given, number_if_given, number_in, size_given, size_in, sizes_by, unit_of};
 ghost use Rattle.mc_options.specs.Flags.{is_flag, profile_by};
-ghost use Rattle.mc_options.specs.Calls.{HasAllowedLimits, SpellsOptions, call_by, call_of, first_given, given_in, is_given, line_by, replay_by, stdio_by, tcp_by};
+ghost use Rattle.mc_options.specs.Calls.{HasAllowedSizes, SpellsOptions, call_by, call_of, first_given, given_in, replay_by, stdio_by, tcp_by};
 ghost use Rattle.mc_options.specs.Faults.{IsFaultOf, IsOfOptions};
 
 use crate::fault::OptionFault;
@@ -16,6 +18,7 @@ use mc_core::{
     DEFAULT_WINDOW, LEAST, LEAST_BYTES, LEAST_LINE, LEAST_VALUE, MOST_BYTES, MOST_LINE, MOST_SEATS,
     MOST_SHARDS, MOST_VALUE, MOST_WINDOW,
 };
+use mc_server::{DEFAULT_RING, Sizes};
 use mc_wire::{DEFAULT_LINE_LIMIT, DEFAULT_VALUE_LIMIT, DROP_IN_LINE_LIMIT, number_u64};
 use std::alloc::Global;
 
@@ -29,30 +32,13 @@ const DEFAULT_SEATS: usize = 1_024;
 const DEFAULT_BUDGET: usize = 16_777_216;
 
 /// The most connections after which the program can be told to end.
-const MOST_CONNECTIONS: usize = 4_294_967_295;
+const MOST_CONNECTIONS: u64 = 4_294_967_295;
 
 /// The longest time that a connection may be told to be idle, in seconds: a year.
 const MOST_IDLE: u64 = 31_536_000;
 
 /// The address to listen on where nothing else is said.
 const DEFAULT_ADDRESS: &str = "127.0.0.1:11211";
-
-/// The limits of a server that its operator sets, and whose rules it follows.
-#[derive(Clone, Copy, Debug, PartialEq, Eq)]
-pub struct Limits {
-    /// Whose rules it follows.
-    pub profile: Profile,
-    /// How many shards there are.
-    pub shards: usize,
-    /// What the items of a shard may cost together, in bytes.
-    pub bytes: usize,
-    /// How many bytes a value has at most.
-    pub value: usize,
-    /// How many bytes a line has at most.
-    pub line: usize,
-    /// How many commands of a connection may be open.
-    pub window: usize,
-}
 
 /// How the program is called.
 #[derive(Clone, Copy, Debug, PartialEq, Eq)]
@@ -70,13 +56,13 @@ pub enum Options<'a> {
         verbose: bool,
         /// Where the server's metrics are told, if they are: an address and a port, or a port.
         metrics: Option<&'a str>,
-        limits: Limits,
+        sizes: Sizes,
     },
     /// It serves one connection over standard input and output.
     Stdio {
         /// Every moment, in seconds since 1970, or none where the machine's clock tells the time.
         at: Option<u64>,
-        limits: Limits,
+        sizes: Sizes,
     },
     /// It runs the schedule in a file.
     Replay {
@@ -90,7 +76,7 @@ pub enum Options<'a> {
 pub fn read_options<'a>(alloc: Global, words: &'a [String]) -> Result<Options<'a>, OptionFault<'a>>
     ensures words { OnOk result (word_faults (map string_bytes words.entry.now) ≡ []) }
     ensures given { IfOk result (SpellsOptions (given_in (map string_bytes words.entry.now))) }
-    ensures within { IfOk result HasAllowedLimits }
+    ensures within { IfOk result HasAllowedSizes }
     ensures refused { IfErr result (IsFaultOf (map string_bytes words.entry.now)) }
 {
     match parse(alloc, words) {
@@ -112,14 +98,14 @@ fn parse<'a>(alloc: Global, words: &'a [String]) -> Result<ArgMatches<'a>, clap:
 /// The call that is given.
 fn options_in<'a>(matches: &ArgMatches<'a>) -> Result<Options<'a>, OptionFault<'a>>
     ensures given { IfOk result (SpellsOptions (first_value (found_of matches.now))) }
-    ensures within { IfOk result HasAllowedLimits }
+    ensures within { IfOk result HasAllowedSizes }
     ensures refused { IfErr result (λ fault.
         IsOfOptions fault × (call_by (first_value (found_of matches.now)) ≡ Err (wrong_of fault))) }
 {
     if is_flag(matches, "version") {
         return Ok(Options::Version);
     }
-    if is_given(matches, "items") {
+    if matches.get_str("items").is_some() {
         return Err(OptionFault::Items);
     }
     if let Some(file) = matches.get_str("replay") {
@@ -135,12 +121,12 @@ fn options_in<'a>(matches: &ArgMatches<'a>) -> Result<Options<'a>, OptionFault<'
 fn replay_in<'a>(matches: &ArgMatches<'a>, file: &'a str) -> Result<Options<'a>, OptionFault<'a>>
     ensures given { IfOk result (λ options.
         replay_by (first_value (found_of matches.now)) file.now ≡ Ok (call_of options)) }
-    ensures within { IfOk result HasAllowedLimits }
+    ensures within { IfOk result HasAllowedSizes }
     ensures refused { IfErr result (λ fault.
         IsOfOptions fault ×
         (replay_by (first_value (found_of matches.now)) file.now ≡ Err (wrong_of fault))) }
 {
-    let others = &[
+    let options = &[
         "at",
         "listen",
         "shards",
@@ -154,17 +140,8 @@ fn replay_in<'a>(matches: &ArgMatches<'a>, file: &'a str) -> Result<Options<'a>,
         "idle-timeout",
         "metrics",
     ];
-    if let Some(option) = first_given(matches, others) {
+    if let Some(option) = first_given(matches, options, &["stdio", "verbose", "drop-in"]) {
         return Err(OptionFault::NotOfReplay { option });
-    }
-    if is_flag(matches, "stdio") {
-        return Err(OptionFault::NotOfReplay { option: "stdio" });
-    }
-    if is_flag(matches, "verbose") {
-        return Err(OptionFault::NotOfReplay { option: "verbose" });
-    }
-    if is_flag(matches, "drop-in") {
-        return Err(OptionFault::NotOfReplay { option: "drop-in" });
     }
     Ok(Options::Replay { file })
 }
@@ -173,53 +150,35 @@ fn replay_in<'a>(matches: &ArgMatches<'a>, file: &'a str) -> Result<Options<'a>,
 fn stdio_in<'a>(matches: &ArgMatches<'a>) -> Result<Options<'a>, OptionFault<'a>>
     ensures given { IfOk result
         (λ options. stdio_by (first_value (found_of matches.now)) ≡ Ok (call_of options)) }
-    ensures within { IfOk result HasAllowedLimits }
+    ensures within { IfOk result HasAllowedSizes }
     ensures refused { IfErr result (λ fault.
         IsOfOptions fault ×
         (stdio_by (first_value (found_of matches.now)) ≡ Err (wrong_of fault))) }
 {
-    let others = &["listen", "seats", "connections", "idle-timeout", "metrics"];
-    if let Some(option) = first_given(matches, others) {
+    let options = &["listen", "seats", "connections", "idle-timeout", "metrics"];
+    if let Some(option) = first_given(matches, options, &["verbose"]) {
         return Err(OptionFault::NotOfStdio { option });
     }
-    if is_flag(matches, "verbose") {
-        return Err(OptionFault::NotOfStdio { option: "verbose" });
-    }
-    line_in(matches)
-}
-
-/// What the one line is served with.
-fn line_in<'a>(matches: &ArgMatches<'a>) -> Result<Options<'a>, OptionFault<'a>>
-    ensures given { IfOk result
-        (λ options. line_by (first_value (found_of matches.now)) ≡ Ok (call_of options)) }
-    ensures within { IfOk result HasAllowedLimits }
-    ensures refused { IfErr result (λ fault.
-        IsOfOptions fault × (line_by (first_value (found_of matches.now)) ≡ Err (wrong_of fault))) }
-{
-    let at = number_if_given("at", matches.get_str("at"), 0, u64::MAX)?;
-    let limits = limits_in(matches)?;
-    Ok(Options::Stdio { at, limits })
+    let at = number_if_given(matches, "at", 0, u64::MAX)?;
+    let sizes = sizes_in(matches)?;
+    Ok(Options::Stdio { at, sizes })
 }
 
 /// The call that serves TCP.
 fn listen_in<'a>(matches: &ArgMatches<'a>) -> Result<Options<'a>, OptionFault<'a>>
     ensures given { IfOk result
         (λ options. tcp_by (first_value (found_of matches.now)) ≡ Ok (call_of options)) }
-    ensures within { IfOk result HasAllowedLimits }
+    ensures within { IfOk result HasAllowedSizes }
     ensures refused { IfErr result (λ fault.
         IsOfOptions fault × (tcp_by (first_value (found_of matches.now)) ≡ Err (wrong_of fault))) }
 {
-    if let Some(option) = first_given(matches, &["at"]) {
+    if let Some(option) = first_given(matches, &["at"], &[]) {
         return Err(OptionFault::NotOfTcp { option });
     }
-    let seats = matches.get_str("seats");
-    let seats = number_given("seats", seats, LEAST, DEFAULT_SEATS, MOST_SEATS)?;
-    let most = MOST_CONNECTIONS as u64;
-    let connections = matches.get_str("connections");
-    let connections = number_if_given("connections", connections, 1, most)?;
-    let idle = matches.get_str("idle-timeout");
-    let idle_timeout = number_if_given("idle-timeout", idle, 1, MOST_IDLE)?;
-    let limits = limits_in(matches)?;
+    let seats = number_given(matches, "seats", LEAST, DEFAULT_SEATS, MOST_SEATS)?;
+    let connections = number_if_given(matches, "connections", 1, MOST_CONNECTIONS)?;
+    let idle_timeout = number_if_given(matches, "idle-timeout", 1, MOST_IDLE)?;
+    let sizes = sizes_in(matches)?;
     let address = matches.get_str("listen").unwrap_or(DEFAULT_ADDRESS);
     Ok(Options::Listen {
         address,
@@ -228,40 +187,37 @@ fn listen_in<'a>(matches: &ArgMatches<'a>) -> Result<Options<'a>, OptionFault<'a
         idle_timeout,
         verbose: is_flag(matches, "verbose"),
         metrics: matches.get_str("metrics"),
-        limits,
+        sizes,
     })
 }
 
-/// The limits that are given.
-fn limits_in<'a>(matches: &ArgMatches<'a>) -> Result<Limits, OptionFault<'a>>
+/// The sizes that are given, and whose rules the server follows.
+fn sizes_in<'a>(matches: &ArgMatches<'a>) -> Result<Sizes, OptionFault<'a>>
     ensures given { IfOk result
-        (λ limits. limits_by (first_value (found_of matches.now)) ≡ Ok limits) }
-    ensures within { IfOk result AreAllowedLimits }
+        (λ sizes. sizes_by (first_value (found_of matches.now)) ≡ Ok sizes) }
+    ensures within { IfOk result (λ sizes. AreWithin (line_sizes sizes)) }
     ensures refused { IfErr result (λ fault.
         IsOfOptions fault ×
-        (limits_by (first_value (found_of matches.now)) ≡ Err (wrong_of fault))) }
+        (sizes_by (first_value (found_of matches.now)) ≡ Err (wrong_of fault))) }
 {
-    let shards = matches.get_str("shards");
-    let shards = number_given("shards", shards, LEAST, DEFAULT_SHARDS, MOST_SHARDS)?;
+    let profile = profile_in(matches);
+    let longest = default_line(profile);
+    let shards = number_given(matches, "shards", LEAST, DEFAULT_SHARDS, MOST_SHARDS)?;
     let bytes = budget_in(shards, matches.get_str("bytes"), matches.get_str("memory"))?;
-    let value = matches.get_str("value-limit");
     let value = size_given(
+        matches,
         "value-limit",
-        value,
         LEAST_VALUE,
         DEFAULT_VALUE_LIMIT,
         MOST_VALUE,
     )?;
-    let line = matches.get_str("line-limit");
-    let profile = profile_in(matches);
-    let longest = default_line(profile);
-    let line = size_given("line-limit", line, LEAST_LINE, longest, MOST_LINE)?;
-    let window = matches.get_str("window");
-    let window = number_given("window", window, LEAST, DEFAULT_WINDOW, MOST_WINDOW)?;
-    Ok(Limits {
+    let line = size_given(matches, "line-limit", LEAST_LINE, longest, MOST_LINE)?;
+    let window = number_given(matches, "window", LEAST, DEFAULT_WINDOW, MOST_WINDOW)?;
+    Ok(Sizes {
         profile,
         shards,
         bytes,
+        ring: DEFAULT_RING,
         value,
         line,
         window,
@@ -309,30 +265,34 @@ fn budget_in<'a>(
         (option_map (λ text. text.now) memory.entry) ≡ Err (wrong_of fault))) }
 {
     match (bytes, memory) {
-        (Some(_), Some(_)) => Err(OptionFault::BytesAndMemory),
+        (None, None) => Ok(DEFAULT_BUDGET),
+        (Some(each), None) => size_in("bytes", each, LEAST_BYTES, MOST_BYTES),
         (None, Some(total)) => {
             let total = size_in("memory", total, LEAST_BYTES * shards, MOST_BYTES * shards)?;
             Ok(total / shards)
         }
-        (bytes, None) => size_given("bytes", bytes, LEAST_BYTES, DEFAULT_BUDGET, MOST_BYTES),
+        (Some(_), Some(_)) => Err(OptionFault::BytesAndMemory),
     }
 }
 
-/// Whether an option is given.
-fn is_given(matches: &ArgMatches<'_>, name: &str) -> bool
-    ensures { result ≡ is_given (first_value (found_of matches.now)) name.now }
-{
-    matches.get_str(name).is_some()
-}
-
-/// The first of the options that is given.
-fn first_given(matches: &ArgMatches<'_>, names: &[&'static str]) -> Option<&'static str>
+/// The first that is given of these options with a value, or of these without one.
+fn first_given(
+    matches: &ArgMatches<'_>,
+    options: &[&'static str],
+    flags: &[&'static str],
+) -> Option<&'static str>
     ensures { option_map (λ name. name.now) result ≡
-        first_given (first_value (found_of matches.now)) (map (λ name. name.now) names.now) }
+        first_given (first_value (found_of matches.now)) (map (λ name. name.now) options.now)
+        (map (λ name. name.now) flags.now) }
 {
-    for name in names {
-        if is_given(matches, name) {
-            return Some(name);
+    for option in options {
+        if matches.get_str(option).is_some() {
+            return Some(option);
+        }
+    }
+    for flag in flags {
+        if is_flag(matches, flag) {
+            return Some(flag);
         }
     }
     None
@@ -350,8 +310,8 @@ fn is_flag(matches: &ArgMatches<'_>, name: &str) -> bool
 
 /// The number that is given, from the least to the most, or where none is given this one.
 fn number_given<'a>(
+    matches: &ArgMatches<'a>,
     option: &'static str,
-    given: Option<&'a str>,
     least: usize,
     default: usize,
     most: usize,
@@ -359,42 +319,58 @@ fn number_given<'a>(
     requires least { least ≤ default }
     requires most { default ≤ most }
     ensures given { IfOk result (λ number.
-        number_given option.now least default most (option_map (λ text. text.now) given.entry) ≡
+        number_given (first_value (found_of matches.now)) option.now least default most ≡
         Ok number) }
     ensures within { IfOk result (λ number. (least ≤ number) × (number ≤ most)) }
     ensures refused { IfErr result (λ fault.
         IsOfOptions fault ×
-        (number_given option.now least default most (option_map (λ text. text.now) given.entry) ≡
+        (number_given (first_value (found_of matches.now)) option.now least default most ≡
         Err (wrong_of fault))) }
 {
-    match number_if_given(option, given, least as u64, most as u64)? {
-        Some(number) => Ok(number as usize),
+    match matches.get_str(option) {
+        Some(word) => Ok(number_in(option, word, least as u64, most as u64)? as usize),
         None => Ok(default),
     }
 }
 
 /// The number that is given, if one is, from the least to the most.
 fn number_if_given<'a>(
+    matches: &ArgMatches<'a>,
     option: &'static str,
-    given: Option<&'a str>,
     least: u64,
     most: u64,
 ) -> Result<Option<u64>, OptionFault<'a>>
     ensures given { IfOk result (λ number.
-        number_if_given option.now least most (option_map (λ text. text.now) given.entry) ≡
-        Ok number) }
+        number_if_given (first_value (found_of matches.now)) option.now least most ≡ Ok number) }
     ensures within { IfOk result
         (λ given. IfSome given (λ number. (least ≤ number) × (number ≤ most))) }
     ensures refused { IfErr result (λ fault.
         IsOfOptions fault ×
-        (number_if_given option.now least most (option_map (λ text. text.now) given.entry) ≡
+        (number_if_given (first_value (found_of matches.now)) option.now least most ≡
         Err (wrong_of fault))) }
 {
-    let Some(word) = given else {
-        return Ok(None);
-    };
+    match matches.get_str(option) {
+        Some(word) => Ok(Some(number_in(option, word, least, most)?)),
+        None => Ok(None),
+    }
+}
+
+/// The number that a word spells, from the least to the most.
+fn number_in<'a>(
+    option: &'static str,
+    word: &'a str,
+    least: u64,
+    most: u64,
+) -> Result<u64, OptionFault<'a>>
+    ensures given { IfOk result
+        (λ number. number_in option.now least most word.entry.now ≡ Ok number) }
+    ensures within { IfOk result (λ number. (least ≤ number) × (number ≤ most)) }
+    ensures refused { IfErr result (λ fault.
+        IsOfOptions fault ×
+        (number_in option.now least most word.entry.now ≡ Err (wrong_of fault))) }
+{
     match number_u64(word.as_bytes()) {
-        Ok(number) if number >= least && number <= most => Ok(Some(number)),
+        Ok(number) if number >= least && number <= most => Ok(number),
         _ => Err(OptionFault::Number {
             option,
             word,
@@ -406,8 +382,8 @@ fn number_if_given<'a>(
 
 /// The number of bytes that is given, from the least to the most, or where none is given this one.
 fn size_given<'a>(
+    matches: &ArgMatches<'a>,
     option: &'static str,
-    given: Option<&'a str>,
     least: usize,
     default: usize,
     most: usize,
@@ -415,15 +391,14 @@ fn size_given<'a>(
     requires least { least ≤ default }
     requires most { default ≤ most }
     ensures given { IfOk result (λ size.
-        size_given option.now least default most (option_map (λ text. text.now) given.entry) ≡
-        Ok size) }
+        size_given (first_value (found_of matches.now)) option.now least default most ≡ Ok size) }
     ensures within { IfOk result (λ size. (least ≤ size) × (size ≤ most)) }
     ensures refused { IfErr result (λ fault.
         IsOfOptions fault ×
-        (size_given option.now least default most (option_map (λ text. text.now) given.entry) ≡
+        (size_given (first_value (found_of matches.now)) option.now least default most ≡
         Err (wrong_of fault))) }
 {
-    match given {
+    match matches.get_str(option) {
         Some(word) => size_in(option, word, least, most),
         None => Ok(default),
     }

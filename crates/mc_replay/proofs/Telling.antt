@@ -7,14 +7,16 @@ use Rattle.std.proofs.lemmas.Option.{slice_get-get_or, slice_get_within, get_or_
 use Rattle.mc_core.specs.Sizes.{Sizes}
 use Rattle.mc_core.specs.World.{IsLink, Link, World, empty_world}
 use Rattle.mc_core.specs.Events.{Event}
-use Rattle.mc_core.specs.Schedule.{Leads, Schedule, StepReply}
+use Rattle.mc_core.specs.declared.event.StepReply.{StepReply}
+use Rattle.mc_core.specs.Schedule.{Leads, Schedule}
 use Rattle.mc_core.specs.Runs.{FoundMemory, done_in, is_done}
-use Rattle.mc_core.specs.Schedule.StepReply.{Done, Idle, NoMemory}
+use Rattle.mc_core.specs.declared.event.StepReply.TheVariants.{Done, Idle, NoMemory}
 use Rattle.mc_core.specs.Stands.{line_of}
 use Rattle.mc_core.specs.declared.sim.LogEntry.{LogEntry}
 use Rattle.mc_core.specs.Headline.{handed_bytes}
 use Rattle.mc_replay.specs.Report.{connection_line, counts_line}
-use Rattle.mc_replay.specs.Replay.{IsReport, connection_lines, kept_line, log_line, report}
+use Rattle.mc_replay.specs.Replay.{IsReport, connection_lines, log_line, report}
+use Rattle.mc_replay.specs.Report.{entry_line}
 
 -- the lines from a connection on begin with its own
 pub connection_lines-at : (sizes : Sizes) (w : World) (number : ℕ) (link : Link) → IsLink w number link
@@ -78,12 +80,12 @@ done_in-le sizes w (event ∷ events) w' led =
 
 -- the text of a world, part by part
 pub report_is : (sizes : Sizes) (w : World) (done idle : ℕ) (log : List LogEntry) (begin first second third : List ℕ)
-    → begin ≡ [] → first ≡ begin ++ connection_lines sizes w 0 w.links → second ≡ first ++ flat_map kept_line log → third ≡ second ++ counts_line done idle
+    → begin ≡ [] → first ≡ begin ++ connection_lines sizes w 0 w.links → second ≡ first ++ flat_map entry_line log → third ≡ second ++ counts_line done idle
     → log ≡ map line_of w.log → third ≡ report sizes w done idle
 report_is sizes w done idle log begin first second third none one two three same =
     let start : first ≡ connection_lines sizes w 0 w.links = one ∙ ap (λ text. text ++ connection_lines sizes w 0 w.links) none in
-    let entries : flat_map kept_line log ≡ flat_map log_line w.log = ap (flat_map kept_line) same ∙ flat_map-map kept_line line_of w.log in
-    three ∙ (ap (λ text. text ++ counts_line done idle) (two ∙ (ap (λ text. text ++ flat_map kept_line log) start ∙ ap (λ lines. connection_lines sizes w 0 w.links ++ lines) entries)) ∙ append_assoc (connection_lines sizes w 0 w.links) (flat_map log_line w.log) (counts_line done idle))
+    let entries : flat_map entry_line log ≡ flat_map log_line w.log = ap (flat_map entry_line) same ∙ flat_map-map entry_line line_of w.log in
+    three ∙ (ap (λ text. text ++ counts_line done idle) (two ∙ (ap (λ text. text ++ flat_map entry_line log) start ∙ ap (λ lines. connection_lines sizes w 0 w.links ++ lines) entries)) ∙ append_assoc (connection_lines sizes w 0 w.links) (flat_map log_line w.log) (counts_line done idle))
 
 -- what is told of a run
 abbrev pub IsTold : Sizes → List Event → List ℕ → ℕ → ℕ → Type 0

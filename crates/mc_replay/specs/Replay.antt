@@ -11,7 +11,6 @@ use Rattle.mc_core.specs.Schedule.{Schedule}
 use Rattle.mc_core.specs.Runs.{FoundMemory, done_in}
 use Rattle.mc_core.specs.Headline.{handed_bytes}
 use Rattle.mc_core.specs.Stands.{line_of}
-use Rattle.mc_core.specs.declared.sim.LogEntry.{LogEntry}
 use Rattle.mc_replay.specs.Report.{connection_line, counts_line, entry_line}
 use Rattle.mc_replay.specs.Schedule.{events_of, sizes_of}
 use Rattle.mc_replay.specs.declared.schedule.Schedule as schedule
@@ -25,11 +24,8 @@ connection_lines sizes w number (link ∷ links) =
     connection_line number link.seat (handed_bytes sizes w number link) ++ connection_lines sizes w (number + 1) links
 
 -- the line of a piece that a shard ran
-abbrev pub kept_line : LogEntry → List ℕ
-kept_line kept = entry_line kept.shard kept.connection kept.ticket.0 kept.part kept.moment
-
 abbrev pub log_line : Entry → List ℕ
-log_line entry = kept_line (line_of entry)
+log_line entry = entry_line (line_of entry)
 
 -- what is told of a world to which so many events led that were done, and so many that were idle
 abbrev pub report : Sizes → World → ℕ → ℕ → List ℕ

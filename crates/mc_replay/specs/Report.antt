@@ -2,6 +2,7 @@
 use Rattle.std.specs.Prelude.{ℕ, List, [], ◌∷◌, codes, decimal}
 use Rattle.std.specs.List.{concat}
 use Rattle.hex.specs.Hex.{encode_lower}
+use Rattle.mc_core.specs.declared.sim.LogEntry.{LogEntry}
 
 -- bytes in hexadecimal, a dash for none
 abbrev pub handed_word : List ℕ → List ℕ
@@ -14,9 +15,10 @@ connection_line number seat handed =
     concat (codes "conn " ∷ decimal number ∷ codes " seat " ∷ decimal seat ∷ codes " " ∷ handed_word handed ∷ codes "\n" ∷ [])
 
 -- log SHARD CONNECTION TICKET PART MOMENT
-abbrev pub entry_line : ℕ → ℕ → ℕ → ℕ → ℕ → List ℕ
-entry_line shard connection ticket part moment =
-    concat (codes "log " ∷ decimal shard ∷ codes " " ∷ decimal connection ∷ codes " " ∷ decimal ticket ∷ codes " " ∷ decimal part ∷ codes " " ∷ decimal moment ∷ codes "\n" ∷ [])
+abbrev pub entry_line : LogEntry → List ℕ
+entry_line kept =
+    concat (codes "log " ∷ decimal kept.shard ∷ codes " " ∷ decimal kept.connection ∷ codes " " ∷ decimal kept.ticket.0
+    ∷ codes " " ∷ decimal kept.part ∷ codes " " ∷ decimal kept.moment ∷ codes "\n" ∷ [])
 
 -- done N idle M
 abbrev pub counts_line : ℕ → ℕ → List ℕ

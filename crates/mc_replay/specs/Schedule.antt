@@ -5,6 +5,7 @@ use Rattle.mc_core.specs.Sizes.{Sizes}
 use Rattle.mc_core.specs.Events.{Event}
 use Rattle.mc_core.specs.Asked.{event_of as shown}
 use Rattle.mc_core.specs.declared.event.Event as code
+use Rattle.mc_server.specs.Sizes as server
 use Rattle.mc_replay.specs.Text.{lines_of, words_in}
 use Rattle.mc_replay.specs.Header.{header_of}
 use Rattle.mc_replay.specs.Event.{event_of}
@@ -14,7 +15,7 @@ use Rattle.mc_replay.specs.declared.schedule.ScheduleFault.TheVariants.{Bad, Mem
 
 -- the server of a schedule
 abbrev pub sizes_of : schedule.Schedule → Sizes
-sizes_of plan = record { profile = plan.profile; seats = plan.seats; shards = plan.shards; bytes = plan.bytes; ring = plan.ring; value = plan.value; line = plan.line; window = plan.window }
+sizes_of plan = server.sizes_of plan.seats plan.sizes
 
 -- the events of a schedule
 abbrev pub events_of : schedule.Schedule → List Event

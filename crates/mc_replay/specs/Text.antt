@@ -1,5 +1,5 @@
 -- The lines of a replay file and the words of a line: lines are ended by the byte 10, words are separated by one space.
-use Rattle.std.specs.Prelude.{ℕ, ◌-◌, List, [], ◌∷◌, length, take, drop, Option, Some, None, Result, Ok, Err, codes, if◌then◌else◌, ◌==◌}
+use Rattle.std.specs.Prelude.{ℕ, ◌-◌, List, ◌∷◌, length, take, drop, Option, Some, None, Result, Ok, codes, if◌then◌else◌, ◌==◌}
 use Rattle.std.specs.List.{slice_split}
 use Rattle.std.specs.Str.{bytes_eq}
 use Rattle.hex.specs.Hex.{decode_of}
@@ -23,8 +23,7 @@ words_in line = parts_of 32 line
 
 abbrev pub some_bytes : Result (List ℕ) FromHexError → Option (List ℕ)
 some_bytes (Ok (byte ∷ bytes)) = Some (byte ∷ bytes)
-some_bytes (Ok []) = None
-some_bytes (Err fault) = None
+some_bytes decoded = None
 
 -- the bytes that a word spells in hexadecimal, at least one
 abbrev pub hex_bytes : List ℕ → Option (List ℕ)

@@ -1,8 +1,10 @@
 //! The lines behind the header of a replay file: one event each.
-ghost use Rattle.std.specs.Prelude.{◌≡◌, IfOk, option_map};
+ghost use Rattle.std.specs.Prelude.{◌≡◌, ◌∷◌, ◌^◌, [], IfOk, option_map};
+ghost use Rattle.mc_wire.specs.Number.{number_of};
+ghost use Rattle.mc_core.specs.Events.Event.{Feed, Pop, Receive, Take};
 ghost use Rattle.mc_replay.specs.Text.{words_in, hex_bytes};
 ghost use Rattle.mc_core.specs.Asked.{event_of as shown};
-ghost use Rattle.mc_replay.specs.Event.{event_of};
+ghost use Rattle.mc_replay.specs.Event.{both, event_of};
 ghost use Rattle.mc_replay.specs.Event as spec;
 ghost use Rattle.mc_replay.specs.internal.Read.{sizes_in};
 
@@ -26,9 +28,8 @@ pub(crate) fn read_event(
     let mut walk = parts(line, b' ');
     match (walk.next(), walk.next(), walk.next(), walk.next()) {
         (Some(name), Some(word), None, _) => Ok(event_at(name, word, header)),
-        (Some(b"feed"), Some(seat), Some(text), None) => read_feed(alloc, seat, text, header),
         (Some(name), Some(first), Some(second), None) => {
-            Ok(event_between(name, first, second, header))
+            event_between(alloc, name, first, second, header)
         }
         _ => Ok(None),
     }
@@ -36,11 +37,12 @@ pub(crate) fn read_event(
 
 /// An event of a shard or a seat alone.
 fn event_at(name: &[u8], word: &[u8], header: Header) -> Option<Event>
-    ensures { option_map shown result ≡ spec.event_at (sizes_in header) name.now word.now }
+    ensures { option_map shown result ≡
+        event_of (sizes_in header) (name.now ∷ word.now ∷ []) }
 {
     match name {
         b"give" => Some(Event::Give {
-            shard: number_below(word, header.shards)?,
+            shard: number_below(word, header.sizes.shards)?,
         }),
         _ => seat_event(name, number_below(word, header.seats)?),
     }
@@ -60,25 +62,33 @@ fn seat_event(name: &[u8], seat: usize) -> Option<Event>
     }
 }
 
-/// An event of a seat at a moment, or of a seat and a shard.
-fn event_between(name: &[u8], first: &[u8], second: &[u8], header: Header) -> Option<Event>
-    ensures { option_map shown result ≡
-        spec.event_between (sizes_in header) name.now first.now second.now }
+/// An event of a seat with bytes or a moment, or of a seat and a shard.
+fn event_between(
+    alloc: Global,
+    name: &[u8],
+    first: &[u8],
+    second: &[u8],
+    header: Header,
+) -> Result<Option<Event>, AllocError>
+    ensures { IfOk result (λ event. option_map shown event ≡
+        event_of (sizes_in header) (name.now ∷ first.now ∷ second.now ∷ [])) }
 {
     if name == b"receive".as_slice() {
-        return read_receive(first, second, header);
+        return Ok(read_receive(first, second, header));
     }
     match name {
-        b"take" => read_take(first, second, header),
-        b"pop" => read_pop(first, second, header),
-        _ => None,
+        b"feed" => read_feed(alloc, first, second, header),
+        b"take" => Ok(read_take(first, second, header)),
+        b"pop" => Ok(read_pop(first, second, header)),
+        _ => Ok(None),
     }
 }
 
 /// take c MOMENT
-#[tactic(auto, unfolding(crate::specs::Event::take_of))]
+#[tactic(auto, unfolding(crate::specs::Event::both))]
 fn read_take(seat: &[u8], moment: &[u8], header: Header) -> Option<Event>
-    ensures { option_map shown result ≡ spec.take_of (sizes_in header) seat.now moment.now }
+    ensures { option_map shown result ≡
+        both Take (number_of header.seats seat.now) (number_of (2 ^ 64) moment.now) }
 {
     let seat = number_below(seat, header.seats)?;
     let moment = number_u64(moment).ok()?;
@@ -86,34 +96,37 @@ fn read_take(seat: &[u8], moment: &[u8], header: Header) -> Option<Event>
 }
 
 /// pop s c
-#[tactic(auto, unfolding(crate::specs::Event::pop_of))]
+#[tactic(auto, unfolding(crate::specs::Event::both))]
 fn read_pop(shard: &[u8], seat: &[u8], header: Header) -> Option<Event>
-    ensures { option_map shown result ≡ spec.pop_of (sizes_in header) shard.now seat.now }
+    ensures { option_map shown result ≡
+        both Pop (number_of header.sizes.shards shard.now) (number_of header.seats seat.now) }
 {
-    let shard = number_below(shard, header.shards)?;
+    let shard = number_below(shard, header.sizes.shards)?;
     let seat = number_below(seat, header.seats)?;
     Some(Event::Pop { shard, seat })
 }
 
 /// receive c s
-#[tactic(auto, unfolding(crate::specs::Event::receive_of))]
+#[tactic(auto, unfolding(crate::specs::Event::both))]
 fn read_receive(seat: &[u8], shard: &[u8], header: Header) -> Option<Event>
-    ensures { option_map shown result ≡ spec.receive_of (sizes_in header) seat.now shard.now }
+    ensures { option_map shown result ≡
+        both Receive (number_of header.seats seat.now) (number_of header.sizes.shards shard.now) }
 {
     let seat = number_below(seat, header.seats)?;
-    let shard = number_below(shard, header.shards)?;
+    let shard = number_below(shard, header.sizes.shards)?;
     Some(Event::Receive { seat, shard })
 }
 
 /// feed c HEX
+#[tactic(auto, unfolding(crate::specs::Event::both))]
 fn read_feed(
     alloc: Global,
     seat: &[u8],
     text: &[u8],
     header: Header,
 ) -> Result<Option<Event>, AllocError>
-    ensures { IfOk result
-        (λ event. option_map shown event ≡ spec.feed_of (sizes_in header) seat.now text.now) }
+    ensures { IfOk result (λ event. option_map shown event ≡
+        both Feed (number_of header.seats seat.now) (hex_bytes text.now)) }
 {
     let Some(seat) = number_below(seat, header.seats) else {
         return Ok(None);

@@ -2,10 +2,9 @@
 ghost use Rattle.std.specs.Prelude.{◌≡◌, ◌∷◌, [], codes, option_map};
 ghost use Rattle.std.specs.Str.{bytes_eq};
 ghost use Rattle.mc_replay.specs.Text.{words_in};
-ghost use Rattle.mc_core.specs.declared.sizes.TheConstants.{LEAST_LINE, MOST_LINE};
-ghost use Rattle.mc_replay.specs.Header.{header_of, limited, limits_of, number_within, rules_of, with_limits};
+ghost use Rattle.mc_replay.specs.Header.{header_of, sizes_of, with_limits, with_line, with_rules};
 ghost use Rattle.mc_replay.specs.internal.Parts.{parts_left};
-ghost use Rattle.mc_replay.specs.internal.Read.{limits_in, sizes_in};
+ghost use Rattle.mc_replay.specs.internal.Read.{sizes_in};
 
 use crate::number::number_within;
 use crate::parts::{PartWalk, parts};
@@ -14,28 +13,14 @@ use mc_core::{
     DEFAULT_WINDOW, LEAST, LEAST_BYTES, LEAST_LINE, LEAST_VALUE, MOST_BYTES, MOST_LINE, MOST_RING,
     MOST_SEATS, MOST_SHARDS, MOST_VALUE, MOST_WINDOW,
 };
+use mc_server::Sizes;
 use mc_wire::{DEFAULT_LINE_LIMIT, DEFAULT_VALUE_LIMIT, DROP_IN_LINE_LIMIT};
 
 /// What a header says.
 #[derive(Clone, Copy)]
 pub(crate) struct Header {
-    pub(crate) profile: Profile,
     pub(crate) seats: usize,
-    pub(crate) shards: usize,
-    pub(crate) bytes: usize,
-    pub(crate) ring: usize,
-    pub(crate) value: usize,
-    pub(crate) line: usize,
-    pub(crate) window: usize,
-}
-
-/// What a header says, or leaves unsaid, behind its counts.
-#[derive(Clone, Copy)]
-struct Limits {
-    profile: Profile,
-    value: usize,
-    line: usize,
-    window: usize,
+    pub(crate) sizes: Sizes,
 }
 
 /// Reads a header: sim SEATS SHARDS BYTES RING [VALUE WINDOW [LINE] [drop-in]]
@@ -62,59 +47,53 @@ fn read_sizes(
     more: PartWalk<'_>,
 ) -> Option<Header>
     ensures { option_map sizes_in result ≡
-        with_limits seats.now shards.now bytes.now ring.now (parts_left more.entry) }
+        sizes_of seats.now shards.now bytes.now ring.now (parts_left more.entry) }
 {
-    let limits = read_limits(more)?;
-    Some(Header {
-        profile: limits.profile,
-        seats: number_within(seats, LEAST, MOST_SEATS)?,
+    let seats = number_within(seats, LEAST, MOST_SEATS)?;
+    let sizes = Sizes {
+        profile: Profile::Own,
         shards: number_within(shards, LEAST, MOST_SHARDS)?,
         bytes: number_within(bytes, LEAST_BYTES, MOST_BYTES)?,
         ring: number_within(ring, LEAST, MOST_RING)?,
-        value: limits.value,
-        line: limits.line,
-        window: limits.window,
-    })
+        value: DEFAULT_VALUE_LIMIT,
+        line: DEFAULT_LINE_LIMIT,
+        window: DEFAULT_WINDOW,
+    };
+    with_limits(Header { seats, sizes }, more)
 }
 
-/// Reads the words behind the counts: none, or a value limit and a window, behind which the rules may stand.
-fn read_limits(mut more: PartWalk<'_>) -> Option<Limits>
-    ensures { option_map limits_in result ≡ limits_of (parts_left more.entry) }
+/// The header with the limits of these words: none, or a value limit and a window, behind which the rules may stand.
+fn with_limits(header: Header, mut more: PartWalk<'_>) -> Option<Header>
+    ensures { option_map sizes_in result ≡ with_limits (sizes_in header) (parts_left more.entry) }
 {
     match (more.next(), more.next()) {
-        (None, _) => Some(Limits {
-            profile: Profile::Own,
-            value: DEFAULT_VALUE_LIMIT,
-            line: DEFAULT_LINE_LIMIT,
-            window: DEFAULT_WINDOW,
-        }),
-        (Some(value), Some(window)) => limited(value, window, read_rules(more)?),
+        (None, _) => Some(header),
+        (Some(value), Some(window)) => {
+            let sizes = Sizes {
+                value: number_within(value, LEAST_VALUE, MOST_VALUE)?,
+                window: number_within(window, LEAST, MOST_WINDOW)?,
+                ..header.sizes
+            };
+            with_rules(Header { sizes, ..header }, more)
+        }
         (Some(_), None) => None,
     }
 }
 
-/// The limits of these words, with these rules and this line limit.
-fn limited(value: &[u8], window: &[u8], rules: (Profile, usize)) -> Option<Limits>
-    ensures { option_map limits_in result ≡ limited value.now window.now rules }
-{
-    Some(Limits {
-        profile: rules.0,
-        value: number_within(value, LEAST_VALUE, MOST_VALUE)?,
-        line: rules.1,
-        window: number_within(window, LEAST, MOST_WINDOW)?,
-    })
-}
-
-/// Reads whose rules a server follows, and its line limit: a line limit, drop-in, both or neither.
-fn read_rules(mut more: PartWalk<'_>) -> Option<(Profile, usize)>
-    ensures { result ≡ rules_of (parts_left more.entry) }
+/// The header with the rules of these words: a line limit, drop-in, both or neither.
+fn with_rules(header: Header, mut more: PartWalk<'_>) -> Option<Header>
+    ensures { option_map sizes_in result ≡ with_rules (sizes_in header) (parts_left more.entry) }
 {
     match (more.next(), more.next(), more.next()) {
-        (None, _, _) => Some((Profile::Own, DEFAULT_LINE_LIMIT)),
-        (Some(last), None, _) => read_rule(last),
+        (None, _, _) => Some(header),
+        (Some(last), None, _) => with_rule(header, last),
         (Some(line), Some(last), None) => {
             if is_drop_in(last) {
-                Some((Profile::DropIn, line_limit(line)?))
+                let sizes = Sizes {
+                    profile: Profile::DropIn,
+                    ..header.sizes
+                };
+                with_line(Header { sizes, ..header }, line)
             } else {
                 None
             }
@@ -123,14 +102,19 @@ fn read_rules(mut more: PartWalk<'_>) -> Option<(Profile, usize)>
     }
 }
 
-/// Reads the rules where one word gives them: drop-in, or a line limit.
-fn read_rule(word: &[u8]) -> Option<(Profile, usize)>
-    ensures { result ≡ rules_of (word.now ∷ []) }
+/// The header with the rules of one word: drop-in, or a line limit.
+fn with_rule(header: Header, word: &[u8]) -> Option<Header>
+    ensures { option_map sizes_in result ≡ with_rules (sizes_in header) (word.now ∷ []) }
 {
     if is_drop_in(word) {
-        Some((Profile::DropIn, DROP_IN_LINE_LIMIT))
+        let sizes = Sizes {
+            profile: Profile::DropIn,
+            line: DROP_IN_LINE_LIMIT,
+            ..header.sizes
+        };
+        Some(Header { sizes, ..header })
     } else {
-        Some((Profile::Own, line_limit(word)?))
+        with_line(header, word)
     }
 }
 
@@ -141,9 +125,13 @@ fn is_drop_in(word: &[u8]) -> bool
     word == b"drop-in".as_slice()
 }
 
-/// The line limit that a word gives.
-fn line_limit(word: &[u8]) -> Option<usize>
-    ensures { result ≡ number_within LEAST_LINE MOST_LINE word.now }
+/// The header with the line limit that a word spells.
+fn with_line(header: Header, word: &[u8]) -> Option<Header>
+    ensures { option_map sizes_in result ≡ with_line (sizes_in header) word.now }
 {
-    number_within(word, LEAST_LINE, MOST_LINE)
+    let sizes = Sizes {
+        line: number_within(word, LEAST_LINE, MOST_LINE)?,
+        ..header.sizes
+    };
+    Some(Header { sizes, ..header })
 }

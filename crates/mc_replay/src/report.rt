@@ -4,6 +4,7 @@ ghost use Rattle.mc_replay.specs.Report.{connection_line, counts_line, entry_lin
 
 use crate::text::push_parts;
 use itoa::Buffer;
+use mc_core::LogEntry;
 use std::alloc::{AllocError, Global};
 
 /// Tells of a connection what was handed to it.
@@ -38,24 +39,16 @@ fn handed_word(alloc: Global, bytes: &[u8]) -> Result<Vec<u8>, AllocError>
 }
 
 /// Tells of a piece where it ran, and for whom.
-pub(crate) fn push_entry(
-    text: &mut Vec<u8>,
-    shard: usize,
-    connection: usize,
-    ticket: u64,
-    part: usize,
-    moment: u64,
-) -> Result<(), AllocError>
-    ensures { OnOk result
-        (text.new.items ≡ text.old.items ++ entry_line shard connection ticket part moment) }
+pub(crate) fn push_entry(text: &mut Vec<u8>, entry: &LogEntry) -> Result<(), AllocError>
+    ensures { OnOk result (text.new.items ≡ text.old.items ++ entry_line entry.now) }
 {
     let (mut first, mut second, mut third) = (Buffer::new(), Buffer::new(), Buffer::new());
     let (mut fourth, mut fifth) = (Buffer::new(), Buffer::new());
-    let shard = first.format(shard).as_bytes();
-    let connection = second.format(connection).as_bytes();
-    let ticket = third.format(ticket).as_bytes();
-    let part = fourth.format(part).as_bytes();
-    let moment = fifth.format(moment).as_bytes();
+    let shard = first.format(entry.shard).as_bytes();
+    let connection = second.format(entry.connection).as_bytes();
+    let ticket = third.format(entry.ticket.0).as_bytes();
+    let part = fourth.format(entry.part).as_bytes();
+    let moment = fifth.format(entry.moment).as_bytes();
     push_parts(
         text,
         &[

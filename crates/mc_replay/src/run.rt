@@ -7,8 +7,8 @@ ghost use Rattle.mc_core.specs.Headline.{handed_bytes};
 ghost use Rattle.mc_core.specs.Asked.{event_of};
 ghost use Rattle.mc_core.specs.Runs.{Runs};
 ghost use Rattle.mc_core.specs.Stands.{Stands};
-ghost use Rattle.mc_replay.specs.Report.{connection_line};
-ghost use Rattle.mc_replay.specs.Replay.{Replays, GivesReport, connection_lines, kept_line, report};
+ghost use Rattle.mc_replay.specs.Report.{connection_line, entry_line};
+ghost use Rattle.mc_replay.specs.Replay.{Replays, GivesReport, connection_lines, report};
 ghost use Rattle.mc_replay.specs.declared.run.ReplayFault.TheVariants.{Memory};
 
 use crate::report::{push_connection, push_counts, push_entry};
@@ -63,17 +63,18 @@ pub fn replay<R: RandomSource, O: Outlet>(
 fn tell<R: RandomSource>(rt: &R, alloc: Global, schedule: &Schedule) -> Result<Vec<u8>, ReplayFault>
     ensures { GivesReport schedule.now result }
 {
+    let sizes = schedule.sizes;
     let mut sim = match Sim::under(
         rt,
         alloc,
-        schedule.profile,
+        sizes.profile,
         schedule.seats,
-        schedule.shards,
-        schedule.bytes,
-        schedule.ring,
-        schedule.value,
-        schedule.line,
-        schedule.window,
+        sizes.shards,
+        sizes.bytes,
+        sizes.ring,
+        sizes.value,
+        sizes.line,
+        sizes.window,
     ) {
         Ok(sim) => sim,
         Err(SimRefusal::Size) => return Err(ReplayFault::Size),
@@ -149,17 +150,10 @@ fn push_handed(
 
 /// Tells what the shards ran.
 fn push_log(text: &mut Vec<u8>, log: &[LogEntry]) -> Result<(), AllocError>
-    ensures { OnOk result (text.new.items ≡ text.old.items ++ flat_map kept_line log.now) }
+    ensures { OnOk result (text.new.items ≡ text.old.items ++ flat_map entry_line log.now) }
 {
     for entry in log {
-        push_entry(
-            text,
-            entry.shard,
-            entry.connection,
-            entry.ticket.0,
-            entry.part,
-            entry.moment,
-        )?;
+        push_entry(text, entry)?;
     }
     Ok(())
 }

@@ -9,30 +9,18 @@ ghost use Rattle.mc_replay.specs.declared.schedule.ScheduleFault.TheVariants.{Me
 use crate::event::read_event;
 use crate::header::{Header, read_header};
 use crate::parts::{PartWalk, parts};
-use mc_command::Profile;
 use mc_core::Event;
+use mc_server::Sizes;
 use std::alloc::{AllocError, Global};
 use thiserror::Error;
 
 /// A server and a list of events: what a replay file says.
 #[derive(Drop)]
 pub struct Schedule {
-    /// Whose rules the server follows.
-    pub profile: Profile,
     /// How many connections there are at a time.
     pub seats: usize,
-    /// How many shards there are.
-    pub shards: usize,
-    /// What the items of a shard may cost together, in bytes.
-    pub bytes: usize,
-    /// How many pieces, or answers, a ring holds at most.
-    pub ring: usize,
-    /// How many bytes a value has at most.
-    pub value: usize,
-    /// How many bytes a line has at most.
-    pub line: usize,
-    /// How many commands of a connection may be open: taken, and their replies not handed out.
-    pub window: usize,
+    /// How large the server is else, and whose rules it follows.
+    pub sizes: Sizes,
     /// What happens, in order.
     pub events: Vec<Event>,
 }
@@ -66,14 +54,8 @@ pub fn read_schedule(alloc: Global, text: &[u8]) -> Result<Schedule, ScheduleFau
     };
     let events = read_events(alloc, lines, header)?;
     Ok(Schedule {
-        profile: header.profile,
         seats: header.seats,
-        shards: header.shards,
-        bytes: header.bytes,
-        ring: header.ring,
-        value: header.value,
-        line: header.line,
-        window: header.window,
+        sizes: header.sizes,
         events,
     })
 }

@@ -1,7 +1,8 @@
 //! The calls of the program, read from their words.
 use crate::asserting::{equal, holds};
 use mc_command::Profile;
-use mc_options::{Limits, OptionFault, Options, read_options};
+use mc_options::{OptionFault, Options, read_options};
+use mc_server::Sizes;
 use std::alloc::{AllocError, Global};
 
 /// Why a test fails without an assertion.
@@ -38,10 +39,11 @@ fn each_call(rt: HostRuntime) -> Result<(), Fail> {
     let alloc = rt.alloc();
     let words = words_of(alloc, "mcd")?;
     let options = read_options(alloc, words.as_slice())?;
-    let limits = Limits {
+    let sizes = Sizes {
         profile: Profile::Own,
         shards: 2,
         bytes: 16_777_216,
+        ring: 20,
         value: 1_048_576,
         line: 65_536,
         window: 256,
@@ -56,7 +58,7 @@ fn each_call(rt: HostRuntime) -> Result<(), Fail> {
                 idle_timeout: None,
                 verbose: false,
                 metrics: None,
-                limits,
+                sizes,
             },
     );
     let words = words_of(
@@ -64,10 +66,11 @@ fn each_call(rt: HostRuntime) -> Result<(), Fail> {
         "mcd --stdio --at 1000 --drop-in --shards 016 --bytes 1024 --value-limit=8388608 --window 1",
     )?;
     let options = read_options(alloc, words.as_slice())?;
-    let limits = Limits {
+    let sizes = Sizes {
         profile: Profile::DropIn,
         shards: 16,
         bytes: 1_024,
+        ring: 20,
         value: 8_388_608,
         line: 1_048_576,
         window: 1,
@@ -77,7 +80,7 @@ fn each_call(rt: HostRuntime) -> Result<(), Fail> {
         options
             == Options::Stdio {
                 at: Some(1000),
-                limits,
+                sizes,
             },
     );
     let words = words_of(alloc, "mcd --replay a.schedule")?;
@@ -113,9 +116,9 @@ fn numbers_of_bytes(rt: HostRuntime) -> Result<(), Fail> {
     for (call, bytes, value) in calls {
         let words = words_of(alloc, call)?;
         match read_options(alloc, words.as_slice())? {
-            Options::Stdio { limits, .. } => {
-                equal(&rt, (call, limits.bytes), (call, bytes));
-                equal(&rt, (call, limits.value), (call, value));
+            Options::Stdio { sizes, .. } => {
+                equal(&rt, (call, sizes.bytes), (call, bytes));
+                equal(&rt, (call, sizes.value), (call, value));
             }
             _ => assert!(rt; false, "{call}"),
         }
@@ -135,7 +138,7 @@ fn line_limits(rt: HostRuntime) -> Result<(), Fail> {
     for (call, line) in calls {
         let words = words_of(alloc, call)?;
         match read_options(alloc, words.as_slice())? {
-            Options::Stdio { limits, .. } => equal(&rt, (call, limits.line), (call, line)),
+            Options::Stdio { sizes, .. } => equal(&rt, (call, sizes.line), (call, line)),
             _ => assert!(rt; false, "{call}"),
         }
     }

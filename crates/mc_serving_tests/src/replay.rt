@@ -10,11 +10,11 @@ fn a_file_is_read(rt: HostRuntime) -> Result<(), Fail> {
     let file = b"sim 2 3 1024 4\nopen 1\nfeed 1 6D6e0d0a\ntake 01 1000\npop 2 1\ngive 2\n";
     let plan = read_schedule(rt.alloc(), file)?;
     equal(&rt, plan.seats, 2);
-    equal(&rt, plan.shards, 3);
-    equal(&rt, plan.bytes, 1024);
-    equal(&rt, plan.ring, 4);
-    equal(&rt, plan.value, 1_048_576);
-    equal(&rt, plan.window, 256);
+    equal(&rt, plan.sizes.shards, 3);
+    equal(&rt, plan.sizes.bytes, 1024);
+    equal(&rt, plan.sizes.ring, 4);
+    equal(&rt, plan.sizes.value, 1_048_576);
+    equal(&rt, plan.sizes.window, 256);
     equal(&rt, plan.events.len(), 5);
     let fed = match plan.events.get(1) {
         Some(Event::Feed { seat: 1, bytes }) => bytes.as_slice() == b"mn\r\n".as_slice(),

@@ -1,14 +1,12 @@
 //! Serves one line, as the command line says.
 ghost use Rattle.std.specs.Prelude.{IfOk};
-ghost use Rattle.mc_options.specs.Numbers.{AreAllowedLimits};
+ghost use Rattle.mc_core.specs.Sizes.{AreWithin};
 ghost use Rattle.mc_server.specs.Explains.{IsExplained};
 ghost use Rattle.mc_server.specs.Sizes.{line_sizes};
-ghost use Rattle.mcd.specs.Served.{MayBe, sizes_by};
+ghost use Rattle.mcd.specs.Served.{MayBe};
 
-use crate::sizes::sizes_of;
-use mc_options::Limits;
 use mc_seat::{Clock, Line, Served};
-use mc_server::{MachineClock, ServeRefusal, StillClock, serve_one};
+use mc_server::{MachineClock, ServeRefusal, Sizes, StillClock, serve_one};
 use std::alloc::Global;
 use std::random::RandomSource;
 use std::sync::Wait;
@@ -19,12 +17,12 @@ pub fn serve_line<R: Wait + RandomSource + time::Clock + Alloc<A = Global>, L: L
     rt: &R,
     line: &mut L,
     at: Option<u64>,
-    limits: Limits,
+    sizes: Sizes,
 ) -> Result<Served, ServeRefusal>
-    requires { AreAllowedLimits limits }
-    // A server of these limits explains what was read and written, at such moments.
+    requires { AreWithin (line_sizes sizes) }
+    // A server of these sizes explains what was read and written, at such moments.
     ensures explained { IfOk result (λ served.
-        IsExplained (line_sizes (sizes_by limits)) (MayBe at)
+        IsExplained (line_sizes sizes) (MayBe at)
         (record {
           begin = L.sight line.old;
           now = L.sight line.new;
@@ -33,8 +31,8 @@ pub fn serve_line<R: Wait + RandomSource + time::Clock + Alloc<A = Global>, L: L
         })) }
 {
     match at {
-        Some(moment) => serve_by(rt, line, limits, &StillClock(moment)),
-        None => serve_by(rt, line, limits, &MachineClock(rt)),
+        Some(moment) => serve_by(rt, line, sizes, &StillClock(moment)),
+        None => serve_by(rt, line, sizes, &MachineClock(rt)),
     }
 }
 
@@ -42,12 +40,12 @@ pub fn serve_line<R: Wait + RandomSource + time::Clock + Alloc<A = Global>, L: L
 fn serve_by<R: Wait + RandomSource + Alloc<A = Global>, L: Line, K: Clock>(
     rt: &R,
     line: &mut L,
-    limits: Limits,
+    sizes: Sizes,
     clock: &K,
 ) -> Result<Served, ServeRefusal>
-    requires { AreAllowedLimits limits }
+    requires { AreWithin (line_sizes sizes) }
     ensures explained { IfOk result (λ served.
-        IsExplained (line_sizes (sizes_by limits)) (K.may_answer clock.now)
+        IsExplained (line_sizes sizes) (K.may_answer clock.now)
         (record {
           begin = L.sight line.old;
           now = L.sight line.new;
@@ -55,5 +53,5 @@ fn serve_by<R: Wait + RandomSource + Alloc<A = Global>, L: Line, K: Clock>(
           broke = served.broke;
         })) }
 {
-    serve_one(rt, rt.alloc(), line, sizes_of(limits), clock)
+    serve_one(rt, rt.alloc(), line, sizes, clock)
 }

@@ -1,16 +1,13 @@
 //! Serves TCP, as the command line says.
-ghost use Rattle.std.specs.Prelude.{◌≤◌};
-ghost use Rattle.mc_core.specs.declared.sizes.TheConstants.{LEAST, MOST_SEATS};
-ghost use Rattle.mc_options.specs.Numbers.{AreAllowedLimits};
+ghost use Rattle.mc_core.specs.Sizes.{AreWithin};
+ghost use Rattle.mc_server.specs.Sizes.{sizes_of};
 
 use crate::files::tell_files;
 use crate::refuse;
-use crate::sizes::sizes_of;
 use crate::watching::{NotWatching, Wishes, start_watching};
 use libc::net::listen as listen_again;
-use mc_options::Limits;
 use mc_serve::{ServeRefusal, serve_tcp};
-use mc_server::MachineClock;
+use mc_server::{MachineClock, Sizes};
 use std::alloc::Global;
 use std::fs::File;
 use std::io::Eprint;
@@ -46,12 +43,10 @@ pub fn listen<
     address: &str,
     seats: usize,
     connections: Option<u64>,
-    limits: Limits,
+    sizes: Sizes,
     wishes: Wishes<'_>,
 ) -> ExitCode
-    requires least { LEAST ≤ seats }
-    requires most { seats ≤ MOST_SEATS }
-    requires limits { AreAllowedLimits limits }
+    requires { AreWithin (sizes_of seats sizes) }
 {
     let listener = match TcpListener::bind(rt, address) {
         Ok(listener) => listener,
@@ -64,11 +59,11 @@ pub fn listen<
     // Where this fails fewer wait there: 128.
     let _ = listen_again(listener.as_raw_fd(), QUEUE);
     let _ = eprintln!(rt; "listening {local}");
-    tell_files(rt, seats, limits.shards);
-    let (watch, watching) = match start_watching(rt, local.port(), seats, limits, wishes) {
+    tell_files(rt, seats, sizes.shards);
+    let (watch, watching) = match start_watching(rt, local.port(), seats, sizes, wishes) {
         Ok(begun) => begun,
         Err(NotWatching::Memory) => return refuse(rt, "out of memory"),
-        Err(NotWatching::Thread) => return refuse_threads(rt, limits.shards),
+        Err(NotWatching::Thread) => return refuse_threads(rt, sizes.shards),
         Err(NotWatching::Metrics(error)) => return refuse_address(
             rt,
             "metrics",
@@ -81,7 +76,7 @@ pub fn listen<
         rt.alloc(),
         listener,
         seats,
-        sizes_of(limits),
+        sizes,
         connections,
         MachineClock(*rt),
         watch,
@@ -90,7 +85,7 @@ pub fn listen<
     match ended {
         Ok(_) => ExitCode::SUCCESS,
         Err(ServeRefusal::Memory) => refuse(rt, "out of memory"),
-        Err(ServeRefusal::Thread) => refuse_threads(rt, limits.shards),
+        Err(ServeRefusal::Thread) => refuse_threads(rt, sizes.shards),
         Err(ServeRefusal::Bind) => refuse(rt, "cannot listen"),
     }
 }

@@ -3,7 +3,7 @@ ghost use Rattle.std.specs.Prelude.{◌≡◌, ◌*◌, ◌-◌, ◌^◌, min};
 
 use crate::version::VERSION;
 use mc_metrics::{Facts, MetricsServer, Pages, address_of};
-use mc_options::Limits;
+use mc_server::Sizes;
 use mc_watch::{Counts, Dismissal, Patience, Reports, Seconds, Watch, reporters};
 use std::alloc::{AllocError, Global};
 use std::fs::File;
@@ -60,7 +60,7 @@ pub struct Watching {
     tellers: Vec<Teller>,
 }
 
-/// Starts to watch what is wished of a server at this port, of so many seats and these limits: what the server has to tell, and
+/// Starts to watch what is wished of a server at this port, of so many seats and these sizes: what the server has to tell, and
 /// the threads that tell it on.
 pub fn start_watching<
     R: Threads
@@ -79,13 +79,13 @@ pub fn start_watching<
     rt: &R,
     port: u16,
     seats: usize,
-    limits: Limits,
+    sizes: Sizes,
     wishes: Wishes<'_>,
 ) -> Result<(Watch, Watching), NotWatching> {
     let mut watching = Watching {
         tellers: Vec::new(rt.alloc()),
     };
-    match watching.begin(rt, port, seats, limits, wishes) {
+    match watching.begin(rt, port, seats, sizes, wishes) {
         Ok(watch) => Ok((watch, watching)),
         Err(fault) => {
             watching.end(rt);
@@ -113,7 +113,7 @@ impl Watching {
         rt: &R,
         port: u16,
         seats: usize,
-        limits: Limits,
+        sizes: Sizes,
         wishes: Wishes<'_>,
     ) -> Result<Watch, NotWatching> {
         let alloc = rt.alloc();
@@ -129,9 +129,9 @@ impl Watching {
             self.tell_reports(rt, reports)?;
         }
         if let Some(word) = wishes.metrics {
-            let counts = Counts::new(alloc, limits.shards)?;
+            let counts = Counts::new(alloc, sizes.shards)?;
             watch.counts = Some(counts.share(alloc)?);
-            let pages = Pages::new(rt, alloc, facts_of(port, seats, limits), counts)?;
+            let pages = Pages::new(rt, alloc, facts_of(port, seats, sizes), counts)?;
             self.tell_metrics(rt, word, pages)?;
         }
         Ok(watch)
@@ -205,19 +205,19 @@ impl Watching {
 }
 
 /// What is told of the server beside what it counts.
-fn facts_of(port: u16, seats: usize, limits: Limits) -> Facts
+fn facts_of(port: u16, seats: usize, sizes: Sizes) -> Facts
     ensures port { result.port ≡ port }
-    ensures shards { result.shards ≡ limits.shards }
+    ensures shards { result.shards ≡ sizes.shards }
     ensures seats { result.seats ≡ seats }
-    ensures limit { result.limit_bytes ≡ min (limits.shards * limits.bytes) (2 ^ 64 - 1) }
+    ensures limit { result.limit_bytes ≡ min (sizes.shards * sizes.bytes) (2 ^ 64 - 1) }
 {
-    let shards = limits.shards as u64;
+    let shards = sizes.shards as u64;
     Facts {
         version: VERSION,
         port,
         shards,
         seats: seats as u64,
-        limit_bytes: shards.saturating_mul(limits.bytes as u64),
+        limit_bytes: shards.saturating_mul(sizes.bytes as u64),
     }
 }
 

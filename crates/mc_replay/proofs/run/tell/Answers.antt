@@ -13,4 +13,4 @@ returns-in-Ok-report g c =
     let ran = c.in-Ok-run_all.ensures (sizes_of plan) empty_world c.in-Ok.ensures.ok in
     let count = length-map plan.events.items event_of in
     is_report_of (sizes_of plan) (events_of plan) (map event_of c.deref.result.now) c.in-Ok-report.text.items c.in-Ok-run_all.done c.saturating_sub-idle.result
-    (ap (map event_of) c.deref.ensures.value) (omega (arith, count, c.saturating_sub-idle.ensures, c.len.ensures)) (ran.0, ran.1, ran.2, ran.3, c.in-Ok-report.ensures (sizes_of plan) ran.0 ran.4)
+    (ap (map event_of) c.deref.ensures.value) (omega (arith, count, c.saturating_sub-idle.ensures, c.len.ensures)) (ran.0.later, ran.0.led, ran.0.memory, ran.1, c.in-Ok-report.ensures (sizes_of plan) ran.0.later ran.0.stands)
