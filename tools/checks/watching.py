@@ -116,12 +116,12 @@ def each_connection_is_told():
     with Server("--verbose", "--seats", 1) as server:
         with Line(server.port) as line:
             port = line.socket.getsockname()[1]
-            line.ask(b"set a 0 0 1\r\nx\r\nget a\r\n", b"STORED\r\nVALUE a 0 1\r\nx\r\nEND\r\n")
+            line.ask(b"set a 0 0 1\r\nx\r\nget a\r\nget b\r\n", b"STORED\r\nVALUE a 0 1\r\nx\r\nEND\r\nEND\r\n")
             line.send(b"quit\r\n")
             equal(line.rest(), b"")
         equal(told_of(server, 2), [
             f"mcd: 127.0.0.1:{port} on seat 0: opened",
-            f"mcd: 127.0.0.1:{port} on seat 0: ended; 3 commands, 29 bytes read, 29 bytes written",
+            f"mcd: 127.0.0.1:{port} on seat 0: ended; 4 commands, 36 bytes read, 34 bytes written",
         ])
 
 

@@ -1,5 +1,12 @@
--- What several shards were asked together: the sum of each count. A count stays at the greatest of 64 bits.
-use Rattle.std.specs.Prelude.{ℕ, ◌+◌, ◌-◌, ◌^◌, min}
+-- What a shard holds and was asked, and several together: the sum of each count. A count stays at the greatest of 64 bits.
+use Rattle.std.specs.Prelude.{ℕ, ◌≡◌, ◌+◌, ◌-◌, ◌^◌, [], ◌∷◌, fold, min}
+use Rattle.std.specs.FinMap.{len}
+use Rattle.mc_item.specs.declared.tally.CountedAs.{CountedAs}
+use Rattle.mc_item.specs.declared.tally.CountedAs.TheVariants.{Get, Set, Cas, Touch, Delete, Incr, Decr, Flush}
+use Rattle.mc_item.specs.declared.tally.Status.TheVariants.{Hit, Miss, BadValue, NoMemory, Refused}
+use Rattle.mc_item.specs.declared.tally.Tally.{Tally}
+use Rattle.mc_item.specs.Tally.{counted}
+use Rattle.mc_store.specs.State.{State, costs}
 use Rattle.mc_watch.specs.declared.shard_counts.CommandTotals.{CommandTotals}
 use Rattle.mc_watch.specs.declared.shard_counts.ShardTotals.{ShardTotals}
 
@@ -33,3 +40,49 @@ shards_of_both one other = record {
   decr = commands_of_both one.decr other.decr;
   flush = commands_of_both one.flush other.flush;
 }
+
+-- what all kinds of commands came to together
+abbrev pub commands_of_all : ShardTotals → CommandTotals
+commands_of_all totals =
+    fold commands_of_both totals.get
+    (totals.set ∷ totals.cas ∷ totals.touch ∷ totals.delete ∷ totals.incr ∷ totals.decr ∷ totals.flush ∷ [])
+
+-- the same totals, with the number of all commands for which no memory was left
+abbrev pub with_out_of_memory : ShardTotals → ShardTotals
+with_out_of_memory totals = record totals { out_of_memory = (commands_of_all totals).no_memory }
+
+-- the totals tell that number
+abbrev pub IsSummed : ShardTotals → Type 0
+IsSummed totals = totals.out_of_memory ≡ (commands_of_all totals).no_memory
+
+-- what a shard has counted of one kind of command
+abbrev pub commands_counted : Tally → CountedAs → CommandTotals
+commands_counted tally asked = record {
+  hits = counted tally asked Hit;
+  misses = counted tally asked Miss;
+  bad_values = counted tally asked BadValue;
+  no_memory = counted tally asked NoMemory;
+  refused = counted tally asked Refused;
+}
+
+-- the totals of a shard that holds and has counted so much, but for the commands for which no memory was left
+abbrev pub totals_counted : (items bytes evicted : ℕ) → Tally → ShardTotals
+totals_counted items bytes evicted tally = record {
+  items = items;
+  bytes = bytes;
+  evicted = evicted;
+  out_of_memory = 0;
+  get = commands_counted tally Get;
+  set = commands_counted tally Set;
+  cas = commands_counted tally Cas;
+  touch = commands_counted tally Touch;
+  delete = commands_counted tally Delete;
+  incr = commands_counted tally Incr;
+  decr = commands_counted tally Decr;
+  flush = commands_counted tally Flush;
+}
+
+-- what is shown of a shard in this state
+abbrev pub shown_of : State → ShardTotals
+shown_of state =
+    with_out_of_memory (totals_counted (len state.items) (costs state.items) state.evicted state.tally)

@@ -1,5 +1,6 @@
 //! What the threads of a server count.
-ghost use Rattle.std.specs.Prelude.{◌≡◌, ◌-◌, ◌≤◌, IfOk, length};
+ghost use Rattle.std.specs.Prelude.{◌≡◌, ◌-◌, ◌<◌, ◌≤◌, IfOk, IsSome, length};
+ghost use Rattle.mc_watch.specs.Counts.{shard_count};
 
 use crate::counter::Counter;
 use crate::shard_counts::{ShardCounts, ShardTotals};
@@ -87,6 +88,10 @@ impl Totals {
         ensures commands { self.old.commands ≤ self.new.commands }
         ensures read { self.old.read ≤ self.new.read }
         ensures written { self.old.written ≤ self.new.written }
+        // What others count stays.
+        ensures accepted { self.new.accepted ≡ self.old.accepted }
+        ensures failed { self.new.failed ≡ self.old.failed }
+        ensures shards { self.new.shards ≡ self.old.shards }
     {
         self.ended = self.ended.saturating_add(counts.ended.get());
         self.broken = self.broken.saturating_add(counts.broken.get());
@@ -99,7 +104,8 @@ impl Totals {
 impl Counts {
     /// Nothing was counted yet, by so many threads that serve, each with a shard, and the one that accepts.
     pub fn new(alloc: Global, threads: usize) -> Result<Counts, AllocError>
-        ensures { IfOk result (λ counts. length counts.threads.items ≡ threads) }
+        ensures threads { IfOk result (λ counts. length counts.threads.items ≡ threads) }
+        ensures shards { IfOk result (λ counts. shard_count counts ≡ threads) }
     {
         let entrance = EntranceCounts {
             accepted: Counter::new(),
@@ -119,8 +125,9 @@ impl Counts {
 
     /// The same counts, for one more.
     pub fn share(&self, alloc: Global) -> Result<Counts, AllocError>
-        ensures { IfOk result
+        ensures threads { IfOk result
             (λ shared. length shared.threads.items ≡ length self.now.threads.items) }
+        ensures shards { IfOk result (λ shared. shard_count shared ≡ shard_count self.now) }
     {
         let mut threads = Vec::with_capacity(alloc, self.threads.len())?;
         for thread in &self.threads {
@@ -139,7 +146,9 @@ impl Counts {
     }
 
     /// What the thread of this number counts; nothing where there is none.
-    pub fn thread(&self, number: usize) -> Option<Arc<CachePadded<SeatCounts>, Global>> {
+    pub fn thread(&self, number: usize) -> Option<Arc<CachePadded<SeatCounts>, Global>>
+        ensures { IsSome result → number < length self.now.threads.items }
+    {
         Arc::try_clone(self.threads.get(number)?).ok()
     }
 
@@ -147,7 +156,9 @@ impl Counts {
     pub fn shards(
         &self,
         alloc: Global,
-    ) -> Result<Vec<Arc<CachePadded<ShardCounts>, Global>>, AllocError> {
+    ) -> Result<Vec<Arc<CachePadded<ShardCounts>, Global>>, AllocError>
+        ensures { IfOk result (λ shards. length shards.items ≡ shard_count self.now) }
+    {
         let mut shards = Vec::with_capacity(alloc, self.shards.len())?;
         for shard in &self.shards {
             shards.push(Arc::try_clone(shard)?)?;
@@ -157,11 +168,10 @@ impl Counts {
 
     /// What all shards show together.
     fn shard_totals(&self) -> ShardTotals {
-        let mut totals = ShardTotals::default();
-        for shard in &self.shards {
-            totals = totals.and(shard.totals());
-        }
-        totals
+        ShardTotals::default().and_each(
+            &self.shards,
+            &|shard: &Arc<CachePadded<ShardCounts>, Global>| shard.totals(),
+        )
     }
 
     /// What all threads have counted so far. The connections that ended are read first, so that no more have ended than were
@@ -182,7 +192,9 @@ impl Counts {
 fn new_shards(
     alloc: Global,
     count: usize,
-) -> Result<Vec<Arc<CachePadded<ShardCounts>, Global>>, AllocError> {
+) -> Result<Vec<Arc<CachePadded<ShardCounts>, Global>>, AllocError>
+    ensures { IfOk result (λ shards. length shards.items ≡ count) }
+{
     let mut shards = Vec::with_capacity(alloc, count)?;
     for _ in 0..count {
         shards.push(Arc::new(alloc, CachePadded::new(ShardCounts::new()))?)?;

@@ -1,5 +1,6 @@
 //! What a connection measures of itself.
 ghost use Rattle.std.specs.Prelude.{◌≡◌, ◌+◌, ◌-◌, ◌^◌, None, false, min};
+ghost use Rattle.mc_watch.specs.Limits.{limit_of};
 
 use crate::counts::SeatCounts;
 use crate::pulse::Pulse;
@@ -24,6 +25,7 @@ impl Meter {
         ensures read { result.read ≡ 0 }
         ensures written { result.written ≡ 0 }
         ensures timeless { result.pulse ≡ None }
+        ensures uncounted { result.counts ≡ None }
     {
         Meter {
             read: 0,
@@ -41,6 +43,7 @@ impl Meter {
         ensures read { result.read ≡ 0 }
         ensures written { result.written ≡ 0 }
         ensures pulse { result.pulse ≡ pulse }
+        ensures counts { result.counts ≡ counts }
     {
         Meter {
             read: 0,
@@ -55,6 +58,8 @@ impl Meter {
         ensures read { self.new.read ≡ min (self.old.read + count) (2 ^ 64 - 1) }
         ensures written { self.new.written ≡ self.old.written }
         ensures timeless { self.old.pulse ≡ None → self.new.pulse ≡ None }
+        ensures limit { limit_of self.new ≡ limit_of self.old }
+        ensures counts { self.new.counts ≡ self.old.counts }
     {
         let count = count as u64;
         self.read = self.read.saturating_add(count);
@@ -69,6 +74,8 @@ impl Meter {
         ensures read { self.new.read ≡ self.old.read }
         ensures written { self.new.written ≡ min (self.old.written + count) (2 ^ 64 - 1) }
         ensures timeless { self.old.pulse ≡ None → self.new.pulse ≡ None }
+        ensures limit { limit_of self.new ≡ limit_of self.old }
+        ensures counts { self.new.counts ≡ self.old.counts }
     {
         let count = count as u64;
         self.written = self.written.saturating_add(count);
@@ -82,6 +89,8 @@ impl Meter {
         ensures read { self.new.read ≡ self.old.read }
         ensures written { self.new.written ≡ self.old.written }
         ensures timeless { self.old.pulse ≡ None → self.new.pulse ≡ None }
+        ensures limit { limit_of self.new ≡ limit_of self.old }
+        ensures counts { self.new.counts ≡ self.old.counts }
     {
         if let Some(pulse) = &mut self.pulse {
             pulse.beat();

@@ -1,4 +1,6 @@
 //! The way of what happens from the threads that serve to one that writes it down.
+ghost use Rattle.std.specs.Prelude.{◌≡◌, None, IfOk, length};
+
 use crate::dismissal::Dismissal;
 use crate::event::Event;
 use rtrb::{Consumer, Producer, RingBuffer};
@@ -36,7 +38,10 @@ pub struct Reports {
 }
 
 /// So many reporters, and what they tell.
-pub fn reporters(alloc: Global, count: usize) -> Result<(Vec<Reporter>, Reports), AllocError> {
+pub fn reporters(alloc: Global, count: usize) -> Result<(Vec<Reporter>, Reports), AllocError>
+    ensures reporters { IfOk result (λ both. length both.0.items ≡ count) }
+    ensures reports { IfOk result (λ both. length both.1.queues.items ≡ count) }
+{
     let mut all = Vec::with_capacity(alloc, count)?;
     let mut queues = Vec::with_capacity(alloc, count)?;
     for _ in 0..count {
@@ -52,7 +57,10 @@ pub fn reporters(alloc: Global, count: usize) -> Result<(Vec<Reporter>, Reports)
 
 impl Reporter {
     /// One to which nobody listens.
-    pub fn unheard() -> Reporter {
+    pub fn unheard() -> Reporter
+        ensures unheard { result.queue ≡ None }
+        ensures dropped { result.dropped ≡ 0 }
+    {
         Reporter {
             queue: None,
             dropped: 0,
@@ -60,7 +68,9 @@ impl Reporter {
     }
 
     /// Tells what happened.
-    pub fn tell(&mut self, event: Event) {
+    pub fn tell(&mut self, event: Event)
+        ensures unheard { self.old.queue ≡ None → self.new ≡ self.old }
+    {
         let Some(queue) = &mut self.queue else {
             return;
         };

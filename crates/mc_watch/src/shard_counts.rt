@@ -1,9 +1,13 @@
 //! What a shard holds and what it was asked, where any thread can read it.
 ghost use Rattle.std.specs.Prelude.{◌≡◌};
-ghost use Rattle.mc_watch.specs.Totals.{commands_of_both, shards_of_both};
+ghost use Rattle.std.specs.List.{FoldsTo};
+ghost use Rattle.mc_store.specs.Shard.{IsShard};
+ghost use Rattle.mc_store.specs.State.{State};
+ghost use Rattle.mc_watch.specs.Totals.{IsSummed, commands_counted, commands_of_all, commands_of_both, shards_of_both, shown_of, totals_counted, with_out_of_memory};
+ghost use Rattle.mc_watch.specs.Told.{AreTaken, AreTold, CommandsAreTaken, CommandsAreTold, GoesOn};
 
 use crate::counter::Counter;
-use mc_item::{CountedAs, Status};
+use mc_item::{CountedAs, Status, Tally};
 use mc_store::Shard;
 
 /// How often a command of one kind came to what.
@@ -41,33 +45,52 @@ pub struct ShardTotals {
     pub flush: CommandTotals,
 }
 
-/// The counts of one kind of command.
+/// What counts the commands of one kind, each by what it came to.
 #[derive(Drop)]
-struct CommandCounts {
-    hits: Counter,
-    misses: Counter,
-    bad_values: Counter,
-    no_memory: Counter,
-    refused: Counter,
+struct CommandCounters<C> {
+    hits: C,
+    misses: C,
+    bad_values: C,
+    no_memory: C,
+    refused: C,
+}
+
+/// What counts for a shard.
+#[derive(Drop)]
+struct ShardCounters<C> {
+    items: C,
+    bytes: C,
+    evicted: C,
+    get: CommandCounters<C>,
+    set: CommandCounters<C>,
+    cas: CommandCounters<C>,
+    touch: CommandCounters<C>,
+    delete: CommandCounters<C>,
+    incr: CommandCounters<C>,
+    decr: CommandCounters<C>,
+    flush: CommandCounters<C>,
 }
 
 /// What the thread of a shard shows of it. One thread writes it, any reads it, number by number.
 #[derive(Drop)]
 pub struct ShardCounts {
-    items: Counter,
-    bytes: Counter,
-    evicted: Counter,
-    get: CommandCounts,
-    set: CommandCounts,
-    cas: CommandCounts,
-    touch: CommandCounts,
-    delete: CommandCounts,
-    incr: CommandCounts,
-    decr: CommandCounts,
-    flush: CommandCounts,
+    counters: ShardCounters<Counter>,
 }
 
 impl CommandTotals {
+    /// What a shard has counted of one kind of command.
+    fn of(tally: &Tally, asked: CountedAs) -> CommandTotals
+        ensures { result ≡ commands_counted tally.now asked }
+    {
+        CommandTotals {
+            hits: tally.count(asked, Status::Hit),
+            misses: tally.count(asked, Status::Miss),
+            bad_values: tally.count(asked, Status::BadValue),
+            no_memory: tally.count(asked, Status::NoMemory),
+            refused: tally.count(asked, Status::Refused),
+        }
+    }
+
     /// The sum of both.
     fn and(self, other: CommandTotals) -> CommandTotals
         ensures { result ≡ commands_of_both self other }
@@ -83,6 +106,35 @@ impl CommandTotals {
 }
 
 impl ShardTotals {
+    /// What a shard holds and has counted.
+    fn of(shard: &Shard) -> ShardTotals
+        ensures { (state : State) → IsShard shard.now state → result ≡ shown_of state }
+    {
+        let items = shard.len() as u64;
+        let bytes = shard.cost() as u64;
+        ShardTotals::counted(items, bytes, shard.evicted(), &shard.tally()).with_out_of_memory()
+    }
+
+    /// The totals of a shard that holds and has counted so much, but for the commands for which no memory was left.
+    fn counted(items: u64, bytes: u64, evicted: u64, tally: &Tally) -> ShardTotals
+        ensures { result ≡ totals_counted items bytes evicted tally.now }
+    {
+        ShardTotals {
+            items,
+            bytes,
+            evicted,
+            out_of_memory: 0,
+            get: CommandTotals::of(tally, CountedAs::Get),
+            set: CommandTotals::of(tally, CountedAs::Set),
+            cas: CommandTotals::of(tally, CountedAs::Cas),
+            touch: CommandTotals::of(tally, CountedAs::Touch),
+            delete: CommandTotals::of(tally, CountedAs::Delete),
+            incr: CommandTotals::of(tally, CountedAs::Incr),
+            decr: CommandTotals::of(tally, CountedAs::Decr),
+            flush: CommandTotals::of(tally, CountedAs::Flush),
+        }
+    }
+
     /// The sum of both.
     pub fn and(self, other: ShardTotals) -> ShardTotals
         ensures { result ≡ shards_of_both self other }
@@ -103,17 +155,41 @@ impl ShardTotals {
         }
     }
 
+    /// The sum of these and of what each of the shards tells.
+    pub(crate) fn and_each<T, F: Fn(&T) -> ShardTotals>(self, shards: &[T], tell: &F) -> ShardTotals
+        requires { F.IsAlwaysCallable tell.now }
+        ensures { FoldsTo (GoesOn F.Fn tell.now) self shards.now result }
+    {
+        let mut totals = self;
+        for shard in shards {
+            totals = totals.and(tell(shard));
+        }
+        totals
+    }
+
     /// All commands of all kinds together.
-    pub fn all(&self) -> CommandTotals {
-        let stored = self.set.and(self.cas).and(self.touch);
-        let changed = self.delete.and(self.incr).and(self.decr);
-        self.get.and(stored).and(changed).and(self.flush)
+    pub fn all(&self) -> CommandTotals
+        ensures { result ≡ commands_of_all self.now }
+    {
+        let stored = self.get.and(self.set).and(self.cas).and(self.touch);
+        let changed = stored.and(self.delete).and(self.incr).and(self.decr);
+        changed.and(self.flush)
+    }
+
+    /// The same, and for how many of the commands no memory was left.
+    fn with_out_of_memory(self) -> ShardTotals
+        ensures { result ≡ with_out_of_memory self }
+    {
+        ShardTotals {
+            out_of_memory: self.all().no_memory,
+            ..self
+        }
     }
 }
 
-impl CommandCounts {
-    fn new() -> CommandCounts {
-        CommandCounts {
+impl CommandCounters<Counter> {
+    fn new() -> CommandCounters<Counter> {
+        CommandCounters {
             hits: Counter::new(),
             misses: Counter::new(),
             bad_values: Counter::new(),
@@ -121,25 +197,74 @@ impl CommandCounts {
             refused: Counter::new(),
         }
     }
+}
 
-    /// Shows what the shard has counted of this kind.
-    fn show(&self, shard: &Shard, asked: CountedAs) {
-        let tally = shard.tally();
-        self.hits.set(tally.count(asked, Status::Hit));
-        self.misses.set(tally.count(asked, Status::Miss));
-        self.bad_values.set(tally.count(asked, Status::BadValue));
-        self.no_memory.set(tally.count(asked, Status::NoMemory));
-        self.refused.set(tally.count(asked, Status::Refused));
+impl<C> CommandCounters<C> {
+    /// What each of them tells, under its name.
+    fn read<F: Fn(&C) -> u64>(&self, tell: &F) -> CommandTotals
+        requires { F.IsAlwaysCallable tell.now }
+        ensures { CommandsAreTold F.Fn tell.now self.now result }
+    {
+        CommandTotals {
+            hits: tell(&self.hits),
+            misses: tell(&self.misses),
+            bad_values: tell(&self.bad_values),
+            no_memory: tell(&self.no_memory),
+            refused: tell(&self.refused),
+        }
     }
 
-    fn totals(&self) -> CommandTotals {
-        CommandTotals {
-            hits: self.hits.get(),
-            misses: self.misses.get(),
-            bad_values: self.bad_values.get(),
-            no_memory: self.no_memory.get(),
-            refused: self.refused.get(),
+    /// Each of them takes the count of its name.
+    fn write<F: Fn(&C, u64)>(&self, take: &F, totals: &CommandTotals)
+        requires { F.IsAlwaysCallable take.now }
+        ensures { CommandsAreTaken F.Fn take.now self.now totals.now }
+    {
+        take(&self.hits, totals.hits);
+        take(&self.misses, totals.misses);
+        take(&self.bad_values, totals.bad_values);
+        take(&self.no_memory, totals.no_memory);
+        take(&self.refused, totals.refused);
+    }
+}
+
+impl<C> ShardCounters<C> {
+    /// What each of them tells, under its name.
+    fn read<F: Fn(&C) -> u64>(&self, tell: &F) -> ShardTotals
+        requires { F.IsAlwaysCallable tell.now }
+        ensures { AreTold F.Fn tell.now self.now result }
+    {
+        ShardTotals {
+            items: tell(&self.items),
+            bytes: tell(&self.bytes),
+            evicted: tell(&self.evicted),
+            out_of_memory: 0,
+            get: self.get.read(tell),
+            set: self.set.read(tell),
+            cas: self.cas.read(tell),
+            touch: self.touch.read(tell),
+            delete: self.delete.read(tell),
+            incr: self.incr.read(tell),
+            decr: self.decr.read(tell),
+            flush: self.flush.read(tell),
         }
+    }
+
+    /// Each of them takes the count of its name.
+    fn write<F: Fn(&C, u64)>(&self, take: &F, totals: &ShardTotals)
+        requires { F.IsAlwaysCallable take.now }
+        ensures { AreTaken F.Fn take.now self.now totals.now }
+    {
+        take(&self.items, totals.items);
+        take(&self.bytes, totals.bytes);
+        take(&self.evicted, totals.evicted);
+        self.get.write(take, &totals.get);
+        self.set.write(take, &totals.set);
+        self.cas.write(take, &totals.cas);
+        self.touch.write(take, &totals.touch);
+        self.delete.write(take, &totals.delete);
+        self.incr.write(take, &totals.incr);
+        self.decr.write(take, &totals.decr);
+        self.flush.write(take, &totals.flush);
     }
 }
 
@@ -147,57 +272,35 @@ impl ShardCounts {
     /// Of a shard that was asked nothing yet.
     pub fn new() -> ShardCounts {
         ShardCounts {
-            items: Counter::new(),
-            bytes: Counter::new(),
-            evicted: Counter::new(),
-            get: CommandCounts::new(),
-            set: CommandCounts::new(),
-            cas: CommandCounts::new(),
-            touch: CommandCounts::new(),
-            delete: CommandCounts::new(),
-            incr: CommandCounts::new(),
-            decr: CommandCounts::new(),
-            flush: CommandCounts::new(),
+            counters: ShardCounters {
+                items: Counter::new(),
+                bytes: Counter::new(),
+                evicted: Counter::new(),
+                get: CommandCounters::new(),
+                set: CommandCounters::new(),
+                cas: CommandCounters::new(),
+                touch: CommandCounters::new(),
+                delete: CommandCounters::new(),
+                incr: CommandCounters::new(),
+                decr: CommandCounters::new(),
+                flush: CommandCounters::new(),
+            },
         }
     }
 
     /// Shows what the shard holds and has counted. To be called by the thread of the shard alone.
     pub fn show(&self, shard: &Shard) {
-        self.items.set(shard.len() as u64);
-        self.bytes.set(shard.cost() as u64);
-        self.evicted.set(shard.evicted());
-        self.get.show(shard, CountedAs::Get);
-        self.set.show(shard, CountedAs::Set);
-        self.cas.show(shard, CountedAs::Cas);
-        self.touch.show(shard, CountedAs::Touch);
-        self.delete.show(shard, CountedAs::Delete);
-        self.incr.show(shard, CountedAs::Incr);
-        self.decr.show(shard, CountedAs::Decr);
-        self.flush.show(shard, CountedAs::Flush);
+        let totals = ShardTotals::of(shard);
+        self.counters
+            .write(&|counter: &Counter, count| counter.set(count), &totals);
     }
 
     /// What was shown last.
-    pub fn totals(&self) -> ShardTotals {
-        let mut totals = self.read();
-        totals.out_of_memory = totals.all().no_memory;
-        totals
-    }
-
-    /// The same, without what all kinds of commands have together.
-    fn read(&self) -> ShardTotals {
-        ShardTotals {
-            out_of_memory: 0,
-            items: self.items.get(),
-            bytes: self.bytes.get(),
-            evicted: self.evicted.get(),
-            get: self.get.totals(),
-            set: self.set.totals(),
-            cas: self.cas.totals(),
-            touch: self.touch.totals(),
-            delete: self.delete.totals(),
-            incr: self.incr.totals(),
-            decr: self.decr.totals(),
-            flush: self.flush.totals(),
-        }
+    pub fn totals(&self) -> ShardTotals
+        ensures { IsSummed result }
+    {
+        self.counters
+            .read(&|counter: &Counter| counter.get())
+            .with_out_of_memory()
     }
 }

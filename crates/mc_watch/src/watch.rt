@@ -1,5 +1,7 @@
 //! What is watched of the connections of a server, and of each of its seats.
-ghost use Rattle.std.specs.Prelude.{◌≡◌, None, false, true, IfOk};
+ghost use Rattle.std.specs.Prelude.{◌≡◌, [], None, Some, false, true, IfOk, IfSome, length};
+ghost use Rattle.mc_watch.specs.Counts.{shard_count};
+ghost use Rattle.mc_watch.specs.Limits.{patience_limit};
 
 use crate::counts::{Counts, EntranceCounts, SeatCounts};
 use crate::event::{Event, Manner};
@@ -64,7 +66,11 @@ impl Patience {
 
 impl Watch {
     /// Nothing is watched.
-    pub fn nothing(alloc: Global) -> Watch {
+    pub fn nothing(alloc: Global) -> Watch
+        ensures timeless { result.patience ≡ None }
+        ensures uncounted { result.counts ≡ None }
+        ensures unheard { result.reporters.items ≡ [] }
+    {
         Watch {
             patience: None,
             counts: None,
@@ -73,7 +79,14 @@ impl Watch {
     }
 
     /// What is watched of a seat, which the thread of this number serves.
-    pub fn seat(&mut self, seat: usize, thread: usize) -> Result<SeatWatch, AllocError> {
+    pub fn seat(&mut self, seat: usize, thread: usize) -> Result<SeatWatch, AllocError>
+        ensures seat { IfOk result (λ watch. watch.seat ≡ seat) }
+        ensures nobody { IfOk result (λ watch. watch.peer ≡ None) }
+        ensures limit { IfOk result
+            (λ watch. patience_limit watch.patience ≡ patience_limit self.old.patience) }
+        ensures patience { self.new.patience ≡ self.old.patience }
+        ensures counts { self.new.counts ≡ self.old.counts }
+    {
         let patience = match &self.patience {
             Some(patience) => Some(patience.share()?),
             None => None,
@@ -95,7 +108,11 @@ impl Watch {
     pub fn shards(
         &self,
         alloc: Global,
-    ) -> Result<Vec<Arc<CachePadded<ShardCounts>, Global>>, AllocError> {
+    ) -> Result<Vec<Arc<CachePadded<ShardCounts>, Global>>, AllocError>
+        ensures each { IfSome self.now.counts
+            (λ counts. IfOk result (λ shards. length shards.items ≡ shard_count counts)) }
+        ensures none { self.now.counts ≡ None → IfOk result (λ shards. shards.items ≡ []) }
+    {
         match &self.counts {
             Some(counts) => counts.shards(alloc),
             None => Ok(Vec::new(alloc)),
@@ -103,7 +120,11 @@ impl Watch {
     }
 
     /// What is watched where connections come in.
-    pub fn entrance(&mut self) -> Result<EntranceWatch, AllocError> {
+    pub fn entrance(&mut self) -> Result<EntranceWatch, AllocError>
+        ensures uncounted { self.old.counts ≡ None → IfOk result (λ watch. watch.counts ≡ None) }
+        ensures patience { self.new.patience ≡ self.old.patience }
+        ensures counts { self.new.counts ≡ self.old.counts }
+    {
         let counts = match &self.counts {
             Some(counts) => Some(counts.entrance()?),
             None => None,
@@ -114,7 +135,10 @@ impl Watch {
         })
     }
 
-    fn reporter(&mut self) -> Reporter {
+    fn reporter(&mut self) -> Reporter
+        ensures patience { self.new.patience ≡ self.old.patience }
+        ensures counts { self.new.counts ≡ self.old.counts }
+    {
         match self.reporters.pop() {
             Some(reporter) => reporter,
             None => Reporter::unheard(),
@@ -129,6 +153,11 @@ impl SeatWatch {
         ensures written { result.written ≡ 0 }
         // Where nobody says how long a connection may be idle, it may be for good.
         ensures timeless { self.old.patience ≡ None → result.pulse ≡ None }
+        ensures limit { IfSome result.pulse
+            (λ pulse. patience_limit self.old.patience ≡ Some pulse.limit) }
+        ensures peer { self.new.peer ≡ Some peer }
+        ensures seat { self.new.seat ≡ self.old.seat }
+        ensures patience { self.new.patience ≡ self.old.patience }
     {
         let seat = self.seat;
         self.peer = Some(peer);
@@ -137,26 +166,27 @@ impl SeatWatch {
     }
 
     /// The connection is served no more: it took so many commands, and broke or not.
-    pub fn close(&mut self, meter: &Meter, commands: u64, broke: bool) {
+    pub fn close(&mut self, meter: &Meter, commands: u64, broke: bool)
+        ensures nobody { self.new.peer ≡ None }
+        ensures seat { self.new.seat ≡ self.old.seat }
+        ensures patience { self.new.patience ≡ self.old.patience }
+    {
         if let Some(counts) = &self.counts {
             counts.commands.add(commands);
             counts.broken.add(u64::from(broke));
             counts.ended.add(1);
         }
         if let Some(peer) = self.peer.take() {
-            self.reporter.tell(Event::Closed {
-                peer,
-                seat: self.seat,
-                manner: manner_of(meter, broke),
-                commands,
-                read: meter.read(),
-                written: meter.written(),
-            });
+            let manner = manner_of(meter, broke);
+            self.reporter
+                .tell(closed(peer, self.seat, manner, commands, meter));
         }
     }
 
     /// A connection that was accepted can't be served.
-    pub fn turn_away(&mut self) {
+    pub fn turn_away(&mut self)
+        ensures { self.new ≡ self.old }
+    {
         if let Some(counts) = &self.counts {
             counts.broken.add(1);
             counts.ended.add(1);
@@ -168,7 +198,9 @@ impl SeatWatch {
     }
 
     fn pulse(&self) -> Option<Pulse>
-        ensures { self.now.patience ≡ None → result ≡ None }
+        ensures timeless { self.now.patience ≡ None → result ≡ None }
+        ensures limit { IfSome result
+            (λ pulse. patience_limit self.now.patience ≡ Some pulse.limit) }
     {
         let patience = self.patience.as_ref()?;
         Some(Pulse::begin(patience.seconds.share().ok()?, patience.limit))
@@ -177,18 +209,36 @@ impl SeatWatch {
 
 impl EntranceWatch {
     /// A connection was accepted.
-    pub fn accepted(&mut self) {
+    pub fn accepted(&mut self)
+        ensures { self.new ≡ self.old }
+    {
         if let Some(counts) = &self.counts {
             counts.accepted.add(1);
         }
     }
 
     /// None could be accepted, for the reason of this number, if the system told one.
-    pub fn failed(&mut self, fault: Option<i32>) {
+    pub fn failed(&mut self, fault: Option<i32>)
+        ensures { self.new.counts ≡ self.old.counts }
+    {
         if let Some(counts) = &self.counts {
             counts.failed.add(1);
         }
         self.reporter.tell(Event::NotAccepted { fault });
+    }
+}
+
+/// What is told of a connection that is served no more.
+fn closed(peer: SocketAddr, seat: usize, manner: Manner, commands: u64, meter: &Meter) -> Event
+    ensures { result ≡ Event.Closed peer seat manner commands meter.now.read meter.now.written }
+{
+    Event::Closed {
+        peer,
+        seat,
+        manner,
+        commands,
+        read: meter.read(),
+        written: meter.written(),
     }
 }
 
