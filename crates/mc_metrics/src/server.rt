@@ -3,7 +3,7 @@ use crate::page::SAMPLE_SECONDS;
 use crate::pages::Pages;
 use crate::visitor::Visitor;
 use mc_watch::Dismissal;
-use mio::net::TcpListener;
+use mio::net::{TcpListener, TcpStream};
 use mio::{Events, Interest, Poll, Registry, Token};
 use std::alloc::Global;
 use std::hash::RandomState;
@@ -22,15 +22,54 @@ const COMERS: usize = 64;
 /// The thread looks around so often, in milliseconds, where nobody asks anything.
 const LOOK_MILLIS: u64 = 200;
 
-/// A server that tells what another one counts.
+/// Where visitors come in, and what tells that one has come or has something to say.
 #[derive(Drop)]
-pub struct MetricsServer {
-    alloc: Global,
+struct Entry {
     poll: Poll,
     events: Events,
     listener: TcpListener,
     /// Where visitors are registered.
     registry: Registry,
+}
+
+impl Entry {
+    /// They come in by this listener.
+    fn new<R: Net>(rt: &R, alloc: Global, listener: net::TcpListener) -> io::Result<Entry> {
+        listener.set_nonblocking(true)?;
+        let mut listener = TcpListener::from_std(listener);
+        let poll = Poll::new(rt)?;
+        let registry = poll.registry().try_clone()?;
+        registry.register(&mut listener, Token(0), Interest::READABLE)?;
+        Ok(Entry {
+            poll,
+            events: Events::with_capacity(alloc, MOST_VISITORS)?,
+            listener,
+            registry,
+        })
+    }
+
+    /// Waits a little until somebody asks something. Where it fails the next look comes at once.
+    fn look(&mut self) {
+        let timeout = Duration::from_millis(LOOK_MILLIS);
+        let _ = self.poll.poll(&mut self.events, Some(timeout));
+    }
+
+    /// The next connection, if one has come and can be waited for.
+    fn accept(&mut self) -> Option<TcpStream> {
+        let (mut stream, _) = self.listener.accept().ok()?;
+        let interests = Interest::READABLE | Interest::WRITABLE;
+        self.registry
+            .register(&mut stream, Token(1), interests)
+            .ok()?;
+        Some(stream)
+    }
+}
+
+/// A server that tells what another one counts.
+#[derive(Drop)]
+pub struct MetricsServer {
+    alloc: Global,
+    entry: Entry,
     /// In the order in which they came.
     visitors: Vec<Visitor>,
     pages: Pages,
@@ -44,17 +83,10 @@ impl MetricsServer {
         listener: net::TcpListener,
         pages: Pages,
     ) -> io::Result<MetricsServer> {
-        listener.set_nonblocking(true)?;
-        let mut listener = TcpListener::from_std(listener);
-        let poll = Poll::new(rt)?;
-        let registry = poll.registry().try_clone()?;
-        registry.register(&mut listener, Token(0), Interest::READABLE)?;
+        let entry = Entry::new(rt, alloc, listener)?;
         Ok(MetricsServer {
             alloc,
-            poll,
-            events: Events::with_capacity(alloc, MOST_VISITORS)?,
-            listener,
-            registry,
+            entry,
             visitors: Vec::with_capacity(alloc, MOST_VISITORS)?,
             pages,
         })
@@ -63,13 +95,22 @@ impl MetricsServer {
     /// Serves until it is told to end, or the clock can't be read.
     pub fn serve<R: Wait + RandomSource + time::Clock>(self, rt: &R, dismissal: &Dismissal) {
         let mut server = self;
-        let Ok(begin) = Instant::now(rt) else {
-            return;
-        };
+        if let Ok(begin) = Instant::now(rt) {
+            server.serve_since(rt, &begin, dismissal);
+        }
+    }
+
+    /// The same, where it began then.
+    fn serve_since<R: Wait + RandomSource + time::Clock>(
+        &mut self,
+        rt: &R,
+        begin: &Instant,
+        dismissal: &Dismissal,
+    ) {
         let mut sampled = 0;
-        server.pages.sample();
+        self.pages.sample();
         for _ in rt.forever() {
-            server.look();
+            self.entry.look();
             let Ok(passed) = begin.elapsed(rt) else {
                 return;
             };
@@ -77,39 +118,40 @@ impl MetricsServer {
                 return;
             }
             let uptime = passed.as_secs();
-            server.pages.set_uptime(uptime);
+            self.pages.set_uptime(uptime);
             if uptime / SAMPLE_SECONDS > sampled {
                 sampled = uptime / SAMPLE_SECONDS;
-                server.pages.sample();
+                self.pages.sample();
             }
-            server.let_in(rt);
-            server.serve_visitors();
+            self.let_in(rt);
+            self.serve_visitors();
         }
         unreachable!()
-    }
-
-    /// Waits a little until somebody asks something. Where it fails the next look comes at once.
-    fn look(&mut self) {
-        let timeout = Duration::from_millis(LOOK_MILLIS);
-        let _ = self.poll.poll(&mut self.events, Some(timeout));
     }
 
     /// Lets in those who have come.
     fn let_in<R: RandomSource>(&mut self, rt: &R) {
         for _ in 0..COMERS {
-            let Ok((mut stream, _)) = self.listener.accept() else {
+            let Some(visitor) = self.next_visitor(rt) else {
                 return;
             };
-            let interests = Interest::READABLE | Interest::WRITABLE;
-            let registered = self.registry.register(&mut stream, Token(1), interests);
-            let (Ok(()), Ok(keys)) = (registered, RandomState::new(rt)) else {
-                return;
-            };
-            if self.visitors.len() >= MOST_VISITORS {
-                self.visitors.remove(0);
-            }
+            self.make_room();
             // There is room for all who stay.
-            let _ = self.visitors.push(Visitor::new(self.alloc, keys, stream));
+            let _ = self.visitors.push(visitor);
+        }
+    }
+
+    /// The next who has come, if there is one and it can be served.
+    fn next_visitor<R: RandomSource>(&mut self, rt: &R) -> Option<Visitor> {
+        let stream = self.entry.accept()?;
+        let keys = RandomState::new(rt).ok()?;
+        Some(Visitor::new(self.alloc, keys, stream))
+    }
+
+    /// Sends away the one who came first, where as many stay as may.
+    fn make_room(&mut self) {
+        if self.visitors.len() >= MOST_VISITORS {
+            self.visitors.remove(0);
         }
     }
 

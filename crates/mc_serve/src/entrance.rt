@@ -50,6 +50,19 @@ pub(crate) struct Bell {
 }
 
 impl Bell {
+    /// A bell of an entrance whose thread sleeps there.
+    fn new(alloc: Global, sleeper: &Sleeper) -> Result<Bell, AllocError> {
+        let closing = Closing {
+            is_over: AtomicBool::new(false),
+            has_failed: AtomicBool::new(false),
+            is_dismissed: AtomicBool::new(false),
+        };
+        Ok(Bell {
+            closing: Arc::new(alloc, closing)?,
+            wakers: Wakers::of(alloc, slice::from_ref(sleeper))?,
+        })
+    }
+
     /// The same bell, for one more.
     fn share(&self) -> Result<Bell, AllocError> {
         Ok(Bell {
@@ -129,15 +142,7 @@ impl Entrance {
     ) -> Result<Entrance, AllocError> {
         let free = FreeSeats::new(alloc, sleepers)?;
         let sleeper = Sleeper::new(alloc, AT_ONCE, free.seats(), 1, 1)?;
-        let closing = Closing {
-            is_over: AtomicBool::new(false),
-            has_failed: AtomicBool::new(false),
-            is_dismissed: AtomicBool::new(false),
-        };
-        let bell = Bell {
-            closing: Arc::new(alloc, closing)?,
-            wakers: Wakers::of(alloc, slice::from_ref(&sleeper))?,
-        };
+        let bell = Bell::new(alloc, &sleeper)?;
         Ok(Entrance {
             listener,
             left: connections,

@@ -7,7 +7,7 @@ ghost use Rattle.mc_serve.specs.Sizes.{MayServe};
 ghost use Rattle.mc_serve.specs.Tcp.{ServesConnections, gone_count, told_tcp};
 ghost use Rattle.mc_serve.specs.Told.{TellsLines};
 
-use crate::entrance::Entrance;
+use crate::entrance::{Bell, Entrance};
 use crate::refusal::ServeRefusal;
 use crate::serving::serve;
 use crate::shard_watch::ShardWatch;
@@ -21,7 +21,7 @@ use std::alloc::{AllocError, Global};
 use std::net::{Net, TcpListener};
 use std::random::RandomSource;
 use std::sync::Wait;
-use std::thread::Threads;
+use std::thread::{JoinHandle, Threads};
 use std::{io, thread, time};
 
 /// A thread that waits for sockets sleeps at once where it finds nothing: to look again would take more of the processor than
@@ -58,22 +58,58 @@ pub fn serve_tcp<
     let mut watch = watch;
     let mut entrance = Entrance::new(alloc, listener, connections, &sleepers, watch.entrance()?)?;
     let doors = doors_to(rt, alloc, &mut entrance, seats, sizes, &mut watch)?;
-    let bell = entrance.bell()?;
     let gate = ShardWatch {
         shards: watch.shards(alloc)?,
     };
-    let warden = Warden::start(rt, alloc, &watch, &sleepers)?;
-    let own = *rt;
-    let Ok(accepting) = thread::spawn(rt, move || entrance.run(&own)) else {
-        warden.dismiss(rt);
-        return Err(ServeRefusal::Thread);
-    };
+    let beside = Beside::start(rt, alloc, entrance, &watch, &sleepers)?;
     let served = serve(rt, alloc, doors, sleepers, sizes, gate, clock);
-    bell.dismiss();
-    warden.dismiss(rt);
-    accepting.join(rt);
+    beside.end(rt);
     let back = served?;
     count_ended(back)
+}
+
+/// What goes on beside the serving: a thread that accepts connections, and the warden's.
+#[derive(Drop)]
+struct Beside {
+    bell: Bell,
+    warden: Warden,
+    accepting: JoinHandle<()>,
+}
+
+impl Beside {
+    /// Starts both threads. The sleepers are those of the threads of the seats.
+    fn start<R: Threads + Wait + time::Clock + Copy + Send + Drop + 'static>(
+        rt: &R,
+        alloc: Global,
+        entrance: Entrance,
+        watch: &Watch,
+        sleepers: &[Sleeper],
+    ) -> Result<Beside, ServeRefusal> {
+        let bell = entrance.bell()?;
+        let warden = Warden::start(rt, alloc, watch, sleepers)?;
+        let own = *rt;
+        let Ok(accepting) = thread::spawn(rt, move || entrance.run(&own)) else {
+            warden.dismiss(rt);
+            return Err(ServeRefusal::Thread);
+        };
+        Ok(Beside {
+            bell,
+            warden,
+            accepting,
+        })
+    }
+
+    /// Ends both threads.
+    fn end<R: Threads>(self, rt: &R) {
+        let Beside {
+            bell,
+            warden,
+            accepting,
+        } = self;
+        bell.dismiss();
+        warden.dismiss(rt);
+        accepting.join(rt);
+    }
 }
 
 /// The sleep of each of so many threads, which have one shard each, and as many of the seats as another or one more.
