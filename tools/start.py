@@ -6,74 +6,143 @@
 Each crate is told when it is proved, with how many are left. What was proved stays in crates/NAME/out, so a second start takes
 seconds, and one that was stopped goes on where it was. Nothing is built that isn't proved: where a crate isn't, its words are
 shown and nothing starts. N crates are proved at a time, each by as many processes as `rt` finds room for: where nothing is said,
-one for two cores and for 8 GiB of memory.
+one for each core and for 6 GiB of memory. One that is proved alone gets a process for each core and for 4 GiB.
 """
 import argparse
 import concurrent.futures
+import contextlib
+import fcntl
 import os
 import pathlib
 import re
+import shutil
 import subprocess
 import sys
 import time
 
 TOP = pathlib.Path(__file__).resolve().parent.parent
 CRATES = TOP / "crates"
+ASIDE = TOP / "out"
+LIST = "crates.txt"
 PROGRAM = "mcd"
-CORES_A_CRATE = 2
-BYTES_A_CRATE = 8 * 1024**3
+BYTES_A_CRATE = 6 * 1024**3
+BYTES_A_PROCESS = 4 * 1024**3
+
+# What a proof reads of a crate, and what one above it reads of its proof.
+SOURCES = ["src", "specs", "proofs"]
+PROVED = "out/rlib"
 
 # How many of the last lines of a crate that isn't proved are shown.
 SHOWN = 30
 
 
+def listed():
+    """The line of each crate."""
+    lines = (TOP / LIST).read_text(encoding="utf-8").splitlines()
+    return {named[0]: line for line in lines if (named := re.match(r"\w+", line))}
+
+
 def below(program):
-    """The crates that the program stands on, with those that each of them stands on."""
-    needs = {}
-    for line in (TOP / "crates.txt").read_text(encoding="utf-8").splitlines():
-        if found := re.match(r"(\w+)[^:#]*:(.*)", line):
-            needs[found[1]] = found[2].split()
-    found, wanted = {}, [program]
-    while wanted:
-        name = wanted.pop()
-        if name in needs and name not in found:
-            found[name] = [it for it in needs[name] if it in needs]
-            wanted += found[name]
-    del found[program]
-    return found
+    """The crates that the program stands on, with all that each of them stands on."""
+    needs, found = {name: line.partition(":")[2].split() for name, line in listed().items()}, {}
+
+    def of(name):
+        if name not in found:
+            own = [it for it in needs[name] if it in needs]
+            found[name] = {*own}.union(*map(of, own))
+        return found[name]
+
+    return {it: of(it) for it in of(program)}
 
 
-def jobs_here():
-    """How many crates may be proved at a time on this machine."""
+def work_behind(needs):
+    """How much is proved at the least from the beginning of each crate to the program, one after another: lines of code."""
+    behind = {}
+
+    def of(name):
+        if name not in behind:
+            own = sum(len(it.read_bytes().splitlines()) for it in (CRATES / name / "src").rglob("*.rt"))
+            behind[name] = own + max((of(it) for it, wanted in needs.items() if name in wanted), default=0)
+        return behind[name]
+
+    return {it: of(it) for it in needs}
+
+
+def room_for(size):
+    """How much there is room for on this machine that takes a core and so many bytes each."""
     memory = os.sysconf("SC_PAGE_SIZE") * os.sysconf("SC_PHYS_PAGES")
-    return max(1, min(len(os.sched_getaffinity(0)) // CORES_A_CRATE, memory // BYTES_A_CRATE))
+    return max(1, min(len(os.sched_getaffinity(0)), memory // size))
+
+
+# How `rt` proves a crate that nothing is proved beside.
+ALONE = ["--jobs", str(room_for(BYTES_A_PROCESS))]
 
 
 def minutes(seconds):
     return f"{int(seconds) // 60}:{int(seconds) % 60:02}"
 
 
-def prove(name):
+def link(file, to):
+    try:
+        os.link(file, to)
+    except OSError:
+        shutil.copy2(file, to)
+
+
+def put_back(name):
+    """Moves what was proved of a crate from its copy, if there is one, to where it stays."""
+    if (ASIDE / name).is_dir():
+        if (ASIDE / name / "crates" / name / "out").is_dir():
+            (ASIDE / name / "crates" / name / "out").rename(CRATES / name / "out")
+        shutil.rmtree(ASIDE / name)
+
+
+@contextlib.contextmanager
+def copied(name, wanted):
+    """A copy, of links, of a crate with those that it stands on, since `rt` proves no two crates at a time over the same ones of a
+    folder. What was proved of it before goes there, and comes back; meanwhile any other `rt` in the crate's folder waits."""
+    held, copy = os.open(CRATES / name, os.O_RDONLY), ASIDE / name
+    fcntl.flock(held, fcntl.LOCK_EX)
+    try:
+        put_back(name)
+        for it in [name, *wanted]:
+            for part in SOURCES if it == name else [*SOURCES, PROVED]:
+                if (CRATES / it / part).is_dir():
+                    shutil.copytree(CRATES / it / part, copy / "crates" / it / part, copy_function=link)
+        (copy / LIST).write_text("".join(f"{line}\n" for it, line in listed().items() if it in {name, *wanted}), encoding="utf-8")
+        link(TOP / "HANDLES", copy / "HANDLES")
+        if (CRATES / name / "out").is_dir():
+            (CRATES / name / "out").rename(copy / "crates" / name / "out")
+        yield copy / "crates" / name
+    finally:
+        put_back(name)
+        os.close(held)
+
+
+def prove(name, wanted, flags):
     """Proves a crate, over those below it; its seconds, and what was said where it isn't proved."""
     begun = time.monotonic()
-    ran = subprocess.run(["rt", "lib"], cwd=CRATES / name, stdout=subprocess.PIPE, stderr=subprocess.STDOUT, text=True, errors="replace")
+    with copied(name, wanted) as folder:
+        ran = subprocess.run(["rt", "lib", *flags], cwd=folder, stdout=subprocess.PIPE, stderr=subprocess.STDOUT, text=True, errors="replace")
     return time.monotonic() - begun, ran.stdout if ran.returncode else None
 
 
 def prove_all(needs, jobs):
-    """Proves the crates, each once those that it needs are; whether all are proved."""
-    begun, proved, running, left = time.monotonic(), set(), {}, dict(needs)
+    """Proves the crates, each once those that it needs are, and first those behind which the most is left; whether all are proved."""
+    begun, proved, running, behind = time.monotonic(), set(), {}, work_behind(needs)
+    left = sorted(needs, key=behind.get, reverse=True)
     with concurrent.futures.ThreadPoolExecutor(jobs) as pool:
         while left or running:
-            for name in [it for it, wanted in left.items() if proved.issuperset(wanted)]:
-                running[pool.submit(prove, name)] = name
-                del left[name]
+            ready = [it for it in left if proved.issuperset(needs[it])]
+            flags = ALONE if len(ready) + len(running) == 1 else []
+            for name in ready[: jobs - len(running)]:
+                running[pool.submit(prove, name, needs[name], flags)] = name
+                left.remove(name)
             done, _ = concurrent.futures.wait(running, return_when=concurrent.futures.FIRST_COMPLETED)
             for one in done:
                 name = running.pop(one)
                 seconds, fault = one.result()
                 if fault is not None:
-                    pool.shutdown(wait=False, cancel_futures=True)
                     print(*fault.splitlines()[-SHOWN:], f"{name} is not proved, so nothing starts", sep="\n")
                     return False
                 proved.add(name)
@@ -83,7 +152,7 @@ def prove_all(needs, jobs):
 
 def main():
     parser = argparse.ArgumentParser(description=__doc__, formatter_class=argparse.RawDescriptionHelpFormatter)
-    parser.add_argument("--jobs", type=int, default=jobs_here())
+    parser.add_argument("--jobs", type=int, default=room_for(BYTES_A_CRATE))
     parser.add_argument("options", nargs="*")
     asked = parser.parse_args()
     needs = below(PROGRAM)
@@ -92,7 +161,7 @@ def main():
         return 1
     print(f"{PROGRAM} itself is proved next, built and started", flush=True)
     os.chdir(CRATES / PROGRAM)
-    os.execvp("rt", ["rt", "run", "--", *asked.options])
+    os.execvp("rt", ["rt", "run", *ALONE, "--", *asked.options])
 
 
 if __name__ == "__main__":
