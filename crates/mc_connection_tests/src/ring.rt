@@ -3,10 +3,24 @@ ghost use Rattle.std.specs.Prelude.{◌<◌, length};
 ghost use Rattle.mc_ring.specs.Ends.{AreSameEnds};
 
 use crate::asserting::{equal, holds};
+use mc_command::Profile;
 use mc_item::{Answer, Kind, Op};
 use mc_ring::{Parcel, Reply, RingRefusal, SeatEnds, ShardEnds, beside, lanes};
+use mc_sizes::Sizes;
 use mc_split::{Piece, Ticket};
 use std::test::Fail;
+
+/// Two seats, three shards, and rings of one place.
+const SIZES: Sizes = Sizes {
+    profile: Profile::Own,
+    seats: 2,
+    shards: 3,
+    bytes: 65_536,
+    ring: 1,
+    value: 1_048_576,
+    line: 65_536,
+    window: 256,
+};
 
 /// A piece of the command of this number.
 fn piece(number: u64) -> Parcel {
@@ -34,7 +48,7 @@ fn number_of(parcel: Option<Parcel>) -> Option<u64> {
 
 #[test]
 fn a_ring_of_one_holds_one_parcel(rt: HostRuntime) -> Result<(), Fail> {
-    let (mut seats, mut shards) = lanes(rt.alloc(), 2, 3, 1)?;
+    let (mut seats, mut shards) = lanes(rt.alloc(), SIZES)?;
     let (seat, shard) = (&mut seats[1], &mut shards[2]);
     holds(&rt, shard.take(1).is_none());
     holds(&rt, seat.send(2, piece(7)).is_ok());
@@ -47,7 +61,7 @@ fn a_ring_of_one_holds_one_parcel(rt: HostRuntime) -> Result<(), Fail> {
 
 #[test]
 fn a_ring_of_one_holds_one_reply(rt: HostRuntime) -> Result<(), Fail> {
-    let (mut seats, mut shards) = lanes(rt.alloc(), 2, 3, 1)?;
+    let (mut seats, mut shards) = lanes(rt.alloc(), SIZES)?;
     let (seat, shard) = (&mut seats[1], &mut shards[2]);
     holds(&rt, seat.receive(2).is_none());
     holds(&rt, shard.give(1, reply(7)).is_ok());
@@ -67,7 +81,7 @@ fn a_ring_of_one_holds_one_reply(rt: HostRuntime) -> Result<(), Fail> {
 
 #[test]
 fn what_waits_is_seen_on_its_lane_alone(rt: HostRuntime) -> Result<(), Fail> {
-    let (mut seats, mut shards) = lanes(rt.alloc(), 2, 3, 1)?;
+    let (mut seats, mut shards) = lanes(rt.alloc(), SIZES)?;
     let (seat, shard) = (&mut seats[1], &mut shards[2]);
     equal(&rt, (seat.number(), seat.shards()), (1, 3));
     equal(&rt, (shard.number(), shard.seats()), (2, 2));
@@ -106,7 +120,13 @@ fn takes(shard: &mut ShardEnds) -> Option<u64>
 
 #[test]
 fn what_waits_is_counted(rt: HostRuntime) -> Result<(), Fail> {
-    let (mut seats, mut shards) = lanes(rt.alloc(), 1, 1, 3)?;
+    let sizes = Sizes {
+        seats: 1,
+        shards: 1,
+        ring: 3,
+        ..SIZES
+    };
+    let (mut seats, mut shards) = lanes(rt.alloc(), sizes)?;
     let (seat, shard) = (&mut seats[0], &mut shards[0]);
     equal(&rt, beside(seat, shard), (0, 0));
     holds(&rt, sends(seat, 0));
@@ -119,7 +139,7 @@ fn what_waits_is_counted(rt: HostRuntime) -> Result<(), Fail> {
 
 #[test]
 fn numbers_out_of_range_are_refused(rt: HostRuntime) {
-    for (seats, shards, capacity) in [
+    for (seats, shards, ring) in [
         (0, 1, 1),
         (4_097, 1, 1),
         (1, 0, 1),
@@ -127,14 +147,27 @@ fn numbers_out_of_range_are_refused(rt: HostRuntime) {
         (1, 1, 0),
         (1, 1, 1025),
     ] {
+        let sizes = Sizes {
+            seats,
+            shards,
+            ring,
+            ..SIZES
+        };
         equal(
             &rt,
-            lanes(rt.alloc(), seats, shards, capacity).err(),
+            lanes(rt.alloc(), sizes).err(),
             Some(RingRefusal::Size),
         );
     }
-    holds(&rt, lanes(rt.alloc(), 64, 16, 1).is_ok());
-    holds(&rt, lanes(rt.alloc(), 1, 1, 1024).is_ok());
+    for (seats, shards, ring) in [(64, 16, 1), (1, 1, 1024)] {
+        let sizes = Sizes {
+            seats,
+            shards,
+            ring,
+            ..SIZES
+        };
+        holds(&rt, lanes(rt.alloc(), sizes).is_ok());
+    }
 }
 
 #[test]

@@ -4,6 +4,7 @@ use Rattle.std.specs.Prelude.{MatchBool}
 use Rattle.std.specs.List.{AllByRecursion}
 use Rattle.std.proofs.lemmas.Bool.{cases_Bool, eqb-true}
 use Rattle.std.proofs.lemmas.List.{length-map, take_all}
+use Rattle.mc_sizes.specs.declared.sizes.Sizes.{Sizes}
 use Rattle.mc_item.specs.declared.op.Op.{Op}
 use Rattle.mc_item.specs.declared.answer.Answer.{Answer}
 use Rattle.mc_item.specs.declared.answer.Answer.TheVariants.{NoMemory}
@@ -21,7 +22,6 @@ use Rattle.mc_conn.specs.Due.{Ran, due, history_from, history_of, log_from, log_
 use Rattle.mc_conn.specs.Due as due
 use Rattle.mc_conn.specs.Fits.{reply_of}
 use Rattle.mc_conn.proofs.Telling.{ran_on-same}
-use Rattle.mc_core.specs.Sizes.{Sizes}
 use Rattle.mc_core.specs.Sized.{empty_shard}
 use Rattle.mc_core.specs.Log.{Entry, IsLawful, Run, of_asker, on_shard, pieces_in, replies_in, reply_to}
 use Rattle.mc_core.specs.World.{Link, World}

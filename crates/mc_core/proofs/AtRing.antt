@@ -5,6 +5,7 @@ use Rattle.std.specs.List.{slice_get}
 use Rattle.std.proofs.lemmas.Bool.{cases_eq, cases_lt}
 use Rattle.std.proofs.lemmas.List.{drop-append-le, length-map, length-take-le, take-append-drop}
 use Rattle.std.proofs.lemmas.Option.{same_Some, slice_get_within}
+use Rattle.mc_sizes.specs.declared.sizes.Sizes.{Sizes}
 use Rattle.mc_ring.specs.Reply.{Shown}
 use Rattle.mc_ring.specs.EndsLaws.{get-set_same, length-slice_set}
 use Rattle.mc_split.specs.declared.plan.Piece.{Piece}
@@ -18,7 +19,6 @@ use Rattle.mc_conn.proofs.Places.{lane-append, lane-no, lane-yes}
 use Rattle.mc_core.specs.declared.event.StepReply.TheVariants as replied
 use Rattle.mc_core.specs.declared.sim.Seat.{Seat}
 use Rattle.mc_core.specs.declared.sim.Sim.{Sim}
-use Rattle.mc_core.specs.Sizes.{Sizes}
 use Rattle.mc_core.specs.Log.{of_asker, on_shard, replies_in, reply_to}
 use Rattle.mc_core.specs.World.{IsAt, Link, World, ran, sent_to, with_link}
 use Rattle.mc_core.specs.Events.{IsEmptyHand, MaySend, one_more}

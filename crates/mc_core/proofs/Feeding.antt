@@ -3,6 +3,7 @@ use Rattle.std.proofs.Common.{◌≡◌, ℕ, ◌+◌, ◌<◌, ◌≤◌, inl, 
 use Rattle.std.specs.List.{slice_get}
 use Rattle.std.proofs.lemmas.List.{length-map}
 use Rattle.std.proofs.Math.Seq.{take-append-add}
+use Rattle.mc_sizes.specs.declared.sizes.Sizes.{Sizes}
 use Rattle.mc_reader.specs.Spelling.{is_closed}
 use Rattle.mc_reader.proofs.Fronts.{commands_begin}
 use Rattle.mc_reader.specs.Spelling.{AreCommands, BeginCommands}
@@ -17,7 +18,6 @@ use Rattle.mc_core.specs.declared.event.StepReply.TheVariants as replied
 use Rattle.mc_core.specs.declared.sim.Connection.{Connection}
 use Rattle.mc_core.specs.declared.sim.Seat.{Seat}
 use Rattle.mc_core.specs.declared.sim.Sim.{Sim}
-use Rattle.mc_core.specs.Sizes.{Sizes}
 use Rattle.mc_core.specs.Log.{of_asker}
 use Rattle.mc_core.specs.Rings.{AreWired}
 use Rattle.mc_core.specs.World.{IsAt, IsLink, Link, World, with_link}

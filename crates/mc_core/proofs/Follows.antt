@@ -6,6 +6,8 @@ use Rattle.std.proofs.lemmas.List.{length-map, take-append-drop}
 use Rattle.std.proofs.lemmas.Option.{same_Some, slice_get_within}
 use Rattle.mc_command.specs.declared.command.Command.{Command}
 use Rattle.mc_command.specs.declared.rules.Rules.{Rules}
+use Rattle.mc_sizes.specs.Sizes.{rules_of}
+use Rattle.mc_sizes.specs.declared.sizes.Sizes.{Sizes}
 use Rattle.mc_ring.specs.Reply.{Shown}
 use Rattle.mc_split.specs.declared.plan.Piece.{Piece}
 use Rattle.mc_reader.specs.Spelling.{SpellsFront, is_last}
@@ -16,7 +18,6 @@ use Rattle.mc_conn.proofs.Gets.{all_at}
 use Rattle.mc_conn.proofs.Places.{piece_at}
 use Rattle.mc_conn.proofs.Counting.{count_from_come}
 use Rattle.mc_conn.proofs.Telling.{same_taken, tells, texts_first}
-use Rattle.mc_core.specs.Sizes.{Sizes, rules_of}
 use Rattle.mc_core.specs.Log.{Entry, of_asker, on_shard, replies_in, reply_to}
 use Rattle.mc_core.specs.World.{Link, World, entries}
 use Rattle.mc_core.specs.Rest.{AtRest, IsAllReceived, IsAllSent, IsAllTaken}

@@ -5,6 +5,8 @@ use Rattle.std.specs.List.{slice_get}
 use Rattle.std.proofs.lemmas.Bool.{cases_eq}
 use Rattle.std.proofs.lemmas.List.{drop_all, length-map, length-take-le, take-append-drop, take_all}
 use Rattle.std.proofs.lemmas.Option.{slice_get_within}
+use Rattle.mc_sizes.specs.Sizes.{rules_of}
+use Rattle.mc_sizes.specs.declared.sizes.Sizes.{Sizes}
 use Rattle.mc_ring.specs.EndsLaws.{get-set_other, get-set_same, length-slice_set}
 use Rattle.mc_ring.specs.Reply.{Shown}
 use Rattle.mc_conn.specs.declared.conn.Conn.{Conn}
@@ -21,7 +23,6 @@ use Rattle.mc_core.specs.declared.event.StepReply.TheVariants as replied
 use Rattle.mc_core.specs.declared.sim.Connection.{Connection}
 use Rattle.mc_core.specs.declared.sim.Seat.{Seat}
 use Rattle.mc_core.specs.declared.sim.Sim.{Sim}
-use Rattle.mc_core.specs.Sizes.{Sizes, rules_of}
 use Rattle.mc_core.specs.Log.{Entry, of_asker, on_shard, replies_in, reply_to}
 use Rattle.mc_core.specs.World.{IsAt, IsLink, Link, World, new_link, ran, sent_to}
 use Rattle.mc_core.specs.Rest.{AtRest, IsAllReceived, IsAllSent, IsAllTaken, IsClosed, MayRenew}

@@ -5,6 +5,7 @@ use Rattle.std.proofs.lemmas.Bool.{cases_eq, cases_lt}
 use Rattle.std.proofs.lemmas.List.{length-map, map-append, take-append-drop, take-append-le}
 use Rattle.std.proofs.lemmas.List.Elements.{filter-append}
 use Rattle.std.proofs.lemmas.Option.{slice_get_within}
+use Rattle.mc_sizes.specs.declared.sizes.Sizes.{Sizes}
 use Rattle.mc_ring.specs.Reply.{Shown}
 use Rattle.mc_join.specs.Replies.{replies}
 use Rattle.mc_conn.specs.declared.conn.Conn.{Conn}
@@ -19,7 +20,6 @@ use Rattle.mc_core.specs.declared.sim.Connection.{Connection}
 use Rattle.mc_core.specs.declared.sim.Seat.{Seat}
 use Rattle.mc_core.specs.declared.sim.Sim.{Sim}
 use Rattle.mc_core.specs.declared.sim.rings.Ran.{Ran}
-use Rattle.mc_core.specs.Sizes.{Sizes}
 use Rattle.mc_core.specs.Sized.{empty_shard}
 use Rattle.mc_core.specs.Log.{Entry, Leaves, Run, of_asker, on_shard, replies_in, reply_to}
 use Rattle.mc_core.specs.World.{IsAt, IsLink, Link, World, ran, sent_to, with_entry}

@@ -5,6 +5,7 @@ use Rattle.std.specs.List.{slice_get}
 use Rattle.std.proofs.lemmas.Bool.{cases_eq, cases_lt}
 use Rattle.std.proofs.lemmas.List.{length-map, length-take-le}
 use Rattle.std.proofs.lemmas.Option.{same_Some}
+use Rattle.mc_sizes.specs.declared.sizes.Sizes.{Sizes}
 use Rattle.mc_ring.specs.Reply.{Shown}
 use Rattle.mc_split.specs.declared.plan.Piece.{Piece}
 use Rattle.mc_join.specs.declared.joiner.Stranger.{Stranger}
@@ -20,7 +21,6 @@ use Rattle.mc_conn.proofs.Gets.{get_below, get_take}
 use Rattle.mc_core.specs.declared.event.StepReply.TheVariants as replied
 use Rattle.mc_core.specs.declared.sim.Seat.{Seat}
 use Rattle.mc_core.specs.declared.sim.Sim.{Sim}
-use Rattle.mc_core.specs.Sizes.{Sizes}
 use Rattle.mc_core.specs.Log.{Entry, of_asker, on_shard, replies_in, reply_to}
 use Rattle.mc_core.specs.World.{Link, with_link}
 use Rattle.mc_core.specs.Events.{one_more}

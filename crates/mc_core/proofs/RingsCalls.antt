@@ -3,6 +3,7 @@ use Rattle.std.proofs.Common.{◌≡◌, ◌↔◌, ℕ, suc, ◌<◌, ◌≤◌
 use Rattle.std.specs.List.{slice_get}
 use Rattle.std.specs.Option.{IfNone, IfSome, is_some, option_map}
 use Rattle.std.proofs.lemmas.Option.{same_Some, slice_get_read, slice_get_within}
+use Rattle.mc_sizes.specs.declared.sizes.Sizes.{Sizes}
 use Rattle.mc_split.specs.declared.plan.Piece.{Piece}
 use Rattle.mc_split.specs.declared.plan.Ticket.{Ticket}
 use Rattle.mc_ring.specs.declared.parcel.Parcel.{Parcel}
@@ -14,7 +15,6 @@ use Rattle.mc_ring.specs.Ends.{AtLane, Ends, Receives, Sends}
 use Rattle.mc_core.specs.declared.worker.Turn.{Turn}
 use Rattle.mc_core.specs.declared.worker.Turn.TheVariants.{Gave, Ran}
 use Rattle.mc_core.specs.declared.sim.rings.Ran.{Ran as RanPiece}
-use Rattle.mc_core.specs.Sizes.{Sizes}
 use Rattle.mc_core.specs.Desk.{Desk}
 use Rattle.mc_core.specs.Turns.{GivesIt, RunsPiece, Turned}
 use Rattle.mc_core.specs.Laid.{AreIn, AreLaid, Laid, LooksAt}

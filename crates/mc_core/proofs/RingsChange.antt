@@ -4,6 +4,7 @@ use Rattle.std.specs.List.{AllByRecursion, slice_get}
 use Rattle.std.proofs.lemmas.List.{append_cancel_left, length-append, length-map}
 use Rattle.std.proofs.lemmas.Option.{same_Some}
 use Rattle.std.proofs.lemmas.Bool.Decides.{eqb_tells}
+use Rattle.mc_sizes.specs.declared.sizes.Sizes.{Sizes}
 use Rattle.mc_split.specs.declared.plan.Piece.{Piece}
 use Rattle.mc_ring.specs.declared.parcel.Parcel.TheVariants as parcel
 use Rattle.mc_ring.specs.Reply.{Shown}
@@ -12,7 +13,6 @@ use Rattle.mc_ring.specs.Ends.{AreSameEnds, AtLane, Ends, Looks, list_at, receiv
 use Rattle.mc_ring.specs.EndsLaws.{at_lane-kept, at_lane-other, at_lane-same_ends, get-set_same, lane_kept, length-slice_set, same_ends-refl}
 use Rattle.mc_store.specs.State.{State}
 use Rattle.mc_store.specs.Shard.{Keeps}
-use Rattle.mc_core.specs.Sizes.{Sizes}
 use Rattle.mc_core.specs.Desk.{Desk}
 use Rattle.mc_core.specs.Laid.{AreLaid, Laid, LooksAt}
 use Rattle.mc_core.specs.Rings.{HaveWires, IsSeatEnds, IsWire, IsWorker, Wires, parcels_of, with_lane, with_shard}

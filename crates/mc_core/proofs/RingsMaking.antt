@@ -3,11 +3,11 @@ use Rattle.std.proofs.Common.{◌≡◌, ℕ, zero, suc, ◌<◌, ◌+◌, Some,
 use Rattle.std.specs.List.{AllByRecursion, slice_get}
 use Rattle.std.proofs.lemmas.List.{length-append, length-map, map-append}
 use Rattle.std.proofs.lemmas.Option.{same_Some}
+use Rattle.mc_sizes.specs.declared.sizes.Sizes.{Sizes}
 use Rattle.mc_ring.specs.Lane.{Far, Near, Side}
 use Rattle.mc_ring.specs.Ends.{Ends, list_at}
 use Rattle.mc_ring.specs.Made.{AreLanes, IsUnused}
 use Rattle.mc_store.specs.Shard.{ShardContents, Keeps}
-use Rattle.mc_core.specs.Sizes.{Sizes}
 use Rattle.mc_core.specs.Sized.{empty_shard}
 use Rattle.mc_core.specs.Desk.{Desk, HasRun}
 use Rattle.mc_core.specs.Rings.{HaveWires, IsStarted, ends_of, new_wires}

@@ -5,6 +5,7 @@ use Rattle.std.specs.Option.{option_map}
 use Rattle.std.proofs.lemmas.List.{length-map, map-append}
 use Rattle.std.proofs.lemmas.Option.{same_Some, slice_get_within}
 use mathlib.Core.List.{IsPrefix}
+use Rattle.mc_sizes.specs.declared.sizes.Sizes.{Sizes}
 use Rattle.mc_split.specs.declared.plan.Piece.{Piece}
 use Rattle.mc_split.specs.declared.plan.Ticket.{Ticket}
 use Rattle.mc_ring.specs.declared.parcel.Parcel.{Parcel}
@@ -18,7 +19,6 @@ use Rattle.mc_store.specs.State.{State}
 use Rattle.mc_store.specs.Step.{IsStep}
 use Rattle.mc_core.specs.declared.worker.Turn.{Turn}
 use Rattle.mc_core.specs.declared.worker.Turn.TheVariants.{Gave, Blocked, Nothing, Ended, Ran}
-use Rattle.mc_core.specs.Sizes.{Sizes}
 use Rattle.mc_core.specs.Log.{Entry, reply_to}
 use Rattle.mc_core.specs.Desk.{Desk}
 use Rattle.mc_core.specs.Turns.{GivesIt, IsFull, RunsPiece, Turned}

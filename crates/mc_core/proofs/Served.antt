@@ -3,6 +3,7 @@ use Rattle.std.proofs.Common.{◌≡◌, ℕ, ◌<◌, false, List, length, map,
 use Rattle.std.specs.Prelude.{MatchBool}
 use Rattle.std.specs.List.{AllByRecursion}
 use Rattle.std.proofs.lemmas.List.{take_all}
+use Rattle.mc_sizes.specs.declared.sizes.Sizes.{Sizes}
 use Rattle.mc_ring.specs.Reply.{Shown}
 use Rattle.mc_conn.specs.declared.conn.Conn.{Conn}
 use Rattle.mc_conn.specs.Conn.{IsConn}
@@ -13,7 +14,6 @@ use Rattle.mc_conn.specs.Told.{Told, IsAllTaken, IsAtRest, all_texts, handed_tex
 use Rattle.mc_conn.proofs.Counting.{come_from_count}
 use Rattle.mc_conn.proofs.Staying.{is_sound}
 use Rattle.mc_conn.proofs.Telling.{ran_on-same, tells}
-use Rattle.mc_core.specs.Sizes.{Sizes}
 use Rattle.mc_core.specs.Sized.{empty_shard}
 use Rattle.mc_core.specs.Log.{Entry, on_shard, replies_in}
 use Rattle.mc_core.specs.Alone.{alone, alone_from, empty_shards}

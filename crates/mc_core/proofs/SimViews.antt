@@ -2,9 +2,9 @@
 use Rattle.std.proofs.Common.{◌≡◌, ◌<◌, ◌≤◌, ℕ, suc, Some, List, [], ◌∷◌, length, map, refl, sym, ap, ◌∙◌, arith, slice_index_or}
 use Rattle.std.specs.List.{slice_get}
 use Rattle.std.proofs.lemmas.Option.{slice_get_within}
+use Rattle.mc_sizes.specs.declared.sizes.Sizes.{Sizes}
 use Rattle.mc_core.specs.declared.sim.Connection.{Connection}
 use Rattle.mc_core.specs.declared.sim.Sim.{Sim}
-use Rattle.mc_core.specs.Sizes.{Sizes}
 use Rattle.mc_core.specs.World.{IsLink, Link, World}
 use Rattle.mc_core.specs.Headline.{handed_bytes}
 use Rattle.mc_core.specs.Laid.{Laid}

@@ -1,9 +1,10 @@
 -- A new core stands in the world in which nothing has happened.
 use Rattle.std.proofs.Common.{◌≡◌, None, Some, [], length, refl, sym, ap, subst}
 use Rattle.std.specs.List.{AllByRecursion}
+use Rattle.mc_sizes.specs.Sizes.{AreWithin}
+use Rattle.mc_sizes.specs.declared.sizes.Sizes.{Sizes}
 use Rattle.mc_conn.proofs.Gets.{all_at}
 use Rattle.mc_core.specs.declared.sim.Sim.{Sim}
-use Rattle.mc_core.specs.Sizes.{AreWithin, Sizes}
 use Rattle.mc_core.specs.World.{empty_world}
 use Rattle.mc_core.specs.Rings.{AreWired, new_wires}
 use Rattle.mc_core.specs.Stands.{IsNewSeat, IsWorld, SeatIs, Stands}

@@ -5,10 +5,10 @@ use Rattle.std.proofs.lemmas.Bool.{cases_eq, cases_lt}
 use Rattle.std.proofs.lemmas.Bool.Decides.{eqb_tells}
 use Rattle.std.proofs.lemmas.List.{length-set}
 use Rattle.std.proofs.lemmas.Option.{slice_get_within}
+use Rattle.mc_sizes.specs.declared.sizes.Sizes.{Sizes}
 use Rattle.mc_conn.specs.Due.{due}
 use Rattle.mc_conn.proofs.Gets.{all_more, all_push}
 use Rattle.mc_conn.proofs.Counting.{due_beyond}
-use Rattle.mc_core.specs.Sizes.{Sizes}
 use Rattle.mc_core.specs.Sized.{empty_shard}
 use Rattle.mc_core.specs.Log.{Entry, Leaves, of_asker, on_shard}
 use Rattle.mc_core.specs.World.{HoldsAnswerFor, IsAt, IsLink, Link, World, empty_world, new_link, ran, sent_to, with_entry, with_link}

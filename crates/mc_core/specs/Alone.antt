@@ -2,6 +2,7 @@
 -- no memory refused.
 use Rattle.std.specs.Prelude.{ℕ, ◌≡◌, ◌≢◌, ◌==◌, false, List, [], ◌∷◌, ◌++◌, if◌then◌else◌}
 use Rattle.std.specs.List.{AllByRecursion}
+use Rattle.mc_sizes.specs.declared.sizes.Sizes.{Sizes}
 use Rattle.mc_item.specs.declared.op.Op.{Op}
 use Rattle.mc_item.specs.declared.answer.Answer.{Answer}
 use Rattle.mc_item.specs.declared.answer.Answer.TheVariants.{NoMemory}
@@ -11,7 +12,6 @@ use Rattle.mc_split.specs.Text.{text_of}
 use Rattle.mc_store.specs.State.{State, settle}
 use Rattle.mc_store.specs.Step.{Outcome, noted_in, step_of}
 use Rattle.mc_conn.specs.History.{AnsweredCommand, Taken}
-use Rattle.mc_core.specs.Sizes.{Sizes}
 use Rattle.mc_core.specs.Sized.{empty_shard}
 use Rattle.mc_core.specs.World.{Link, World}
 

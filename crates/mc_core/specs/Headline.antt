@@ -1,12 +1,12 @@
 -- What holds of every world to which events lead.
 use Rattle.std.specs.Prelude.{ℕ, ◌≡◌, ◌+◌, ◌<◌, ◌≤◌, ◌⊎◌, false, List, ◌++◌, length, take, Some, IsTrue}
 use Rattle.std.specs.List.{AllByRecursion, concat, slice_get}
+use Rattle.mc_sizes.specs.declared.sizes.Sizes.{Sizes}
 use Rattle.mc_split.specs.declared.plan.Piece.{Piece}
 use Rattle.mc_join.specs.Replies.{replies}
 use Rattle.mc_reader.specs.Spelling.{is_last}
 use Rattle.mc_conn.specs.History.{AnsweredCommand, IsAnswered, Taken, texts_of}
 use Rattle.mc_conn.specs.Due.{due, forms_of, history_of, pieces}
-use Rattle.mc_core.specs.Sizes.{Sizes}
 use Rattle.mc_core.specs.Sized.{SpellAll, SpellFirst}
 use Rattle.mc_core.specs.Log.{IsLawful, of_asker, on_shard, pieces_in, replies_in}
 use Rattle.mc_core.specs.World.{IsLink, Link, World, entries}

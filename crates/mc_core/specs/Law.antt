@@ -1,10 +1,10 @@
 -- What every event keeps.
 use Rattle.std.specs.Prelude.{ℕ, ◌≡◌, ◌+◌, ◌<◌, ◌≤◌, List, length, take}
 use Rattle.std.specs.List.{AllByRecursion}
+use Rattle.mc_sizes.specs.declared.sizes.Sizes.{Sizes}
 use Rattle.mc_conn.specs.History.{MayBeTaken}
 use Rattle.mc_conn.specs.Due.{due, pieces}
 use Rattle.mc_conn.specs.Fits.{Fits, HasCome}
-use Rattle.mc_core.specs.Sizes.{Sizes}
 use Rattle.mc_core.specs.Sized.{SpellFirst}
 use Rattle.mc_core.specs.Log.{Entry, IsLawful, of_asker, on_shard, pieces_in, replies_in}
 use Rattle.mc_core.specs.World.{HoldsAnswerFor, IsLink, Link, World, entries, ran, sent_to}

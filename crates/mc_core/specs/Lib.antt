@@ -1,4 +1,3 @@
-pub mod Sizes
 pub mod Sized
 pub mod Log
 pub mod World
@@ -16,7 +15,6 @@ pub mod Turns
 pub mod Marks
 pub mod Serves
 pub mod Asked
-pub mod Numbers
 pub mod Feeding
 pub mod Stands
 pub mod Runs

@@ -1,12 +1,12 @@
 -- The log: what the shards ran, for which connections, and when that is lawful.
 use Rattle.std.specs.Prelude.{ℕ, ◌≡◌, ◌<◌, ◌==◌, List, [], ◌∷◌, filter, map}
+use Rattle.mc_sizes.specs.declared.sizes.Sizes.{Sizes}
 use Rattle.mc_item.specs.declared.answer.Answer.{Answer}
 use Rattle.mc_item.specs.Kind.{kind_of}
 use Rattle.mc_ring.specs.Reply.{Shown}
 use Rattle.mc_split.specs.declared.plan.Piece.{Piece}
 use Rattle.mc_store.specs.State.{State}
 use Rattle.mc_store.specs.Step.{IsStep}
-use Rattle.mc_core.specs.Sizes.{Sizes}
 use Rattle.mc_core.specs.Sized.{empty_shard}
 
 -- what a shard did: it ran a piece, which has its ticket, part, operation and moment, for a connection, and this is its answer

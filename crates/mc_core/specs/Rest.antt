@@ -1,9 +1,10 @@
 -- When a connection is at rest, and when it is closed.
 use Rattle.std.specs.Prelude.{ℕ, ◌≡◌, ◌+◌, ◌<◌, ◌⊎◌, [], ◌∷◌, ◌++◌, length, IsTrue, MatchBool}
 use Rattle.mc_command.specs.declared.command.Command.{Command}
+use Rattle.mc_sizes.specs.Sizes.{rules_of}
+use Rattle.mc_sizes.specs.declared.sizes.Sizes.{Sizes}
 use Rattle.mc_reader.specs.Spelling.{SpellsFront, is_closed}
 use Rattle.mc_conn.specs.Due.{due, pieces}
-use Rattle.mc_core.specs.Sizes.{Sizes, rules_of}
 use Rattle.mc_core.specs.Sized.{SpellAll, SpellFirst}
 use Rattle.mc_core.specs.World.{Link, entries}
 

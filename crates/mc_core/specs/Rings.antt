@@ -1,6 +1,7 @@
 -- What is on its way between the seats and the shards, and what the shards hold.
 use Rattle.std.specs.Prelude.{ℕ, ◌≡◌, ◌<◌, ◌≤◌, ◌==◌, Bool, true, false, Option, Some, None, List, [], ◌∷◌, ◌++◌, length, map, if◌then◌else◌}
 use Rattle.std.specs.List.{AllByRecursion, slice_get}
+use Rattle.mc_sizes.specs.declared.sizes.Sizes.{Sizes}
 use Rattle.mc_split.specs.declared.plan.Piece.{Piece}
 use Rattle.mc_ring.specs.declared.parcel.Parcel.{Parcel}
 use Rattle.mc_ring.specs.declared.parcel.Parcel.TheVariants as parcel
@@ -11,7 +12,6 @@ use Rattle.mc_store.specs.State.{State}
 use Rattle.mc_store.specs.Step.{IsStep}
 use Rattle.mc_store.specs.Shard.{Keeps}
 use Rattle.mc_core.specs.declared.sim.rings.Ran.{Ran}
-use Rattle.mc_core.specs.Sizes.{Sizes}
 use Rattle.mc_core.specs.Sized.{empty_shard}
 use Rattle.mc_core.specs.Log.{Entry, reply_to}
 use Rattle.mc_core.specs.Desk.{Desk}

@@ -1,8 +1,8 @@
 -- Lists of events that a simulated core runs, and how many of them were done.
 use Rattle.std.specs.Prelude.{ℕ, ◌≡◌, ◌≢◌, ◌+◌, List, [], ◌∷◌, ◌++◌}
+use Rattle.mc_sizes.specs.declared.sizes.Sizes.{Sizes}
 use Rattle.mc_core.specs.declared.sim.Sim.{Sim}
 use Rattle.mc_core.specs.Stands.{Stands}
-use Rattle.mc_core.specs.Sizes.{Sizes}
 use Rattle.mc_core.specs.World.{World}
 use Rattle.mc_core.specs.Events.{Event}
 use Rattle.mc_core.specs.declared.event.StepReply.{StepReply}

@@ -1,11 +1,11 @@
 -- One connection that the shards serve alone, by the lists of its calls and the log.
 use Rattle.std.specs.Prelude.{ℕ, ◌≡◌, ◌≢◌, false, List}
 use Rattle.std.specs.List.{AllByRecursion}
+use Rattle.mc_sizes.specs.declared.sizes.Sizes.{Sizes}
 use Rattle.mc_item.specs.declared.answer.Answer.TheVariants.{NoMemory}
 use Rattle.mc_conn.specs.Due.{due}
 use Rattle.mc_conn.specs.Fits.{Fits}
 use Rattle.mc_conn.specs.Told.{Told}
-use Rattle.mc_core.specs.Sizes.{Sizes}
 use Rattle.mc_core.specs.Log.{Entry, IsLawful, on_shard, pieces_in, replies_in}
 
 -- Each shard ran what is due there for the commands taken, in order, and nothing else; its answers are those that the

@@ -1,9 +1,10 @@
 -- What the crates below say of streams and of shards, at the sizes of a server.
 use Rattle.std.specs.Prelude.{ℕ, List}
 use Rattle.mc_command.specs.declared.command.Command.{Command}
+use Rattle.mc_sizes.specs.Sizes.{rules_of}
+use Rattle.mc_sizes.specs.declared.sizes.Sizes.{Sizes}
 use Rattle.mc_reader.specs.Spelling.{AreCommands, BeginCommands}
 use Rattle.mc_store.specs.State.{State, empty_state}
-use Rattle.mc_core.specs.Sizes.{Sizes, rules_of}
 
 -- These are all commands that the bytes spell.
 abbrev pub SpellAll : Sizes → List ℕ → List Command → Type 0

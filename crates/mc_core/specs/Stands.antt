@@ -1,6 +1,8 @@
 -- When a simulated core stands as a world says.
 use Rattle.std.specs.Prelude.{ℕ, ◌≡◌, ◌<◌, Bool, Option, Some, None, List, [], length, map, take, drop}
 use Rattle.std.specs.List.{slice_get}
+use Rattle.mc_sizes.specs.Sizes.{AreWithin, IsFirstOut, rules_of}
+use Rattle.mc_sizes.specs.declared.sizes.Sizes.{Sizes}
 use Rattle.mc_split.specs.declared.plan.Piece.{Piece}
 use Rattle.mc_ring.specs.Reply.{Shown}
 use Rattle.mc_conn.specs.declared.conn.Conn.{Conn}
@@ -13,7 +15,8 @@ use Rattle.mc_core.specs.declared.sim.Connection.{Connection}
 use Rattle.mc_core.specs.declared.sim.LogEntry.{LogEntry}
 use Rattle.mc_core.specs.declared.sim.Seat.{Seat}
 use Rattle.mc_core.specs.declared.sim.Sim.{Sim}
-use Rattle.mc_core.specs.Sizes.{AreWithin, Sizes, rules_of}
+use Rattle.mc_core.specs.declared.sim.SimRefusal.{SimRefusal}
+use Rattle.mc_core.specs.declared.sim.SimRefusal.TheVariants.{Memory, Size}
 use Rattle.mc_core.specs.Log.{Entry, Leaves, of_asker, on_shard, replies_in}
 use Rattle.mc_core.specs.World.{HoldsAnswerFor, IsAt, IsLink, Link, World, ran}
 use Rattle.mc_core.specs.Events.{Event, IsEmptyHand, IsUnusedSeat}
@@ -101,6 +104,11 @@ pub record IsWorld (sizes : Sizes) (sim : Sim) (w : World) : Type 0 where
 -- The core stands as the world says: its lists are the world's, and its connections, rings and shards are what led there.
 unfoldable pub Stands : Sizes → Sim → World → Type 0
 Stands sizes sim w = IsWorld sizes sim w
+
+-- The sizes are refused for the first that is out of its limits; of sizes that a server may have memory ran out.
+abbrev pub IsRefused : Sizes → SimRefusal → Type 0
+IsRefused sizes (Size fault) = IsFirstOut sizes fault
+IsRefused sizes Memory = AreWithin sizes
 
 -- From whatever world the core stood in, the event leads it to one, and is answered as the world's events are.
 abbrev pub StepsByEvent : Sim → Event → StepReply → Sim → Type 0

@@ -1,9 +1,9 @@
 //! What one connection gets by its own calls, where the shards serve it alone.
 ghost use Rattle.std.specs.Prelude.{◌≡◌, ◌<◌, List, false};
+ghost use Rattle.mc_sizes.specs.declared.sizes.Sizes.{Sizes};
 ghost use Rattle.mc_conn.specs.declared.conn.Conn.{Conn};
 ghost use Rattle.mc_conn.specs.Conn.{IsConn};
 ghost use Rattle.mc_conn.specs.Told.{Told, IsAtRest, handed_text};
-ghost use Rattle.mc_core.specs.Sizes.{Sizes};
 ghost use Rattle.mc_core.specs.Log.{Entry};
 ghost use Rattle.mc_core.specs.Alone.{alone};
 ghost use Rattle.mc_core.specs.Served.{IsServedAlone};

@@ -7,7 +7,6 @@ mod gate;
 mod handed;
 mod laws;
 mod sim;
-mod sizes;
 mod worker;
 
 pub use event::{Event, StepReply};
@@ -18,8 +17,4 @@ pub use laws::{
     one_connection_is_served_as_alone,
 };
 pub use sim::{Connection, LogEntry, Sim, SimRefusal};
-pub use sizes::{
-    DEFAULT_WINDOW, LEAST, LEAST_BYTES, LEAST_LINE, LEAST_VALUE, MOST_BYTES, MOST_LINE, MOST_RING,
-    MOST_SEATS, MOST_SHARDS, MOST_VALUE, MOST_WINDOW,
-};
 pub use worker::{Turn, Worker};

@@ -1,30 +1,25 @@
 //! The whole core in one thread: connections, shards and the rings between them, moved by one event at a time.
-ghost use Rattle.std.specs.Prelude.{◌≡◌, ◌<◌, ℕ, length, map, IfOk, IfSome, IfNone, IsErrOf, OnErr, OnOk, Some};
+ghost use Rattle.std.specs.Prelude.{◌≡◌, ◌<◌, ℕ, length, map, IfErr, IfOk, IfSome, IfNone, OnErr, OnOk, Some};
 ghost use Rattle.std.specs.List.{AllByRecursion, slice_get};
 ghost use Rattle.std.specs.Option.{option_map};
-ghost use Rattle.mc_wire.specs.declared.TheConstants.{DEFAULT_LINE_LIMIT};
+ghost use Rattle.mc_sizes.specs.Sizes.{AreWithin};
+ghost use Rattle.mc_sizes.specs.declared.sizes.Sizes.{Sizes};
 ghost use Rattle.mc_core.specs.World.{IsAt, IsLink, Link, World, empty_world};
-ghost use Rattle.mc_command.specs.declared.rules.Profile.TheVariants.{Own};
-ghost use Rattle.mc_core.specs.Sizes.{AreWithin, Sizes, sized};
 ghost use Rattle.mc_core.specs.Headline.{handed_bytes};
-ghost use Rattle.mc_core.specs.Numbers.{sizes_of};
 ghost use Rattle.mc_core.specs.Asked.{event_of};
-ghost use Rattle.mc_core.specs.Stands.{IsNewSeat, Stands, StepsByEvent, line_of};
+ghost use Rattle.mc_core.specs.Stands.{IsNewSeat, IsRefused, Stands, StepsByEvent, line_of};
 ghost use Rattle.mc_core.specs.Runs.{Runs, Stops};
 
 mod at_ring;
 mod at_seat;
-mod numbers;
 mod page;
 mod rings;
 
 use crate::event::{Event, StepReply};
-use mc_command::Profile;
 use mc_conn::Conn;
 use mc_item::NoMemory;
+use mc_sizes::{SizeFault, Sizes};
 use mc_split::Ticket;
-use mc_wire::DEFAULT_LINE_LIMIT;
-use numbers::Numbers;
 use rings::Rings;
 use std::alloc::{AllocError, Global};
 use std::random::RandomSource;
@@ -34,8 +29,8 @@ use thiserror::Error;
 #[derive(Clone, Copy, Debug, PartialEq, Eq, Error)]
 pub enum SimRefusal {
     /// A size is out of its limits.
-    #[error("a size of the server is out of its limits")]
-    Size,
+    #[error(transparent)]
+    Size(SizeFault),
     /// Memory ran out.
     #[error("out of memory")]
     Memory,
@@ -84,84 +79,28 @@ pub struct Sim {
 }
 
 impl Sim {
-    /// A core of these sizes that follows the server's own rules with the default line limit, in which nothing has happened.
-    /// `Size`: one of the sizes is out of its limits.
-    pub fn new<R: RandomSource>(
-        rt: &R,
-        alloc: Global,
-        seats: usize,
-        shards: usize,
-        bytes: usize,
-        ring: usize,
-        value: usize,
-        window: usize,
-    ) -> Result<Sim, SimRefusal>
-        ensures ok { IfOk result (λ sim.
-            Stands (sized Own seats shards bytes ring value DEFAULT_LINE_LIMIT window) sim
-            empty_world) }
-        ensures within { OnOk result
-            (AreWithin (sized Own seats shards bytes ring value DEFAULT_LINE_LIMIT window)) }
-        ensures size { IsErrOf result SimRefusal.Size →
-            ¬ AreWithin (sized Own seats shards bytes ring value DEFAULT_LINE_LIMIT window) }
-        ensures memory { IsErrOf result SimRefusal.Memory →
-            AreWithin (sized Own seats shards bytes ring value DEFAULT_LINE_LIMIT window) }
+    /// A core of these sizes, in which nothing has happened.
+    pub fn new<R: RandomSource>(rt: &R, alloc: Global, sizes: Sizes) -> Result<Sim, SimRefusal>
+        ensures ok { IfOk result (λ sim. Stands sizes sim empty_world) }
+        ensures within { OnOk result (AreWithin sizes) }
+        ensures refused { IfErr result (IsRefused sizes) }
     {
-        let own = Profile::Own;
-        let line = DEFAULT_LINE_LIMIT;
-        Sim::under(
-            rt, alloc, own, seats, shards, bytes, ring, value, line, window,
-        )
-    }
-
-    /// A core of these sizes that follows this profile, in which nothing has happened. `Size`: one of the sizes is out of its
-    /// limits.
-    pub fn under<R: RandomSource>(
-        rt: &R,
-        alloc: Global,
-        profile: Profile,
-        seats: usize,
-        shards: usize,
-        bytes: usize,
-        ring: usize,
-        value: usize,
-        line: usize,
-        window: usize,
-    ) -> Result<Sim, SimRefusal>
-        ensures ok { IfOk result (λ sim.
-            Stands (sized profile seats shards bytes ring value line window) sim empty_world) }
-        ensures within { OnOk result
-            (AreWithin (sized profile seats shards bytes ring value line window)) }
-        ensures size { IsErrOf result SimRefusal.Size →
-            ¬ AreWithin (sized profile seats shards bytes ring value line window) }
-        ensures memory { IsErrOf result SimRefusal.Memory →
-            AreWithin (sized profile seats shards bytes ring value line window) }
-    {
-        let numbers = Numbers {
-            profile,
-            seats,
-            shards,
-            bytes,
-            ring,
-            value,
-            line,
-            window,
-        };
-        if !numbers.are_within() {
-            return Err(SimRefusal::Size);
+        if let Err(fault) = sizes.check() {
+            return Err(SimRefusal::Size(fault));
         }
-        let Ok(sim) = Sim::make(rt, alloc, numbers) else {
+        let Ok(sim) = Sim::make(rt, alloc, sizes) else {
             return Err(SimRefusal::Memory);
         };
         Ok(sim)
     }
 
     /// A core of sizes that are within their limits.
-    fn make<R: RandomSource>(rt: &R, alloc: Global, numbers: Numbers) -> Result<Sim, AllocError>
-        requires { AreWithin (sizes_of numbers) }
-        ensures { IfOk result (λ sim. Stands (sizes_of numbers) sim empty_world) }
+    fn make<R: RandomSource>(rt: &R, alloc: Global, sizes: Sizes) -> Result<Sim, AllocError>
+        requires { AreWithin sizes }
+        ensures { IfOk result (λ sim. Stands sizes sim empty_world) }
     {
-        let seats = new_seats(alloc, numbers)?;
-        let rings = Rings::new(rt, alloc, numbers)?;
+        let seats = new_seats(alloc, sizes)?;
+        let rings = Rings::new(rt, alloc, sizes)?;
         Ok(Sim {
             seats,
             connections: Vec::new(alloc),
@@ -284,16 +223,15 @@ impl Sim {
 }
 
 /// So many seats, each with a connection in which nothing has happened.
-fn new_seats(alloc: Global, numbers: Numbers) -> Result<Vec<Seat>, AllocError>
-    requires { AreWithin (sizes_of numbers) }
-    ensures count { IfOk result (λ seats. length seats.items ≡ numbers.seats) }
-    ensures each { IfOk result
-        (λ seats. AllByRecursion (IsNewSeat (sizes_of numbers)) seats.items) }
+fn new_seats(alloc: Global, sizes: Sizes) -> Result<Vec<Seat>, AllocError>
+    requires { AreWithin sizes }
+    ensures count { IfOk result (λ seats. length seats.items ≡ sizes.seats) }
+    ensures each { IfOk result (λ seats. AllByRecursion (IsNewSeat sizes) seats.items) }
 {
-    let mut seats = Vec::with_capacity(alloc, numbers.seats)?;
-    for _ in 0..numbers.seats {
-        let rules = numbers.rules();
-        let Ok(conn) = Conn::under(alloc, numbers.shards, rules, numbers.window) else {
+    let mut seats = Vec::with_capacity(alloc, sizes.seats)?;
+    for _ in 0..sizes.seats {
+        let rules = sizes.rules();
+        let Ok(conn) = Conn::under(alloc, sizes.shards, rules, sizes.window) else {
             return Err(AllocError);
         };
         seats.push(Seat {

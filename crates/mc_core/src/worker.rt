@@ -3,10 +3,12 @@ ghost use Rattle.std.specs.Prelude.{◌≡◌, ◌<◌, ◌≤◌, ◌↔◌, Is
 ghost use Rattle.std.specs.Bool.{OnFalse, OnTrue};
 ghost use Rattle.std.specs.List.{AllByRecursion};
 ghost use Rattle.std.specs.Option.{option_map};
+ghost use Rattle.mc_sizes.specs.Sizes.{SuitShards};
 ghost use Rattle.mc_ring.specs.Ends.{AreSameEnds};
 ghost use Rattle.mc_ring.specs.Made.{IsLane, IsUnused, LooksAtBoth};
 ghost use Rattle.mc_store.specs.Shard.{IsShard};
-ghost use Rattle.mc_store.specs.State.{State, empty_state};
+ghost use Rattle.mc_store.specs.State.{State};
+ghost use Rattle.mc_core.specs.Sized.{empty_shard};
 ghost use Rattle.mc_core.specs.Desk.{Goes, HasEnded, HasRun, RunsNoMore};
 ghost use Rattle.mc_core.specs.Turns.{FindsNothing, Gives, LogGrows, Turned};
 ghost use Rattle.mc_core.specs.Marks.{Marks};
@@ -14,9 +16,9 @@ ghost use Rattle.mc_core.specs.Serves.{ServesSeat};
 
 use crate::gate::Gate;
 use mc_ring::{Parcel, Reply, SeatEnds, ShardEnds, beside};
+use mc_sizes::Sizes;
 use mc_split::{Piece, Ticket};
-use mc_store::{GREATEST_BUDGET, LEAST_BUDGET, Shard};
-use mc_wire::GREATEST_VALUE_LIMIT;
+use mc_store::Shard;
 use std::alloc::{AllocError, Global};
 use std::marker::Model;
 use std::random::RandomSource;
@@ -105,19 +107,15 @@ impl Worker {
         })
     }
 
-    /// The same, of an empty shard: one of so many, with this budget of bytes, for values of at most so many bytes each.
+    /// The same, of an empty shard of a server of these sizes.
     pub fn start<R: RandomSource>(
         rt: &R,
         alloc: Global,
         ends: ShardEnds,
-        shards: usize,
-        budget: usize,
-        limit: usize,
+        sizes: Sizes,
     ) -> Result<Worker, AllocError>
-        requires place { ends.number < shards }
-        requires least_budget { LEAST_BUDGET ≤ budget }
-        requires most_budget { budget ≤ GREATEST_BUDGET }
-        requires limit { limit ≤ GREATEST_VALUE_LIMIT }
+        requires place { ends.number < sizes.shards }
+        requires sizes { SuitShards sizes }
         requires unused { AllByRecursion IsUnused ends.lanes }
         ensures ends { IfOk result (λ worker. worker.ends ≡ ends) }
         ensures free { IfOk result (λ worker. worker.hand ≡ None) }
@@ -125,10 +123,10 @@ impl Worker {
         ensures marked { IfOk result (λ worker. length worker.live ≡ length worker.ends.lanes) }
 
         // It has run nothing.
-        ensures begins { IfOk result
-            (λ worker. HasRun (empty_state ends.number shards budget 0 limit) worker []) }
+        ensures begins { IfOk result (λ worker. HasRun (empty_shard sizes ends.number) worker []) }
     {
-        match Shard::empty(rt, alloc, ends.number(), shards, budget, limit) {
+        let number = ends.number();
+        match Shard::empty(rt, alloc, number, sizes.shards, sizes.bytes, sizes.value) {
             Ok(shard) => Worker::new(alloc, shard, ends),
             Err(_) => Err(AllocError),
         }

@@ -2,9 +2,10 @@
 use Rattle.std.proofs.Common.{◌≡◌, ◌≢◌, ℕ, zero, suc, ◌+◌, ◌-◌, ◌<◌, ◌≤◌, ◌⊎◌, inl, inr, true, List, [], ◌∷◌, ◌++◌, length, take, refl, sym, ap, ◌∙◌, subst, arith}
 use Rattle.std.specs.Prelude.{MatchBool}
 use Rattle.std.proofs.lemmas.Bool.{cases_eq, cases_lt}
+use Rattle.mc_sizes.specs.Sizes.{AreWithin}
+use Rattle.mc_sizes.specs.declared.sizes.Sizes.{Sizes}
 use Rattle.mc_conn.specs.Due.{due}
 use Rattle.mc_conn.proofs.Counting.{due_beyond}
-use Rattle.mc_core.specs.Sizes.{AreWithin, Sizes}
 use Rattle.mc_core.specs.Log.{of_asker}
 use Rattle.mc_core.specs.World.{IsAt, IsLink, Link, World, empty_world, with_link}
 use Rattle.mc_core.specs.Rest.{IsAllReceived, IsAllSent, IsAllTaken}

@@ -14,13 +14,14 @@ use Rattle.mc_command.specs.declared.command.StatsRequest.TheVariants as request
 use Rattle.mc_command.specs.Command.{with_block}
 use Rattle.mc_command.specs.declared.refusal.Refusal.{Refusal}
 use Rattle.mc_command.proofs.Few.{AsksFew, FewLine, few_line}
+use Rattle.mc_sizes.specs.Sizes.{rules_of}
+use Rattle.mc_sizes.specs.declared.sizes.Sizes.{Sizes}
 use Rattle.mc_reader.specs.Spelling.{IsLine, Spells, SpellsFront, closes, is_last, line_says, most_commands, skip_entry, without_return}
 use Rattle.mc_reader.specs.Spelling.Spells.{line as of_line, refused as of_refused, block as of_block, bad_block as of_bad_block, skipped as of_skipped, long as of_long}
 use Rattle.mc_reader.proofs.Fronts.{every_input}
 use Rattle.mc_item.specs.declared.op.Op.{Op}
 use Rattle.mc_item.specs.declared.op.Op.TheVariants as op
 use Rattle.mc_split.specs.Pieces.{asked_of_all, pieces_of}
-use Rattle.mc_core.specs.Sizes.{Sizes, rules_of}
 use Rattle.mc_core.specs.World.{Link}
 use Rattle.mc_laws.specs.Progress.{steps_of, steps_of_all}
 use Rattle.mc_laws.proofs.Measure.{spelled_by}

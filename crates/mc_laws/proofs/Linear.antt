@@ -5,6 +5,8 @@ use Rattle.std.specs.List.{AllByRecursion, slice_get}
 use Rattle.std.proofs.lemmas.Bool.Decides.{eqb_tells}
 use Rattle.std.proofs.lemmas.Option.{same_Some}
 use Rattle.mc_wire.specs.Key.{place_of}
+use Rattle.mc_sizes.specs.Sizes.{AreWithin}
+use Rattle.mc_sizes.specs.declared.sizes.Sizes.{Sizes}
 use Rattle.mc_item.specs.Kind.{key_of}
 use Rattle.mc_split.specs.declared.plan.Piece.{Piece}
 use Rattle.mc_split.specs.declared.plan.Ticket.{Ticket}
@@ -14,7 +16,6 @@ use Rattle.mc_split.proofs.Shards.{pieces_name}
 use Rattle.mc_conn.specs.History.{Taken, planned}
 use Rattle.mc_conn.specs.Due.{due, lane, pieces, pieces_at, pieces_from, ticket_at}
 use Rattle.mc_conn.proofs.Gets.{all_at, get_below}
-use Rattle.mc_core.specs.Sizes.{AreWithin, Sizes}
 use Rattle.mc_core.specs.Log.{Entry, of_asker, on_shard, pieces_in}
 use Rattle.mc_core.specs.World.{Link, World, empty_world}
 use Rattle.mc_core.specs.Events.{Event}

@@ -7,6 +7,7 @@ use Rattle.mc_wire.specs.Key.{fnv_of}
 use Rattle.mc_command.specs.declared.command.Command.TheVariants as command
 use Rattle.mc_command.specs.declared.command.StoreMode.TheVariants as mode
 use Rattle.mc_command.specs.declared.rules.Profile.TheVariants.{Own}
+use Rattle.mc_sizes.specs.declared.sizes.Sizes.{Sizes}
 use Rattle.mc_item.specs.declared.answer.Answer.{Answer}
 use Rattle.mc_item.specs.declared.answer.Answer.TheVariants.{Hit, Miss, Stored}
 use Rattle.mc_item.specs.declared.item.Item.{Item}
@@ -22,7 +23,6 @@ use Rattle.mc_store.specs.Rows.{fetched_item}
 use Rattle.mc_store.proofs.Costs.{fitting_key}
 use Rattle.mc_store.proofs.Lists.{get_here}
 use Rattle.mc_conn.specs.Due.{ticket_at}
-use Rattle.mc_core.specs.Sizes.{Sizes}
 use Rattle.mc_core.specs.Sized.{empty_shard}
 use Rattle.mc_core.specs.Log.{Entry, IsLawful}
 

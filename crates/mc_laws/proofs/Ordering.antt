@@ -4,6 +4,7 @@ use Rattle.std.specs.List.{slice_get, AllByRecursion}
 use Rattle.std.proofs.lemmas.Bool.Decides.{eqb_tells}
 use Rattle.std.proofs.lemmas.List.{length-map, take-append-drop}
 use Rattle.std.proofs.lemmas.Option.{same_Some, slice_get_within}
+use Rattle.mc_sizes.specs.declared.sizes.Sizes.{Sizes}
 use Rattle.mc_ring.specs.Reply.{Shown}
 use Rattle.mc_split.specs.declared.plan.Piece.{Piece}
 use Rattle.mc_conn.specs.History.{Taken}
@@ -11,7 +12,6 @@ use Rattle.mc_conn.specs.Due.{due, lane, pieces, pieces_from}
 use Rattle.mc_conn.proofs.Fitting.{due-append, pieces_from-append}
 use Rattle.mc_conn.proofs.Gets.{all_at, all_more, get_below, get_cases, get_front, take_get}
 use Rattle.mc_conn.proofs.Places.{lane_at, lane_there, piece_at}
-use Rattle.mc_core.specs.Sizes.{Sizes}
 use Rattle.mc_core.specs.Log.{Entry, of_asker, on_shard, pieces_in, reply_to}
 use Rattle.mc_core.specs.World.{IsLink, Link, World, entries}
 use Rattle.mc_core.specs.Events.{Event}

@@ -10,6 +10,8 @@ use Rattle.mc_command.specs.declared.command.Command.TheVariants as command
 use Rattle.mc_command.specs.Name.{name_of}
 use Rattle.mc_command.specs.Table.{line_of}
 use Rattle.mc_command.specs.declared.rules.Profile.TheVariants.{Own}
+use Rattle.mc_sizes.specs.Sizes.{AreWithin, rules_of}
+use Rattle.mc_sizes.specs.declared.sizes.Sizes.{Sizes}
 use Rattle.mc_item.specs.declared.answer.Answer.TheVariants as answer
 use Rattle.mc_item.specs.declared.op.Op.TheVariants as op
 use Rattle.mc_item.specs.Expiry.{expiry_of}
@@ -24,7 +26,6 @@ use Rattle.mc_store.specs.Step.{Answers, IsStep, noted_in, step_of}
 use Rattle.mc_conn.specs.History.{Taken}
 use Rattle.mc_conn.specs.Due.{due, pieces, ticket_at}
 use Rattle.mc_conn.specs.Fits.{HasCome}
-use Rattle.mc_core.specs.Sizes.{AreWithin, Sizes, rules_of}
 use Rattle.mc_core.specs.Log.{Entry}
 use Rattle.mc_core.specs.World.{IsAt, Link, World, new_link, ran, sent_to}
 use Rattle.mc_core.specs.Rest.{AtRest, IsAllTaken}

@@ -4,6 +4,8 @@ use Rattle.std.specs.Prelude.{MatchBool}
 use Rattle.std.proofs.lemmas.Bool.{cases_Bool, cases_lt}
 use Rattle.std.proofs.lemmas.List.{take-append-drop, take_all}
 use Rattle.mc_command.specs.declared.command.Command.{Command}
+use Rattle.mc_sizes.specs.Sizes.{AreWithin, rules_of}
+use Rattle.mc_sizes.specs.declared.sizes.Sizes.{Sizes}
 use Rattle.mc_reader.specs.Spelling.{SpellsFront, is_last}
 use Rattle.mc_reader.proofs.Fronts.{commands_begin, every_input}
 use Rattle.mc_item.specs.Kind.{key_of}
@@ -17,7 +19,6 @@ use Rattle.mc_conn.proofs.Counting.{due_beyond}
 use Rattle.mc_conn.proofs.Fitting.{due-append}
 use Rattle.mc_conn.proofs.Gets.{get_below}
 use Rattle.mc_conn.proofs.Places.{lane-append}
-use Rattle.mc_core.specs.Sizes.{AreWithin, Sizes, rules_of}
 use Rattle.mc_core.specs.Sized.{SpellAll, SpellFirst}
 use Rattle.mc_core.specs.Log.{Entry, of_asker}
 use Rattle.mc_core.specs.World.{IsAt, IsLink, Link, World, entries, ran, sent_to, with_entry, with_link}

@@ -1,7 +1,7 @@
 -- Fairness: endless runs in which no work is put off for ever, and what comes of them.
 use Rattle.std.specs.Prelude.{ℕ, ◌≡◌, ◌≢◌, ◌+◌, ◌<◌, ◌≤◌, ◌⊎◌, IsTrue, false, List, length}
 use Rattle.mc_command.specs.declared.command.Command.{Command}
-use Rattle.mc_core.specs.Sizes.{Sizes}
+use Rattle.mc_sizes.specs.declared.sizes.Sizes.{Sizes}
 use Rattle.mc_core.specs.Sized.{SpellFirst}
 use Rattle.mc_core.specs.World.{IsAt, IsLink, Link, World}
 use Rattle.mc_core.specs.Rest.{AtRest}

@@ -2,9 +2,9 @@
 use Rattle.std.specs.Prelude.{ℕ, ◌≡◌, IfSome, List}
 use Rattle.std.specs.List.{AllByRecursion}
 use Rattle.mc_wire.specs.Key.{place_of}
+use Rattle.mc_sizes.specs.declared.sizes.Sizes.{Sizes}
 use Rattle.mc_item.specs.Kind.{key_of}
 use Rattle.mc_store.specs.State.{State}
-use Rattle.mc_core.specs.Sizes.{Sizes}
 use Rattle.mc_core.specs.Sized.{empty_shard}
 use Rattle.mc_core.specs.Log.{Entry, Run, on_shard}
 use Rattle.mc_core.specs.World.{World}

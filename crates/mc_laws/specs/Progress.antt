@@ -2,8 +2,8 @@
 use Rattle.std.specs.Prelude.{ℕ, ◌≡◌, ◌+◌, ◌*◌, ◌≤◌, false, List, [], ◌∷◌, length, Some}
 use Rattle.std.specs.List.{AllByRecursion, slice_get}
 use Rattle.mc_command.specs.declared.command.Command.{Command}
+use Rattle.mc_sizes.specs.declared.sizes.Sizes.{Sizes}
 use Rattle.mc_split.specs.Pieces.{pieces_of}
-use Rattle.mc_core.specs.Sizes.{Sizes}
 use Rattle.mc_core.specs.Sized.{SpellAll}
 use Rattle.mc_core.specs.World.{IsLink, Link, World}
 use Rattle.mc_core.specs.Rest.{AtRest}

@@ -1,8 +1,8 @@
 -- Settling: the server's own events are tried in a fixed order, again and again, until none of them is enabled.
 use Rattle.std.specs.Prelude.{ℕ, zero, suc, List, [], ◌∷◌, ◌++◌}
 use Rattle.std.specs.List.{AllByRecursion}
+use Rattle.mc_sizes.specs.declared.sizes.Sizes.{Sizes}
 use Rattle.mc_core.specs.declared.sim.Sim.{Sim}
-use Rattle.mc_core.specs.Sizes.{Sizes}
 use Rattle.mc_core.specs.World.{World}
 use Rattle.mc_core.specs.Events.{Event}
 use Rattle.mc_core.specs.Events.Event.{Take, Send, Pop, Give, Receive, Hand}

@@ -1,6 +1,7 @@
 //! The laws of order in time. Each is a function with an empty body, whose contract is the law.
 ghost use Rattle.std.specs.Prelude.{ℕ, List};
-ghost use Rattle.mc_core.specs.Sizes.{AreWithin, Sizes};
+ghost use Rattle.mc_sizes.specs.Sizes.{AreWithin};
+ghost use Rattle.mc_sizes.specs.declared.sizes.Sizes.{Sizes};
 ghost use Rattle.mc_core.specs.World.{World};
 ghost use Rattle.mc_core.specs.Events.{Event};
 ghost use Rattle.mc_core.specs.Schedule.{Leads, Schedule};

@@ -2,9 +2,8 @@
 use Rattle.std.specs.Prelude.{ℕ, ◌≡◌, Bool, List, [], ◌∷◌, map, Option, Ok, Err, Result, codes, find, is_some, option_map, unwrap_or, if◌then◌else◌}
 use Rattle.std.specs.Option.{option_map_or, option_or}
 use Rattle.clap.specs.Words.{first_of}
-use Rattle.mc_core.specs.Sizes.{AreWithin}
-use Rattle.mc_server.specs.declared.serve.Sizes.{Sizes}
-use Rattle.mc_server.specs.Sizes.{line_sizes, sizes_of}
+use Rattle.mc_sizes.specs.Sizes.{AreWithin}
+use Rattle.mc_sizes.specs.declared.sizes.Sizes.{Sizes}
 use Rattle.mc_options.specs.declared.options.Options.{Options}
 use Rattle.mc_options.specs.declared.options.Options.TheVariants.{Listen, Replay, Stdio, Version}
 use Rattle.mc_options.specs.Program.{rows_in}
@@ -17,14 +16,14 @@ pub data Call : Type 0 where
   TellsVersion : Call
   RunsSchedule : (file : List ℕ) → Call
   ServesLine : (at : Option ℕ) (sizes : Sizes) → Call
-  ServesTcp : (address : List ℕ) (seats : ℕ) (connections idle : Option ℕ) (verbose : Bool) (metrics : Option (List ℕ)) (sizes : Sizes) → Call
+  ServesTcp : (address : List ℕ) (connections idle : Option ℕ) (verbose : Bool) (metrics : Option (List ℕ)) (sizes : Sizes) → Call
 
 -- the call as the program has it
 abbrev pub call_of : Options → Call
 call_of Version = TellsVersion
 call_of (Replay file) = RunsSchedule file.now
 call_of (Stdio at sizes) = ServesLine at sizes
-call_of (Listen address seats connections idle verbose metrics sizes) = ServesTcp address.now seats connections idle verbose (option_map (λ text. text.now) metrics) sizes
+call_of (Listen address connections idle verbose metrics sizes) = ServesTcp address.now connections idle verbose (option_map (λ text. text.now) metrics) sizes
 
 -- the first that is given of these options with a value, or of these without one
 abbrev pub first_given : (List ℕ → Option (List ℕ)) → List (List ℕ) → List (List ℕ) → Option (List ℕ)
@@ -54,7 +53,7 @@ abbrev pub stdio_by : (List ℕ → Option (List ℕ)) → Result Call Wrong
 stdio_by given =
     unless_foreign (first_given given other_than_stdio (codes "verbose" ∷ [])) NotOfStdio
     (and_then (number_if_given given (codes "at") 0 18446744073709551615) (λ at.
-    and_then (sizes_by given) (λ sizes. Ok (ServesLine at sizes))))
+    and_then (sizes_by given 1) (λ sizes. Ok (ServesLine at sizes))))
 
 -- the address to listen on
 abbrev pub address_by : (List ℕ → Option (List ℕ)) → List ℕ
@@ -67,8 +66,8 @@ tcp_by given =
     (and_then (number_given given (codes "seats") 1 1024 4096) (λ seats.
     and_then (number_if_given given (codes "connections") 1 4294967295) (λ connections.
     and_then (number_if_given given (codes "idle-timeout") 1 31536000) (λ idle.
-    and_then (sizes_by given) (λ sizes.
-    Ok (ServesTcp (address_by given) seats connections idle (is_flag given (codes "verbose")) (given (codes "metrics")) sizes))))))
+    and_then (sizes_by given seats) (λ sizes.
+    Ok (ServesTcp (address_by given) connections idle (is_flag given (codes "verbose")) (given (codes "metrics")) sizes))))))
 
 -- the call that is given, or the first thing that is wrong with it
 abbrev pub call_by : (List ℕ → Option (List ℕ)) → Result Call Wrong
@@ -89,5 +88,5 @@ SpellsOptions given options = call_by given ≡ Ok (call_of options)
 abbrev pub HasAllowedSizes : Options → Type 0
 HasAllowedSizes Version = Unit {0}
 HasAllowedSizes (Replay file) = Unit {0}
-HasAllowedSizes (Stdio at sizes) = AreWithin (line_sizes sizes)
-HasAllowedSizes (Listen address seats connections idle verbose metrics sizes) = AreWithin (sizes_of seats sizes)
+HasAllowedSizes (Stdio at sizes) = AreWithin sizes
+HasAllowedSizes (Listen address connections idle verbose metrics sizes) = AreWithin sizes

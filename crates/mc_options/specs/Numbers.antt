@@ -5,7 +5,7 @@ use Rattle.std.specs.List.{ends_with}
 use Rattle.mc_command.specs.declared.rules.Profile.{Profile}
 use Rattle.mc_command.specs.declared.rules.Profile.TheVariants.{Own, DropIn}
 use Rattle.mc_wire.specs.Number.{number_of}
-use Rattle.mc_server.specs.declared.serve.Sizes.{Sizes}
+use Rattle.mc_sizes.specs.declared.sizes.Sizes.{Sizes}
 use Rattle.mc_options.specs.Wrong.{Wrong, BytesAndMemory, NoNumber, NoSize}
 use Rattle.mc_options.specs.Flags.{profile_by}
 
@@ -71,12 +71,12 @@ abbrev pub default_line : Profile → ℕ
 default_line Own = 65536
 default_line DropIn = 1048576
 
--- the sizes of the server, whose rings have 20 places, or the first of them that is wrong
-abbrev pub sizes_by : (List ℕ → Option (List ℕ)) → Result Sizes Wrong
-sizes_by given =
+-- the sizes of the server with so many seats, whose rings have 20 places, or the first of them that is wrong
+abbrev pub sizes_by : (List ℕ → Option (List ℕ)) → ℕ → Result Sizes Wrong
+sizes_by given seats =
     and_then (number_given given (codes "shards") 1 2 16) (λ shards.
     and_then (budget_of shards (given (codes "bytes")) (given (codes "memory"))) (λ bytes.
     and_then (size_given given (codes "value-limit") 1024 1048576 8388608) (λ value.
     and_then (size_given given (codes "line-limit") 2048 (default_line (profile_by given)) 8388608) (λ line.
     and_then (number_given given (codes "window") 1 256 4096) (λ window.
-    Ok (record { profile = profile_by given; shards = shards; bytes = bytes; ring = 20; value = value; line = line; window = window }))))))
+    Ok (record { profile = profile_by given; seats = seats; shards = shards; bytes = bytes; ring = 20; value = value; line = line; window = window }))))))

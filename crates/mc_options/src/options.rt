@@ -1,8 +1,7 @@
 //! The calls of the program, with the sizes that they give.
 ghost use Rattle.std.specs.Prelude.{◌≡◌, ◌≤◌, ◌^◌, [], ok_or, codes, Ok, Err, IfOk, IfErr, IfSome, OnOk, map, option_map, string_bytes};
 ghost use Rattle.clap.specs.Words.{FailsBy, first_value, found_of, rows_of};
-ghost use Rattle.mc_core.specs.Sizes.{AreWithin};
-ghost use Rattle.mc_server.specs.Sizes.{line_sizes};
+ghost use Rattle.mc_sizes.specs.Sizes.{AreWithin};
 ghost use Rattle.mc_options.specs.Program.{rows_in, word_faults};
 ghost use Rattle.mc_options.specs.Wrong.{wrong_of};
 ghost use Rattle.mc_options.specs.Numbers.{budget_of, bytes_of, default_line, digits_of, number_given, number_if_given, number_in, size_given, size_in, sizes_by, unit_of};
@@ -14,22 +13,15 @@ use crate::fault::OptionFault;
 use crate::program::program_options;
 use clap::ArgMatches;
 use mc_command::Profile;
-use mc_core::{
-    DEFAULT_WINDOW, LEAST, LEAST_BYTES, LEAST_LINE, LEAST_VALUE, MOST_BYTES, MOST_LINE, MOST_SEATS,
-    MOST_SHARDS, MOST_VALUE, MOST_WINDOW,
+use mc_sizes::{
+    DEFAULT_BUDGET, DEFAULT_RING, DEFAULT_SEATS, DEFAULT_SHARDS, DEFAULT_WINDOW, GREATEST_BUDGET,
+    GREATEST_SEATS, GREATEST_SHARDS, GREATEST_WINDOW, LEAST_BUDGET, LEAST, Sizes,
 };
-use mc_server::{DEFAULT_RING, Sizes};
-use mc_wire::{DEFAULT_LINE_LIMIT, DEFAULT_VALUE_LIMIT, DROP_IN_LINE_LIMIT, number_u64};
+use mc_wire::{
+    DEFAULT_LINE_LIMIT, DEFAULT_VALUE_LIMIT, DROP_IN_LINE_LIMIT, GREATEST_LINE_LIMIT,
+    GREATEST_VALUE_LIMIT, LEAST_LINE_LIMIT, LEAST_VALUE_LIMIT, number_u64,
+};
 use std::alloc::Global;
-
-/// How many shards there are where nothing else is said.
-const DEFAULT_SHARDS: usize = 2;
-
-/// How many connections are served at a time where nothing else is said.
-const DEFAULT_SEATS: usize = 1_024;
-
-/// What the items of a shard may cost together where nothing else is said, in bytes.
-const DEFAULT_BUDGET: usize = 16_777_216;
 
 /// The most connections after which the program can be told to end.
 const MOST_CONNECTIONS: u64 = 4_294_967_295;
@@ -46,8 +38,6 @@ pub enum Options<'a> {
     /// It serves TCP.
     Listen {
         address: &'a str,
-        /// How many connections are served at a time.
-        seats: usize,
         /// After so many connections the program ends, if it does.
         connections: Option<u64>,
         /// A connection that moves no byte for so many seconds is given up, if one is.
@@ -160,7 +150,7 @@ fn stdio_in<'a>(matches: &ArgMatches<'a>) -> Result<Options<'a>, OptionFault<'a>
         return Err(OptionFault::NotOfStdio { option });
     }
     let at = number_if_given(matches, "at", 0, u64::MAX)?;
-    let sizes = sizes_in(matches)?;
+    let sizes = sizes_in(matches, 1)?;
     Ok(Options::Stdio { at, sizes })
 }
 
@@ -175,14 +165,13 @@ fn listen_in<'a>(matches: &ArgMatches<'a>) -> Result<Options<'a>, OptionFault<'a
     if let Some(option) = first_given(matches, &["at"], &[]) {
         return Err(OptionFault::NotOfTcp { option });
     }
-    let seats = number_given(matches, "seats", LEAST, DEFAULT_SEATS, MOST_SEATS)?;
+    let seats = number_given(matches, "seats", LEAST, DEFAULT_SEATS, GREATEST_SEATS)?;
     let connections = number_if_given(matches, "connections", 1, MOST_CONNECTIONS)?;
     let idle_timeout = number_if_given(matches, "idle-timeout", 1, MOST_IDLE)?;
-    let sizes = sizes_in(matches)?;
+    let sizes = sizes_in(matches, seats)?;
     let address = matches.get_str("listen").unwrap_or(DEFAULT_ADDRESS);
     Ok(Options::Listen {
         address,
-        seats,
         connections,
         idle_timeout,
         verbose: is_flag(matches, "verbose"),
@@ -191,30 +180,39 @@ fn listen_in<'a>(matches: &ArgMatches<'a>) -> Result<Options<'a>, OptionFault<'a
     })
 }
 
-/// The sizes that are given, and whose rules the server follows.
-fn sizes_in<'a>(matches: &ArgMatches<'a>) -> Result<Sizes, OptionFault<'a>>
+/// The sizes that are given, of a server with so many seats, and whose rules it follows.
+fn sizes_in<'a>(matches: &ArgMatches<'a>, seats: usize) -> Result<Sizes, OptionFault<'a>>
+    requires least { LEAST ≤ seats }
+    requires greatest { seats ≤ GREATEST_SEATS }
     ensures given { IfOk result
-        (λ sizes. sizes_by (first_value (found_of matches.now)) ≡ Ok sizes) }
-    ensures within { IfOk result (λ sizes. AreWithin (line_sizes sizes)) }
+        (λ sizes. sizes_by (first_value (found_of matches.now)) seats ≡ Ok sizes) }
+    ensures within { IfOk result AreWithin }
     ensures refused { IfErr result (λ fault.
         IsOfOptions fault ×
-        (sizes_by (first_value (found_of matches.now)) ≡ Err (wrong_of fault))) }
+        (sizes_by (first_value (found_of matches.now)) seats ≡ Err (wrong_of fault))) }
 {
     let profile = profile_in(matches);
     let longest = default_line(profile);
-    let shards = number_given(matches, "shards", LEAST, DEFAULT_SHARDS, MOST_SHARDS)?;
+    let shards = number_given(matches, "shards", LEAST, DEFAULT_SHARDS, GREATEST_SHARDS)?;
     let bytes = budget_in(shards, matches.get_str("bytes"), matches.get_str("memory"))?;
     let value = size_given(
         matches,
         "value-limit",
-        LEAST_VALUE,
+        LEAST_VALUE_LIMIT,
         DEFAULT_VALUE_LIMIT,
-        MOST_VALUE,
+        GREATEST_VALUE_LIMIT,
     )?;
-    let line = size_given(matches, "line-limit", LEAST_LINE, longest, MOST_LINE)?;
-    let window = number_given(matches, "window", LEAST, DEFAULT_WINDOW, MOST_WINDOW)?;
+    let line = size_given(
+        matches,
+        "line-limit",
+        LEAST_LINE_LIMIT,
+        longest,
+        GREATEST_LINE_LIMIT,
+    )?;
+    let window = number_given(matches, "window", LEAST, DEFAULT_WINDOW, GREATEST_WINDOW)?;
     Ok(Sizes {
         profile,
+        seats,
         shards,
         bytes,
         ring: DEFAULT_RING,
@@ -266,9 +264,10 @@ fn budget_in<'a>(
 {
     match (bytes, memory) {
         (None, None) => Ok(DEFAULT_BUDGET),
-        (Some(each), None) => size_in("bytes", each, LEAST_BYTES, MOST_BYTES),
+        (Some(each), None) => size_in("bytes", each, LEAST_BUDGET, GREATEST_BUDGET),
         (None, Some(total)) => {
-            let total = size_in("memory", total, LEAST_BYTES * shards, MOST_BYTES * shards)?;
+            let (least, most) = (LEAST_BUDGET * shards, GREATEST_BUDGET * shards);
+            let total = size_in("memory", total, least, most)?;
             Ok(total / shards)
         }
         (Some(_), Some(_)) => Err(OptionFault::BytesAndMemory),

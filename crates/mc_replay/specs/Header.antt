@@ -3,10 +3,10 @@ use Rattle.std.specs.Prelude.{ℕ, ◌^◌, ◌&&◌, List, [], ◌∷◌, Optio
 use Rattle.std.specs.Option.{option_and_then, option_map}
 use Rattle.std.specs.Str.{bytes_eq}
 use Rattle.mc_wire.specs.Number.{number_of}
-use Rattle.mc_wire.specs.declared.TheConstants.{DEFAULT_LINE_LIMIT, DEFAULT_VALUE_LIMIT, DROP_IN_LINE_LIMIT}
+use Rattle.mc_wire.specs.declared.TheConstants.{DEFAULT_LINE_LIMIT, DEFAULT_VALUE_LIMIT, DROP_IN_LINE_LIMIT, GREATEST_LINE_LIMIT, GREATEST_VALUE_LIMIT, LEAST_LINE_LIMIT, LEAST_VALUE_LIMIT}
 use Rattle.mc_command.specs.declared.rules.Profile.TheVariants.{DropIn, Own}
-use Rattle.mc_core.specs.Sizes.{Sizes, sized}
-use Rattle.mc_core.specs.declared.sizes.TheConstants.{DEFAULT_WINDOW, LEAST, LEAST_BYTES, LEAST_LINE, LEAST_VALUE, MOST_BYTES, MOST_LINE, MOST_RING, MOST_SEATS, MOST_SHARDS, MOST_VALUE, MOST_WINDOW}
+use Rattle.mc_sizes.specs.declared.TheConstants.{DEFAULT_WINDOW, GREATEST_BUDGET, GREATEST_RING, GREATEST_SEATS, GREATEST_SHARDS, GREATEST_WINDOW, LEAST, LEAST_BUDGET}
+use Rattle.mc_sizes.specs.declared.sizes.Sizes.{Sizes}
 
 -- the number from the least to the most that a word spells
 abbrev pub number_within : ℕ → ℕ → List ℕ → Option ℕ
@@ -15,7 +15,7 @@ number_within least most word =
 
 -- the sizes with the line limit that this word spells
 abbrev pub with_line : Sizes → List ℕ → Option Sizes
-with_line sizes word = option_map (λ line. record sizes { line = line }) (number_within LEAST_LINE MOST_LINE word)
+with_line sizes word = option_map (λ line. record sizes { line = line }) (number_within LEAST_LINE_LIMIT GREATEST_LINE_LIMIT word)
 
 -- the sizes with the rules that these words name: a line limit, drop-in, both or neither
 abbrev pub with_rules : Sizes → List (List ℕ) → Option Sizes
@@ -32,8 +32,8 @@ with_limits sizes (value ∷ []) = None
 with_limits sizes (value ∷ window ∷ rules) =
     option_and_then (λ value.
     option_and_then (λ window. with_rules (record sizes { value = value; window = window }) rules)
-    (number_within LEAST MOST_WINDOW window))
-    (number_within LEAST_VALUE MOST_VALUE value)
+    (number_within LEAST GREATEST_WINDOW window))
+    (number_within LEAST_VALUE_LIMIT GREATEST_VALUE_LIMIT value)
 
 -- the sizes that these counts spell, with the limits of the words behind them
 abbrev pub sizes_of : List ℕ → List ℕ → List ℕ → List ℕ → List (List ℕ) → Option Sizes
@@ -41,11 +41,12 @@ sizes_of seats shards bytes ring limits =
     option_and_then (λ seats.
     option_and_then (λ shards.
     option_and_then (λ bytes.
-    option_and_then (λ ring. with_limits (sized Own seats shards bytes ring DEFAULT_VALUE_LIMIT DEFAULT_LINE_LIMIT DEFAULT_WINDOW) limits)
-    (number_within LEAST MOST_RING ring))
-    (number_within LEAST_BYTES MOST_BYTES bytes))
-    (number_within LEAST MOST_SHARDS shards))
-    (number_within LEAST MOST_SEATS seats)
+    option_and_then (λ ring.
+    with_limits (record { profile = Own; seats = seats; shards = shards; bytes = bytes; ring = ring; value = DEFAULT_VALUE_LIMIT; line = DEFAULT_LINE_LIMIT; window = DEFAULT_WINDOW }) limits)
+    (number_within LEAST GREATEST_RING ring))
+    (number_within LEAST_BUDGET GREATEST_BUDGET bytes))
+    (number_within LEAST GREATEST_SHARDS shards))
+    (number_within LEAST GREATEST_SEATS seats)
 
 -- the sizes that the words of a header spell
 abbrev pub header_of : List (List ℕ) → Option Sizes

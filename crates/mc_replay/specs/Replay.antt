@@ -3,7 +3,8 @@ use Rattle.std.specs.Prelude.{ℕ, ◌≡◌, ◌+◌, List, [], ◌∷◌, ◌+
 use Rattle.std.specs.List.{flat_map}
 use Rattle.std.specs.declared.alloc.Global.{Global}
 use Rattle.mc_wire.specs.Outlet.{BreaksOff, Sight, took}
-use Rattle.mc_core.specs.Sizes.{AreWithin, Sizes}
+use Rattle.mc_sizes.specs.Sizes.{AreWithin, IsFirstOut}
+use Rattle.mc_sizes.specs.declared.sizes.Sizes.{Sizes}
 use Rattle.mc_core.specs.World.{Link, World, empty_world}
 use Rattle.mc_core.specs.Events.{Event}
 use Rattle.mc_core.specs.Log.{Entry}
@@ -12,7 +13,7 @@ use Rattle.mc_core.specs.Runs.{FoundMemory, done_in}
 use Rattle.mc_core.specs.Headline.{handed_bytes}
 use Rattle.mc_core.specs.Stands.{line_of}
 use Rattle.mc_replay.specs.Report.{connection_line, counts_line, entry_line}
-use Rattle.mc_replay.specs.Schedule.{events_of, sizes_of}
+use Rattle.mc_replay.specs.Schedule.{events_of}
 use Rattle.mc_replay.specs.declared.schedule.Schedule as schedule
 use Rattle.mc_replay.specs.declared.run.ReplayFault.{ReplayFault}
 use Rattle.mc_replay.specs.declared.run.ReplayFault.TheVariants.{Gone, Memory, Size}
@@ -44,14 +45,14 @@ pub record IsReport (sizes : Sizes) (events : List Event) (text : List ℕ) : Ty
 
 -- Of a server that may be so large a text tells; else it is refused, or memory ran out.
 abbrev pub GivesReport : schedule.Schedule → Result (Vec ℕ Global) ReplayFault → Type 0
-GivesReport plan (Ok text) = IsReport (sizes_of plan) (events_of plan) text.items
-GivesReport plan (Err Size) = ¬ AreWithin (sizes_of plan)
-GivesReport plan (Err Memory) = AreWithin (sizes_of plan)
+GivesReport plan (Ok text) = IsReport plan.sizes (events_of plan) text.items
+GivesReport plan (Err (Size fault)) = IsFirstOut plan.sizes fault
+GivesReport plan (Err Memory) = AreWithin plan.sizes
 GivesReport plan (Err Gone) = ⊥
 
 -- The whole of such a text was written, or a beginning where the outlet failed; a refusal wrote nothing.
 abbrev pub Replays : {X : Type 0} → schedule.Schedule → Result X ReplayFault → Sight → Sight → Type 0
-Replays plan (Ok all) old new = (text : List ℕ) × IsReport (sizes_of plan) (events_of plan) text × (new ≡ took text old)
-Replays plan (Err Gone) old new = (text : List ℕ) × IsReport (sizes_of plan) (events_of plan) text × BreaksOff text old new
-Replays plan (Err Size) old new = ¬ AreWithin (sizes_of plan) × (new ≡ old)
-Replays plan (Err Memory) old new = AreWithin (sizes_of plan) × (new ≡ old)
+Replays plan (Ok all) old new = (text : List ℕ) × IsReport plan.sizes (events_of plan) text × (new ≡ took text old)
+Replays plan (Err Gone) old new = (text : List ℕ) × IsReport plan.sizes (events_of plan) text × BreaksOff text old new
+Replays plan (Err (Size fault)) old new = IsFirstOut plan.sizes fault × (new ≡ old)
+Replays plan (Err Memory) old new = AreWithin plan.sizes × (new ≡ old)

@@ -1,21 +1,16 @@
 -- What a replay file spells: its header, then an event a line; or which of its lines is the first that is bad.
 use Rattle.std.specs.Prelude.{ℕ, ◌≡◌, ◌+◌, List, [], ◌∷◌, ◌++◌, length, map, drop, Option, Some, None, MatchOption, Result, Ok, Err, Vec}
 use Rattle.std.specs.declared.alloc.Global.{Global}
-use Rattle.mc_core.specs.Sizes.{Sizes}
+use Rattle.mc_sizes.specs.declared.sizes.Sizes.{Sizes}
 use Rattle.mc_core.specs.Events.{Event}
 use Rattle.mc_core.specs.Asked.{event_of as shown}
 use Rattle.mc_core.specs.declared.event.Event as code
-use Rattle.mc_server.specs.Sizes as server
 use Rattle.mc_replay.specs.Text.{lines_of, words_in}
 use Rattle.mc_replay.specs.Header.{header_of}
 use Rattle.mc_replay.specs.Event.{event_of}
 use Rattle.mc_replay.specs.declared.schedule.Schedule as schedule
 use Rattle.mc_replay.specs.declared.schedule.ScheduleFault.{ScheduleFault}
 use Rattle.mc_replay.specs.declared.schedule.ScheduleFault.TheVariants.{Bad, Memory}
-
--- the server of a schedule
-abbrev pub sizes_of : schedule.Schedule → Sizes
-sizes_of plan = server.sizes_of plan.seats plan.sizes
 
 -- the events of a schedule
 abbrev pub events_of : schedule.Schedule → List Event
@@ -45,6 +40,6 @@ SpellsEvents sizes lines (Err Memory) = Unit {0}
 
 -- What was read of a file is what it spells, or its first bad line, unless memory ran out.
 abbrev pub SpellsSchedule : List ℕ → Result schedule.Schedule ScheduleFault → Type 0
-SpellsSchedule text (Ok plan) = (header_in (lines_of text) ≡ Some (sizes_of plan)) × (events_in (sizes_of plan) (drop 1 (lines_of text)) ≡ map Some (events_of plan))
+SpellsSchedule text (Ok plan) = (header_in (lines_of text) ≡ Some plan.sizes) × (events_in plan.sizes (drop 1 (lines_of text)) ≡ map Some (events_of plan))
 SpellsSchedule text (Err (Bad number)) = MatchOption (header_in (lines_of text)) (number ≡ 1) (λ sizes. IsFirstBad sizes (drop 1 (lines_of text)) number)
 SpellsSchedule text (Err Memory) = Unit {0}

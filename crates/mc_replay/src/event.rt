@@ -6,13 +6,12 @@ ghost use Rattle.mc_replay.specs.Text.{words_in, hex_bytes};
 ghost use Rattle.mc_core.specs.Asked.{event_of as shown};
 ghost use Rattle.mc_replay.specs.Event.{both, event_of};
 ghost use Rattle.mc_replay.specs.Event as spec;
-ghost use Rattle.mc_replay.specs.internal.Read.{sizes_in};
 
-use crate::header::Header;
 use crate::number::number_below;
 use crate::parts::parts;
 use hex::FromHexError;
 use mc_core::Event;
+use mc_sizes::Sizes;
 use mc_wire::number_u64;
 use std::alloc::{AllocError, Global};
 
@@ -20,31 +19,31 @@ use std::alloc::{AllocError, Global};
 pub(crate) fn read_event(
     alloc: Global,
     line: &[u8],
-    header: Header,
+    sizes: Sizes,
 ) -> Result<Option<Event>, AllocError>
     ensures { IfOk result
-        (λ event. option_map shown event ≡ event_of (sizes_in header) (words_in line.now)) }
+        (λ event. option_map shown event ≡ event_of sizes (words_in line.now)) }
 {
     let mut walk = parts(line, b' ');
     match (walk.next(), walk.next(), walk.next(), walk.next()) {
-        (Some(name), Some(word), None, _) => Ok(event_at(name, word, header)),
+        (Some(name), Some(word), None, _) => Ok(event_at(name, word, sizes)),
         (Some(name), Some(first), Some(second), None) => {
-            event_between(alloc, name, first, second, header)
+            event_between(alloc, name, first, second, sizes)
         }
         _ => Ok(None),
     }
 }
 
 /// An event of a shard or a seat alone.
-fn event_at(name: &[u8], word: &[u8], header: Header) -> Option<Event>
+fn event_at(name: &[u8], word: &[u8], sizes: Sizes) -> Option<Event>
     ensures { option_map shown result ≡
-        event_of (sizes_in header) (name.now ∷ word.now ∷ []) }
+        event_of sizes (name.now ∷ word.now ∷ []) }
 {
     match name {
         b"give" => Some(Event::Give {
-            shard: number_below(word, header.sizes.shards)?,
+            shard: number_below(word, sizes.shards)?,
         }),
-        _ => seat_event(name, number_below(word, header.seats)?),
+        _ => seat_event(name, number_below(word, sizes.seats)?),
     }
 }
 
@@ -68,52 +67,52 @@ fn event_between(
     name: &[u8],
     first: &[u8],
     second: &[u8],
-    header: Header,
+    sizes: Sizes,
 ) -> Result<Option<Event>, AllocError>
     ensures { IfOk result (λ event. option_map shown event ≡
-        event_of (sizes_in header) (name.now ∷ first.now ∷ second.now ∷ [])) }
+        event_of sizes (name.now ∷ first.now ∷ second.now ∷ [])) }
 {
     if name == b"receive".as_slice() {
-        return Ok(read_receive(first, second, header));
+        return Ok(read_receive(first, second, sizes));
     }
     match name {
-        b"feed" => read_feed(alloc, first, second, header),
-        b"take" => Ok(read_take(first, second, header)),
-        b"pop" => Ok(read_pop(first, second, header)),
+        b"feed" => read_feed(alloc, first, second, sizes),
+        b"take" => Ok(read_take(first, second, sizes)),
+        b"pop" => Ok(read_pop(first, second, sizes)),
         _ => Ok(None),
     }
 }
 
 /// take c MOMENT
 #[tactic(auto, unfolding(crate::specs::Event::both))]
-fn read_take(seat: &[u8], moment: &[u8], header: Header) -> Option<Event>
+fn read_take(seat: &[u8], moment: &[u8], sizes: Sizes) -> Option<Event>
     ensures { option_map shown result ≡
-        both Take (number_of header.seats seat.now) (number_of (2 ^ 64) moment.now) }
+        both Take (number_of sizes.seats seat.now) (number_of (2 ^ 64) moment.now) }
 {
-    let seat = number_below(seat, header.seats)?;
+    let seat = number_below(seat, sizes.seats)?;
     let moment = number_u64(moment).ok()?;
     Some(Event::Take { seat, moment })
 }
 
 /// pop s c
 #[tactic(auto, unfolding(crate::specs::Event::both))]
-fn read_pop(shard: &[u8], seat: &[u8], header: Header) -> Option<Event>
+fn read_pop(shard: &[u8], seat: &[u8], sizes: Sizes) -> Option<Event>
     ensures { option_map shown result ≡
-        both Pop (number_of header.sizes.shards shard.now) (number_of header.seats seat.now) }
+        both Pop (number_of sizes.shards shard.now) (number_of sizes.seats seat.now) }
 {
-    let shard = number_below(shard, header.sizes.shards)?;
-    let seat = number_below(seat, header.seats)?;
+    let shard = number_below(shard, sizes.shards)?;
+    let seat = number_below(seat, sizes.seats)?;
     Some(Event::Pop { shard, seat })
 }
 
 /// receive c s
 #[tactic(auto, unfolding(crate::specs::Event::both))]
-fn read_receive(seat: &[u8], shard: &[u8], header: Header) -> Option<Event>
+fn read_receive(seat: &[u8], shard: &[u8], sizes: Sizes) -> Option<Event>
     ensures { option_map shown result ≡
-        both Receive (number_of header.seats seat.now) (number_of header.sizes.shards shard.now) }
+        both Receive (number_of sizes.seats seat.now) (number_of sizes.shards shard.now) }
 {
-    let seat = number_below(seat, header.seats)?;
-    let shard = number_below(shard, header.sizes.shards)?;
+    let seat = number_below(seat, sizes.seats)?;
+    let shard = number_below(shard, sizes.shards)?;
     Some(Event::Receive { seat, shard })
 }
 
@@ -123,12 +122,12 @@ fn read_feed(
     alloc: Global,
     seat: &[u8],
     text: &[u8],
-    header: Header,
+    sizes: Sizes,
 ) -> Result<Option<Event>, AllocError>
     ensures { IfOk result (λ event. option_map shown event ≡
-        both Feed (number_of header.seats seat.now) (hex_bytes text.now)) }
+        both Feed (number_of sizes.seats seat.now) (hex_bytes text.now)) }
 {
-    let Some(seat) = number_below(seat, header.seats) else {
+    let Some(seat) = number_below(seat, sizes.seats) else {
         return Ok(None);
     };
     match read_hex(alloc, text)? {

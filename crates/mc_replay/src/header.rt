@@ -1,31 +1,25 @@
 //! The first line of a replay file: how large the server is, and whose rules it follows.
-ghost use Rattle.std.specs.Prelude.{◌≡◌, ◌∷◌, [], codes, option_map};
+ghost use Rattle.std.specs.Prelude.{◌≡◌, ◌∷◌, [], codes};
 ghost use Rattle.std.specs.Str.{bytes_eq};
 ghost use Rattle.mc_replay.specs.Text.{words_in};
 ghost use Rattle.mc_replay.specs.Header.{header_of, sizes_of, with_limits, with_line, with_rules};
 ghost use Rattle.mc_replay.specs.internal.Parts.{parts_left};
-ghost use Rattle.mc_replay.specs.internal.Read.{sizes_in};
 
 use crate::number::number_within;
 use crate::parts::{PartWalk, parts};
 use mc_command::Profile;
-use mc_core::{
-    DEFAULT_WINDOW, LEAST, LEAST_BYTES, LEAST_LINE, LEAST_VALUE, MOST_BYTES, MOST_LINE, MOST_RING,
-    MOST_SEATS, MOST_SHARDS, MOST_VALUE, MOST_WINDOW,
+use mc_sizes::{
+    DEFAULT_WINDOW, GREATEST_BUDGET, GREATEST_RING, GREATEST_SEATS, GREATEST_SHARDS,
+    GREATEST_WINDOW, LEAST, LEAST_BUDGET, Sizes,
 };
-use mc_server::Sizes;
-use mc_wire::{DEFAULT_LINE_LIMIT, DEFAULT_VALUE_LIMIT, DROP_IN_LINE_LIMIT};
-
-/// What a header says.
-#[derive(Clone, Copy)]
-pub(crate) struct Header {
-    pub(crate) seats: usize,
-    pub(crate) sizes: Sizes,
-}
+use mc_wire::{
+    DEFAULT_LINE_LIMIT, DEFAULT_VALUE_LIMIT, DROP_IN_LINE_LIMIT, GREATEST_LINE_LIMIT,
+    GREATEST_VALUE_LIMIT, LEAST_LINE_LIMIT, LEAST_VALUE_LIMIT,
+};
 
 /// Reads a header: sim SEATS SHARDS BYTES RING [VALUE WINDOW [LINE] [drop-in]]
-pub(crate) fn read_header(line: &[u8]) -> Option<Header>
-    ensures { option_map sizes_in result ≡ header_of (words_in line.now) }
+pub(crate) fn read_header(line: &[u8]) -> Option<Sizes>
+    ensures { result ≡ header_of (words_in line.now) }
 {
     let mut walk = parts(line, b' ');
     let name = walk.next();
@@ -45,55 +39,55 @@ fn read_sizes(
     bytes: &[u8],
     ring: &[u8],
     more: PartWalk<'_>,
-) -> Option<Header>
-    ensures { option_map sizes_in result ≡
+) -> Option<Sizes>
+    ensures { result ≡
         sizes_of seats.now shards.now bytes.now ring.now (parts_left more.entry) }
 {
-    let seats = number_within(seats, LEAST, MOST_SEATS)?;
     let sizes = Sizes {
         profile: Profile::Own,
-        shards: number_within(shards, LEAST, MOST_SHARDS)?,
-        bytes: number_within(bytes, LEAST_BYTES, MOST_BYTES)?,
-        ring: number_within(ring, LEAST, MOST_RING)?,
+        seats: number_within(seats, LEAST, GREATEST_SEATS)?,
+        shards: number_within(shards, LEAST, GREATEST_SHARDS)?,
+        bytes: number_within(bytes, LEAST_BUDGET, GREATEST_BUDGET)?,
+        ring: number_within(ring, LEAST, GREATEST_RING)?,
         value: DEFAULT_VALUE_LIMIT,
         line: DEFAULT_LINE_LIMIT,
         window: DEFAULT_WINDOW,
     };
-    with_limits(Header { seats, sizes }, more)
+    with_limits(sizes, more)
 }
 
-/// The header with the limits of these words: none, or a value limit and a window, behind which the rules may stand.
-fn with_limits(header: Header, mut more: PartWalk<'_>) -> Option<Header>
-    ensures { option_map sizes_in result ≡ with_limits (sizes_in header) (parts_left more.entry) }
+/// The sizes with the limits of these words: none, or a value limit and a window, behind which the rules may stand.
+fn with_limits(sizes: Sizes, mut more: PartWalk<'_>) -> Option<Sizes>
+    ensures { result ≡ with_limits sizes (parts_left more.entry) }
 {
     match (more.next(), more.next()) {
-        (None, _) => Some(header),
+        (None, _) => Some(sizes),
         (Some(value), Some(window)) => {
             let sizes = Sizes {
-                value: number_within(value, LEAST_VALUE, MOST_VALUE)?,
-                window: number_within(window, LEAST, MOST_WINDOW)?,
-                ..header.sizes
+                value: number_within(value, LEAST_VALUE_LIMIT, GREATEST_VALUE_LIMIT)?,
+                window: number_within(window, LEAST, GREATEST_WINDOW)?,
+                ..sizes
             };
-            with_rules(Header { sizes, ..header }, more)
+            with_rules(sizes, more)
         }
         (Some(_), None) => None,
     }
 }
 
-/// The header with the rules of these words: a line limit, drop-in, both or neither.
-fn with_rules(header: Header, mut more: PartWalk<'_>) -> Option<Header>
-    ensures { option_map sizes_in result ≡ with_rules (sizes_in header) (parts_left more.entry) }
+/// The sizes with the rules of these words: a line limit, drop-in, both or neither.
+fn with_rules(sizes: Sizes, mut more: PartWalk<'_>) -> Option<Sizes>
+    ensures { result ≡ with_rules sizes (parts_left more.entry) }
 {
     match (more.next(), more.next(), more.next()) {
-        (None, _, _) => Some(header),
-        (Some(last), None, _) => with_rule(header, last),
+        (None, _, _) => Some(sizes),
+        (Some(last), None, _) => with_rule(sizes, last),
         (Some(line), Some(last), None) => {
             if is_drop_in(last) {
                 let sizes = Sizes {
                     profile: Profile::DropIn,
-                    ..header.sizes
+                    ..sizes
                 };
-                with_line(Header { sizes, ..header }, line)
+                with_line(sizes, line)
             } else {
                 None
             }
@@ -102,19 +96,18 @@ fn with_rules(header: Header, mut more: PartWalk<'_>) -> Option<Header>
     }
 }
 
-/// The header with the rules of one word: drop-in, or a line limit.
-fn with_rule(header: Header, word: &[u8]) -> Option<Header>
-    ensures { option_map sizes_in result ≡ with_rules (sizes_in header) (word.now ∷ []) }
+/// The sizes with the rules of one word: drop-in, or a line limit.
+fn with_rule(sizes: Sizes, word: &[u8]) -> Option<Sizes>
+    ensures { result ≡ with_rules sizes (word.now ∷ []) }
 {
     if is_drop_in(word) {
-        let sizes = Sizes {
+        Some(Sizes {
             profile: Profile::DropIn,
             line: DROP_IN_LINE_LIMIT,
-            ..header.sizes
-        };
-        Some(Header { sizes, ..header })
+            ..sizes
+        })
     } else {
-        with_line(header, word)
+        with_line(sizes, word)
     }
 }
 
@@ -125,13 +118,12 @@ fn is_drop_in(word: &[u8]) -> bool
     word == b"drop-in".as_slice()
 }
 
-/// The header with the line limit that a word spells.
-fn with_line(header: Header, word: &[u8]) -> Option<Header>
-    ensures { option_map sizes_in result ≡ with_line (sizes_in header) word.now }
+/// The sizes with the line limit that a word spells.
+fn with_line(sizes: Sizes, word: &[u8]) -> Option<Sizes>
+    ensures { result ≡ with_line sizes word.now }
 {
-    let sizes = Sizes {
-        line: number_within(word, LEAST_LINE, MOST_LINE)?,
-        ..header.sizes
-    };
-    Some(Header { sizes, ..header })
+    Some(Sizes {
+        line: number_within(word, LEAST_LINE_LIMIT, GREATEST_LINE_LIMIT)?,
+        ..sizes
+    })
 }

@@ -1,7 +1,7 @@
 //! Runs a schedule, and tells what became of it.
 ghost use Rattle.std.specs.Prelude.{◌≡◌, ◌++◌, ◌+◌, ℕ, IfOk, OnOk, map};
 ghost use Rattle.std.specs.List.{flat_map};
-ghost use Rattle.mc_core.specs.Sizes.{Sizes};
+ghost use Rattle.mc_sizes.specs.declared.sizes.Sizes.{Sizes};
 ghost use Rattle.mc_core.specs.World.{IsLink, Link, World};
 ghost use Rattle.mc_core.specs.Headline.{handed_bytes};
 ghost use Rattle.mc_core.specs.Asked.{event_of};
@@ -15,6 +15,7 @@ use crate::report::{push_connection, push_counts, push_entry};
 use crate::schedule::Schedule;
 use mc_core::{Event, LogEntry, Sim, SimRefusal};
 use mc_item::NoMemory;
+use mc_sizes::SizeFault;
 use mc_wire::{Outlet, put_all};
 use std::alloc::{AllocError, Global};
 use std::random::RandomSource;
@@ -24,8 +25,8 @@ use thiserror::Error;
 #[derive(Clone, Copy, Debug, PartialEq, Eq, Error)]
 pub enum ReplayFault {
     /// A size of the server is out of its limits. Nothing was written.
-    #[error("a size of the server is out of its limits")]
-    Size,
+    #[error(transparent)]
+    Size(SizeFault),
     /// Memory ran out. Nothing was written.
     #[error("out of memory")]
     Memory,
@@ -63,21 +64,9 @@ pub fn replay<R: RandomSource, O: Outlet>(
 fn tell<R: RandomSource>(rt: &R, alloc: Global, schedule: &Schedule) -> Result<Vec<u8>, ReplayFault>
     ensures { GivesReport schedule.now result }
 {
-    let sizes = schedule.sizes;
-    let mut sim = match Sim::under(
-        rt,
-        alloc,
-        sizes.profile,
-        schedule.seats,
-        sizes.shards,
-        sizes.bytes,
-        sizes.ring,
-        sizes.value,
-        sizes.line,
-        sizes.window,
-    ) {
+    let mut sim = match Sim::new(rt, alloc, schedule.sizes) {
         Ok(sim) => sim,
-        Err(SimRefusal::Size) => return Err(ReplayFault::Size),
+        Err(SimRefusal::Size(fault)) => return Err(ReplayFault::Size(fault)),
         Err(SimRefusal::Memory) => return Err(ReplayFault::Memory),
     };
     let Ok(done) = run_all(alloc, &mut sim, &schedule.events) else {

@@ -3,23 +3,20 @@ ghost use Rattle.std.specs.Prelude.{◌≡◌};
 ghost use Rattle.mc_replay.specs.Text.{lines_of, without_last_end};
 ghost use Rattle.mc_replay.specs.Schedule.{SpellsSchedule, SpellsEvents};
 ghost use Rattle.mc_replay.specs.internal.Parts.{parts_left};
-ghost use Rattle.mc_replay.specs.internal.Read.{sizes_in};
 ghost use Rattle.mc_replay.specs.declared.schedule.ScheduleFault.TheVariants.{Memory};
 
 use crate::event::read_event;
-use crate::header::{Header, read_header};
+use crate::header::read_header;
 use crate::parts::{PartWalk, parts};
 use mc_core::Event;
-use mc_server::Sizes;
+use mc_sizes::Sizes;
 use std::alloc::{AllocError, Global};
 use thiserror::Error;
 
 /// A server and a list of events: what a replay file says.
 #[derive(Drop)]
 pub struct Schedule {
-    /// How many connections there are at a time.
-    pub seats: usize,
-    /// How large the server is else, and whose rules it follows.
+    /// How large the server is, and whose rules it follows.
     pub sizes: Sizes,
     /// What happens, in order.
     pub events: Vec<Event>,
@@ -49,15 +46,11 @@ pub fn read_schedule(alloc: Global, text: &[u8]) -> Result<Schedule, ScheduleFau
     ensures { SpellsSchedule text.now result }
 {
     let mut lines = parts(without_last_end(text), b'\n');
-    let Some(header) = lines.next().and_then(read_header) else {
+    let Some(sizes) = lines.next().and_then(read_header) else {
         return Err(ScheduleFault::Bad(1));
     };
-    let events = read_events(alloc, lines, header)?;
-    Ok(Schedule {
-        seats: header.seats,
-        sizes: header.sizes,
-        events,
-    })
+    let events = read_events(alloc, lines, sizes)?;
+    Ok(Schedule { sizes, events })
 }
 
 /// The text without the end of its last line, if that has one.
@@ -71,13 +64,13 @@ fn without_last_end(text: &[u8]) -> &[u8]
 fn read_events(
     alloc: Global,
     lines: PartWalk<'_>,
-    header: Header,
+    sizes: Sizes,
 ) -> Result<Vec<Event>, ScheduleFault>
-    ensures { SpellsEvents (sizes_in header) (parts_left lines.entry) result }
+    ensures { SpellsEvents sizes (parts_left lines.entry) result }
 {
     let mut events = Vec::new(alloc);
     for line in lines {
-        match read_event(alloc, line, header)? {
+        match read_event(alloc, line, sizes)? {
             Some(event) => {
                 if events.push(event).is_err() {
                     return Err(ScheduleFault::Memory);

@@ -1,7 +1,6 @@
 -- The lanes between seats and shards, as they are made, and when a seat's ends and a shard's ends have one lane.
 use Rattle.std.specs.Prelude.{◌≡◌, ℕ, ◌≤◌, ◌+◌, List, [], ◌++◌, length, slice_get, Some}
 use Rattle.std.specs.List.{AllByRecursion}
-use Rattle.mc_ring.specs.declared.TheConstants.{SEAT_LIMIT, SHARD_LIMIT, RING_LIMIT}
 use Rattle.mc_ring.specs.Lane.{Far, Lane, Near, Side}
 use Rattle.mc_ring.specs.Ends.{AtLane, Ends, Looks, lanes_of}
 
@@ -32,15 +31,6 @@ pub record AreLanes (seats shards capacity : ℕ) (near : List (Ends Near)) (far
   pub each_seat : (number : ℕ) (seat : Ends Near) → slice_get near number ≡ Some seat → AreNewEnds number shards capacity seat
   pub each_shard : (number : ℕ) (shard : Ends Far) → slice_get far number ≡ Some shard → AreNewEnds number seats capacity shard
   pub each_lane : (c s : ℕ) (seat : Ends Near) (shard : Ends Far) → slice_get near c ≡ Some seat → slice_get far s ≡ Some shard → IsLane seat shard
-
--- There may be so many seats, shards and places in a ring.
-pub record IsSize (seats shards capacity : ℕ) : Type 0 where
-  pub some_seat : 1 ≤ seats
-  pub seat_limit : seats ≤ SEAT_LIMIT
-  pub some_shard : 1 ≤ shards
-  pub shard_limit : shards ≤ SHARD_LIMIT
-  pub some_place : 1 ≤ capacity
-  pub ring_limit : capacity ≤ RING_LIMIT
 
 -- Both ends of a lane were looked at in one thread: so many parcels and so many replies wait, and in each direction what
 -- was received, then what waits, is what was sent.

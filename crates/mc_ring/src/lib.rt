@@ -15,12 +15,3 @@ pub use parcel::Parcel;
 pub use reply::Reply;
 pub use seat::SeatEnds;
 pub use shard::ShardEnds;
-
-/// Seats: at most this many.
-pub const SEAT_LIMIT: usize = 4_096;
-
-/// Shards: at most this many.
-pub const SHARD_LIMIT: usize = 16;
-
-/// Items that one ring holds: at most this many.
-pub const RING_LIMIT: usize = 1_024;

@@ -1,11 +1,12 @@
 //! Making the lanes between seats and shards.
 ghost use Rattle.std.specs.Prelude.{◌≡◌, ◌≢◌, ◌↔◌, ◌≤◌, ℕ, [], IfOk, IsErrOf, IsTrue, Err};
-ghost use Rattle.mc_ring.specs.Made.{AreLanes, IsSize, IsUnused};
+ghost use Rattle.mc_sizes.specs.Sizes.{SuitLanes};
+ghost use Rattle.mc_ring.specs.Made.{AreLanes, IsUnused};
 ghost use Rattle.mc_ring.specs.internal.Joined.{Joins};
 
 use crate::seat::{SeatEnds, SeatLane};
 use crate::shard::{ShardEnds, ShardLane};
-use crate::{RING_LIMIT, SEAT_LIMIT, SHARD_LIMIT};
+use mc_sizes::{GREATEST_RING, GREATEST_SEATS, GREATEST_SHARDS, LEAST, Sizes};
 use rtrb::RingBuffer;
 use std::alloc::{AllocError, Global};
 use thiserror::Error;
@@ -31,31 +32,30 @@ impl From<AllocError> for RingRefusal {
     }
 }
 
-/// The ends of a lane between each seat and each shard, with rings of this capacity. There are 1 to 4,096 seats, 1 to 16
-/// shards and 1 to 1,024 places in a ring; `Size` where a number is outside these, which is tested first.
+/// The ends of a lane between each seat and each shard, with rings of so many places. `Size` where the number of seats, of
+/// shards or of places is out of its limits, which is tested first.
 pub fn lanes(
     alloc: Global,
-    seats: usize,
-    shards: usize,
-    capacity: usize,
+    sizes: Sizes,
 ) -> Result<(Vec<SeatEnds>, Vec<ShardEnds>), RingRefusal>
-    ensures made { IfOk result (λ ends. AreLanes seats shards capacity ends.0.items ends.1.items) }
-    ensures size { IsErrOf result RingRefusal.Size → ¬ (IsSize seats shards capacity) }
-    ensures tested { result ≢ Err RingRefusal.Size → IsSize seats shards capacity }
+    ensures made { IfOk result
+        (λ ends. AreLanes sizes.seats sizes.shards sizes.ring ends.0.items ends.1.items) }
+    ensures size { IsErrOf result RingRefusal.Size → ¬ (SuitLanes sizes) }
+    ensures tested { result ≢ Err RingRefusal.Size → SuitLanes sizes }
 {
-    if !is_size(seats, shards, capacity) {
+    if !suit_lanes(sizes) {
         return Err(RingRefusal::Size);
     }
-    Ok(all_lanes(alloc, seats, shards, capacity)?)
+    Ok(all_lanes(alloc, sizes.seats, sizes.shards, sizes.ring)?)
 }
 
 /// Whether there may be so many seats, shards and places in a ring.
-fn is_size(seats: usize, shards: usize, capacity: usize) -> bool
-    ensures { IsTrue result ↔ IsSize seats shards capacity }
+fn suit_lanes(sizes: Sizes) -> bool
+    ensures { IsTrue result ↔ SuitLanes sizes }
 {
-    (1..=SEAT_LIMIT).contains(&seats)
-        && (1..=SHARD_LIMIT).contains(&shards)
-        && (1..=RING_LIMIT).contains(&capacity)
+    (LEAST..=GREATEST_SEATS).contains(&sizes.seats)
+        && (LEAST..=GREATEST_SHARDS).contains(&sizes.shards)
+        && (LEAST..=GREATEST_RING).contains(&sizes.ring)
 }
 
 /// The ends of all lanes, of whatever numbers.

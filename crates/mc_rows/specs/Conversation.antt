@@ -7,6 +7,7 @@ use Rattle.mc_command.specs.declared.command.Command.{Command}
 use Rattle.mc_command.specs.declared.command.Command.TheVariants as command
 use Rattle.mc_command.specs.declared.line.Line.{Line}
 use Rattle.mc_command.specs.declared.line.Line.TheVariants.{Whole, Data, Refused, Skip}
+use Rattle.mc_sizes.specs.declared.sizes.Sizes.{Sizes}
 use Rattle.mc_item.specs.declared.answer.Answer.TheVariants as answer
 use Rattle.mc_item.specs.declared.answer.Answer.TheVariants.{Stored, Number, Done, MetaDone}
 use Rattle.mc_item.specs.declared.op.Op.{Op}
@@ -18,7 +19,6 @@ use Rattle.mc_command.specs.Rules.{own}
 use Rattle.mc_command.specs.declared.rules.Profile.TheVariants.{Own}
 use Rattle.mc_reader.specs.Spelling.{line_says, block_entry, skip_entry}
 use Rattle.mc_conn.specs.History.{Taken}
-use Rattle.mc_core.specs.Sizes.{Sizes}
 use Rattle.mc_core.specs.Alone.{alone}
 use Rattle.mc_split.specs.Pieces.{pieces_of}
 use Rattle.mc_split.specs.Text.{text_of}

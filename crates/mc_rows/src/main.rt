@@ -12,8 +12,8 @@ use held::{blocks_held, is_bounded};
 use line::{Cutting, MemoryLine};
 use mc_command::Profile;
 use mc_seat::{Line, Served};
-use mc_server::{DEFAULT_RING, Sizes, StillClock, serve_one};
-use mc_store::{GREATEST_BUDGET, LEAST_BUDGET};
+use mc_server::{StillClock, serve_one};
+use mc_sizes::{DEFAULT_RING, GREATEST_BUDGET, LEAST_BUDGET, Sizes};
 use mc_wire::{DEFAULT_LINE_LIMIT, GREATEST_VALUE_LIMIT};
 use row::{Row, split_at_tab};
 use std::alloc::Global;
@@ -62,6 +62,7 @@ fn served<R: Wait + RandomSource, L: Line>(
     }
     let sizes = Sizes {
         profile: row.profile,
+        seats: 1,
         shards: 2,
         bytes: row.bytes,
         ring: DEFAULT_RING,

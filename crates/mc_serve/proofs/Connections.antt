@@ -3,7 +3,7 @@ use Rattle.std.proofs.Common.{◌≡◌, ℕ, suc, ◌+◌, ◌-◌, ◌^◌, �
 use Rattle.std.specs.List.{AllByRecursion}
 use Rattle.std.proofs.lemmas.List.{length-map}
 use Rattle.mc_wire.specs.Outlet.{Sight}
-use Rattle.mc_core.specs.Sizes.{Sizes}
+use Rattle.mc_sizes.specs.declared.sizes.Sizes.{Sizes}
 use Rattle.mc_server.specs.Explains.{LineTold}
 use Rattle.mc_serve.specs.Told.{DoorTold, IsFree, TellsLines, TellsNothing, closed}
 use Rattle.mc_serve.specs.Served.{PassEach, PassesAll, ServesDoors}

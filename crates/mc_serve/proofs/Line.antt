@@ -4,13 +4,13 @@ use Rattle.std.specs.List.{AllByRecursion}
 use Rattle.std.specs.Prelude.{filter}
 use Rattle.std.proofs.lemmas.Bool.{cases_lt}
 use Rattle.std.proofs.lemmas.Bool.Decides.{eqb_tells}
+use Rattle.mc_sizes.specs.declared.sizes.Sizes.{Sizes}
 use Rattle.mc_conn.specs.History.{Taken, AnsweredCommand}
 use Rattle.mc_conn.specs.Due as due
 use Rattle.mc_conn.specs.Due.{Ran}
 use Rattle.mc_conn.specs.Fits.{KeysFit}
 use Rattle.mc_conn.proofs.Serving.{keys_came}
 use Rattle.mc_conn.proofs.Telling.{ran_on-same}
-use Rattle.mc_core.specs.Sizes.{Sizes}
 use Rattle.mc_core.specs.Log.{Entry, of_asker, on_shard}
 use Rattle.mc_core.specs.Desk.{Desk}
 use Rattle.mc_ring.specs.Lane.{Near}

@@ -4,8 +4,8 @@ use Rattle.std.specs.List.{AllByRecursion, flat_map, slice_get}
 use Rattle.std.specs.Prelude.{IfOk, Result, Ok, Err}
 use Rattle.std.proofs.lemmas.List.{length-map}
 use Rattle.mc_wire.specs.Outlet.{Sight}
+use Rattle.mc_sizes.specs.declared.sizes.Sizes.{Sizes}
 use Rattle.mc_conn.specs.History.{AnsweredCommand}
-use Rattle.mc_core.specs.Sizes.{Sizes}
 use Rattle.mc_core.specs.Log.{Entry, of_asker, on_shard}
 use Rattle.mc_crew.specs.Zips.{Zips}
 use Rattle.mc_server.specs.Explains.{ExplainsLine, IsLogOfLines, LineTold, log_of}

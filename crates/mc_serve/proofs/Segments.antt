@@ -3,6 +3,8 @@ use Rattle.std.proofs.Common.{◌≡◌, ℕ, zero, suc, ◌<◌, ◌+◌, ◌==
 use Rattle.std.specs.List.{AllByRecursion, flat_map}
 use Rattle.std.proofs.lemmas.Bool.{cases_lt}
 use Rattle.std.proofs.lemmas.List.{length-map, map-append, take_all, take-append-drop}
+use Rattle.mc_sizes.specs.Sizes.{rules_of}
+use Rattle.mc_sizes.specs.declared.sizes.Sizes.{Sizes}
 use Rattle.mc_ring.specs.declared.parcel.Parcel.TheVariants as parcel
 use Rattle.mc_ring.specs.Lane.{Near}
 use Rattle.mc_ring.specs.Ends.{AreSameEnds, Ends, received_on, sent_on}
@@ -18,7 +20,6 @@ use Rattle.mc_conn.specs.Fits.{CameFrom, KeysFit, Serves, Tells, reply_of}
 use Rattle.mc_conn.specs.Told.{Told, all_texts, commands_of}
 use Rattle.mc_conn.proofs.Serving.{keys_came}
 use Rattle.mc_conn.proofs.Telling.{ran_on-same, tells}
-use Rattle.mc_core.specs.Sizes.{Sizes, rules_of}
 use Rattle.mc_core.specs.Log.{Entry, of_asker, on_shard, pieces_in, replies_in}
 use Rattle.mc_core.specs.Desk.{Desk, end_come}
 use Rattle.mc_crew.specs.Zips.{Zips}

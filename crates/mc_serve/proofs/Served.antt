@@ -2,6 +2,7 @@
 use Rattle.std.proofs.Common.{◌≡◌, ℕ, zero, suc, ◌<◌, List, [], ◌∷◌, length, map, take, refl, ap, arith}
 use Rattle.std.specs.List.{AllByRecursion}
 use Rattle.std.proofs.lemmas.List.{take_all}
+use Rattle.mc_sizes.specs.declared.sizes.Sizes.{Sizes}
 use Rattle.mc_ring.specs.Lane.{Near}
 use Rattle.mc_ring.specs.Ends.{Ends, list_at}
 use Rattle.mc_ring.specs.Made.{IsUnused}
@@ -10,7 +11,6 @@ use Rattle.mc_conn.specs.History.{AnsweredCommand, Taken, entries_of, taken_of}
 use Rattle.mc_conn.specs.Due as due
 use Rattle.mc_conn.specs.Fits.{HasCome, counts}
 use Rattle.mc_conn.specs.Told.{commands_of}
-use Rattle.mc_core.specs.Sizes.{Sizes}
 use Rattle.mc_core.specs.Log.{Entry}
 use Rattle.mc_core.specs.Desk.{Desk}
 use Rattle.mc_serve.specs.Asking.{AreTied}

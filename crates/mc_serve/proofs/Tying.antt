@@ -1,10 +1,10 @@
 -- One lane, once both its ends are joined.
 use Rattle.std.proofs.Common.{◌≡◌, ℕ, suc, ◌<◌, ◌≤◌, List, [], ◌∷◌, ◌++◌, length, map, refl, sym, ap, ◌∙◌, arith, append-nil}
+use Rattle.mc_sizes.specs.declared.sizes.Sizes.{Sizes}
 use Rattle.mc_conn.specs.History.{Taken}
 use Rattle.mc_conn.specs.Due.{Ran, due}
 use Rattle.mc_conn.specs.Fits.{CameFrom, reply_of}
 use Rattle.mc_conn.proofs.Counting.{due_beyond}
-use Rattle.mc_core.specs.Sizes.{Sizes}
 use Rattle.mc_core.specs.Log.{Entry, of_asker, pieces_in, replies_in}
 use Rattle.mc_core.specs.Desk.{Desk, end_come}
 use Rattle.mc_ring.specs.declared.parcel.Parcel.{Parcel}

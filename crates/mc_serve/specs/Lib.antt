@@ -1,4 +1,3 @@
-pub mod Sizes
 pub mod Told
 pub mod Asking
 pub mod Logs

@@ -1,7 +1,7 @@
 -- The logs of workers that have ended.
 use Rattle.std.specs.Prelude.{ℕ, suc, ◌≡◌, ◌<◌, None, Some, false, List, [], ◌∷◌, length}
 use Rattle.std.specs.List.{flat_map, slice_get}
-use Rattle.mc_core.specs.Sizes.{Sizes}
+use Rattle.mc_sizes.specs.declared.sizes.Sizes.{Sizes}
 use Rattle.mc_core.specs.Sized.{empty_shard}
 use Rattle.mc_core.specs.Log.{Entry}
 use Rattle.mc_core.specs.Desk.{Desk, HasRun}

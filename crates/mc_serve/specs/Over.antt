@@ -1,7 +1,7 @@
 -- What is told of lines that are served by a seat each.
 use Rattle.std.specs.Prelude.{ℕ, ◌≡◌, Bool, List, [], ◌∷◌, length}
 use Rattle.mc_wire.specs.Outlet.{Sight}
-use Rattle.mc_core.specs.Sizes.{Sizes}
+use Rattle.mc_sizes.specs.declared.sizes.Sizes.{Sizes}
 use Rattle.mc_server.specs.Explains.{Explains, LineTold}
 
 -- a line as it is reported

@@ -25,7 +25,6 @@ mod vectored;
 mod warden;
 
 pub use door::{Arrival, Door};
-pub use mc_server::Sizes;
 pub use one_door::{OneDoor, Returned, ServedLine};
 pub use over::{Report, serve_over};
 pub use peek::Peek;

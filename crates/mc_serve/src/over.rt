@@ -1,9 +1,8 @@
 //! Serves lines over memory, each by a door of its own.
 ghost use Rattle.std.specs.Prelude.{◌≡◌, ◌≢◌, [], IfErr, IfOk, length, map};
+ghost use Rattle.mc_sizes.specs.Sizes.{MayServe};
 ghost use Rattle.mc_crew.specs.Zips.{Zips};
-ghost use Rattle.mc_server.specs.Sizes.{sizes_of};
 ghost use Rattle.mc_serve.specs.Over.{ServesAll, came_back};
-ghost use Rattle.mc_serve.specs.Sizes.{MayServe};
 ghost use Rattle.mc_serve.specs.declared.refusal.ServeRefusal.TheVariants.{Bind};
 ghost use Rattle.mc_serve.specs.One.{IsBack, told_one, waits};
 
@@ -12,7 +11,7 @@ use crate::refusal::ServeRefusal;
 use crate::serving::serve;
 use mc_core::Gate;
 use mc_seat::{Clock, Line};
-use mc_server::Sizes;
+use mc_sizes::Sizes;
 use mc_wake::{Patience, Sleeper};
 use std::alloc::{AllocError, Global};
 use std::random::RandomSource;
@@ -26,8 +25,9 @@ pub struct Report<L> {
     pub lines: Vec<ServedLine<L>>,
 }
 
-/// Serves the lines until each has ended, quits or has failed. Each line and each shard has a thread of its own. Every worker
-/// passes the gate before each piece. Where it refuses, nothing was read of any line nor written to it.
+/// Serves the lines until each has ended, quits or has failed. Each line has a seat, whatever the sizes say, and each line and
+/// each shard has a thread of its own. Every worker passes the gate before each piece. Where it refuses, nothing was read of any
+/// line nor written to it.
 pub fn serve_over<
     R: Threads + Wait + RandomSource + Copy + Send + Drop + 'static,
     L: Line + Send + Drop + 'static,
@@ -41,10 +41,10 @@ pub fn serve_over<
     gate: G,
     clock: K,
 ) -> Result<Report<L>, ServeRefusal>
-    requires { MayServe (length lines.items) sizes }
+    requires { MayServe (record sizes { seats = length lines.items }) }
     // One log explains what was read of all lines, what was written to them and what the shards did.
     ensures explained { IfOk result (λ report.
-        ServesAll (sizes_of (length lines.items) sizes) (K.may_answer clock)
+        ServesAll (record sizes { seats = length lines.items }) (K.may_answer clock)
         (map (λ line. L.sight line) lines.items)
         (map (λ one. came_back (L.sight one.line) one.commands one.broke) report.lines.items)) }
     ensures refused { IfErr result (λ refusal. refusal ≢ Bind) }

@@ -1,5 +1,5 @@
 //! What one thread serves.
-ghost use Rattle.mc_server.specs.Sizes.{rules_of};
+ghost use Rattle.mc_sizes.specs.Sizes.{rules_of};
 ghost use Rattle.std.specs.Prelude.{◌≡◌, ℕ, List, IfOk, IsTrue, map};
 ghost use Rattle.std.specs.Bool.{OnTrue};
 ghost use Rattle.std.specs.List.{AllByRecursion};
@@ -15,7 +15,7 @@ use crate::sitting::Sitting;
 use mc_core::Gate;
 use mc_crew::Task;
 use mc_seat::{Clock, Rooms};
-use mc_server::Sizes;
+use mc_sizes::Sizes;
 use mc_threads::Working;
 use mc_wake::Sleeper;
 use std::alloc::{AllocError, Global};
@@ -51,12 +51,11 @@ pub struct Part<D: Door, G, K> {
 }
 
 impl<D: Door + Drop, G: Gate + Drop, K: Clock + Drop> Part<D, G, K> {
-    /// The part that serves these seats and these workers, which any of so many seats may call. The sleeper is its thread's.
+    /// The part that serves these seats and these workers, which any seat of the server may call. The sleeper is its thread's.
     pub(crate) fn new(
         alloc: Global,
         seats: Vec<Sitting<D>>,
         workers: Vec<Working<G>>,
-        callers: usize,
         sleeper: Sleeper,
         sizes: Sizes,
         clock: K,
@@ -76,7 +75,7 @@ impl<D: Door + Drop, G: Gate + Drop, K: Clock + Drop> Part<D, G, K> {
         let words = if workers.is_empty() {
             0
         } else {
-            callers.div_ceil(WORD)
+            sizes.seats.div_ceil(WORD)
         };
         let seats = Seats::new(alloc, seats)?;
         Ok(Part {

@@ -1,10 +1,9 @@
 //! Serves the lines of doors, over shards, in threads that each serve some of the seats and some of the shards.
-ghost use Rattle.std.specs.Prelude.{◌≡◌, ◌≢◌, ◌<◌, ◌≤◌, [], ◌++◌, IfErr, IfOk, OnOk, length, map};
+ghost use Rattle.std.specs.Prelude.{◌≡◌, ◌≢◌, [], ◌++◌, IfErr, IfOk, OnOk, length, map};
 ghost use Rattle.std.specs.List.{AllByRecursion, flat_map};
 ghost use Rattle.std.specs.Vec.Iter.{into_iter_items};
+ghost use Rattle.mc_sizes.specs.Sizes.{MayServe, SuitLines, rules_of};
 ghost use Rattle.mc_ring.specs.Made.{AreLanes};
-ghost use Rattle.mc_server.specs.Sizes.{sizes_of, rules_of};
-ghost use Rattle.mc_serve.specs.Sizes.{MayServe};
 ghost use Rattle.mc_threads.specs.Workers.{IsFresh, ends_of};
 ghost use Rattle.mc_serve.specs.declared.refusal.ServeRefusal.TheVariants.{Bind};
 ghost use Rattle.mc_serve.specs.Told.{IsFree};
@@ -20,10 +19,9 @@ use mc_core::{Gate, Worker};
 use mc_crew::{Crew, CrewRefusal};
 use mc_ring::{SeatEnds, lanes};
 use mc_seat::Clock;
-use mc_server::Sizes;
+use mc_sizes::Sizes;
 use mc_threads::{Working, make_workers};
 use mc_wake::{Sleeper, Wakers};
-use mc_wire::{GREATEST_LINE_LIMIT, GREATEST_VALUE_LIMIT};
 use std::alloc::{AllocError, Global};
 use std::random::RandomSource;
 use std::sync::{Arc, Wait};
@@ -31,8 +29,8 @@ use std::thread::Threads;
 use std::vec::IntoIter;
 
 /// Serves the lines of the doors until no more come. There is a thread for each sleeper, which serves as many of the seats and
-/// of the shards as the sleeper has places and workers: in their order, so that each seat and each shard has its thread. Every
-/// worker passes the gate before each piece. Where it refuses, no door was asked for a line: `Thread` also where the sleepers
+/// of the shards as the sleeper has places and workers: in their order, so that each seat and each shard has its thread. Each
+/// door has a seat, whatever the sizes say. Every worker passes the gate before each piece. Where it refuses, no door was asked for a line: `Thread` also where the sleepers
 /// have places or workers for more or fewer.
 pub fn serve<
     R: Threads + Wait + RandomSource + Copy + Send + Drop + 'static,
@@ -50,14 +48,16 @@ pub fn serve<
 ) -> Result<Vec<D>, ServeRefusal>
 where
     D::Line: Send + 'static,
-    requires sizes { MayServe (length doors.items) sizes }
+    requires sizes { MayServe (record sizes { seats = length doors.items }) }
     requires free { AllByRecursion (λ door. IsFree (D.told door)) doors.items }
     // One log explains what was read of all lines, what was written to them and what the shards did.
     ensures explained { IfOk result (λ back.
-        ServesDoors (sizes_of (length doors.items) sizes) (K.may_answer clock)
+        ServesDoors (record sizes { seats = length doors.items }) (K.may_answer clock)
         (map (λ door. D.told door) doors.items) (map (λ door. D.told door) back.items)) }
     ensures refused { IfErr result (λ refusal. refusal ≢ Bind) }
 {
+    let seats = doors.len();
+    let sizes = Sizes { seats, ..sizes };
     match serve_all(rt, alloc, doors, sleepers, sizes, gate, clock) {
         Ok(back) => Ok(back),
         Err(refusal) => Err(ServeRefusal::from(refusal)),
@@ -81,11 +81,12 @@ fn serve_all<
 ) -> Result<Vec<D>, CrewRefusal>
 where
     D::Line: Send + 'static,
-    requires sizes { MayServe (length doors.items) sizes }
+    requires sizes { MayServe sizes }
+    requires seats { length doors.items ≡ sizes.seats }
     requires free { AllByRecursion (λ door. IsFree (D.told door)) doors.items }
     ensures { IfOk result (λ back.
-        ServesDoors (sizes_of (length doors.items) sizes) (K.may_answer clock)
-        (map (λ door. D.told door) doors.items) (map (λ door. D.told door) back.items)) }
+        ServesDoors sizes (K.may_answer clock) (map (λ door. D.told door) doors.items)
+        (map (λ door. D.told door) back.items)) }
 {
     let mut crew = Crew::new(alloc, sleepers.len())?;
     // The room for what comes back comes first: nothing is lost once the lines were served.
@@ -124,22 +125,22 @@ fn start<
 ) -> Result<(), CrewRefusal>
 where
     D::Line: Send + 'static,
-    requires size { MayServe (length doors.items) sizes }
+    requires sizes { MayServe sizes }
+    requires seats { length doors.items ≡ sizes.seats }
     requires free { AllByRecursion (λ door. IsFree (D.told door)) doors.items }
     requires none { crew.old ≡ [] }
-    ensures lanes { OnOk result (AreLanes (length doors.items) sizes.shards sizes.ring
+    ensures lanes { OnOk result (AreLanes sizes.seats sizes.shards sizes.ring
         (map (λ one. one.session.courier.ends) (flat_map (λ part. part.seats.all.items) crew.new))
         (map ends_of (map (λ one. one.worker) (flat_map (λ part. part.workers.items) crew.new)))) }
     ensures fresh { OnOk result
-        (AllByRecursion (IsFresh (sizes_of (length doors.items) sizes))
+        (AllByRecursion (IsFresh sizes)
         (map (λ one. one.worker) (flat_map (λ part. part.workers.items) crew.new))) }
     ensures doors { OnOk result
         (map (λ one. one.door) (flat_map (λ part. part.seats.all.items) crew.new) ≡ doors.items) }
     ensures same { OnOk result
         (AllByRecursion (λ part. (part.clock ≡ clock) × (part.sizes ≡ sizes)) crew.new) }
 {
-    let count = doors.len();
-    let Ok((near, far)) = lanes(alloc, count, sizes.shards, sizes.ring) else {
+    let Ok((near, far)) = lanes(alloc, sizes) else {
         // The sizes are within the limits.
         return Err(CrewRefusal::Memory);
     };
@@ -147,9 +148,7 @@ where
     let workers = make_workers(rt, alloc, far, sizes)?;
     let workers = set_working(alloc, workers, gate, &wakers)?;
     let seats = sit_down(alloc, doors, near, &wakers, sizes)?;
-    start_parts(
-        rt, alloc, crew, seats, workers, sleepers, count, sizes, clock,
-    )
+    start_parts(rt, alloc, crew, seats, workers, sleepers, sizes, clock)
 }
 
 /// A seat for each door, over the ends in the same place. The wakers are those of the shards.
@@ -160,10 +159,7 @@ fn sit_down<D: Door + Drop>(
     shards: &Wakers,
     sizes: Sizes,
 ) -> Result<Vec<Sitting<D>>, AllocError>
-    requires shards { 0 < sizes.shards }
-    requires value { sizes.value ≤ GREATEST_VALUE_LIMIT }
-    requires line { sizes.line ≤ GREATEST_LINE_LIMIT }
-    requires window { 0 < sizes.window }
+    requires sizes { SuitLines sizes }
     requires width { AllByRecursion (λ seat. length seat.lanes ≡ sizes.shards) ends.items }
     requires as_many { length doors.items ≡ length ends.items }
     requires free { AllByRecursion (λ door. IsFree (D.told door)) doors.items }
@@ -206,8 +202,8 @@ fn set_working<G: Gate + Drop>(
     Ok(all)
 }
 
-/// Starts a thread for each sleeper, with as many of the seats and of the workers as it has places and workers for. Any of so
-/// many seats may call a worker. `Thread`: some are left.
+/// Starts a thread for each sleeper, with as many of the seats and of the workers as it has places and workers for. Any seat of
+/// the server may call a worker. `Thread`: some are left.
 fn start_parts<
     R: Threads + Wait + Copy + Send + 'static,
     D: Door + Send + Drop + 'static,
@@ -220,7 +216,6 @@ fn start_parts<
     seats: Vec<Sitting<D>>,
     workers: Vec<Working<G>>,
     sleepers: Vec<Sleeper>,
-    callers: usize,
     sizes: Sizes,
     clock: K,
 ) -> Result<(), CrewRefusal>
@@ -241,7 +236,7 @@ where
     for sleeper in sleepers {
         let own = take_some(alloc, &mut seats, sleeper.places())?;
         let working = take_some(alloc, &mut workers, sleeper.workers())?;
-        let part = Part::new(alloc, own, working, callers, sleeper, sizes, clock)?;
+        let part = Part::new(alloc, own, working, sleeper, sizes, clock)?;
         crew.start(rt, alloc, part)?;
     }
     let None = seats.next() else {

@@ -1,5 +1,5 @@
 //! A seat that serves the lines of a door, one after another, by steps of which none waits.
-ghost use Rattle.mc_server.specs.Sizes.{rules_of};
+ghost use Rattle.mc_sizes.specs.Sizes.{SuitLines, rules_of};
 ghost use Rattle.mc_command.specs.declared.rules.Rules.{Rules};
 ghost use Rattle.std.specs.Prelude.{◌≡◌, ◌<◌, ◌≤◌, ℕ, IfOk, IsTrue, length};
 ghost use Rattle.mc_ring.specs.Ends.{Ends};
@@ -12,10 +12,9 @@ ghost use Rattle.mc_serve.specs.declared.sitting.Phase.TheVariants as phase;
 use crate::door::{Arrival, Door};
 use mc_ring::SeatEnds;
 use mc_seat::{Clock, Line, Ready, Rooms};
-use mc_server::Sizes;
+use mc_sizes::Sizes;
 use mc_threads::{Session, Stepped as LineStep};
 use mc_wake::Wakers;
-use mc_wire::{GREATEST_LINE_LIMIT, GREATEST_VALUE_LIMIT};
 use std::alloc::{AllocError, Global};
 use std::mem;
 
@@ -62,10 +61,7 @@ impl<D: Door + Drop> Sitting<D> {
         shards: Wakers,
         sizes: Sizes,
     ) -> Result<Sitting<D>, AllocError>
-        requires shards { 0 < sizes.shards }
-        requires value { sizes.value ≤ GREATEST_VALUE_LIMIT }
-        requires line { sizes.line ≤ GREATEST_LINE_LIMIT }
-        requires window { 0 < sizes.window }
+        requires sizes { SuitLines sizes }
         requires width { length ends.lanes ≡ sizes.shards }
         ensures vacant { IfOk result
             (λ sitting. IsVacant (rules_of sizes) sizes.window sitting.session) }

@@ -2,8 +2,7 @@
 ghost use Rattle.std.specs.Prelude.{◌≡◌, ◌<◌, ◌^◌, ◌-◌, [], None, false, IfOk, length, map, min};
 ghost use Rattle.std.specs.List.{AllByRecursion};
 ghost use Rattle.mc_command.specs.Rules.{is_drop_in};
-ghost use Rattle.mc_server.specs.Sizes.{rules_of, sizes_of};
-ghost use Rattle.mc_serve.specs.Sizes.{MayServe};
+ghost use Rattle.mc_sizes.specs.Sizes.{MayServe, rules_of};
 ghost use Rattle.mc_serve.specs.Tcp.{ServesConnections, gone_count, told_tcp};
 ghost use Rattle.mc_serve.specs.Told.{TellsLines};
 
@@ -14,7 +13,7 @@ use crate::shard_watch::ShardWatch;
 use crate::tcp_door::TcpDoor;
 use crate::warden::Warden;
 use mc_seat::Clock;
-use mc_server::Sizes;
+use mc_sizes::Sizes;
 use mc_wake::{Patience, Sleeper};
 use mc_watch::Watch;
 use std::alloc::{AllocError, Global};
@@ -31,7 +30,7 @@ const AT_ONCE: Patience = Patience {
     yields: 0,
 };
 
-/// Serves the connections that come in by the listener, each by one of so many seats, until so many have ended, or for good.
+/// Serves the connections that come in by the listener, each by one of the seats, until so many have ended, or for good.
 /// There is a thread for each shard, which serves its share of the seats too, and one that accepts; connections beyond the seats
 /// wait to be accepted. It gives how many connections have ended, a count that stays at its greatest value. What is watched of
 /// them is told to the watch; a connection that is idle for longer than it allows breaks. `Bind`: an accept failed for good.
@@ -42,22 +41,21 @@ pub fn serve_tcp<
     rt: &R,
     alloc: Global,
     listener: TcpListener,
-    seats: usize,
     sizes: Sizes,
     connections: Option<u64>,
     clock: K,
     watch: Watch,
 ) -> Result<u64, ServeRefusal>
-    requires { MayServe seats sizes }
+    requires { MayServe sizes }
     // One log explains what was read of all connections, what was written to them and what the shards did.
-    ensures { IfOk result (ServesConnections (sizes_of seats sizes) (K.may_answer clock)) }
+    ensures { IfOk result (ServesConnections sizes (K.may_answer clock)) }
 {
-    let Ok(sleepers) = polling_sleepers(rt, alloc, seats, sizes.shards) else {
+    let Ok(sleepers) = polling_sleepers(rt, alloc, sizes.seats, sizes.shards) else {
         return Err(ServeRefusal::Thread);
     };
     let mut watch = watch;
     let mut entrance = Entrance::new(alloc, listener, connections, &sleepers, watch.entrance()?)?;
-    let doors = doors_to(rt, alloc, &mut entrance, seats, sizes, &mut watch)?;
+    let doors = doors_to(rt, alloc, &mut entrance, sizes, &mut watch)?;
     let gate = ShardWatch {
         shards: watch.shards(alloc)?,
     };
@@ -135,11 +133,10 @@ fn doors_to<R: time::Clock + Copy + Drop>(
     rt: &R,
     alloc: Global,
     entrance: &mut Entrance,
-    seats: usize,
     sizes: Sizes,
     watch: &mut Watch,
 ) -> Result<Vec<TcpDoor<R>>, AllocError>
-    ensures count { IfOk result (λ doors. length doors.items ≡ seats) }
+    ensures count { IfOk result (λ doors. length doors.items ≡ sizes.seats) }
     ensures new { IfOk result (λ doors.
         AllByRecursion (λ door.
         told_tcp door.is_out door.gone.items door.is_over ≡ TellsLines None None [] false)
@@ -148,8 +145,8 @@ fn doors_to<R: time::Clock + Copy + Drop>(
         AllByRecursion (λ door. door.is_wary ≡ is_drop_in (rules_of sizes)) doors.items) }
 {
     let is_wary = sizes.rules().is_drop_in();
-    let mut doors = Vec::with_capacity(alloc, seats)?;
-    for _ in 0..seats {
+    let mut doors = Vec::with_capacity(alloc, sizes.seats)?;
+    for _ in 0..sizes.seats {
         let way = entrance.next_way(alloc, watch)?;
         doors.push(TcpDoor::new(*rt, way, is_wary))?;
     }

@@ -4,6 +4,7 @@ use Rattle.std.specs.List.{slice_get}
 use Rattle.std.proofs.lemmas.Bool.{cases_Bool, cases_lt}
 use Rattle.std.proofs.lemmas.List.{length-map, length-set, map-append}
 use Rattle.std.proofs.lemmas.Option.{slice_get_within}
+use Rattle.mc_sizes.specs.declared.sizes.Sizes.{Sizes}
 use Rattle.mc_item.specs.declared.answer.Answer.{Answer}
 use Rattle.mc_item.specs.declared.answer.Kind.{Kind}
 use Rattle.mc_item.specs.Kind.{kind_of}
@@ -23,7 +24,6 @@ use Rattle.mc_conn.proofs.Fitting.{next_expected, next_fits}
 use Rattle.mc_conn.proofs.Gets.{all_push}
 use Rattle.mc_conn.proofs.Places.{lane_there}
 use Rattle.mc_conn.proofs.Staying.{is_sound, keeps_accept}
-use Rattle.mc_core.specs.Sizes.{Sizes}
 use Rattle.mc_core.specs.Log.{Entry, on_shard, pieces_in, replies_in, reply_to}
 use Rattle.mc_core.proofs.Lists.{take_next}
 use Rattle.mc_core.proofs.Logs.{on_shard-no, on_shard-yes}

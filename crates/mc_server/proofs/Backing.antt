@@ -1,10 +1,10 @@
 -- What each shard did, by its part of the log: nothing yet, or one piece more.
 use Rattle.std.proofs.Common.{◌≡◌, inl, inr, List, [], ◌∷◌, ◌++◌, length, set, Some, refl, sym, arith}
 use Rattle.std.specs.List.{slice_get}
+use Rattle.mc_sizes.specs.declared.sizes.Sizes.{Sizes}
 use Rattle.mc_store.specs.declared.shard.Shard.{Shard}
 use Rattle.mc_store.specs.Shard.{IsShard, Steps}
 use Rattle.mc_conn.proofs.Gets.{get_below}
-use Rattle.mc_core.specs.Sizes.{Sizes}
 use Rattle.mc_core.specs.Sized.{empty_shard}
 use Rattle.mc_core.specs.Log.{Entry, IsLawful, on_shard}
 use Rattle.mc_core.proofs.Lists.{push_cases, set_cases}

@@ -2,6 +2,8 @@
 use Rattle.std.proofs.Common.{◌≡◌, ℕ, ◌+◌, ◌-◌, ◌^◌, ◌<◌, min, Bool, List, [], ◌∷◌, ◌++◌, length, take, refl, sym, ap, ◌∙◌, arith, length-append}
 use Rattle.std.proofs.lemmas.List.{length-map, take-append-le}
 use Rattle.mc_wire.specs.Outlet.{Sight}
+use Rattle.mc_sizes.specs.Sizes.{rules_of}
+use Rattle.mc_sizes.specs.declared.sizes.Sizes.{Sizes}
 use Rattle.mc_split.specs.declared.plan.Ticket.{Ticket}
 use Rattle.mc_store.specs.declared.shard.Shard.{Shard}
 use Rattle.mc_conn.specs.declared.conn.Conn.{Conn}
@@ -15,7 +17,6 @@ use Rattle.mc_conn.specs.Told.{Told, all_pieces, all_texts, commands_of, told_no
 use Rattle.mc_conn.proofs.Fitting.{fits_none, fits_take, pieces_from-append}
 use Rattle.mc_conn.proofs.Gets.{all_push}
 use Rattle.mc_conn.proofs.Staying.{is_sound, keeps_take}
-use Rattle.mc_core.specs.Sizes.{Sizes, rules_of}
 use Rattle.mc_core.specs.Log.{Entry}
 use Rattle.mc_seat.specs.declared.seat.Turn.{Turn}
 use Rattle.mc_seat.specs.internal.Stands.{handed_texts}

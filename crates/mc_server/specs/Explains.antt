@@ -2,10 +2,11 @@
 use Rattle.std.specs.Prelude.{ℕ, ◌≡◌, ◌<◌, ◌≢◌, Bool, false, List, length, map, Some}
 use Rattle.std.specs.List.{AllByRecursion, slice_get}
 use Rattle.mc_wire.specs.Outlet.{Sight}
+use Rattle.mc_sizes.specs.Sizes.{rules_of}
+use Rattle.mc_sizes.specs.declared.sizes.Sizes.{Sizes}
 use Rattle.mc_conn.specs.History.{AnsweredCommand, IsAnswered, entries_of, taken_of, text_done}
 use Rattle.mc_conn.specs.Due.{Ran}
 use Rattle.mc_conn.specs.Due as due
-use Rattle.mc_core.specs.Sizes.{Sizes, rules_of}
 use Rattle.mc_core.specs.Log.{Entry, IsLawful, of_asker, on_shard}
 use Rattle.mc_core.specs.Alone.{HadMemory, alone}
 use Rattle.mc_seat.specs.Story.{Story}

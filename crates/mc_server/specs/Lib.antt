@@ -1,3 +1,2 @@
-pub mod Sizes
 pub mod Explains
 pub mod internal

@@ -1,57 +1,19 @@
 //! Serves one line, over shards of its own.
-ghost use Rattle.std.specs.Prelude.{◌≡◌, ◌<◌, ◌≤◌, ◌+◌, ℕ, List, [], IfOk, OnErr, IsTrue, true, length};
+ghost use Rattle.std.specs.Prelude.{◌≡◌, ◌+◌, ℕ, List, [], IfOk, OnErr, IsTrue, true, length};
+ghost use Rattle.mc_sizes.specs.Sizes.{SuitLines, SuitShards};
 ghost use Rattle.mc_server.specs.Explains.{IsExplained};
-ghost use Rattle.mc_server.specs.Sizes.{line_sizes};
 ghost use Rattle.mc_server.specs.internal.Answering.{AnswersAll, Backs, CanAnswer};
 
-use mc_command::{Profile, Rules};
 use mc_conn::{Conn, Taken};
 use mc_ring::Reply;
 use mc_seat::{Clock, Line, Rooms, Seat, Served, Turn};
-use mc_store::{GREATEST_BUDGET, LEAST_BUDGET, Shard};
-use mc_wire::{GREATEST_LINE_LIMIT, GREATEST_VALUE_LIMIT};
+use mc_sizes::Sizes;
+use mc_store::Shard;
 use std::alloc::{AllocError, Global};
 use std::random::RandomSource;
 use std::sync::Wait;
 use std::thread;
 use thiserror::Error;
-
-/// So many pieces, or replies, a ring of the program holds.
-pub const DEFAULT_RING: usize = 20;
-
-/// How large a server is, and whose rules it follows.
-#[derive(Clone, Copy, Debug, PartialEq, Eq)]
-pub struct Sizes {
-    /// Whose rules it follows.
-    pub profile: Profile,
-    /// How many shards there are.
-    pub shards: usize,
-    /// What the items of a shard may cost together, in bytes.
-    pub bytes: usize,
-    /// How many pieces, or replies, a ring holds at most.
-    pub ring: usize,
-    /// How many bytes a value has at most.
-    pub value: usize,
-    /// How many bytes a line has at most.
-    pub line: usize,
-    /// How many commands of a line may be open: taken, and their replies not handed out.
-    pub window: usize,
-}
-
-impl Sizes {
-    ghost use Rattle.mc_server.specs.Sizes.{rules_of};
-
-    /// The rules by which lines are read.
-    pub fn rules(self) -> Rules
-        ensures { result ≡ rules_of self }
-    {
-        Rules {
-            profile: self.profile,
-            value_limit: self.value,
-            line_limit: self.line,
-        }
-    }
-}
 
 /// Why a line was not served. Nothing was read of it nor written to it.
 #[derive(Clone, Copy, Debug, Error, PartialEq, Eq)]
@@ -67,11 +29,9 @@ fn make_shards<R: RandomSource>(
     alloc: Global,
     sizes: Sizes,
 ) -> Result<Vec<Shard>, AllocError>
-    requires least_bytes { LEAST_BUDGET ≤ sizes.bytes }
-    requires most_bytes { sizes.bytes ≤ GREATEST_BUDGET }
-    requires value { sizes.value ≤ GREATEST_VALUE_LIMIT }
+    requires { SuitShards sizes }
     ensures len { IfOk result (λ shards. length shards.items ≡ sizes.shards) }
-    ensures empty { IfOk result (λ shards. Backs (line_sizes sizes) shards.items []) }
+    ensures empty { IfOk result (λ shards. Backs sizes shards.items []) }
 {
     let mut shards = Vec::with_capacity(alloc, sizes.shards)?;
     for index in 0..sizes.shards {
@@ -99,7 +59,7 @@ fn answer(alloc: Global, conn: &mut Conn, shards: &mut Vec<Shard>)
     }
 }
 
-/// Serves one line until its input ends, it quits or it fails.
+/// Serves one line until its input ends, it quits or it fails. It has one seat, whatever the sizes say.
 pub fn serve_one<R: Wait + RandomSource, L: Line, K: Clock>(
     rt: &R,
     alloc: Global,
@@ -107,15 +67,11 @@ pub fn serve_one<R: Wait + RandomSource, L: Line, K: Clock>(
     sizes: Sizes,
     clock: &K,
 ) -> Result<Served, ServeRefusal>
-    requires shards { 0 < sizes.shards }
-    requires least_bytes { LEAST_BUDGET ≤ sizes.bytes }
-    requires most_bytes { sizes.bytes ≤ GREATEST_BUDGET }
-    requires value { sizes.value ≤ GREATEST_VALUE_LIMIT }
-    requires line { sizes.line ≤ GREATEST_LINE_LIMIT }
-    requires window { 0 < sizes.window }
+    requires shards { SuitShards sizes }
+    requires lines { SuitLines sizes }
     // One log explains what was read, what was written and what the shards did.
     ensures explained { IfOk result (λ served.
-        IsExplained (line_sizes sizes) (K.may_answer clock.now)
+        IsExplained (record sizes { seats = 1 }) (K.may_answer clock.now)
         (record {
           begin = L.sight line.old;
           now = L.sight line.new;

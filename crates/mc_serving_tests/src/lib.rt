@@ -22,6 +22,8 @@ mod settle;
 #[cfg(test)]
 mod sim;
 #[cfg(test)]
+mod sizes;
+#[cfg(test)]
 mod start;
 #[cfg(test)]
 mod streams;

@@ -2,10 +2,10 @@
 //! The worked rows stand in the crate mc_rows.
 use crate::asserting::{equal, holds};
 use crate::memory_line::MemoryLine;
-use mc_command::Profile;
+use crate::sizes::SMALL;
 use mc_seat::Clock;
-use mc_server::{DEFAULT_RING, ServeRefusal, Sizes, StillClock, serve_one};
-use mc_wire::{DEFAULT_LINE_LIMIT, DEFAULT_VALUE_LIMIT};
+use mc_server::{ServeRefusal, StillClock, serve_one};
+use mc_sizes::Sizes;
 use std::alloc::Global;
 use std::cell::Cell;
 use std::random::RandomSource;
@@ -13,13 +13,8 @@ use std::sync::Wait;
 use std::test::Fail;
 
 const SIZES: Sizes = Sizes {
-    profile: Profile::Own,
-    shards: 2,
     bytes: 1_024,
-    ring: DEFAULT_RING,
-    value: DEFAULT_VALUE_LIMIT,
-    line: DEFAULT_LINE_LIMIT,
-    window: 256,
+    ..SMALL
 };
 
 /// Serves the line with these sizes, and answers what was served: how many commands, and whether the line broke.

@@ -2,7 +2,7 @@
 use crate::asserting::{equal, holds};
 use mc_command::Profile;
 use mc_options::{OptionFault, Options, read_options};
-use mc_server::Sizes;
+use mc_sizes::Sizes;
 use std::alloc::{AllocError, Global};
 
 /// Why a test fails without an assertion.
@@ -41,6 +41,7 @@ fn each_call(rt: HostRuntime) -> Result<(), Fail> {
     let options = read_options(alloc, words.as_slice())?;
     let sizes = Sizes {
         profile: Profile::Own,
+        seats: 1_024,
         shards: 2,
         bytes: 16_777_216,
         ring: 20,
@@ -53,7 +54,6 @@ fn each_call(rt: HostRuntime) -> Result<(), Fail> {
         options
             == Options::Listen {
                 address: "127.0.0.1:11211",
-                seats: 1_024,
                 connections: None,
                 idle_timeout: None,
                 verbose: false,
@@ -68,6 +68,7 @@ fn each_call(rt: HostRuntime) -> Result<(), Fail> {
     let options = read_options(alloc, words.as_slice())?;
     let sizes = Sizes {
         profile: Profile::DropIn,
+        seats: 1,
         shards: 16,
         bytes: 1_024,
         ring: 20,

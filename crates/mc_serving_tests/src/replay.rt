@@ -2,14 +2,15 @@
 use crate::asserting::{equal, holds};
 use crate::memory_line::MemoryLine;
 use mc_core::Event;
-use mc_replay::{ReplayFault, Schedule, ScheduleFault, read_schedule, replay};
+use mc_replay::{ReplayFault, ScheduleFault, read_schedule, replay};
+use mc_sizes::SizeFault;
 use std::test::Fail;
 
 #[test]
 fn a_file_is_read(rt: HostRuntime) -> Result<(), Fail> {
     let file = b"sim 2 3 1024 4\nopen 1\nfeed 1 6D6e0d0a\ntake 01 1000\npop 2 1\ngive 2\n";
     let plan = read_schedule(rt.alloc(), file)?;
-    equal(&rt, plan.seats, 2);
+    equal(&rt, plan.sizes.seats, 2);
     equal(&rt, plan.sizes.shards, 3);
     equal(&rt, plan.sizes.bytes, 1024);
     equal(&rt, plan.sizes.ring, 4);
@@ -91,14 +92,11 @@ fn what_was_done_is_told(rt: HostRuntime) -> Result<(), Fail> {
 
 #[test]
 fn a_size_out_of_its_limits_is_refused(rt: HostRuntime) -> Result<(), Fail> {
-    let plan = read_schedule(rt.alloc(), ENDS)?;
-    let plan = Schedule {
-        seats: 4_097,
-        ..plan
-    };
+    let mut plan = read_schedule(rt.alloc(), ENDS)?;
+    plan.sizes.seats = 4_097;
     let mut told = MemoryLine::new(rt.alloc(), b"")?;
     let refused = replay(&rt, rt.alloc(), &plan, &mut told);
-    equal(&rt, refused, Err(ReplayFault::Size));
+    equal(&rt, refused, Err(ReplayFault::Size(SizeFault::Seats)));
     equal(&rt, told.output.len(), 0);
     Ok(())
 }

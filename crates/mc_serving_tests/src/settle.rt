@@ -1,8 +1,10 @@
 //! A core that is settled. What no clause says: that it comes to rest where memory is ample, and what it tells of its sizes.
 use crate::asserting::{equal, holds};
 use crate::sim::{MOMENT, core_of, feed, handed_both, handed_to, ran, take};
+use crate::sizes::SMALL;
 use mc_core::{Event, LogEntry, Sim, StepReply};
 use mc_laws::settle;
+use mc_sizes::Sizes;
 use mc_split::Ticket;
 use std::alloc::{AllocError, Global};
 use std::process::Abort;
@@ -108,7 +110,14 @@ fn a_core_without_connections_rests(rt: HostRuntime) -> Result<(), Fail> {
 fn a_core_tells_its_sizes(rt: HostRuntime) -> Result<(), Fail> {
     let alloc = rt.alloc();
     for (seats, shards) in [(1, 1), (3, 2), (2, 16), (64, 1)] {
-        let sim = Sim::new(&rt, alloc, seats, shards, 1_024, 1, 1_024, 1)?;
+        let sizes = Sizes {
+            seats,
+            shards,
+            ring: 1,
+            window: 1,
+            ..SMALL
+        };
+        let sim = Sim::new(&rt, alloc, sizes)?;
         equal(&rt, (sim.seats(), sim.shards()), (seats, shards));
     }
     Ok(())

@@ -1,8 +1,10 @@
 //! Schedules, event by event. What no clause says: that a core is made, and an event done, where memory is ample; and that
 //! only one command finds no memory where one allocation is refused.
 use crate::asserting::{equal, holds};
+use crate::sizes::{ONE_LANE, SMALL};
 use mc_core::{Event, LogEntry, Sim, SimRefusal, StepReply, Worker};
 use mc_ring::lanes;
+use mc_sizes::Sizes;
 use mc_split::Ticket;
 use mc_store::Shard;
 use std::alloc::{AllocError, Global};
@@ -16,14 +18,8 @@ pub(crate) const MOMENT: u64 = 1000;
 /// What a shard's items may cost together, in bytes.
 const BUDGET: usize = 1_024;
 
-/// How many places a ring has.
-const RING: usize = 4;
-
 /// How many bytes a value has at most.
 const VALUE_LIMIT: usize = 1_024;
-
-/// How many commands of a connection may be open.
-const WINDOW: usize = 64;
 
 /// A core of so many seats, and two shards.
 pub(crate) fn core_of<R: RandomSource>(
@@ -31,7 +27,15 @@ pub(crate) fn core_of<R: RandomSource>(
     alloc: Global,
     seats: usize,
 ) -> Result<Sim, SimRefusal> {
-    Sim::new(rt, alloc, seats, 2, BUDGET, RING, VALUE_LIMIT, WINDOW)
+    let sizes = Sizes {
+        seats,
+        bytes: BUDGET,
+        ring: 4,
+        value: VALUE_LIMIT,
+        window: 64,
+        ..SMALL
+    };
+    Sim::new(rt, alloc, sizes)
 }
 
 /// These bytes come in at the seat.
@@ -241,7 +245,7 @@ fn what_is_kept_of_a_connection(rt: HostRuntime) -> Result<(), Fail> {
 #[test]
 fn a_worker_takes_no_memory(rt: HostRuntime) {
     let alloc = rt.alloc();
-    let (Ok((mut seats, mut shards)), Ok(hasher)) = (lanes(alloc, 1, 1, 1), RandomState::new(&rt))
+    let (Ok((mut seats, mut shards)), Ok(hasher)) = (lanes(alloc, ONE_LANE), RandomState::new(&rt))
     else {
         return;
     };

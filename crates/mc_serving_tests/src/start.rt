@@ -1,10 +1,10 @@
 //! Lines of which nothing is read where the threads that were to serve them can't all be started.
 use crate::asserting::{equal, holds};
 use crate::memory_line::MemoryLine;
-use mc_command::Profile;
+use crate::sizes::SMALL;
 use mc_core::OpenGate;
 use mc_seat::{Line, LineFault};
-use mc_serve::{ServeRefusal, Sizes, serve_over};
+use mc_serve::{ServeRefusal, serve_over};
 use mc_server::StillClock;
 use mc_wire::{OutFault, Outlet};
 use std::alloc::{AllocError, Global};
@@ -54,16 +54,6 @@ fn two_lines(
     Ok(lines)
 }
 
-const SIZES: Sizes = Sizes {
-    profile: Profile::Own,
-    shards: 2,
-    bytes: 65_536,
-    ring: 64,
-    value: 1_048_576,
-    line: 65_536,
-    window: 256,
-};
-
 /// Holds whichever allocation is refused: nothing was read or written and all threads are gone, or all is served, but for a line
 /// that found no memory for its replies: it was given up before it took any.
 #[test]
@@ -75,7 +65,7 @@ fn a_refused_start(rt: HostRuntime) -> Result<(), Fail> {
         return Ok(());
     };
     assert_eq!(rt; lines.len(), 2);
-    match serve_over(&rt, rt.alloc(), lines, SIZES, OpenGate, StillClock(1000)) {
+    match serve_over(&rt, rt.alloc(), lines, SMALL, OpenGate, StillClock(1000)) {
         Ok(report) => {
             for one in report.lines {
                 let output = if one.broke {

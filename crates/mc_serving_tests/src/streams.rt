@@ -1,9 +1,10 @@
 //! A connection over a stream that takes and gives little at a call, and whose calls a signal interrupts.
 use crate::asserting::{equal, holds};
-use mc_command::Profile;
+use crate::sizes::SMALL;
 use mc_seat::{Line, Ready, Unwritten};
 use mc_serve::{Peek, TcpLine, VectoredWrite};
-use mc_server::{Sizes, StillClock, serve_one};
+use mc_server::{StillClock, serve_one};
+use mc_sizes::Sizes;
 use mc_watch::Meter;
 use mc_wire::{Outlet, put_all};
 use std::alloc::Global;
@@ -118,13 +119,10 @@ fn a_line_is_served_over_it(rt: HostRuntime) -> Result<(), Fail> {
     let mut stream = Slow::new(rt.alloc(), input);
     let mut line = TcpLine::new(&mut stream);
     let sizes = Sizes {
-        profile: Profile::Own,
-        shards: 2,
         bytes: 1_024,
-        ring: 1,
         value: 1_024,
-        line: 65_536,
         window: 2,
+        ..SMALL
     };
     let served = serve_one(&rt, rt.alloc(), &mut line, sizes, &StillClock(1000))?;
     equal(&rt, (served.commands, served.broke), (4, false));

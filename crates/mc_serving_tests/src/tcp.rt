@@ -2,9 +2,10 @@
 ghost use Rattle.std.specs.Prelude.{◌≤◌};
 
 use crate::asserting::equal;
-use mc_command::Profile;
-use mc_serve::{Sizes, serve_tcp};
+use crate::sizes::SMALL;
+use mc_serve::serve_tcp;
 use mc_server::StillClock;
+use mc_sizes::Sizes;
 use mc_watch::{Counts, Patience, Seconds, ShardTotals, Totals, Watch};
 use std::alloc::Global;
 use std::io::{Read, Write};
@@ -54,20 +55,15 @@ fn serve_client<
     let own = *rt;
     let client = thread::spawn(rt, move || talk(&own, alloc, server, commands))?;
     let sizes = Sizes {
-        profile: Profile::Own,
-        shards: 2,
-        bytes: 65_536,
         ring,
-        value: 1_048_576,
-        line: 65_536,
         window,
+        ..SMALL
     };
     let watch = Watch::nothing(alloc);
     let ended = serve_tcp(
         rt,
         alloc,
         listener,
-        2,
         sizes,
         Some(1),
         StillClock(1000),
@@ -107,20 +103,16 @@ fn serve_three<
     let second = thread::spawn(rt, move || talk(&own, alloc, server, b"get a\r\nquit\r\n"))?;
     let third = thread::spawn(rt, move || talk(&own, alloc, server, b"mg a b\r\nquit\r\n"))?;
     let sizes = Sizes {
-        profile: Profile::Own,
-        shards: 2,
-        bytes: 65_536,
+        seats,
         ring: 1,
-        value: 1_048_576,
-        line: 65_536,
         window: 2,
+        ..SMALL
     };
     let watch = Watch::nothing(alloc);
     let ended = serve_tcp(
         rt,
         alloc,
         listener,
-        seats,
         sizes,
         Some(3),
         StillClock(1000),
@@ -168,21 +160,11 @@ fn serve_idle<
         seconds: Seconds::new(alloc)?,
         limit: 1,
     });
-    let sizes = Sizes {
-        profile: Profile::Own,
-        shards: 2,
-        bytes: 65_536,
-        ring: 64,
-        value: 1_048_576,
-        line: 65_536,
-        window: 256,
-    };
     let ended = serve_tcp(
         rt,
         alloc,
         listener,
-        2,
-        sizes,
+        SMALL,
         Some(1),
         StillClock(1000),
         watch,

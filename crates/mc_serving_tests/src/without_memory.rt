@@ -4,11 +4,13 @@ ghost use Rattle.std.specs.Prelude.{◌<◌, ◌≤◌};
 
 use crate::asserting::{equal, holds};
 use crate::memory_line::MemoryLine;
+use crate::sizes::ONE_LANE;
 use mc_command::{Command, Refusal, StoreMode};
 use mc_conn::{Conn, Taken};
 use mc_item::{Answer, Expiry, Item, Kind, MetaDelete, Op, PackedExpiry, Value, expiry};
 use mc_reader::{Next, Reader};
 use mc_ring::{Parcel, Reply, SeatEnds, ShardEnds, lanes};
+use mc_sizes::Sizes;
 use mc_split::{Piece, Ticket};
 use mc_store::Shard;
 use mc_wire::{
@@ -20,6 +22,12 @@ use std::hash::RandomState;
 use std::process::Abort;
 
 static LONG: [u8; DEFAULT_LINE_LIMIT] = [b'x'; DEFAULT_LINE_LIMIT];
+
+/// One lane, with rings of three places.
+const THREE_PLACES: Sizes = Sizes {
+    ring: 3,
+    ..ONE_LANE
+};
 
 /// A key that takes memory.
 const LONG_KEY: &[u8] = b"aaaaaaaaaaaaaaaaaaaaaaaaaaaaaaaaaaaaaaa";
@@ -58,7 +66,7 @@ fn what_is_needed_is_made(rt: HostRuntime) {
     holds(&rt, set(alloc).is_ok() && invalidation(alloc).is_ok());
     holds(&rt, Reader::new(alloc, DEFAULT_VALUE_LIMIT).is_ok());
     holds(&rt, holding(&rt, alloc).is_ok());
-    holds(&rt, lanes(alloc, 1, 1, 3).is_ok());
+    holds(&rt, lanes(alloc, THREE_PLACES).is_ok());
     holds(&rt, Conn::new(alloc, 2, DEFAULT_VALUE_LIMIT, 4).is_ok());
 }
 
@@ -270,7 +278,7 @@ fn received(seat: &mut SeatEnds) -> Option<u64> {
 
 #[test]
 fn rings_that_have_room(rt: HostRuntime) {
-    let Ok((mut seats, mut shards)) = lanes(rt.alloc(), 1, 1, 3) else {
+    let Ok((mut seats, mut shards)) = lanes(rt.alloc(), THREE_PLACES) else {
         return;
     };
     let (Some(mut seat), Some(mut shard)) = (seats.pop(), shards.pop()) else {

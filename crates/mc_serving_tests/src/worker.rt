@@ -2,9 +2,11 @@
 ghost use Rattle.mc_ring.specs.Ends.{AreSameEnds};
 
 use crate::asserting::{equal, holds};
+use crate::sizes::{ONE_LANE, SMALL};
 use mc_core::{Gate, OpenGate, Turn, Worker};
 use mc_item::Op;
 use mc_ring::{Parcel, SeatEnds, lanes};
+use mc_sizes::Sizes;
 use mc_split::{Piece, Ticket};
 use mc_store::Shard;
 use std::alloc::Global;
@@ -79,7 +81,8 @@ fn receives(seat: &mut SeatEnds) -> Option<u64> {
 
 /// Both seats, and the worker of the second of two shards.
 fn two_seats(alloc: Global, hasher: RandomState) -> Result<(SeatEnds, SeatEnds, Worker), Fail> {
-    let (mut seats, mut shards) = lanes(alloc, 2, 2, 1)?;
+    let sizes = Sizes { ring: 1, ..SMALL };
+    let (mut seats, mut shards) = lanes(alloc, sizes)?;
     let shard = Shard::new(alloc, hasher, 1, 2, BUDGET, 0, VALUE_LIMIT)?;
     let worker = Worker::new(alloc, shard, shards.remove(1))?;
     let second = seats.remove(1);
@@ -145,7 +148,7 @@ fn a_seat_is_served_until_nothing_waits(rt: HostRuntime) -> Result<(), Fail> {
 #[test]
 fn what_waits_for_a_worker_is_counted(rt: HostRuntime) -> Result<(), Fail> {
     let alloc = rt.alloc();
-    let (mut seats, mut shards) = lanes(alloc, 1, 1, 1)?;
+    let (mut seats, mut shards) = lanes(alloc, ONE_LANE)?;
     let shard = Shard::new(alloc, RandomState::new(&rt)?, 0, 1, BUDGET, 0, VALUE_LIMIT)?;
     let mut worker = Worker::new(alloc, shard, shards.remove(0))?;
     let seat = &mut seats[0];

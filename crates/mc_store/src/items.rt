@@ -12,9 +12,10 @@ ghost use Rattle.mc_store.specs.internal.Listed.{FitsBudget, freed_by, listed_co
 
 use crate::access::{Access, Use};
 use crate::hashing::PolynomialState;
-use crate::{GREATEST_BUDGET, ITEM_OVERHEAD, LEAST_BUDGET};
+use crate::ITEM_OVERHEAD;
 use lru::LruCache;
 use mc_item::{Item, NoMemory, PackedExpiry, Reserve};
+use mc_sizes::{GREATEST_BUDGET, LEAST_BUDGET};
 use mc_wire::{KEY_LIMIT, Key, LATEST_MOMENT};
 use std::alloc::{AllocError, Global};
 use std::hash::RandomState;

@@ -1,7 +1,10 @@
 //! The laws of the step, for whoever reasons about runs of one shard or of several.
+ghost use Rattle.std.specs.Prelude.{◌≡◌};
 ghost use Rattle.mc_store.specs.Laws.{AnswersAreLawful, StepsAgree, OthersStay, UniquesRise, UniquesDiffer, UniquesTell, TokensAreTaken, TimeRises, WinnersAreFirst, SentStays};
-ghost use Rattle.mc_store.specs.Limits.{BudgetsAre};
+ghost use Rattle.mc_store.specs.State.{item_overhead};
 ghost use Rattle.mc_store.specs.RunLaws.{RunsAreOrderly, RunsShareNoUnique, RunsLeaveOthers, NewIsGiven, SameUniqueSameItem, ToldAlone};
+
+use crate::ITEM_OVERHEAD;
 
 /// Does nothing: its contract states what follows from the step, whatever the operations and their moments.
 pub fn every_step()
@@ -27,7 +30,7 @@ pub fn every_run()
     ensures told_alone { ToldAlone }
 {}
 
-/// The limits of a shard's budget are these numbers, and so is what an item costs beside its key and its value.
-pub fn budgets()
-    ensures { BudgetsAre }
+/// What an item costs beside its key and its value is this number.
+pub fn overhead()
+    ensures { ITEM_OVERHEAD ≡ item_overhead }
 {}

@@ -20,8 +20,9 @@ mod stats;
 mod storing;
 
 use crate::items::{Items, cost_of};
-use crate::{GREATEST_BUDGET, LEAST_BUDGET, access};
+use crate::access;
 use mc_item::{Answer, CountedAs, Item, MetaDone, Op, PackedExpiry, Status, Tally, Value};
+use mc_sizes::{GREATEST_BUDGET, LEAST_BUDGET};
 use mc_wire::{GREATEST_VALUE_LIMIT, Key, LATEST_MOMENT};
 use std::alloc::{AllocError, Global};
 use std::hash::RandomState;

@@ -1,7 +1,7 @@
 -- Workers before their threads start.
 use Rattle.std.specs.Prelude.{ℕ, ◌<◌, []}
 use Rattle.std.specs.List.{AllByRecursion}
-use Rattle.mc_core.specs.Sizes.{Sizes}
+use Rattle.mc_sizes.specs.declared.sizes.Sizes.{Sizes}
 use Rattle.mc_core.specs.Sized.{empty_shard}
 use Rattle.mc_core.specs.Desk.{Desk, HasRun}
 use Rattle.mc_ring.specs.Lane.{Far}

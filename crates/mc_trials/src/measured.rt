@@ -3,7 +3,8 @@ use crate::line::MemoryLine;
 use crate::load::{Loads, wrong_among};
 use crate::server::Server;
 use mc_command::Profile;
-use mc_serve::{ServedLine, Sizes};
+use mc_serve::ServedLine;
+use mc_sizes::Sizes;
 use mc_wire::number_u64;
 use std::alloc::Global;
 use std::fs::Files;
@@ -17,9 +18,10 @@ use std::{fs, io, time};
 /// Where the system tells of the processor time of this program.
 const TOLD: &str = "/proc/self/stat";
 
-/// How large the server of a measured load is, but for its shards.
+/// How large the server of a measured load is, but for its seats and its shards.
 pub const SIZES: Sizes = Sizes {
     profile: Profile::Own,
+    seats: 1,
     shards: 1,
     bytes: 67_108_864,
     ring: 64,

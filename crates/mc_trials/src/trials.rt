@@ -8,8 +8,9 @@ use crate::server::{MOMENT, Server};
 use crate::text::split_line;
 use mc_command::Profile;
 use mc_core::OpenGate;
-use mc_serve::{ServedLine, Sizes};
+use mc_serve::ServedLine;
 use mc_server::StillClock;
+use mc_sizes::Sizes;
 use mc_wire::number_u64;
 use std::alloc::AllocError;
 use std::random::RandomSource;
@@ -122,6 +123,7 @@ const MOST_KEYS: usize = 32_766;
 fn sizes(shards: usize, ring: usize, window: usize) -> Sizes {
     Sizes {
         profile: Profile::Own,
+        seats: 1,
         shards,
         bytes: 65_536,
         ring,

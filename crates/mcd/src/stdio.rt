@@ -1,12 +1,12 @@
 //! Serves one line, as the command line says.
 ghost use Rattle.std.specs.Prelude.{IfOk};
-ghost use Rattle.mc_core.specs.Sizes.{AreWithin};
+ghost use Rattle.mc_sizes.specs.Sizes.{AreWithin};
 ghost use Rattle.mc_server.specs.Explains.{IsExplained};
-ghost use Rattle.mc_server.specs.Sizes.{line_sizes};
 ghost use Rattle.mcd.specs.Served.{MayBe};
 
 use mc_seat::{Clock, Line, Served};
-use mc_server::{MachineClock, ServeRefusal, Sizes, StillClock, serve_one};
+use mc_server::{MachineClock, ServeRefusal, StillClock, serve_one};
+use mc_sizes::Sizes;
 use std::alloc::Global;
 use std::random::RandomSource;
 use std::sync::Wait;
@@ -19,10 +19,10 @@ pub fn serve_line<R: Wait + RandomSource + time::Clock + Alloc<A = Global>, L: L
     at: Option<u64>,
     sizes: Sizes,
 ) -> Result<Served, ServeRefusal>
-    requires { AreWithin (line_sizes sizes) }
+    requires { AreWithin sizes }
     // A server of these sizes explains what was read and written, at such moments.
     ensures explained { IfOk result (λ served.
-        IsExplained (line_sizes sizes) (MayBe at)
+        IsExplained (record sizes { seats = 1 }) (MayBe at)
         (record {
           begin = L.sight line.old;
           now = L.sight line.new;
@@ -43,9 +43,9 @@ fn serve_by<R: Wait + RandomSource + Alloc<A = Global>, L: Line, K: Clock>(
     sizes: Sizes,
     clock: &K,
 ) -> Result<Served, ServeRefusal>
-    requires { AreWithin (line_sizes sizes) }
+    requires { AreWithin sizes }
     ensures explained { IfOk result (λ served.
-        IsExplained (line_sizes sizes) (K.may_answer clock.now)
+        IsExplained (record sizes { seats = 1 }) (K.may_answer clock.now)
         (record {
           begin = L.sight line.old;
           now = L.sight line.new;

@@ -1,13 +1,13 @@
 //! Serves TCP, as the command line says.
-ghost use Rattle.mc_core.specs.Sizes.{AreWithin};
-ghost use Rattle.mc_server.specs.Sizes.{sizes_of};
+ghost use Rattle.mc_sizes.specs.Sizes.{AreWithin};
 
 use crate::files::tell_files;
 use crate::refuse;
 use crate::watching::{NotWatching, Wishes, start_watching};
 use libc::net::listen as listen_again;
 use mc_serve::{ServeRefusal, serve_tcp};
-use mc_server::{MachineClock, Sizes};
+use mc_server::MachineClock;
+use mc_sizes::Sizes;
 use std::alloc::Global;
 use std::fs::File;
 use std::io::Eprint;
@@ -41,12 +41,11 @@ pub fn listen<
 >(
     rt: &R,
     address: &str,
-    seats: usize,
     connections: Option<u64>,
     sizes: Sizes,
     wishes: Wishes<'_>,
 ) -> ExitCode
-    requires { AreWithin (sizes_of seats sizes) }
+    requires { AreWithin sizes }
 {
     let listener = match TcpListener::bind(rt, address) {
         Ok(listener) => listener,
@@ -59,8 +58,8 @@ pub fn listen<
     // Where this fails fewer wait there: 128.
     let _ = listen_again(listener.as_raw_fd(), QUEUE);
     let _ = eprintln!(rt; "listening {local}");
-    tell_files(rt, seats, sizes.shards);
-    let (watch, watching) = match start_watching(rt, local.port(), seats, sizes, wishes) {
+    tell_files(rt, sizes.seats, sizes.shards);
+    let (watch, watching) = match start_watching(rt, local.port(), sizes, wishes) {
         Ok(begun) => begun,
         Err(NotWatching::Memory) => return refuse(rt, "out of memory"),
         Err(NotWatching::Thread) => return refuse_threads(rt, sizes.shards),
@@ -75,7 +74,6 @@ pub fn listen<
         rt,
         rt.alloc(),
         listener,
-        seats,
         sizes,
         connections,
         MachineClock(*rt),

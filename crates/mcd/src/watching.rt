@@ -3,7 +3,7 @@ ghost use Rattle.std.specs.Prelude.{◌≡◌, ◌*◌, ◌-◌, ◌^◌, min};
 
 use crate::version::VERSION;
 use mc_metrics::{Facts, MetricsServer, Pages, address_of};
-use mc_server::Sizes;
+use mc_sizes::Sizes;
 use mc_watch::{Counts, Dismissal, Patience, Reports, Seconds, Watch, reporters};
 use std::alloc::{AllocError, Global};
 use std::fs::File;
@@ -60,7 +60,7 @@ pub struct Watching {
     tellers: Vec<Teller>,
 }
 
-/// Starts to watch what is wished of a server at this port, of so many seats and these sizes: what the server has to tell, and
+/// Starts to watch what is wished of a server at this port, of these sizes: what the server has to tell, and
 /// the threads that tell it on.
 pub fn start_watching<
     R: Threads
@@ -78,14 +78,13 @@ pub fn start_watching<
 >(
     rt: &R,
     port: u16,
-    seats: usize,
     sizes: Sizes,
     wishes: Wishes<'_>,
 ) -> Result<(Watch, Watching), NotWatching> {
     let mut watching = Watching {
         tellers: Vec::new(rt.alloc()),
     };
-    match watching.begin(rt, port, seats, sizes, wishes) {
+    match watching.begin(rt, port, sizes, wishes) {
         Ok(watch) => Ok((watch, watching)),
         Err(fault) => {
             watching.end(rt);
@@ -112,7 +111,6 @@ impl Watching {
         &mut self,
         rt: &R,
         port: u16,
-        seats: usize,
         sizes: Sizes,
         wishes: Wishes<'_>,
     ) -> Result<Watch, NotWatching> {
@@ -124,14 +122,14 @@ impl Watching {
         }
         if wishes.verbose {
             // One for each seat, and one for the thread that accepts.
-            let (all, reports) = reporters(alloc, seats.saturating_add(1))?;
+            let (all, reports) = reporters(alloc, sizes.seats.saturating_add(1))?;
             watch.reporters = all;
             self.tell_reports(rt, reports)?;
         }
         if let Some(word) = wishes.metrics {
             let counts = Counts::new(alloc, sizes.shards)?;
             watch.counts = Some(counts.share(alloc)?);
-            let pages = Pages::new(rt, alloc, facts_of(port, seats, sizes), counts)?;
+            let pages = Pages::new(rt, alloc, facts_of(port, sizes), counts)?;
             self.tell_metrics(rt, word, pages)?;
         }
         Ok(watch)
@@ -205,10 +203,10 @@ impl Watching {
 }
 
 /// What is told of the server beside what it counts.
-fn facts_of(port: u16, seats: usize, sizes: Sizes) -> Facts
+fn facts_of(port: u16, sizes: Sizes) -> Facts
     ensures port { result.port ≡ port }
     ensures shards { result.shards ≡ sizes.shards }
-    ensures seats { result.seats ≡ seats }
+    ensures seats { result.seats ≡ sizes.seats }
     ensures limit { result.limit_bytes ≡ min (sizes.shards * sizes.bytes) (2 ^ 64 - 1) }
 {
     let shards = sizes.shards as u64;
@@ -216,7 +214,7 @@ fn facts_of(port: u16, seats: usize, sizes: Sizes) -> Facts
         version: VERSION,
         port,
         shards,
-        seats: seats as u64,
+        seats: sizes.seats as u64,
         limit_bytes: shards.saturating_mul(sizes.bytes as u64),
     }
 }

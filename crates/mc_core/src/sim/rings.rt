@@ -2,20 +2,20 @@
 //! pop, and tells whether it was made; none takes memory but the making and what a shard needs for its items.
 ghost use Rattle.std.specs.Prelude.{◌≡◌, ◌↔◌, ◌<◌, IfOk, IfErr, IfSome, IfNone, IsTrue, None, Some, false, length, map, true, ℕ};
 ghost use Rattle.std.specs.List.{AllByRecursion, slice_get};
+ghost use Rattle.mc_sizes.specs.Sizes.{AreWithin};
+ghost use Rattle.mc_sizes.specs.declared.sizes.Sizes.{Sizes};
 ghost use Rattle.mc_ring.specs.Lane.{Far};
 ghost use Rattle.mc_ring.specs.Ends.{Ends};
 ghost use Rattle.mc_ring.specs.Made.{AreNewEnds, IsUnused};
 ghost use Rattle.mc_ring.specs.Reply.{shown};
-ghost use Rattle.mc_core.specs.Sizes.{AreWithin, Sizes};
-ghost use Rattle.mc_core.specs.Numbers.{sizes_of};
 ghost use Rattle.mc_core.specs.Sized.{empty_shard};
 ghost use Rattle.mc_core.specs.Laid.{AreIn, LooksAt};
 ghost use Rattle.mc_core.specs.Rings.{AreWired, GivesNone, GivesReply, KeepsPiece, ReceivesNone, ReceivesReply, RunsNone, RunsOldest, IsStarted, SendsPiece, TellsWaiting, Wires, ends_of, new_wires};
 
 use crate::gate::OpenGate;
-use crate::sim::numbers::Numbers;
 use crate::worker::{Turn, Worker};
 use mc_ring::{Parcel, Reply, SeatEnds, ShardEnds, lanes};
+use mc_sizes::Sizes;
 use mc_split::{Piece, Ticket};
 use std::alloc::{AllocError, Global};
 use std::marker::Model;
@@ -62,20 +62,20 @@ impl Rings {
     pub(crate) fn new<R: RandomSource>(
         rt: &R,
         alloc: Global,
-        numbers: Numbers,
+        sizes: Sizes,
     ) -> Result<Rings, AllocError>
-        requires { AreWithin (sizes_of numbers) }
+        requires { AreWithin sizes }
         ensures { IfOk result
-            (λ rings. AreWired (sizes_of numbers) rings (new_wires (sizes_of numbers))) }
+            (λ rings. AreWired sizes rings (new_wires sizes)) }
     {
-        let Ok((seats, shards)) = lanes(alloc, numbers.seats, numbers.shards, numbers.ring) else {
+        let Ok((seats, shards)) = lanes(alloc, sizes) else {
             return Err(AllocError);
         };
-        let workers = all_workers(rt, alloc, shards, numbers)?;
+        let workers = all_workers(rt, alloc, shards, sizes)?;
         Ok(Rings {
             seats,
             workers,
-            places: numbers.ring,
+            places: sizes.ring,
         })
     }
 
@@ -226,19 +226,19 @@ fn all_workers<R: RandomSource>(
     rt: &R,
     alloc: Global,
     shards: Vec<ShardEnds>,
-    numbers: Numbers,
+    sizes: Sizes,
 ) -> Result<Vec<Worker>, AllocError>
-    requires within { AreWithin (sizes_of numbers) }
-    requires counted { length shards.items ≡ numbers.shards }
+    requires within { AreWithin sizes }
+    requires counted { length shards.items ≡ sizes.shards }
     requires new { (number : ℕ) (ends : Ends Far) → slice_get shards.items number ≡ Some ends →
-        AreNewEnds number numbers.seats numbers.ring ends }
+        AreNewEnds number sizes.seats sizes.ring ends }
     ensures ends { IfOk result (λ workers. map ends_of workers.items ≡ shards.items) }
     ensures started { IfOk result
-        (λ workers. AllByRecursion (IsStarted (sizes_of numbers)) workers.items) }
+        (λ workers. AllByRecursion (IsStarted sizes) workers.items) }
 {
-    let mut workers = Vec::with_capacity(alloc, numbers.shards)?;
+    let mut workers = Vec::with_capacity(alloc, sizes.shards)?;
     for ends in shards {
-        workers.push(worker(rt, alloc, ends, numbers)?)?;
+        workers.push(worker(rt, alloc, ends, sizes)?)?;
     }
     Ok(workers)
 }
@@ -248,20 +248,13 @@ fn worker<R: RandomSource>(
     rt: &R,
     alloc: Global,
     ends: ShardEnds,
-    numbers: Numbers,
+    sizes: Sizes,
 ) -> Result<Worker, AllocError>
-    requires within { AreWithin (sizes_of numbers) }
-    requires place { ends.number < numbers.shards }
+    requires within { AreWithin sizes }
+    requires place { ends.number < sizes.shards }
     requires unused { AllByRecursion IsUnused ends.lanes }
     ensures ends { IfOk result (λ worker. worker.ends ≡ ends) }
-    ensures started { IfOk result (λ worker. IsStarted (sizes_of numbers) worker) }
+    ensures started { IfOk result (λ worker. IsStarted sizes worker) }
 {
-    Worker::start(
-        rt,
-        alloc,
-        ends,
-        numbers.shards,
-        numbers.bytes,
-        numbers.value,
-    )
+    Worker::start(rt, alloc, ends, sizes)
 }

@@ -1,7 +1,7 @@
 -- What the steps of settling say of one another.
 use Rattle.std.specs.Prelude.{ℕ, ◌≡◌, ◌≤◌, ◌^◌, ◌-◌, Bool, List, MatchBool}
+use Rattle.mc_sizes.specs.declared.sizes.Sizes.{Sizes}
 use Rattle.mc_core.specs.declared.sim.Sim.{Sim}
-use Rattle.mc_core.specs.Sizes.{Sizes}
 use Rattle.mc_core.specs.World.{World}
 use Rattle.mc_core.specs.Events.{Event}
 use Rattle.mc_core.specs.Schedule.{Leads}

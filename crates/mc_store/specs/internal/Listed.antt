@@ -5,7 +5,7 @@ use Rattle.std.specs.Map.{remove_entry}
 use Rattle.mc_wire.specs.SameKey.{same_key}
 use Rattle.mc_item.specs.declared.item.Item.{Item}
 use Rattle.mc_wire.specs.declared.TheConstants.{DIGIT_LIMIT}
-use Rattle.mc_store.specs.declared.TheConstants.{LEAST_BUDGET, GREATEST_BUDGET}
+use Rattle.mc_sizes.specs.declared.TheConstants.{LEAST_BUDGET, GREATEST_BUDGET}
 use Rattle.mc_store.specs.State.{item_overhead, cost}
 use Rattle.mc_store.specs.Shelf.{Shelf}
 

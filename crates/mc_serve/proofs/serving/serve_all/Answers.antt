@@ -1,7 +1,6 @@
 -- All doors, once all threads are joined.
-use Rattle.std.proofs.Common.{◌≡◌, ◌<◌, [], length, refl, arith}
+use Rattle.std.proofs.Common.{◌≡◌, [], refl}
 use Rattle.std.specs.List.{flat_map}
-use Rattle.mc_server.specs.Sizes.{sizes_of}
 use Rattle.mc_threads.proofs.Orders.{both}
 use Rattle.mc_serve.specs.Seats.{seat_at}
 use Rattle.mc_serve.proofs.Zipped.{zips_follow}
@@ -11,7 +10,7 @@ use Rattle.mc_serve.proofs.serving.serve_all.Goals as goal
 
 pub settle-requires : goal.settle-requires
 settle-requires g c =
-    let sizes = sizes_of (length c.args.doors.items) c.args.sizes in
+    let sizes = c.args.sizes in
     let may = g.K.Clock.may_answer c.args.clock in
     let begun = c.in_default-started.ensures in
     let crew = c.start-started.new.crew in
@@ -32,7 +31,7 @@ settle-requires g c =
 
 pub returns : goal.returns
 returns g c =
-    let sizes = sizes_of (length c.args.doors.items) c.args.sizes in
+    let sizes = c.args.sizes in
     let may = g.K.Clock.may_answer c.args.clock in
     let begun = c.in_default-started.ensures in
     let crew = c.start-started.new.crew in
@@ -40,10 +39,9 @@ returns g c =
     let seats = c.take_apart.new.seats.items in
     let workers = c.take_apart.new.workers.items in
     let apart = c.in_ok-take_apart.ensures in
-    let some : 0 < c.args.sizes.shards = (let shard = c.requires.sizes.size.some_shard in omega (arith, shard)) in
     both c.settle.result _ _ _ (λ back tied doors. all_doors sizes may (flat_map (λ part. part.seats.all.items) crew) seats (flat_map (λ part. part.workers.items) crew) workers c.args.doors.items back.items
     (λ one. seat_at (g.D.Door.told one.door) one.session.courier.ends) (λ one. one.door) (λ one. one.worker) (λ door. g.D.Door.told door)
-    some (parts_joined crew parts seats workers c.args.doors.items back.items (λ part. part.seats.all.items) (λ part. part.workers.items)
+    c.requires.sizes.lines.shards (parts_joined crew parts seats workers c.args.doors.items back.items (λ part. part.seats.all.items) (λ part. part.workers.items)
     (λ one. seat_at (g.D.Door.told one.door) one.session.courier.ends) (λ one. one.door) (λ one. one.worker) (λ door. g.D.Door.told door) sizes may
     (λ seat. refl) begun.doors begun.lanes begun.fresh
     (zips_follow crew parts (λ part. (part.clock ≡ c.args.clock) × (part.sizes ≡ c.args.sizes)) _ _ (λ x y same did. rw (← same.0, ← same.1) did) begun.same (rw c.begin.ensures at c.in_ok-parts.ensures))

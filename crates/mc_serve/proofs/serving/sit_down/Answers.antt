@@ -1,11 +1,11 @@
 -- One seat more.
 use Rattle.std.proofs.Common.{◌≡◌, length, arith, ap, rules, ◌∙◌}
 use Rattle.std.specs.Vec.Iter.{into_iter_items}
+use Rattle.mc_sizes.specs.Sizes.{rules_of}
 use Rattle.mc_threads.proofs.Orders.{all_first, all_more, all_rest, order_all, order_more}
 use Rattle.mc_serve.specs.Seats.{HasSatDown}
 use Rattle.mc_serve.specs.Told.{IsFree}
 use Rattle.mc_serve.proofs.serving.sit_down.Goals as goal
-use Rattle.mc_server.specs.Sizes.{rules_of}
 
 pub loop-ends-preserved : goal.loop-ends-preserved
 loop-ends-preserved g c =

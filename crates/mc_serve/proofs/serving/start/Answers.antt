@@ -1,5 +1,5 @@
 -- The threads start over new lanes.
-use Rattle.std.proofs.Common.{◌≡◌, ℕ, List, length, map, ap, sym, subst, ◌∙◌, rules}
+use Rattle.std.proofs.Common.{◌≡◌, List, length, map, ap, sym, subst, ◌∙◌}
 use Rattle.mc_core.proofs.Lists.{all_from}
 use Rattle.mc_ring.specs.Ends.{Ends}
 use Rattle.mc_ring.specs.Lane.{Far, Near}
@@ -8,6 +8,12 @@ use Rattle.mc_threads.specs.Workers.{ends_of}
 use Rattle.mc_threads.proofs.Fresh.{all_fresh}
 use Rattle.mc_serve.proofs.Parts.{both_ok, one_ok}
 use Rattle.mc_serve.proofs.serving.start.Goals as goal
+
+pub make_workers-requires-clause-sizes : goal.make_workers-requires-clause-sizes
+make_workers-requires-clause-sizes g c = c.requires.sizes.shards
+
+pub sit_down-requires-clause-sizes : goal.sit_down-requires-clause-sizes
+sit_down-requires-clause-sizes g c = c.requires.sizes.lines
 
 pub make_workers-requires-clause-fresh : goal.make_workers-requires-clause-fresh
 make_workers-requires-clause-fresh g c = all_fresh _ _ _ c.in-Ok.near.items c.in-Ok.far.items c.in-Ok.ensures.made
@@ -28,16 +34,13 @@ returns g c =
     let sat = c.in_ok-seats.ensures in
     let seats = c.in_ok-seats.seats.items in
     let workers = c.in_ok-workers-2.workers.items in
-    let count : c.len-count.result ≡ length c.args.doors.items = search rules in
-    let A : List (Ends Near) → List (Ends Far) → ℕ → Type 0 = λ near far n. AreLanes n c.args.sizes.shards c.args.sizes.ring near far in
+    let A : List (Ends Near) → List (Ends Far) → Type 0 = λ near far. AreLanes c.args.sizes.seats c.args.sizes.shards c.args.sizes.ring near far in
     let far : map ends_of (map (λ one. one.worker) workers) ≡ c.in-Ok.far.items = ap (map ends_of) set ∙ made.ends in
-    let all : A (map (λ one. one.session.courier.ends) seats) (map ends_of (map (λ one. one.worker) workers)) (length c.args.doors.items) =
-    subst (λ n. A (map (λ one. one.session.courier.ends) seats) (map ends_of (map (λ one. one.worker) workers)) n) count
-    (subst (λ near. A near (map ends_of (map (λ one. one.worker) workers)) c.len-count.result) (sym sat.ends)
-    (subst (λ far. A c.in-Ok.near.items far c.len-count.result) (sym far) lanes)) in
+    let all : A (map (λ one. one.session.courier.ends) seats) (map ends_of (map (λ one. one.worker) workers)) =
+    subst (λ near. A near (map ends_of (map (λ one. one.worker) workers))) (sym sat.ends) (subst (λ far. A c.in-Ok.near.items far) (sym far) lanes) in
     record {
       lanes = both_ok c.start_parts.result c.start_parts.ensures.seats c.start_parts.ensures.workers (λ mine own. rw (mine, own) all);
-      fresh = one_ok c.start_parts.result c.start_parts.ensures.workers (λ own. rw (own, set) (made.fresh (length c.args.doors.items)));
+      fresh = one_ok c.start_parts.result c.start_parts.ensures.workers (λ own. rw (own, set) made.fresh);
       doors = one_ok c.start_parts.result c.start_parts.ensures.seats (λ mine. rw mine sat.doors);
       same = c.start_parts.ensures.same;
     }

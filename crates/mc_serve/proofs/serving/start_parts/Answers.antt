@@ -2,11 +2,11 @@
 use Rattle.std.proofs.Common.{◌≡◌, ap, length, rules}
 use Rattle.std.specs.List.{AllByRecursion}
 use Rattle.std.specs.Vec.Iter.{into_iter_items}
+use Rattle.mc_sizes.specs.Sizes.{rules_of}
 use Rattle.mc_threads.proofs.Orders.{all_more, order_all}
 use Rattle.mc_serve.specs.Seats.{HasSatDown}
 use Rattle.mc_serve.proofs.Parts.{all_parted, flat_more}
 use Rattle.mc_serve.proofs.serving.start_parts.Goals as goal
-use Rattle.mc_server.specs.Sizes.{rules_of}
 
 pub new-requires : goal.new-requires
 new-requires g c =

@@ -2,9 +2,9 @@
 use Rattle.std.proofs.Common.{◌≡◌, ◌++◌}
 use Rattle.std.specs.List.{AllByRecursion, flat_map}
 use Rattle.std.specs.Vec.Iter.{into_iter_items}
+use Rattle.mc_sizes.specs.Sizes.{rules_of}
 use Rattle.mc_serve.specs.Seats.{HasSatDown}
 use Rattle.mc_serve.proofs.serving.start_parts.Given as goal
-use Rattle.mc_server.specs.Sizes.{rules_of}
 
 abbrev pub invariant-loop-sleeper : goal.invariant-loop-sleeper
 invariant-loop-sleeper g l = record {

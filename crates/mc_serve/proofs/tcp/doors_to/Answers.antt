@@ -2,7 +2,7 @@
 use Rattle.std.proofs.Common.{◌≡◌, List, [], ◌∷◌, ◌++◌, ◌∙◌, None, false, subst, sym, rules}
 use Rattle.std.specs.List.{AllByRecursion}
 use Rattle.mc_command.specs.Rules.{is_drop_in}
-use Rattle.mc_server.specs.Sizes.{rules_of}
+use Rattle.mc_sizes.specs.Sizes.{rules_of}
 use Rattle.mc_serve.specs.Told.{TellsLines}
 use Rattle.mc_serve.specs.Tcp.{told_tcp}
 use Rattle.mc_serve.proofs.tcp.doors_to.Goals as goal

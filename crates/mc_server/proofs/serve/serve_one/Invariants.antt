@@ -1,9 +1,8 @@
 -- What stands between the turns.
-use Rattle.mc_server.specs.Sizes.{line_sizes}
 use Rattle.mc_server.specs.internal.Turns.{Turns}
 use Rattle.mc_server.proofs.serve.serve_one.Given as goal
 
 abbrev pub invariant-loop : goal.invariant-loop
 invariant-loop g l =
     (goal.iterator-loop g).can_next l.iterator' × (goal.iterator-loop g).is_finite l.iterator'
-    × Turns (line_sizes l.fn.sizes) (g.K.Clock.may_answer l.fn.clock) (g.L.Outlet.sight l.fn.line) (g.L.Outlet.sight l.line) l.seat.unread l.conn l.shards.items l.commands
+    × Turns (record l.fn.sizes { seats = 1 }) (g.K.Clock.may_answer l.fn.clock) (g.L.Outlet.sight l.fn.line) (g.L.Outlet.sight l.line) l.seat.unread l.conn l.shards.items l.commands

@@ -1,12 +1,11 @@
 use Rattle.std.specs.Prelude.{◌≡◌, ◌++◌, map}
 use Rattle.std.specs.List.{AllByRecursion}
 use Rattle.std.specs.Vec.Iter.{into_iter_items}
-use Rattle.mc_core.specs.Numbers.{sizes_of}
 use Rattle.mc_core.specs.Rings.{IsStarted, ends_of}
 use Rattle.mc_core.proofs.sim.rings.all_workers.Given as goal
 
 abbrev pub invariant-loop-ends : goal.invariant-loop-ends
 invariant-loop-ends g l = record {
   ends : map ends_of l.workers.items ++ into_iter_items l.ends-iterator ≡ l.fn.shards.items;
-  started : AllByRecursion (IsStarted (sizes_of l.fn.numbers)) l.workers.items;
+  started : AllByRecursion (IsStarted l.fn.sizes) l.workers.items;
 }

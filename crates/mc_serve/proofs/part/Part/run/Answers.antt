@@ -1,9 +1,9 @@
 -- Each turn steps seats, and then gives each worker a turn.
 use Rattle.std.proofs.Common.{map, refl}
+use Rattle.mc_sizes.specs.Sizes.{rules_of}
 use Rattle.mc_serve.specs.Seats.{seat_at}
 use Rattle.mc_serve.proofs.Parts.{seats_begin, seats_over, workers_begin, workers_end}
 use Rattle.mc_serve.proofs.part.Part.run.Goals as goal
-use Rattle.mc_server.specs.Sizes.{rules_of}
 
 pub loop-init : goal.loop-init
 loop-init g c =

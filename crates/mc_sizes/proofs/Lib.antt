@@ -1,0 +1,2 @@
+mod Corners
+pub mod Within

@@ -1,0 +1,18 @@
+-- Between which limits the sizes of a server lie, and what they are where nothing else is said, as numbers.
+use Rattle.std.specs.Prelude.{◌≡◌, ◌^◌, ◌*◌}
+use Rattle.mc_sizes.specs.declared.TheConstants.{DEFAULT_BUDGET, DEFAULT_RING, DEFAULT_SEATS, DEFAULT_SHARDS, DEFAULT_WINDOW, GREATEST_BUDGET, GREATEST_RING, GREATEST_SEATS, GREATEST_SHARDS, GREATEST_WINDOW, LEAST_BUDGET, LEAST}
+
+-- What the constants of the code are. Budgets are in bytes.
+pub record LimitsAre : Type 0 where
+  pub least : LEAST ≡ 1
+  pub greatest_seats : GREATEST_SEATS ≡ 4096
+  pub default_seats : DEFAULT_SEATS ≡ 1024
+  pub greatest_shards : GREATEST_SHARDS ≡ 16
+  pub default_shards : DEFAULT_SHARDS ≡ 2
+  pub least_budget : LEAST_BUDGET ≡ 1024
+  pub greatest_budget : GREATEST_BUDGET ≡ 2 ^ 30
+  pub default_budget : DEFAULT_BUDGET ≡ 16 * 2 ^ 20
+  pub greatest_ring : GREATEST_RING ≡ 1024
+  pub default_ring : DEFAULT_RING ≡ 20
+  pub greatest_window : GREATEST_WINDOW ≡ 4096
+  pub default_window : DEFAULT_WINDOW ≡ 256

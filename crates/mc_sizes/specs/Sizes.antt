@@ -1,0 +1,76 @@
+-- The rules that the sizes of a server give, and the limits between which the sizes lie.
+use Rattle.std.specs.Prelude.{ℕ, ◌<◌, ◌≤◌, List, [], ◌∷◌}
+use Rattle.std.specs.List.{AllByRecursion}
+use Rattle.mc_wire.specs.declared.TheConstants.{GREATEST_LINE_LIMIT, GREATEST_VALUE_LIMIT, LEAST_LINE_LIMIT, LEAST_VALUE_LIMIT}
+use Rattle.mc_command.specs.declared.rules.Rules.{Rules}
+use Rattle.mc_sizes.specs.declared.TheConstants.{GREATEST_BUDGET, GREATEST_RING, GREATEST_SEATS, GREATEST_SHARDS, GREATEST_WINDOW, LEAST_BUDGET, LEAST}
+use Rattle.mc_sizes.specs.declared.sizes.Sizes.{Sizes}
+use Rattle.mc_sizes.specs.declared.sizes.SizeFault.{SizeFault}
+use Rattle.mc_sizes.specs.declared.sizes.SizeFault.TheVariants.{Bytes, Line, Ring, Seats, Shards, Value, Window}
+
+-- the rules by which lines are read
+abbrev pub rules_of : Sizes → Rules
+rules_of sizes = record { profile = sizes.profile; value_limit = sizes.value; line_limit = sizes.line }
+
+abbrev pub IsFrom : ℕ → ℕ → ℕ → Type 0
+IsFrom least greatest n = (least ≤ n) × (n ≤ greatest)
+
+-- The size that a fault names lies within its limits.
+abbrev pub IsWithin : Sizes → SizeFault → Type 0
+IsWithin sizes Seats = IsFrom LEAST GREATEST_SEATS sizes.seats
+IsWithin sizes Shards = IsFrom LEAST GREATEST_SHARDS sizes.shards
+IsWithin sizes Bytes = IsFrom LEAST_BUDGET GREATEST_BUDGET sizes.bytes
+IsWithin sizes Ring = IsFrom LEAST GREATEST_RING sizes.ring
+IsWithin sizes Value = IsFrom LEAST_VALUE_LIMIT GREATEST_VALUE_LIMIT sizes.value
+IsWithin sizes Line = IsFrom LEAST_LINE_LIMIT GREATEST_LINE_LIMIT sizes.line
+IsWithin sizes Window = IsFrom LEAST GREATEST_WINDOW sizes.window
+
+-- The sizes are those that a server may have.
+pub record AreWithin (sizes : Sizes) : Type 0 where
+  pub seats : IsWithin sizes Seats
+  pub shards : IsWithin sizes Shards
+  pub bytes : IsWithin sizes Bytes
+  pub ring : IsWithin sizes Ring
+  pub value : IsWithin sizes Value
+  pub line : IsWithin sizes Line
+  pub window : IsWithin sizes Window
+
+-- the sizes that are looked at before this one
+abbrev pub before : SizeFault → List SizeFault
+before Seats = []
+before Shards = Seats ∷ []
+before Bytes = Seats ∷ Shards ∷ []
+before Ring = Seats ∷ Shards ∷ Bytes ∷ []
+before Value = Seats ∷ Shards ∷ Bytes ∷ Ring ∷ []
+before Line = Seats ∷ Shards ∷ Bytes ∷ Ring ∷ Value ∷ []
+before Window = Seats ∷ Shards ∷ Bytes ∷ Ring ∷ Value ∷ Line ∷ []
+
+-- The size that a fault names is the first that lies out of its limits.
+pub record IsFirstOut (sizes : Sizes) (fault : SizeFault) : Type 0 where
+  pub earlier : AllByRecursion (IsWithin sizes) (before fault)
+  pub out : ¬ IsWithin sizes fault
+
+-- There may be lanes between so many seats and shards, with rings of so many places.
+pub record SuitLanes (sizes : Sizes) : Type 0 where
+  pub seats : IsWithin sizes Seats
+  pub shards : IsWithin sizes Shards
+  pub ring : IsWithin sizes Ring
+
+-- There may be shards with such a budget, for values so large.
+pub record SuitShards (sizes : Sizes) : Type 0 where
+  pub least_bytes : LEAST_BUDGET ≤ sizes.bytes
+  pub most_bytes : sizes.bytes ≤ GREATEST_BUDGET
+  pub value : sizes.value ≤ GREATEST_VALUE_LIMIT
+
+-- Lines may be served over so many shards, by such limits of values and lines and such a window.
+pub record SuitLines (sizes : Sizes) : Type 0 where
+  pub shards : 0 < sizes.shards
+  pub value : sizes.value ≤ GREATEST_VALUE_LIMIT
+  pub line : sizes.line ≤ GREATEST_LINE_LIMIT
+  pub window : 0 < sizes.window
+
+-- There may be a server of these sizes.
+pub record MayServe (sizes : Sizes) : Type 0 where
+  pub lanes : SuitLanes sizes
+  pub shards : SuitShards sizes
+  pub lines : SuitLines sizes
