@@ -5,7 +5,7 @@ use Rattle.mc_sizes.specs.declared.sizes.Sizes.{Sizes}
 
 -- Shards of sizes that a server may have.
 pub suits_shards : (sizes : Sizes) → AreWithin sizes → SuitShards sizes
-suits_shards sizes within = record { least_bytes = within.bytes.0; most_bytes = within.bytes.1; value = within.value.1 }
+suits_shards sizes within = record { bytes = within.bytes; value = within.value.1 }
 
 -- Lines by sizes that a server may have.
 pub suits_lines : (sizes : Sizes) → AreWithin sizes → SuitLines sizes

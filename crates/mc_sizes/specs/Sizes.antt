@@ -1,6 +1,5 @@
 -- The rules that the sizes of a server give, and the limits between which the sizes lie.
-use Rattle.std.specs.Prelude.{ℕ, ◌<◌, ◌≤◌, List, [], ◌∷◌}
-use Rattle.std.specs.List.{AllByRecursion}
+use Rattle.std.specs.Prelude.{ℕ, ◌<◌, ◌≤◌}
 use Rattle.mc_wire.specs.declared.TheConstants.{GREATEST_LINE_LIMIT, GREATEST_VALUE_LIMIT, LEAST_LINE_LIMIT, LEAST_VALUE_LIMIT}
 use Rattle.mc_command.specs.declared.rules.Rules.{Rules}
 use Rattle.mc_sizes.specs.declared.TheConstants.{GREATEST_BUDGET, GREATEST_RING, GREATEST_SEATS, GREATEST_SHARDS, GREATEST_WINDOW, LEAST_BUDGET, LEAST}
@@ -25,7 +24,17 @@ IsWithin sizes Value = IsFrom LEAST_VALUE_LIMIT GREATEST_VALUE_LIMIT sizes.value
 IsWithin sizes Line = IsFrom LEAST_LINE_LIMIT GREATEST_LINE_LIMIT sizes.line
 IsWithin sizes Window = IsFrom LEAST GREATEST_WINDOW sizes.window
 
--- The sizes are those that a server may have.
+-- The size that a fault names is the first that doesn't.
+abbrev pub IsFirstOut : Sizes → SizeFault → Type 0
+IsFirstOut sizes Seats = ¬ IsWithin sizes Seats
+IsFirstOut sizes Shards = IsWithin sizes Seats × ¬ IsWithin sizes Shards
+IsFirstOut sizes Bytes = IsWithin sizes Seats × IsWithin sizes Shards × ¬ IsWithin sizes Bytes
+IsFirstOut sizes Ring = IsWithin sizes Seats × IsWithin sizes Shards × IsWithin sizes Bytes × ¬ IsWithin sizes Ring
+IsFirstOut sizes Value = IsWithin sizes Seats × IsWithin sizes Shards × IsWithin sizes Bytes × IsWithin sizes Ring × ¬ IsWithin sizes Value
+IsFirstOut sizes Line = IsWithin sizes Seats × IsWithin sizes Shards × IsWithin sizes Bytes × IsWithin sizes Ring × IsWithin sizes Value × ¬ IsWithin sizes Line
+IsFirstOut sizes Window = IsWithin sizes Seats × IsWithin sizes Shards × IsWithin sizes Bytes × IsWithin sizes Ring × IsWithin sizes Value × IsWithin sizes Line × ¬ IsWithin sizes Window
+
+-- The sizes are those that a server may have: each lies within its limits.
 pub record AreWithin (sizes : Sizes) : Type 0 where
   pub seats : IsWithin sizes Seats
   pub shards : IsWithin sizes Shards
@@ -35,21 +44,6 @@ pub record AreWithin (sizes : Sizes) : Type 0 where
   pub line : IsWithin sizes Line
   pub window : IsWithin sizes Window
 
--- the sizes that are looked at before this one
-abbrev pub before : SizeFault → List SizeFault
-before Seats = []
-before Shards = Seats ∷ []
-before Bytes = Seats ∷ Shards ∷ []
-before Ring = Seats ∷ Shards ∷ Bytes ∷ []
-before Value = Seats ∷ Shards ∷ Bytes ∷ Ring ∷ []
-before Line = Seats ∷ Shards ∷ Bytes ∷ Ring ∷ Value ∷ []
-before Window = Seats ∷ Shards ∷ Bytes ∷ Ring ∷ Value ∷ Line ∷ []
-
--- The size that a fault names is the first that lies out of its limits.
-pub record IsFirstOut (sizes : Sizes) (fault : SizeFault) : Type 0 where
-  pub earlier : AllByRecursion (IsWithin sizes) (before fault)
-  pub out : ¬ IsWithin sizes fault
-
 -- There may be lanes between so many seats and shards, with rings of so many places.
 pub record SuitLanes (sizes : Sizes) : Type 0 where
   pub seats : IsWithin sizes Seats
@@ -58,8 +52,7 @@ pub record SuitLanes (sizes : Sizes) : Type 0 where
 
 -- There may be shards with such a budget, for values so large.
 pub record SuitShards (sizes : Sizes) : Type 0 where
-  pub least_bytes : LEAST_BUDGET ≤ sizes.bytes
-  pub most_bytes : sizes.bytes ≤ GREATEST_BUDGET
+  pub bytes : IsWithin sizes Bytes
   pub value : sizes.value ≤ GREATEST_VALUE_LIMIT
 
 -- Lines may be served over so many shards, by such limits of values and lines and such a window.
