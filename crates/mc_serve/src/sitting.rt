@@ -69,7 +69,7 @@ impl<D: Door + Drop> Sitting<D> {
         ensures door { IfOk result (λ sitting. sitting.door ≡ door) }
         ensures ends { IfOk result (λ sitting. sitting.session.courier.ends ≡ ends) }
     {
-        let session = Session::new(alloc, ends, shards, sizes.ring, sizes.rules(), sizes.window)?;
+        let session = Session::new(alloc, ends, shards, sizes)?;
         Ok(Sitting {
             session,
             phase: Phase::Free,

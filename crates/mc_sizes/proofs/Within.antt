@@ -1,6 +1,6 @@
 -- What sizes within their limits are good for.
-use Rattle.std.proofs.Common.{◌<◌, arith}
-use Rattle.mc_sizes.specs.Sizes.{AreWithin, MayServe, SuitLanes, SuitLines, SuitShards}
+use Rattle.std.proofs.Common.{arith}
+use Rattle.mc_sizes.specs.Sizes.{AreWithin, MayServe, SuitLines, SuitShards}
 use Rattle.mc_sizes.specs.declared.sizes.Sizes.{Sizes}
 
 -- Shards of sizes that a server may have.

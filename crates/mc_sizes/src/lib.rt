@@ -2,11 +2,9 @@
 //! nothing else is said. The limits of values and lines are those of `mc_wire`.
 #![tactic(auto)]
 
-mod laws;
 mod sizes;
 
-pub use laws::limits;
-pub use sizes::{SizeFault, Sizes};
+pub use sizes::{SizeFault, Sizes, limits};
 
 /// The least number of seats, of shards, of places in a ring and of open commands.
 pub const LEAST: usize = 1;

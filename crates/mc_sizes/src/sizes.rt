@@ -1,10 +1,11 @@
 //! The sizes of a server.
 ghost use Rattle.std.specs.Prelude.{◌≡◌, ◌↔◌, IfErr, IsOk};
+ghost use Rattle.mc_sizes.specs.Limits.{LimitsAre};
 ghost use Rattle.mc_sizes.specs.Sizes.{AreWithin, IsFirstOut, rules_of};
 
 use crate::{
-    GREATEST_BUDGET, GREATEST_RING, GREATEST_SEATS, GREATEST_SHARDS, GREATEST_WINDOW, LEAST_BUDGET,
-    LEAST,
+    GREATEST_BUDGET, GREATEST_RING, GREATEST_SEATS, GREATEST_SHARDS, GREATEST_WINDOW, LEAST,
+    LEAST_BUDGET,
 };
 use mc_command::{Profile, Rules};
 use mc_wire::{GREATEST_LINE_LIMIT, GREATEST_VALUE_LIMIT, LEAST_LINE_LIMIT, LEAST_VALUE_LIMIT};
@@ -91,3 +92,8 @@ pub enum SizeFault {
     #[error("a connection has a window of {least} to {most} commands", least = LEAST, most = GREATEST_WINDOW)]
     Window,
 }
+
+/// The limits of this crate, and what the sizes are where nothing else is said, are these numbers.
+pub fn limits()
+    ensures { LimitsAre }
+{}

@@ -2,6 +2,7 @@
 use Rattle.std.proofs.Common.{◌≡◌, ℕ, ◌∙◌, Option, Some, None, refl, sym, subst, length, arith}
 use Rattle.std.specs.Prelude.{IsSomeAnd}
 use Rattle.mc_wire.specs.Outlet.{Sight}
+use Rattle.mc_sizes.specs.Sizes.{rules_of}
 use Rattle.mc_ring.specs.Lane.{Near}
 use Rattle.mc_ring.specs.Ends.{Ends}
 use Rattle.mc_threads.specs.declared.courier.Courier.{Courier}
@@ -49,13 +50,13 @@ may_serve shards rules may_answer begin now before courier (Some service) served
 may_serve shards rules may_answer begin now before courier None served = absurd served
 
 -- Where no room was made yet, one that is made for the session's sizes is as new.
-pub made_new : (rules : Rules) (window : ℕ) (session : Session) (service : Service) → session.service ≡ None → IsNew session.shards session.rules session.window service → IsVacant rules window session → IsNew (length session.courier.ends.lanes) rules window service
+pub made_new : (rules : Rules) (window : ℕ) (session : Session) (service : Service) → session.service ≡ None → IsNew session.sizes.shards (rules_of session.sizes) session.sizes.window service → IsVacant rules window session → IsNew (length session.courier.ends.lanes) rules window service
 made_new rules window session service none made vacant =
     let shards = length session.courier.ends.lanes in
     let R : Option Service → Type 0 = λ o. IsReady shards rules window session o in
     let sized = subst R none vacant.ready in
-    let S : ℕ → Type 0 = λ n. IsNew n session.rules session.window service in
-    let L : Rules → Type 0 = λ n. IsNew shards n session.window service in
+    let S : ℕ → Type 0 = λ n. IsNew n (rules_of session.sizes) session.sizes.window service in
+    let L : Rules → Type 0 = λ n. IsNew shards n session.sizes.window service in
     let W : ℕ → Type 0 = λ n. IsNew shards rules n service in
     subst W sized.2 (subst L sized.1 (subst S sized.0 made))
 

@@ -1,6 +1,7 @@
 -- A seat that serves lines step by step, one after another.
 use Rattle.std.specs.Prelude.{ℕ, ◌≡◌, Bool, Option, Some, None, IsSomeAnd, length}
 use Rattle.mc_wire.specs.Outlet.{Sight}
+use Rattle.mc_sizes.specs.Sizes.{rules_of}
 use Rattle.mc_ring.specs.Lane.{Near}
 use Rattle.mc_ring.specs.Ends.{Ends}
 use Rattle.mc_threads.specs.declared.service.Service.{Service}
@@ -13,7 +14,7 @@ use Rattle.mc_command.specs.declared.rules.Rules.{Rules}
 
 -- The room for a line is as new, or is made for so many shards, for these rules and with this window.
 abbrev pub IsReady : ℕ → Rules → ℕ → Session → Option Service → Type 0
-IsReady shards rules window session None = (session.shards ≡ shards) × (session.rules ≡ rules) × (session.window ≡ window)
+IsReady shards rules window session None = (session.sizes.shards ≡ shards) × (rules_of session.sizes ≡ rules) × (session.sizes.window ≡ window)
 IsReady shards rules window session (Some service) = IsNew shards rules window service
 
 -- It serves no line, and may begin to serve one, for these rules and with this window.

@@ -1,13 +1,13 @@
 //! A seat serves one line step by step. No step waits for a shard.
 ghost use Rattle.mc_command.specs.declared.rules.Rules.{Rules};
+ghost use Rattle.mc_sizes.specs.Sizes.{SuitLines, rules_of};
 ghost use Rattle.std.specs.Prelude.{◌≡◌, ◌<◌, ◌≤◌, ◌↔◌, ℕ, IfOk, IsTrue};
 
 use crate::courier::Courier;
 use crate::session::Stepped;
-use mc_command::Rules;
 use mc_conn::{Conn, Taken};
 use mc_seat::{Clock, Line, Rooms, Seat, Served, Turn, Unwritten};
-use mc_wire::{GREATEST_LINE_LIMIT, GREATEST_VALUE_LIMIT};
+use mc_sizes::Sizes;
 use std::alloc::{AllocError, Global};
 
 /// What a seat serves one line by, and how far it is with the line.
@@ -34,20 +34,13 @@ impl Service {
     ghost use Rattle.mc_threads.specs.Serving.{AreCalled};
     ghost use Rattle.mc_threads.specs.Service.{IsNew, IsServedBy, ServesSomeLine, ServiceSays, TakesFor};
 
-    /// Of a line of which nothing was taken yet, over so many shards, for these rules and with this window.
-    pub(crate) fn new(
-        alloc: Global,
-        shards: usize,
-        rules: Rules,
-        window: usize,
-    ) -> Result<Service, AllocError>
-        requires some { 0 < shards }
-        requires value { rules.value_limit ≤ GREATEST_VALUE_LIMIT }
-        requires line { rules.line_limit ≤ GREATEST_LINE_LIMIT }
-        requires window { 0 < window }
-        ensures { IfOk result (λ service. IsNew shards rules window service) }
+    /// Of a line of which nothing was taken yet.
+    pub(crate) fn new(alloc: Global, sizes: Sizes) -> Result<Service, AllocError>
+        requires { SuitLines sizes }
+        ensures { IfOk result
+            (λ service. IsNew sizes.shards (rules_of sizes) sizes.window service) }
     {
-        let Ok(conn) = Conn::under(alloc, shards, rules, window) else {
+        let Ok(conn) = Conn::under(alloc, sizes.shards, sizes.rules(), sizes.window) else {
             return Err(AllocError);
         };
         Ok(Service {

@@ -2,15 +2,14 @@
 ghost use Rattle.mc_command.specs.declared.rules.Rules.{Rules};
 ghost use Rattle.std.specs.Prelude.{◌≡◌, ◌<◌, ◌≤◌, ◌↔◌, ℕ, Some, IfOk, IsTrue, OnErr, OnOk, length};
 ghost use Rattle.std.specs.Bool.{OnFalse, OnTrue};
-ghost use Rattle.mc_wire.specs.declared.TheConstants.{GREATEST_LINE_LIMIT, GREATEST_VALUE_LIMIT};
+ghost use Rattle.mc_sizes.specs.Sizes.{SuitLines, rules_of};
 
 use crate::courier::Courier;
 use crate::service::Service;
-use mc_command::Rules;
 use mc_ring::SeatEnds;
 use mc_seat::{Clock, Line, Rooms, Served};
+use mc_sizes::Sizes;
 use mc_wake::Wakers;
-use mc_wire::{GREATEST_LINE_LIMIT, GREATEST_VALUE_LIMIT};
 use std::alloc::{AllocError, Global};
 
 /// What a step did.
@@ -31,15 +30,10 @@ pub struct Session {
     alloc: Global,
     pub(crate) courier: Courier,
     /// What the room is made for.
-    shards: usize,
-    rules: Rules,
-    window: usize,
+    sizes: Sizes,
     /// What lines are served by, once the first has come.
     service: Option<Service>,
-    ghost some_shards: { 0 < shards },
-    ghost small_values: { rules.value_limit ≤ GREATEST_VALUE_LIMIT },
-    ghost short_lines: { rules.line_limit ≤ GREATEST_LINE_LIMIT },
-    ghost some_commands: { 0 < window },
+    ghost suited: { SuitLines sizes },
 }
 
 impl Session {
@@ -54,31 +48,24 @@ impl Session {
     ghost use Rattle.mc_threads.specs.Service.{IsNew};
     ghost use Rattle.mc_threads.specs.Session.{IsVacant, IsServingLine, MayStep, StepSays};
 
-    /// A seat that serves no line yet, over new ends of its lanes, whose rings have so many places, by these rules. The wakers are those
-    /// of the shards.
+    /// A seat that serves no line yet, over new ends of its lanes. The wakers are those of the shards.
     pub fn new(
         alloc: Global,
         ends: SeatEnds,
         shards: Wakers,
-        places: usize,
-        rules: Rules,
-        window: usize,
+        sizes: Sizes,
     ) -> Result<Session, AllocError>
-        requires some { 0 < length ends.lanes }
-        requires value { rules.value_limit ≤ GREATEST_VALUE_LIMIT }
-        requires line { rules.line_limit ≤ GREATEST_LINE_LIMIT }
-        requires window { 0 < window }
-        ensures vacant { IfOk result (λ session. IsVacant rules window session) }
+        requires sizes { SuitLines sizes }
+        requires width { length ends.lanes ≡ sizes.shards }
+        ensures vacant { IfOk result
+            (λ session. IsVacant (rules_of sizes) sizes.window session) }
         ensures ends { IfOk result (λ session. session.courier.ends ≡ ends) }
     {
-        let count = ends.shards();
-        let courier = Courier::new(alloc, ends, shards, places)?;
+        let courier = Courier::new(alloc, ends, shards, sizes.ring)?;
         Ok(Session {
             alloc,
             courier,
-            shards: count,
-            rules,
-            window,
+            sizes,
             service: None,
         })
     }
@@ -108,7 +95,7 @@ impl Session {
     {
         match self.service.take() {
             Some(service) => Ok(service),
-            None => Service::new(self.alloc, self.shards, self.rules, self.window),
+            None => Service::new(self.alloc, self.sizes),
         }
     }
 
