@@ -25,11 +25,11 @@ BEGIN, END = "<!-- tools/checks/definitions.py -->\n", "<!-- end -->\n"
 # The functions whose contracts are the theorems: the headline, the laws of progress and order, what ties the simulator to
 # them, one line, real threads over doors, lines in memory and sockets, replay files and the command line.
 THEOREMS = [
-    ("mc_core/src/laws.rt", ["every_schedule"]),
+    ("mc_model/src/laws.rt", ["every_schedule"]),
     ("mc_laws/src/progress.rt", ["never_stuck", "all_comes_to_rest", "fair_runs_come_to_rest", "what_is_tried_is_fair", "none_waits_forever", "bytes_are_taken_at_rest"]),
     ("mc_laws/src/order.rt", ["what_was_handed_out_ran_before", "keys_are_linearizable"]),
     ("mc_laws/src/settling.rt", ["settle"]),
-    ("mc_core/src/sim.rt", ["new", "connections", "fed", "handed", "log", "step", "run"]),
+    ("mc_sim/src/sim.rt", ["new", "connections", "fed", "handed", "log", "step", "run"]),
     ("mc_server/src/serve.rt", ["serve_one"]),
     ("mc_serve/src/serving.rt", ["serve"]),
     ("mc_serve/src/over.rt", ["serve_over"]),
@@ -42,7 +42,7 @@ THEOREMS = [
 # The inside of these isn't reached. That a simulator stands in a world is only ever said of the worlds to which its events lead:
 # it begins in the empty one, each step leads on from whichever it stands in, and what it shows is that world's. So any relation
 # of which this is proved does as well.
-SEALED = {("mc_core/specs/Stands.antt", "Stands"), ("mc_core/src/sim.rt", "Sim")}
+SEALED = {("mc_sim/specs/Stands.antt", "Stands"), ("mc_sim/src/sim.rt", "Sim")}
 
 WORD = re.compile(r"[^\W\d]\w*(?:-\w+)*'*")
 IMPORT = re.compile(r"^(?:pub |ghost )?use (Rattle\.[\w.]+?)(?:\.\{(.*?)\}| as (\w+))?;?$", re.M)

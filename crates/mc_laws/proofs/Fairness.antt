@@ -6,20 +6,20 @@ use Rattle.mc_sizes.specs.Sizes.{AreWithin}
 use Rattle.mc_sizes.specs.declared.sizes.Sizes.{Sizes}
 use Rattle.mc_conn.specs.Due.{due}
 use Rattle.mc_conn.proofs.Counting.{due_beyond}
-use Rattle.mc_core.specs.Log.{of_asker}
-use Rattle.mc_core.specs.World.{IsAt, IsLink, Link, World, empty_world, with_link}
-use Rattle.mc_core.specs.Rest.{IsAllReceived, IsAllSent, IsAllTaken}
-use Rattle.mc_core.specs.Events.{Event, one_more}
-use Rattle.mc_core.specs.Events.Event.{Open, Feed, Take, Send, Pop, Give, Receive, Hand, End, Break}
-use Rattle.mc_core.specs.declared.event.StepReply.{StepReply}
-use Rattle.mc_core.specs.Schedule.{Enabled, Happens, Leads, Spared}
-use Rattle.mc_core.specs.declared.event.StepReply.TheVariants.{Done, Idle, NoMemory}
-use Rattle.mc_core.specs.Law.{Law}
+use Rattle.mc_model.specs.Log.{of_asker}
+use Rattle.mc_model.specs.World.{IsAt, IsLink, Link, World, empty_world, with_link}
+use Rattle.mc_model.specs.Rest.{IsAllReceived, IsAllSent, IsAllTaken}
+use Rattle.mc_model.specs.Events.{Event, one_more}
+use Rattle.mc_model.specs.Events.Event.{Open, Feed, Take, Send, Pop, Give, Receive, Hand, End, Break}
+use Rattle.mc_model.specs.declared.event.StepReply.{StepReply}
+use Rattle.mc_model.specs.Schedule.{Enabled, Happens, Leads, Spared}
+use Rattle.mc_model.specs.declared.event.StepReply.TheVariants.{Done, Idle, NoMemory}
+use Rattle.mc_model.specs.Law.{Law}
 use Rattle.mc_laws.specs.Progress.{HasWork, IsWork}
 use Rattle.mc_laws.specs.Fair.{ComesToRest, EndlessRun, HasNoInput, IsWorkOf, IsSameStep, IsWeaklyFair, TakesBytesAtRest, TriesAll}
-use Rattle.mc_core.proofs.Every.{event_kept}
-use Rattle.mc_core.proofs.Links.{ran_within}
-use Rattle.mc_core.proofs.Lists.{at_once, push_cases, set_cases}
+use Rattle.mc_model.proofs.Every.{event_kept}
+use Rattle.mc_model.proofs.Links.{ran_within}
+use Rattle.mc_model.proofs.Lists.{at_once, push_cases, set_cases}
 use Rattle.mc_laws.proofs.Measure.{all_replied, inside_lowers, left}
 use Rattle.mc_laws.proofs.Working.{rests_or_goes, sent_within}
 

@@ -22,7 +22,7 @@ use Rattle.mc_reader.proofs.Fronts.{every_input}
 use Rattle.mc_item.specs.declared.op.Op.{Op}
 use Rattle.mc_item.specs.declared.op.Op.TheVariants as op
 use Rattle.mc_split.specs.Pieces.{asked_of_all, pieces_of}
-use Rattle.mc_core.specs.World.{Link}
+use Rattle.mc_model.specs.World.{Link}
 use Rattle.mc_laws.specs.Progress.{steps_of, steps_of_all}
 use Rattle.mc_laws.proofs.Measure.{spelled_by}
 use Rattle.mc_command.specs.declared.rules.Rules.{Rules}

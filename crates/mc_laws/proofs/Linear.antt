@@ -16,15 +16,15 @@ use Rattle.mc_split.proofs.Shards.{pieces_name}
 use Rattle.mc_conn.specs.History.{Taken, planned}
 use Rattle.mc_conn.specs.Due.{due, lane, pieces, pieces_at, pieces_from, ticket_at}
 use Rattle.mc_conn.proofs.Gets.{all_at, get_below}
-use Rattle.mc_core.specs.Log.{Entry, of_asker, on_shard, pieces_in}
-use Rattle.mc_core.specs.World.{Link, World, empty_world}
-use Rattle.mc_core.specs.Events.{Event}
-use Rattle.mc_core.specs.Schedule.{Schedule}
-use Rattle.mc_core.specs.Law.{Law, LinkLaw}
-use Rattle.mc_core.proofs.Every.{all_kept}
-use Rattle.mc_core.proofs.Follows.{headline}
-use Rattle.mc_core.proofs.Lists.{all_from, all_take, all_unmap}
-use Rattle.mc_core.proofs.Worlds.{at_begin}
+use Rattle.mc_model.specs.Log.{Entry, of_asker, on_shard, pieces_in}
+use Rattle.mc_model.specs.World.{Link, World, empty_world}
+use Rattle.mc_model.specs.Events.{Event}
+use Rattle.mc_model.specs.Schedule.{Schedule}
+use Rattle.mc_model.specs.Law.{Law, LinkLaw}
+use Rattle.mc_model.proofs.Every.{all_kept}
+use Rattle.mc_model.proofs.Follows.{headline}
+use Rattle.mc_model.proofs.Lists.{all_from, all_take, all_unmap}
+use Rattle.mc_model.proofs.Worlds.{at_begin}
 use Rattle.mc_laws.specs.Linear.{IsAtHome, IsLinearizable}
 use Rattle.mc_laws.specs.Order.{IsPieceOf, RunsBefore}
 use Rattle.mc_laws.proofs.Ordering.{all_both, all_mine, on_there, ran_first, was_run}

@@ -16,22 +16,22 @@ use Rattle.mc_conn.specs.Due.{due, lane, pieces, pieces_at, pieces_from, ticket_
 use Rattle.mc_conn.proofs.Counting.{due_beyond}
 use Rattle.mc_conn.proofs.Fitting.{due-append, pieces_from-append}
 use Rattle.mc_conn.proofs.Places.{length-parts}
-use Rattle.mc_core.specs.Sized.{SpellAll}
-use Rattle.mc_core.specs.Log.{Entry, of_asker, on_shard}
-use Rattle.mc_core.specs.World.{IsLink, Link, World, entries, ran, with_entry, with_link}
-use Rattle.mc_core.specs.Rest.{IsNextCommand}
-use Rattle.mc_core.specs.Events.{Event, one_more}
-use Rattle.mc_core.specs.Events.Event.{Open, Feed, Take, Send, Pop, Give, Receive, Hand, End, Break}
-use Rattle.mc_core.specs.declared.event.StepReply.{StepReply}
-use Rattle.mc_core.specs.Schedule.{Happens, Leads}
-use Rattle.mc_core.specs.declared.event.StepReply.TheVariants.{Done, Idle, NoMemory}
-use Rattle.mc_core.specs.Law.{Law, LinkLaw}
-use Rattle.mc_core.specs.Runs.{done_in, is_done}
+use Rattle.mc_model.specs.Sized.{SpellAll}
+use Rattle.mc_model.specs.Log.{Entry, of_asker, on_shard}
+use Rattle.mc_model.specs.World.{IsLink, Link, World, entries, ran, with_entry, with_link}
+use Rattle.mc_model.specs.Rest.{IsNextCommand}
+use Rattle.mc_model.specs.Events.{Event, one_more}
+use Rattle.mc_model.specs.Events.Event.{Open, Feed, Take, Send, Pop, Give, Receive, Hand, End, Break}
+use Rattle.mc_model.specs.declared.event.StepReply.{StepReply}
+use Rattle.mc_model.specs.Schedule.{Happens, Leads}
+use Rattle.mc_model.specs.declared.event.StepReply.TheVariants.{Done, Idle, NoMemory}
+use Rattle.mc_model.specs.Law.{Law, LinkLaw}
+use Rattle.mc_sim.specs.Runs.{done_in, is_done}
 use Rattle.mc_laws.specs.Progress.{AllAtRest, AllReplied, CanComeToRest, IsBounded, IsNoInput, IsWork, steps_of, steps_of_all}
-use Rattle.mc_core.proofs.Every.{event_kept}
-use Rattle.mc_core.proofs.Follows.{headline}
-use Rattle.mc_core.proofs.Links.{ran_within}
-use Rattle.mc_core.proofs.Logs.{of_asker-yes, on_shard-yes, ran_push}
+use Rattle.mc_model.proofs.Every.{event_kept}
+use Rattle.mc_model.proofs.Follows.{headline}
+use Rattle.mc_model.proofs.Links.{ran_within}
+use Rattle.mc_model.proofs.Logs.{of_asker-yes, on_shard-yes, ran_push}
 use Rattle.mc_laws.proofs.Summing.{at_point, over_lt, set_lowers, sum_none, sum_point, sum_le, sum_lt, sum_more, sum_over, sum_to}
 use Rattle.mc_laws.proofs.Working.{rests_or_goes}
 

@@ -23,8 +23,8 @@ use Rattle.mc_store.specs.Rows.{fetched_item}
 use Rattle.mc_store.proofs.Costs.{fitting_key}
 use Rattle.mc_store.proofs.Lists.{get_here}
 use Rattle.mc_conn.specs.Due.{ticket_at}
-use Rattle.mc_core.specs.Sized.{empty_shard}
-use Rattle.mc_core.specs.Log.{Entry, IsLawful}
+use Rattle.mc_model.specs.Sized.{empty_shard}
+use Rattle.mc_model.specs.Log.{Entry, IsLawful}
 
 abbrev two : Sizes
 two = record { profile = Own; seats = 2; shards = 2; bytes = 1024; ring = 1; value = 1024; line = 65536; window = 1 }

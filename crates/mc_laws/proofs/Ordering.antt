@@ -12,18 +12,18 @@ use Rattle.mc_conn.specs.Due.{due, lane, pieces, pieces_from}
 use Rattle.mc_conn.proofs.Fitting.{due-append, pieces_from-append}
 use Rattle.mc_conn.proofs.Gets.{all_at, all_more, get_below, get_cases, get_front, take_get}
 use Rattle.mc_conn.proofs.Places.{lane_at, lane_there, piece_at}
-use Rattle.mc_core.specs.Log.{Entry, of_asker, on_shard, pieces_in, reply_to}
-use Rattle.mc_core.specs.World.{IsLink, Link, World, entries}
-use Rattle.mc_core.specs.Events.{Event}
-use Rattle.mc_core.specs.Events.Event.{Open, Feed, Take, Send, Pop, Give, Receive, Hand, End, Break}
-use Rattle.mc_core.specs.declared.event.StepReply.{StepReply}
-use Rattle.mc_core.specs.Schedule.{Happens, Leads}
-use Rattle.mc_core.specs.declared.event.StepReply.TheVariants.{Done, Idle, NoMemory}
-use Rattle.mc_core.specs.Law.{Law, LinkLaw}
+use Rattle.mc_model.specs.Log.{Entry, of_asker, on_shard, pieces_in, reply_to}
+use Rattle.mc_model.specs.World.{IsLink, Link, World, entries}
+use Rattle.mc_model.specs.Events.{Event}
+use Rattle.mc_model.specs.Events.Event.{Open, Feed, Take, Send, Pop, Give, Receive, Hand, End, Break}
+use Rattle.mc_model.specs.declared.event.StepReply.{StepReply}
+use Rattle.mc_model.specs.Schedule.{Happens, Leads}
+use Rattle.mc_model.specs.declared.event.StepReply.TheVariants.{Done, Idle, NoMemory}
+use Rattle.mc_model.specs.Law.{Law, LinkLaw}
 use Rattle.mc_laws.specs.Order.{IsHandedOut, IsNotYetAsked, RunsBefore, WasRun, world_at}
-use Rattle.mc_core.proofs.Every.{all_kept, event_kept}
-use Rattle.mc_core.proofs.Growing.{all_grow}
-use Rattle.mc_core.proofs.Lists.{all_unmap, at_once}
+use Rattle.mc_model.proofs.Every.{all_kept, event_kept}
+use Rattle.mc_model.proofs.Growing.{all_grow}
+use Rattle.mc_model.proofs.Lists.{all_unmap, at_once}
 
 -- The next piece due is of no command that was handed out.
 ticket_from : (sizes : Sizes) (own : List Entry) (link : Link) (s : ℕ) (p : Piece) → LinkLaw sizes own link → slice_get (due sizes.shards s link.taken) (length (on_shard s own)) ≡ Some p → link.handed ≤ p.ticket.0

@@ -6,16 +6,16 @@ use Rattle.std.proofs.lemmas.Bool.{cases_lt}
 use Rattle.std.proofs.lemmas.Option.{slice_get_within}
 use Rattle.mc_sizes.specs.Sizes.{AreWithin}
 use Rattle.mc_sizes.specs.declared.sizes.Sizes.{Sizes}
-use Rattle.mc_core.specs.declared.sim.Sim.{Sim}
-use Rattle.mc_core.specs.World.{World}
-use Rattle.mc_core.specs.Events.{Event}
-use Rattle.mc_core.specs.Events.Event.{Open, Feed, Take, Send, Pop, Give, Receive, Hand, End, Break}
-use Rattle.mc_core.specs.declared.event.StepReply.{StepReply}
-use Rattle.mc_core.specs.Schedule.{Enabled, Happens, Leads, Spared}
-use Rattle.mc_core.specs.declared.event.StepReply.TheVariants.{Done, Idle, NoMemory}
-use Rattle.mc_core.specs.Runs.{FoundMemory, Runs, StandsAfter, Stops, done_in, is_done}
-use Rattle.mc_core.specs.Stands.{Stands}
-use Rattle.mc_core.specs.Law.{Law}
+use Rattle.mc_sim.specs.declared.sim.Sim.{Sim}
+use Rattle.mc_model.specs.World.{World}
+use Rattle.mc_model.specs.Events.{Event}
+use Rattle.mc_model.specs.Events.Event.{Open, Feed, Take, Send, Pop, Give, Receive, Hand, End, Break}
+use Rattle.mc_model.specs.declared.event.StepReply.{StepReply}
+use Rattle.mc_model.specs.Schedule.{Enabled, Happens, Leads, Spared}
+use Rattle.mc_model.specs.declared.event.StepReply.TheVariants.{Done, Idle, NoMemory}
+use Rattle.mc_sim.specs.Runs.{FoundMemory, Runs, StandsAfter, Stops, done_in, is_done}
+use Rattle.mc_sim.specs.Stands.{Stands}
+use Rattle.mc_model.specs.Law.{Law}
 use Rattle.mc_laws.specs.Progress.{AllAtRest, AllReplied, IsNoInput, IsWork}
 use Rattle.mc_laws.specs.Fair.{IsWorkOf}
 use Rattle.mc_laws.specs.Settling.{Settles, Works, lane_round, lanes_round, repeated, round, seat_round}

@@ -26,14 +26,14 @@ use Rattle.mc_store.specs.Step.{Answers, IsStep, noted_in, step_of}
 use Rattle.mc_conn.specs.History.{Taken}
 use Rattle.mc_conn.specs.Due.{due, pieces, ticket_at}
 use Rattle.mc_conn.specs.Fits.{HasCome}
-use Rattle.mc_core.specs.Log.{Entry}
-use Rattle.mc_core.specs.World.{IsAt, Link, World, new_link, ran, sent_to}
-use Rattle.mc_core.specs.Rest.{AtRest, IsAllTaken}
-use Rattle.mc_core.specs.Events.{Event, RunsNext, one_more}
-use Rattle.mc_core.specs.Events.Event.{Open, Feed, Take, Send, Pop, Give, Receive, Hand, End, Break}
-use Rattle.mc_core.specs.declared.event.StepReply.{StepReply}
-use Rattle.mc_core.specs.Schedule.{Enabled, Happens, Leads, Schedule}
-use Rattle.mc_core.specs.declared.event.StepReply.TheVariants.{Done, Idle, NoMemory}
+use Rattle.mc_model.specs.Log.{Entry}
+use Rattle.mc_model.specs.World.{IsAt, Link, World, new_link, ran, sent_to}
+use Rattle.mc_model.specs.Rest.{AtRest, IsAllTaken}
+use Rattle.mc_model.specs.Events.{Event, RunsNext, one_more}
+use Rattle.mc_model.specs.Events.Event.{Open, Feed, Take, Send, Pop, Give, Receive, Hand, End, Break}
+use Rattle.mc_model.specs.declared.event.StepReply.{StepReply}
+use Rattle.mc_model.specs.Schedule.{Enabled, Happens, Leads, Schedule}
+use Rattle.mc_model.specs.declared.event.StepReply.TheVariants.{Done, Idle, NoMemory}
 use Rattle.mc_laws.specs.Progress.{IsWork}
 use Rattle.mc_laws.specs.Fair.{EndlessRun, Eventually, HasNoInput, IsFairToSeats, IsSameStep, TriesAll}
 use Rattle.mc_laws.specs.Order.{HappensBefore, IsPieceOf}

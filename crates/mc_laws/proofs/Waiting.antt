@@ -18,21 +18,21 @@ use Rattle.mc_conn.proofs.Fitting.{pieces_from-append}
 use Rattle.mc_conn.specs.Fits.{HasCome}
 use Rattle.mc_conn.proofs.Counting.{due_beyond}
 use Rattle.mc_conn.proofs.Gets.{get_below, get_front}
-use Rattle.mc_core.specs.Sized.{SpellFirst}
-use Rattle.mc_core.specs.Log.{of_asker}
-use Rattle.mc_core.specs.World.{IsAt, IsLink, Link, World, entries, ran, sent_to, with_link}
-use Rattle.mc_core.specs.Rest.{AtRest, HasWindow, IsAllReceived, IsAllSent, IsAllTaken, IsNextCommand}
-use Rattle.mc_core.specs.Events.{Event, IsEmptyHand, one_more}
-use Rattle.mc_core.specs.Events.Event.{Open, Feed, Take, Send, Pop, Give, Receive, Hand, End, Break}
-use Rattle.mc_core.specs.declared.event.StepReply.{StepReply}
-use Rattle.mc_core.specs.Schedule.{Enabled, Happens}
-use Rattle.mc_core.specs.declared.event.StepReply.TheVariants.{Done, Idle, NoMemory}
-use Rattle.mc_core.specs.Law.{Law}
+use Rattle.mc_model.specs.Sized.{SpellFirst}
+use Rattle.mc_model.specs.Log.{of_asker}
+use Rattle.mc_model.specs.World.{IsAt, IsLink, Link, World, entries, ran, sent_to, with_link}
+use Rattle.mc_model.specs.Rest.{AtRest, HasWindow, IsAllReceived, IsAllSent, IsAllTaken, IsNextCommand}
+use Rattle.mc_model.specs.Events.{Event, IsEmptyHand, one_more}
+use Rattle.mc_model.specs.Events.Event.{Open, Feed, Take, Send, Pop, Give, Receive, Hand, End, Break}
+use Rattle.mc_model.specs.declared.event.StepReply.{StepReply}
+use Rattle.mc_model.specs.Schedule.{Enabled, Happens}
+use Rattle.mc_model.specs.declared.event.StepReply.TheVariants.{Done, Idle, NoMemory}
+use Rattle.mc_model.specs.Law.{Law}
 use Rattle.mc_laws.specs.Progress.{IsWork}
 use Rattle.mc_laws.specs.Fair.{EndlessRun, IsSameStep, IsFairToSeats, IsWorkOf, IsWeaklyFair, GetsReply, NoneWaitsForever}
 use Rattle.mc_laws.proofs.After.{IsMore, Later, event_later, lane_grows, later_same, later_then, sent_grows, sent_stays, set_here}
-use Rattle.mc_core.proofs.Links.{ran_within}
-use Rattle.mc_core.proofs.Lists.{at_once, push_cases, set_cases}
+use Rattle.mc_model.proofs.Links.{ran_within}
+use Rattle.mc_model.proofs.Lists.{at_once, push_cases, set_cases}
 use Rattle.mc_laws.proofs.Measure.{ran_here}
 use Rattle.mc_laws.proofs.Fairness.{AreSeated, at_seat, at_shard, enabled_in, law_along, one_place}
 use Rattle.mc_laws.proofs.Working.{at_waiting, hand_or_empty, last_at, next_or_all, none_next, sent_within}

@@ -19,16 +19,16 @@ use Rattle.mc_conn.proofs.Counting.{due_beyond}
 use Rattle.mc_conn.proofs.Fitting.{due-append}
 use Rattle.mc_conn.proofs.Gets.{get_below}
 use Rattle.mc_conn.proofs.Places.{lane-append}
-use Rattle.mc_core.specs.Sized.{SpellAll, SpellFirst}
-use Rattle.mc_core.specs.Log.{Entry, of_asker}
-use Rattle.mc_core.specs.World.{IsAt, IsLink, Link, World, entries, ran, sent_to, with_entry, with_link}
-use Rattle.mc_core.specs.Rest.{AtRest, HasWindow, IsAllReceived, IsAllSent, IsAllTaken, IsNextCommand}
-use Rattle.mc_core.specs.Events.{IsEmptyHand, IsTurn, MaySend, RunsNext, TakesNext, one_more}
-use Rattle.mc_core.specs.Events.Event.{Take, Send, Pop, Give, Receive, Hand}
-use Rattle.mc_core.specs.Law.{Law, LinkLaw}
+use Rattle.mc_model.specs.Sized.{SpellAll, SpellFirst}
+use Rattle.mc_model.specs.Log.{Entry, of_asker}
+use Rattle.mc_model.specs.World.{IsAt, IsLink, Link, World, entries, ran, sent_to, with_entry, with_link}
+use Rattle.mc_model.specs.Rest.{AtRest, HasWindow, IsAllReceived, IsAllSent, IsAllTaken, IsNextCommand}
+use Rattle.mc_model.specs.Events.{IsEmptyHand, IsTurn, MaySend, RunsNext, TakesNext, one_more}
+use Rattle.mc_model.specs.Events.Event.{Take, Send, Pop, Give, Receive, Hand}
+use Rattle.mc_model.specs.Law.{Law, LinkLaw}
 use Rattle.mc_laws.specs.Progress.{AllAtRest, HasWork}
-use Rattle.mc_core.specs.Alone.{outcome_at}
-use Rattle.mc_core.proofs.Links.{ran_within}
+use Rattle.mc_model.specs.Alone.{outcome_at}
+use Rattle.mc_model.proofs.Links.{ran_within}
 use Rattle.mc_laws.proofs.Finding.{Below, Found, some_below, some_or_each}
 use Rattle.mc_command.specs.declared.rules.Rules.{Rules}
 

@@ -2,14 +2,14 @@
 use Rattle.std.specs.Prelude.{ℕ, ◌≡◌, ◌≢◌, ◌+◌, ◌<◌, ◌≤◌, ◌⊎◌, IsTrue, false, List, length}
 use Rattle.mc_command.specs.declared.command.Command.{Command}
 use Rattle.mc_sizes.specs.declared.sizes.Sizes.{Sizes}
-use Rattle.mc_core.specs.Sized.{SpellFirst}
-use Rattle.mc_core.specs.World.{IsAt, IsLink, Link, World}
-use Rattle.mc_core.specs.Rest.{AtRest}
-use Rattle.mc_core.specs.Events.{Event}
-use Rattle.mc_core.specs.Events.Event.{Feed, Take, Send, Pop, Give, Receive, Hand}
-use Rattle.mc_core.specs.declared.event.StepReply.{StepReply}
-use Rattle.mc_core.specs.Schedule.{Enabled, Happens, Spared}
-use Rattle.mc_core.specs.declared.event.StepReply.TheVariants.{Done, NoMemory}
+use Rattle.mc_model.specs.Sized.{SpellFirst}
+use Rattle.mc_model.specs.World.{IsAt, IsLink, Link, World}
+use Rattle.mc_model.specs.Rest.{AtRest}
+use Rattle.mc_model.specs.Events.{Event}
+use Rattle.mc_model.specs.Events.Event.{Feed, Take, Send, Pop, Give, Receive, Hand}
+use Rattle.mc_model.specs.declared.event.StepReply.{StepReply}
+use Rattle.mc_model.specs.Schedule.{Enabled, Happens, Spared}
+use Rattle.mc_model.specs.declared.event.StepReply.TheVariants.{Done, NoMemory}
 use Rattle.mc_laws.specs.Progress.{AllAtRest, AllReplied, IsNoInput}
 
 -- The server does it by itself, and the seat and the shard that it names are there.

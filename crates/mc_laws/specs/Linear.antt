@@ -5,12 +5,12 @@ use Rattle.mc_wire.specs.Key.{place_of}
 use Rattle.mc_sizes.specs.declared.sizes.Sizes.{Sizes}
 use Rattle.mc_item.specs.Kind.{key_of}
 use Rattle.mc_store.specs.State.{State}
-use Rattle.mc_core.specs.Sized.{empty_shard}
-use Rattle.mc_core.specs.Log.{Entry, Run, on_shard}
-use Rattle.mc_core.specs.World.{World}
-use Rattle.mc_core.specs.Events.{Event}
-use Rattle.mc_core.specs.Schedule.{Schedule}
-use Rattle.mc_core.specs.Headline.{AreReplies, RanAsDue, OfEach}
+use Rattle.mc_model.specs.Sized.{empty_shard}
+use Rattle.mc_model.specs.Log.{Entry, Run, on_shard}
+use Rattle.mc_model.specs.World.{World}
+use Rattle.mc_model.specs.Events.{Event}
+use Rattle.mc_model.specs.Schedule.{Schedule}
+use Rattle.mc_model.specs.Headline.{AreReplies, RanAsDue, OfEach}
 use Rattle.mc_laws.specs.Order.{HappensBefore, IsHandedOut, RunsBefore, WasRun}
 
 -- what the shard of the key ran, in order, whoever asked

@@ -5,11 +5,11 @@ use Rattle.mc_command.specs.declared.command.Command.{Command}
 use Rattle.mc_sizes.specs.declared.sizes.Sizes.{Sizes}
 use Rattle.mc_split.specs.declared.plan.Piece.{Piece}
 use Rattle.mc_conn.specs.Due.{pieces}
-use Rattle.mc_core.specs.Sized.{SpellFirst}
-use Rattle.mc_core.specs.Log.{Entry}
-use Rattle.mc_core.specs.World.{IsLink, Link, World, empty_world}
-use Rattle.mc_core.specs.Events.{Event}
-use Rattle.mc_core.specs.Schedule.{Leads, Schedule}
+use Rattle.mc_model.specs.Sized.{SpellFirst}
+use Rattle.mc_model.specs.Log.{Entry}
+use Rattle.mc_model.specs.World.{IsLink, Link, World, empty_world}
+use Rattle.mc_model.specs.Events.{Event}
+use Rattle.mc_model.specs.Schedule.{Leads, Schedule}
 
 -- The reply to the connection's command of this number was handed out.
 pub record IsHandedOut (w : World) (k number : ℕ) : Type 0 where

@@ -4,15 +4,15 @@ use Rattle.std.specs.List.{AllByRecursion, slice_get}
 use Rattle.mc_command.specs.declared.command.Command.{Command}
 use Rattle.mc_sizes.specs.declared.sizes.Sizes.{Sizes}
 use Rattle.mc_split.specs.Pieces.{pieces_of}
-use Rattle.mc_core.specs.Sized.{SpellAll}
-use Rattle.mc_core.specs.World.{IsLink, Link, World}
-use Rattle.mc_core.specs.Rest.{AtRest}
-use Rattle.mc_core.specs.Events.{Event}
-use Rattle.mc_core.specs.Events.Event.{Open, Feed, End, Break}
-use Rattle.mc_core.specs.Schedule.{Happens, Leads, Spared}
-use Rattle.mc_core.specs.declared.event.StepReply.TheVariants.{Done}
-use Rattle.mc_core.specs.Headline.{AreAllReplies, OfEach}
-use Rattle.mc_core.specs.Runs.{done_in}
+use Rattle.mc_model.specs.Sized.{SpellAll}
+use Rattle.mc_model.specs.World.{IsLink, Link, World}
+use Rattle.mc_model.specs.Rest.{AtRest}
+use Rattle.mc_model.specs.Events.{Event}
+use Rattle.mc_model.specs.Events.Event.{Open, Feed, End, Break}
+use Rattle.mc_model.specs.Schedule.{Happens, Leads, Spared}
+use Rattle.mc_model.specs.declared.event.StepReply.TheVariants.{Done}
+use Rattle.mc_model.specs.Headline.{AreAllReplies, OfEach}
+use Rattle.mc_sim.specs.Runs.{done_in}
 
 -- The server does it by itself: no client acts.
 abbrev pub IsWork : Event → Type 0

@@ -2,12 +2,12 @@
 use Rattle.std.specs.Prelude.{ℕ, zero, suc, List, [], ◌∷◌, ◌++◌}
 use Rattle.std.specs.List.{AllByRecursion}
 use Rattle.mc_sizes.specs.declared.sizes.Sizes.{Sizes}
-use Rattle.mc_core.specs.declared.sim.Sim.{Sim}
-use Rattle.mc_core.specs.World.{World}
-use Rattle.mc_core.specs.Events.{Event}
-use Rattle.mc_core.specs.Events.Event.{Take, Send, Pop, Give, Receive, Hand}
-use Rattle.mc_core.specs.Runs.{StandsAfter}
-use Rattle.mc_core.specs.Stands.{Stands}
+use Rattle.mc_sim.specs.declared.sim.Sim.{Sim}
+use Rattle.mc_model.specs.World.{World}
+use Rattle.mc_model.specs.Events.{Event}
+use Rattle.mc_model.specs.Events.Event.{Take, Send, Pop, Give, Receive, Hand}
+use Rattle.mc_sim.specs.Runs.{StandsAfter}
+use Rattle.mc_sim.specs.Stands.{Stands}
 use Rattle.mc_laws.specs.Progress.{AllAtRest, AllReplied, IsWork}
 
 -- what a seat and a shard do for one another

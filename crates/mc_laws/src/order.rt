@@ -2,9 +2,9 @@
 ghost use Rattle.std.specs.Prelude.{ℕ, List};
 ghost use Rattle.mc_sizes.specs.Sizes.{AreWithin};
 ghost use Rattle.mc_sizes.specs.declared.sizes.Sizes.{Sizes};
-ghost use Rattle.mc_core.specs.World.{World};
-ghost use Rattle.mc_core.specs.Events.{Event};
-ghost use Rattle.mc_core.specs.Schedule.{Leads, Schedule};
+ghost use Rattle.mc_model.specs.World.{World};
+ghost use Rattle.mc_model.specs.Events.{Event};
+ghost use Rattle.mc_model.specs.Schedule.{Leads, Schedule};
 ghost use Rattle.mc_laws.specs.Linear.{IsLinearizable};
 ghost use Rattle.mc_laws.specs.Order.{HappensBefore, IsHandedOut, IsNotYetAsked, RunsBefore, WasRun};
 

@@ -2,9 +2,9 @@
 ghost use Rattle.std.specs.Prelude.{◌⊎◌, List};
 ghost use Rattle.mc_sizes.specs.Sizes.{AreWithin};
 ghost use Rattle.mc_sizes.specs.declared.sizes.Sizes.{Sizes};
-ghost use Rattle.mc_core.specs.World.{World};
-ghost use Rattle.mc_core.specs.Events.{Event};
-ghost use Rattle.mc_core.specs.Schedule.{Schedule};
+ghost use Rattle.mc_model.specs.World.{World};
+ghost use Rattle.mc_model.specs.Events.{Event};
+ghost use Rattle.mc_model.specs.Schedule.{Schedule};
 ghost use Rattle.mc_laws.specs.Progress.{AllAtRest, CanComeToRest, HasWork, IsBounded};
 ghost use Rattle.mc_laws.specs.Fair.{ComesToRest, EndlessRun, HasNoInput, IsFairToSeats, IsWeaklyFair, NoneWaitsForever, TakesBytesAtRest, TriesAll};
 

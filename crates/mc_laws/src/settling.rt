@@ -1,13 +1,14 @@
 //! A simulated core is settled: it does all that it can do by itself.
 ghost use Rattle.std.specs.Prelude.{◌≡◌, ◌++◌, map, IfOk, OnErr};
 ghost use Rattle.std.specs.List.{AllByRecursion};
-ghost use Rattle.mc_core.specs.Asked.{event_of};
+ghost use Rattle.mc_sim.specs.Asked.{event_of};
 ghost use Rattle.mc_laws.specs.Progress.{IsWork};
 ghost use Rattle.mc_laws.specs.Settling.{Settles, Works, lane_round, round, seat_round};
 ghost use Rattle.mc_laws.specs.internal.Rounds.{Repeats};
 
-use mc_core::{Event, Sim};
 use mc_item::NoMemory;
+use mc_model::Event;
+use mc_sim::Sim;
 use std::alloc::{AllocError, Global};
 
 /// Does the core's own events, each command taken at this moment, until none is enabled: for each seat in turn it takes a command

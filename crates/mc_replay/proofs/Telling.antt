@@ -5,15 +5,15 @@ use Rattle.std.proofs.lemmas.List.Folds.{flat_map-map}
 use Rattle.std.proofs.lemmas.List.{at_drop_more, at_drop_all}
 use Rattle.std.proofs.lemmas.Option.{slice_get-get_or, slice_get_within, get_or_from_slice_get}
 use Rattle.mc_sizes.specs.declared.sizes.Sizes.{Sizes}
-use Rattle.mc_core.specs.World.{IsLink, Link, World, empty_world}
-use Rattle.mc_core.specs.Events.{Event}
-use Rattle.mc_core.specs.declared.event.StepReply.{StepReply}
-use Rattle.mc_core.specs.Schedule.{Leads, Schedule}
-use Rattle.mc_core.specs.Runs.{FoundMemory, done_in, is_done}
-use Rattle.mc_core.specs.declared.event.StepReply.TheVariants.{Done, Idle, NoMemory}
-use Rattle.mc_core.specs.Stands.{line_of}
-use Rattle.mc_core.specs.declared.sim.LogEntry.{LogEntry}
-use Rattle.mc_core.specs.Headline.{handed_bytes}
+use Rattle.mc_model.specs.World.{IsLink, Link, World, empty_world}
+use Rattle.mc_model.specs.Events.{Event}
+use Rattle.mc_model.specs.declared.event.StepReply.{StepReply}
+use Rattle.mc_model.specs.Schedule.{Leads, Schedule}
+use Rattle.mc_sim.specs.Runs.{FoundMemory, done_in, is_done}
+use Rattle.mc_model.specs.declared.event.StepReply.TheVariants.{Done, Idle, NoMemory}
+use Rattle.mc_sim.specs.Stands.{line_of}
+use Rattle.mc_sim.specs.declared.sim.LogEntry.{LogEntry}
+use Rattle.mc_model.specs.Headline.{handed_bytes}
 use Rattle.mc_replay.specs.Report.{connection_line, counts_line}
 use Rattle.mc_replay.specs.Replay.{IsReport, connection_lines, log_line, report}
 use Rattle.mc_replay.specs.Report.{entry_line}

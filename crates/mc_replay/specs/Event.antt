@@ -4,8 +4,8 @@ use Rattle.std.specs.Option.{option_and_then, option_map}
 use Rattle.std.specs.Str.{bytes_eq}
 use Rattle.mc_wire.specs.Number.{number_of}
 use Rattle.mc_sizes.specs.declared.sizes.Sizes.{Sizes}
-use Rattle.mc_core.specs.Events.{Event}
-use Rattle.mc_core.specs.Events.Event.{Open, Feed, Take, Send, Pop, Give, Receive, Hand, End, Break}
+use Rattle.mc_model.specs.Events.{Event}
+use Rattle.mc_model.specs.Events.Event.{Open, Feed, Take, Send, Pop, Give, Receive, Hand, End, Break}
 use Rattle.mc_replay.specs.Text.{hex_bytes}
 
 -- what two values make, where both are there

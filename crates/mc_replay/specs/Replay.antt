@@ -5,13 +5,13 @@ use Rattle.std.specs.declared.alloc.Global.{Global}
 use Rattle.mc_wire.specs.Outlet.{BreaksOff, Sight, took}
 use Rattle.mc_sizes.specs.Sizes.{AreWithin, IsFirstOut}
 use Rattle.mc_sizes.specs.declared.sizes.Sizes.{Sizes}
-use Rattle.mc_core.specs.World.{Link, World, empty_world}
-use Rattle.mc_core.specs.Events.{Event}
-use Rattle.mc_core.specs.Log.{Entry}
-use Rattle.mc_core.specs.Schedule.{Schedule}
-use Rattle.mc_core.specs.Runs.{FoundMemory, done_in}
-use Rattle.mc_core.specs.Headline.{handed_bytes}
-use Rattle.mc_core.specs.Stands.{line_of}
+use Rattle.mc_model.specs.World.{Link, World, empty_world}
+use Rattle.mc_model.specs.Events.{Event}
+use Rattle.mc_model.specs.Log.{Entry}
+use Rattle.mc_model.specs.Schedule.{Schedule}
+use Rattle.mc_sim.specs.Runs.{FoundMemory, done_in}
+use Rattle.mc_model.specs.Headline.{handed_bytes}
+use Rattle.mc_sim.specs.Stands.{line_of}
 use Rattle.mc_replay.specs.Report.{connection_line, counts_line, entry_line}
 use Rattle.mc_replay.specs.Schedule.{events_of}
 use Rattle.mc_replay.specs.declared.schedule.Schedule as schedule

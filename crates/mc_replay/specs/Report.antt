@@ -2,7 +2,7 @@
 use Rattle.std.specs.Prelude.{ℕ, List, [], ◌∷◌, codes, decimal}
 use Rattle.std.specs.List.{concat}
 use Rattle.hex.specs.Hex.{encode_lower}
-use Rattle.mc_core.specs.declared.sim.LogEntry.{LogEntry}
+use Rattle.mc_sim.specs.declared.sim.LogEntry.{LogEntry}
 
 -- bytes in hexadecimal, a dash for none
 abbrev pub handed_word : List ℕ → List ℕ

@@ -2,9 +2,9 @@
 use Rattle.std.specs.Prelude.{ℕ, ◌≡◌, ◌+◌, List, [], ◌∷◌, ◌++◌, length, map, drop, Option, Some, None, MatchOption, Result, Ok, Err, Vec}
 use Rattle.std.specs.declared.alloc.Global.{Global}
 use Rattle.mc_sizes.specs.declared.sizes.Sizes.{Sizes}
-use Rattle.mc_core.specs.Events.{Event}
-use Rattle.mc_core.specs.Asked.{event_of as shown}
-use Rattle.mc_core.specs.declared.event.Event as code
+use Rattle.mc_model.specs.Events.{Event}
+use Rattle.mc_sim.specs.Asked.{event_of as shown}
+use Rattle.mc_model.specs.declared.event.Event as code
 use Rattle.mc_replay.specs.Text.{lines_of, words_in}
 use Rattle.mc_replay.specs.Header.{header_of}
 use Rattle.mc_replay.specs.Event.{event_of}

@@ -1,16 +1,16 @@
 //! The lines behind the header of a replay file: one event each.
 ghost use Rattle.std.specs.Prelude.{◌≡◌, ◌∷◌, ◌^◌, [], IfOk, option_map};
 ghost use Rattle.mc_wire.specs.Number.{number_of};
-ghost use Rattle.mc_core.specs.Events.Event.{Feed, Pop, Receive, Take};
+ghost use Rattle.mc_model.specs.Events.Event.{Feed, Pop, Receive, Take};
 ghost use Rattle.mc_replay.specs.Text.{words_in, hex_bytes};
-ghost use Rattle.mc_core.specs.Asked.{event_of as shown};
+ghost use Rattle.mc_sim.specs.Asked.{event_of as shown};
 ghost use Rattle.mc_replay.specs.Event.{both, event_of};
 ghost use Rattle.mc_replay.specs.Event as spec;
 
 use crate::number::number_below;
 use crate::parts::parts;
 use hex::FromHexError;
-use mc_core::Event;
+use mc_model::Event;
 use mc_sizes::Sizes;
 use mc_wire::number_u64;
 use std::alloc::{AllocError, Global};

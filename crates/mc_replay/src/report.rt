@@ -4,7 +4,7 @@ ghost use Rattle.mc_replay.specs.Report.{connection_line, counts_line, entry_lin
 
 use crate::text::push_parts;
 use itoa::Buffer;
-use mc_core::LogEntry;
+use mc_sim::LogEntry;
 use std::alloc::{AllocError, Global};
 
 /// Tells of a connection what was handed to it.

@@ -2,19 +2,20 @@
 ghost use Rattle.std.specs.Prelude.{◌≡◌, ◌++◌, ◌+◌, ℕ, IfOk, OnOk, map};
 ghost use Rattle.std.specs.List.{flat_map};
 ghost use Rattle.mc_sizes.specs.declared.sizes.Sizes.{Sizes};
-ghost use Rattle.mc_core.specs.World.{IsLink, Link, World};
-ghost use Rattle.mc_core.specs.Headline.{handed_bytes};
-ghost use Rattle.mc_core.specs.Asked.{event_of};
-ghost use Rattle.mc_core.specs.Runs.{Runs};
-ghost use Rattle.mc_core.specs.Stands.{Stands};
+ghost use Rattle.mc_model.specs.World.{IsLink, Link, World};
+ghost use Rattle.mc_model.specs.Headline.{handed_bytes};
+ghost use Rattle.mc_sim.specs.Asked.{event_of};
+ghost use Rattle.mc_sim.specs.Runs.{Runs};
+ghost use Rattle.mc_sim.specs.Stands.{Stands};
 ghost use Rattle.mc_replay.specs.Report.{connection_line, entry_line};
 ghost use Rattle.mc_replay.specs.Replay.{Replays, GivesReport, connection_lines, report};
 ghost use Rattle.mc_replay.specs.declared.run.ReplayFault.TheVariants.{Memory};
 
 use crate::report::{push_connection, push_counts, push_entry};
 use crate::schedule::Schedule;
-use mc_core::{Event, LogEntry, Sim, SimRefusal};
 use mc_item::NoMemory;
+use mc_model::Event;
+use mc_sim::{LogEntry, Sim, SimRefusal};
 use mc_sizes::SizeFault;
 use mc_wire::{Outlet, put_all};
 use std::alloc::{AllocError, Global};

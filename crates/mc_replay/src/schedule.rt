@@ -8,7 +8,7 @@ ghost use Rattle.mc_replay.specs.declared.schedule.ScheduleFault.TheVariants.{Me
 use crate::event::read_event;
 use crate::header::read_header;
 use crate::parts::{PartWalk, parts};
-use mc_core::Event;
+use mc_model::Event;
 use mc_sizes::Sizes;
 use std::alloc::{AllocError, Global};
 use thiserror::Error;

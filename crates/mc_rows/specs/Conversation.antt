@@ -19,7 +19,7 @@ use Rattle.mc_command.specs.Rules.{own}
 use Rattle.mc_command.specs.declared.rules.Profile.TheVariants.{Own}
 use Rattle.mc_reader.specs.Spelling.{line_says, block_entry, skip_entry}
 use Rattle.mc_conn.specs.History.{Taken}
-use Rattle.mc_core.specs.Alone.{alone}
+use Rattle.mc_model.specs.Alone.{alone}
 use Rattle.mc_split.specs.Pieces.{pieces_of}
 use Rattle.mc_split.specs.Text.{text_of}
 use Rattle.mc_store.specs.State.{State, Used}

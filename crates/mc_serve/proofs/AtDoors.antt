@@ -5,13 +5,13 @@ use Rattle.std.proofs.lemmas.List.{length-map}
 use Rattle.std.proofs.lemmas.Option.{same_Some, slice_get_within}
 use Rattle.mc_sizes.specs.Sizes.{rules_of}
 use Rattle.mc_sizes.specs.declared.sizes.Sizes.{Sizes}
-use Rattle.mc_core.proofs.Lists.{all_from, all_unmap}
+use Rattle.mc_model.proofs.Lists.{all_from, all_unmap}
 use Rattle.mc_crew.specs.Zips.{Zips}
 use Rattle.mc_ring.specs.Lane.{Near}
 use Rattle.mc_ring.specs.Ends.{AreSameEnds, Ends}
 use Rattle.mc_ring.specs.EndsLaws.{lane_kept, same_ends-trans}
 use Rattle.mc_ring.specs.Made.{AreLanes, AreNewEnds}
-use Rattle.mc_core.specs.Desk.{Desk}
+use Rattle.mc_worker.specs.Desk.{Desk}
 use Rattle.mc_server.specs.Explains.{LineTold}
 use Rattle.mc_serve.specs.Asking.{AreTied, HasLanes}
 use Rattle.mc_serve.specs.Logs.{together}

@@ -3,8 +3,8 @@ use Rattle.std.proofs.Common.{◌≡◌, ◌≢◌, ℕ, zero, suc, ◌<◌, ◌
 use Rattle.std.specs.List.{AllByRecursion, slice_get}
 use Rattle.std.proofs.lemmas.List.Elements.{filter-append}
 use Rattle.mc_sizes.specs.declared.sizes.Sizes.{Sizes}
-use Rattle.mc_core.specs.Log.{Entry, IsLawful, on_shard}
-use Rattle.mc_core.specs.Desk.{Desk}
+use Rattle.mc_model.specs.Log.{Entry, IsLawful, on_shard}
+use Rattle.mc_worker.specs.Desk.{Desk}
 use Rattle.mc_threads.proofs.Orders.{all_append}
 use Rattle.mc_serve.specs.Logs.{AreLogsFrom, IsLogOf, together}
 

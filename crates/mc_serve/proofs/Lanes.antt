@@ -8,7 +8,7 @@ use Rattle.mc_ring.specs.Lane.{Far, Lane, Near, Past, Side}
 use Rattle.mc_ring.specs.Ends.{AtLane, Ends, Looks, lanes_of, list_at, received_on, sent_on}
 use Rattle.mc_ring.specs.EndsLaws.{at_lane-before, at_lane-map}
 use Rattle.mc_ring.specs.Made.{IsLane, LooksAtBoth}
-use Rattle.mc_core.specs.Desk.{Desk}
+use Rattle.mc_worker.specs.Desk.{Desk}
 use Rattle.mc_serve.specs.Asking.{HasLanes, IsTied, Passed, passed, passed_by}
 
 list_at-map : {A B C : Type 0} (f : A → B) (g : B → List C) (xs : List A) (i : ℕ) → list_at (λ x. g (f x)) xs i ≡ list_at g (map f xs) i

@@ -11,8 +11,8 @@ use Rattle.mc_conn.specs.Due.{Ran}
 use Rattle.mc_conn.specs.Fits.{KeysFit}
 use Rattle.mc_conn.proofs.Serving.{keys_came}
 use Rattle.mc_conn.proofs.Telling.{ran_on-same}
-use Rattle.mc_core.specs.Log.{Entry, of_asker, on_shard}
-use Rattle.mc_core.specs.Desk.{Desk}
+use Rattle.mc_model.specs.Log.{Entry, of_asker, on_shard}
+use Rattle.mc_worker.specs.Desk.{Desk}
 use Rattle.mc_ring.specs.Lane.{Near}
 use Rattle.mc_ring.specs.Ends.{Ends}
 use Rattle.mc_ring.specs.Reply.{Shown}

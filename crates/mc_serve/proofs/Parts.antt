@@ -4,12 +4,12 @@ use Rattle.std.specs.List.{AllByRecursion, flat_map, slice_get}
 use Rattle.std.proofs.lemmas.List.{take_all}
 use Rattle.mc_sizes.specs.Sizes.{rules_of}
 use Rattle.mc_sizes.specs.declared.sizes.Sizes.{Sizes}
-use Rattle.mc_core.proofs.Lists.{take_next}
+use Rattle.mc_model.proofs.Lists.{take_next}
 use Rattle.mc_wire.specs.Outlet.{Sight}
 use Rattle.std.specs.Prelude.{OnOk}
 use Rattle.mc_ring.specs.Made.{AreLanes}
-use Rattle.mc_core.specs.Desk.{Desk, Goes}
-use Rattle.mc_core.specs.DeskLaws.{goes_refl, goes_trans}
+use Rattle.mc_worker.specs.Desk.{Desk, Goes}
+use Rattle.mc_worker.specs.DeskLaws.{goes_refl, goes_trans}
 use Rattle.mc_crew.specs.Zips.{Zips}
 use Rattle.mc_threads.specs.declared.session.Session.{Session}
 use Rattle.mc_threads.specs.Workers.{IsFresh, ends_of}

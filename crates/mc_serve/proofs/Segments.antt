@@ -20,8 +20,8 @@ use Rattle.mc_conn.specs.Fits.{CameFrom, KeysFit, Serves, Tells, reply_of}
 use Rattle.mc_conn.specs.Told.{Told, all_texts, commands_of}
 use Rattle.mc_conn.proofs.Serving.{keys_came}
 use Rattle.mc_conn.proofs.Telling.{ran_on-same, tells}
-use Rattle.mc_core.specs.Log.{Entry, of_asker, on_shard, pieces_in, replies_in}
-use Rattle.mc_core.specs.Desk.{Desk, end_come}
+use Rattle.mc_model.specs.Log.{Entry, of_asker, on_shard, pieces_in, replies_in}
+use Rattle.mc_worker.specs.Desk.{Desk, end_come}
 use Rattle.mc_crew.specs.Zips.{Zips}
 use Rattle.mc_seat.specs.LineServed.{Exchanges, LineServed}
 use Rattle.mc_seat.specs.Reads.{ReadsOwingNothing}

@@ -11,8 +11,8 @@ use Rattle.mc_conn.specs.History.{AnsweredCommand, Taken, entries_of, taken_of}
 use Rattle.mc_conn.specs.Due as due
 use Rattle.mc_conn.specs.Fits.{HasCome, counts}
 use Rattle.mc_conn.specs.Told.{commands_of}
-use Rattle.mc_core.specs.Log.{Entry}
-use Rattle.mc_core.specs.Desk.{Desk}
+use Rattle.mc_model.specs.Log.{Entry}
+use Rattle.mc_worker.specs.Desk.{Desk}
 use Rattle.mc_serve.specs.Asking.{AreTied}
 use Rattle.mc_serve.specs.Logs.{AreLogsFrom}
 

@@ -5,8 +5,8 @@ use Rattle.mc_conn.specs.History.{Taken}
 use Rattle.mc_conn.specs.Due.{Ran, due}
 use Rattle.mc_conn.specs.Fits.{CameFrom, reply_of}
 use Rattle.mc_conn.proofs.Counting.{due_beyond}
-use Rattle.mc_core.specs.Log.{Entry, of_asker, pieces_in, replies_in}
-use Rattle.mc_core.specs.Desk.{Desk, end_come}
+use Rattle.mc_model.specs.Log.{Entry, of_asker, pieces_in, replies_in}
+use Rattle.mc_worker.specs.Desk.{Desk, end_come}
 use Rattle.mc_ring.specs.declared.parcel.Parcel.{Parcel}
 use Rattle.mc_ring.specs.declared.parcel.Parcel.TheVariants as parcel
 use Rattle.mc_ring.specs.Lane.{Near}

@@ -4,9 +4,9 @@ use Rattle.std.specs.List.{AllByRecursion, slice_get}
 use Rattle.mc_sizes.specs.declared.sizes.Sizes.{Sizes}
 use Rattle.mc_crew.specs.Zips.{Zips}
 use Rattle.mc_ring.specs.Made.{AreNewEnds}
-use Rattle.mc_core.specs.Sized.{empty_shard}
-use Rattle.mc_core.specs.Log.{Entry}
-use Rattle.mc_core.specs.Desk.{Desk, HasRun}
+use Rattle.mc_model.specs.Sized.{empty_shard}
+use Rattle.mc_model.specs.Log.{Entry}
+use Rattle.mc_worker.specs.Desk.{Desk, HasRun}
 use Rattle.mc_serve.specs.Logs.{AreLogsFrom, IsLogOf}
 use Rattle.mc_threads.specs.Workers.{IsFresh}
 use Rattle.mc_threads.specs.Working.{Finishes}

@@ -9,7 +9,7 @@ use Rattle.mc_ring.specs.Reply.{Shown}
 use Rattle.mc_ring.specs.Lane.{Far, Near, Past, Side}
 use Rattle.mc_ring.specs.Ends.{Ends, received_on, sent_on}
 use Rattle.mc_ring.specs.Made.{IsLane}
-use Rattle.mc_core.specs.Desk.{Desk}
+use Rattle.mc_worker.specs.Desk.{Desk}
 
 -- On each new lane what is due for these commands was sent, and then End; as many replies were received, and these are they.
 pub record HasAsked (shards : ℕ) (ends : Ends Near) (taken : List Taken) (got : ℕ → List Shown) : Type 0 where

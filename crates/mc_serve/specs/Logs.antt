@@ -2,9 +2,9 @@
 use Rattle.std.specs.Prelude.{ℕ, suc, ◌≡◌, ◌<◌, None, Some, false, List, [], ◌∷◌, length}
 use Rattle.std.specs.List.{flat_map, slice_get}
 use Rattle.mc_sizes.specs.declared.sizes.Sizes.{Sizes}
-use Rattle.mc_core.specs.Sized.{empty_shard}
-use Rattle.mc_core.specs.Log.{Entry}
-use Rattle.mc_core.specs.Desk.{Desk, HasRun}
+use Rattle.mc_model.specs.Sized.{empty_shard}
+use Rattle.mc_model.specs.Log.{Entry}
+use Rattle.mc_worker.specs.Desk.{Desk, HasRun}
 
 -- The worker of this shard ran this from the empty shard on, gave every reply, and the End of each lane has come.
 pub record IsLogOf (sizes : Sizes) (shard : ℕ) (desk : Desk) (log : List Entry) : Type 0 where

@@ -4,7 +4,7 @@ use Rattle.std.specs.List.{AllByRecursion, flat_map, slice_get}
 use Rattle.mc_sizes.specs.Sizes.{rules_of}
 use Rattle.mc_sizes.specs.declared.sizes.Sizes.{Sizes}
 use Rattle.mc_conn.specs.History.{AnsweredCommand, IsAnswered, entries_of, taken_of, text_done}
-use Rattle.mc_core.specs.Log.{Entry, of_asker, on_shard}
+use Rattle.mc_model.specs.Log.{Entry, of_asker, on_shard}
 use Rattle.mc_crew.specs.Zips.{Zips}
 use Rattle.mc_seat.specs.Story.{Story}
 use Rattle.mc_seat.specs.Reads.{ReadsOwingNothing}

@@ -3,7 +3,7 @@ use Rattle.std.specs.Prelude.{ℕ, ◌≡◌, ◌+◌, ◌-◌, ◌^◌, min, Bo
 use Rattle.std.specs.List.{AllByRecursion, slice_get}
 use Rattle.mc_wire.specs.Outlet.{Listed, Read, Sight}
 use Rattle.mc_sizes.specs.declared.sizes.Sizes.{Sizes}
-use Rattle.mc_core.specs.Log.{Entry}
+use Rattle.mc_model.specs.Log.{Entry}
 use Rattle.mc_server.specs.Explains.{IsLogOfLines, LineTold}
 use Rattle.mc_serve.specs.Told.{DoorTold, TellsLines, TellsNothing}
 use Rattle.mc_serve.specs.Served.{ExplainsSeat}

@@ -5,10 +5,10 @@ ghost use Rattle.mc_serve.specs.Asking.{AreTied, HasLanes, passed_by};
 
 use crate::door::Door;
 use crate::sitting::Sitting;
-use mc_core::Gate;
 use mc_crew::CrewRefusal;
 use mc_ring::SeatEnds;
 use mc_threads::Working;
+use mc_worker::Gate;
 
 /// Looks at the lanes between all seats and all workers from both ends, and hands back the doors. The room for them is for as
 /// many as there are seats.

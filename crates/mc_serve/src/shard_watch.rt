@@ -1,9 +1,9 @@
 //! What is watched of the shards: the gate of their workers shows what each has counted.
 use crossbeam_utils::CachePadded;
-use mc_core::Gate;
 use mc_split::Ticket;
 use mc_store::Shard;
 use mc_watch::ShardCounts;
+use mc_worker::Gate;
 use std::alloc::Global;
 use std::sync::Arc;
 

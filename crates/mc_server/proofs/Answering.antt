@@ -24,9 +24,9 @@ use Rattle.mc_conn.proofs.Fitting.{next_expected, next_fits}
 use Rattle.mc_conn.proofs.Gets.{all_push}
 use Rattle.mc_conn.proofs.Places.{lane_there}
 use Rattle.mc_conn.proofs.Staying.{is_sound, keeps_accept}
-use Rattle.mc_core.specs.Log.{Entry, on_shard, pieces_in, replies_in, reply_to}
-use Rattle.mc_core.proofs.Lists.{take_next}
-use Rattle.mc_core.proofs.Logs.{on_shard-no, on_shard-yes}
+use Rattle.mc_model.specs.Log.{Entry, on_shard, pieces_in, replies_in, reply_to}
+use Rattle.mc_model.proofs.Lists.{take_next}
+use Rattle.mc_model.proofs.Logs.{on_shard-no, on_shard-yes}
 use Rattle.mc_server.specs.internal.Answering.{ShardsAnswered, AnswersMore, piece_in, replies_on}
 use Rattle.mc_server.proofs.Backing.{Backs-push}
 use Rattle.mc_seat.proofs.Along.{keeps_trans}

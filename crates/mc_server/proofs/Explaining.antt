@@ -25,11 +25,11 @@ use Rattle.mc_conn.proofs.Places.{lane-append}
 use Rattle.mc_conn.proofs.Serving.{keys_came}
 use Rattle.mc_conn.proofs.Staying.{is_sound}
 use Rattle.mc_conn.proofs.Telling.{ran_on-same, tells}
-use Rattle.mc_core.specs.Sized.{empty_shard}
-use Rattle.mc_core.specs.Log.{Entry, on_shard, pieces_in, reply_to}
-use Rattle.mc_core.specs.Alone.{empty_shards}
-use Rattle.mc_core.proofs.Lists.{all_unmap}
-use Rattle.mc_core.proofs.Alone.{Continues, all_mine, alone_goes, on_its_shard, pieces_of_ran, ran_of, replies_of_ran, run_of}
+use Rattle.mc_model.specs.Sized.{empty_shard}
+use Rattle.mc_model.specs.Log.{Entry, on_shard, pieces_in, reply_to}
+use Rattle.mc_model.specs.Alone.{empty_shards}
+use Rattle.mc_model.proofs.Lists.{all_unmap}
+use Rattle.mc_model.proofs.Alone.{Continues, all_mine, alone_goes, on_its_shard, pieces_of_ran, ran_of, replies_of_ran, run_of}
 use Rattle.mc_seat.specs.Story.{Story}
 use Rattle.mc_seat.specs.internal.Steps.{IsServed}
 use Rattle.mc_server.specs.Explains.{IsExplained, entry_of}

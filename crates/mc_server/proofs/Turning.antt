@@ -17,7 +17,7 @@ use Rattle.mc_conn.specs.Told.{Told, all_pieces, all_texts, commands_of, told_no
 use Rattle.mc_conn.proofs.Fitting.{fits_none, fits_take, pieces_from-append}
 use Rattle.mc_conn.proofs.Gets.{all_push}
 use Rattle.mc_conn.proofs.Staying.{is_sound, keeps_take}
-use Rattle.mc_core.specs.Log.{Entry}
+use Rattle.mc_model.specs.Log.{Entry}
 use Rattle.mc_seat.specs.declared.seat.Turn.{Turn}
 use Rattle.mc_seat.specs.internal.Stands.{handed_texts}
 use Rattle.mc_seat.specs.internal.Steps.{GoOnSays, GoesOn, IsServed, StopsAt, TurnSays}

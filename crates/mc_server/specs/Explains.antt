@@ -7,8 +7,8 @@ use Rattle.mc_sizes.specs.declared.sizes.Sizes.{Sizes}
 use Rattle.mc_conn.specs.History.{AnsweredCommand, IsAnswered, entries_of, taken_of, text_done}
 use Rattle.mc_conn.specs.Due.{Ran}
 use Rattle.mc_conn.specs.Due as due
-use Rattle.mc_core.specs.Log.{Entry, IsLawful, of_asker, on_shard}
-use Rattle.mc_core.specs.Alone.{HadMemory, alone}
+use Rattle.mc_model.specs.Log.{Entry, IsLawful, of_asker, on_shard}
+use Rattle.mc_model.specs.Alone.{HadMemory, alone}
 use Rattle.mc_seat.specs.Story.{Story}
 use Rattle.mc_seat.specs.Reads.{ReadsOwingNothing}
 

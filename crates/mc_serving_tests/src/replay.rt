@@ -1,7 +1,7 @@
 //! What no clause says: a whole file is read and replayed, and each kind of bad line is told, where memory is ample.
 use crate::asserting::{equal, holds};
 use crate::memory_line::MemoryLine;
-use mc_core::Event;
+use mc_model::Event;
 use mc_replay::{ReplayFault, ScheduleFault, read_schedule, replay};
 use mc_sizes::SizeFault;
 use std::test::Fail;

@@ -2,8 +2,9 @@
 use crate::asserting::{equal, holds};
 use crate::sim::{MOMENT, core_of, feed, handed_both, handed_to, ran, take};
 use crate::sizes::SMALL;
-use mc_core::{Event, LogEntry, Sim, StepReply};
 use mc_laws::settle;
+use mc_model::{Event, StepReply};
+use mc_sim::{LogEntry, Sim};
 use mc_sizes::Sizes;
 use mc_split::Ticket;
 use std::alloc::{AllocError, Global};

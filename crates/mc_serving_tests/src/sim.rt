@@ -2,11 +2,13 @@
 //! only one command finds no memory where one allocation is refused.
 use crate::asserting::{equal, holds};
 use crate::sizes::{ONE_LANE, SMALL};
-use mc_core::{Event, LogEntry, Sim, SimRefusal, StepReply, Worker};
+use mc_model::{Event, StepReply};
 use mc_ring::lanes;
+use mc_sim::{LogEntry, Sim, SimRefusal};
 use mc_sizes::Sizes;
 use mc_split::Ticket;
 use mc_store::Shard;
+use mc_worker::Worker;
 use std::alloc::{AllocError, Global};
 use std::hash::RandomState;
 use std::random::RandomSource;

@@ -2,11 +2,11 @@
 use crate::asserting::{equal, holds};
 use crate::memory_line::MemoryLine;
 use crate::sizes::SMALL;
-use mc_core::OpenGate;
 use mc_seat::{Line, LineFault};
 use mc_serve::{ServeRefusal, serve_over};
 use mc_server::StillClock;
 use mc_wire::{OutFault, Outlet};
+use mc_worker::OpenGate;
 use std::alloc::{AllocError, Global};
 use std::sync::Arc;
 use std::sync::atomic::{AtomicU64, Ordering};

@@ -3,12 +3,12 @@ ghost use Rattle.mc_ring.specs.Ends.{AreSameEnds};
 
 use crate::asserting::{equal, holds};
 use crate::sizes::{ONE_LANE, SMALL};
-use mc_core::{Gate, OpenGate, Turn, Worker};
 use mc_item::Op;
 use mc_ring::{Parcel, SeatEnds, lanes};
 use mc_sizes::Sizes;
 use mc_split::{Piece, Ticket};
 use mc_store::Shard;
+use mc_worker::{Gate, OpenGate, Turn, Worker};
 use std::alloc::Global;
 use std::cell::Cell;
 use std::hash::RandomState;

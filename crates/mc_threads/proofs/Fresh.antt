@@ -2,7 +2,7 @@
 use Rattle.std.proofs.Common.{◌≡◌, ℕ, ◌<◌, List, ◌∷◌, length, arith, subst}
 use Rattle.std.specs.List.{AllByRecursion}
 use Rattle.std.proofs.lemmas.Option.{slice_get_within}
-use Rattle.mc_core.proofs.Lists.{all_from}
+use Rattle.mc_model.proofs.Lists.{all_from}
 use Rattle.mc_ring.specs.Lane.{Far, Near}
 use Rattle.mc_ring.specs.Ends.{Ends}
 use Rattle.mc_ring.specs.Made.{AreLanes}

@@ -2,8 +2,8 @@
 use Rattle.std.specs.Prelude.{ℕ, ◌<◌, []}
 use Rattle.std.specs.List.{AllByRecursion}
 use Rattle.mc_sizes.specs.declared.sizes.Sizes.{Sizes}
-use Rattle.mc_core.specs.Sized.{empty_shard}
-use Rattle.mc_core.specs.Desk.{Desk, HasRun}
+use Rattle.mc_model.specs.Sized.{empty_shard}
+use Rattle.mc_worker.specs.Desk.{Desk, HasRun}
 use Rattle.mc_ring.specs.Lane.{Far}
 use Rattle.mc_ring.specs.Ends.{Ends}
 use Rattle.mc_ring.specs.Made.{IsUnused}

@@ -1,6 +1,6 @@
 -- What a worker's thread promises.
 use Rattle.std.specs.Prelude.{◌≡◌, None, length}
-use Rattle.mc_core.specs.Desk.{Desk, Goes, HasEnded}
+use Rattle.mc_worker.specs.Desk.{Desk, Goes, HasEnded}
 
 -- The worker made turns until the End of every lane had come, and gave every reply.
 pub record Finishes (begun ended : Desk) : Type 0 where

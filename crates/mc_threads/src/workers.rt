@@ -4,9 +4,9 @@ ghost use Rattle.std.specs.List.{AllByRecursion};
 ghost use Rattle.mc_sizes.specs.Sizes.{SuitShards};
 ghost use Rattle.mc_threads.specs.Workers.{AreFresh, IsFresh, ends_of};
 
-use mc_core::Worker;
 use mc_ring::ShardEnds;
 use mc_sizes::Sizes;
+use mc_worker::Worker;
 use std::alloc::{AllocError, Global};
 use std::random::RandomSource;
 

@@ -4,12 +4,12 @@ ghost use Rattle.std.specs.Bool.{OnTrue};
 ghost use Rattle.std.specs.List.{slice_get};
 ghost use Rattle.mc_ring.specs.Ends.{AreSameEnds};
 ghost use Rattle.mc_ring.specs.Made.{IsLane, LooksAtBoth};
-ghost use Rattle.mc_core.specs.Desk.{Desk, Goes};
+ghost use Rattle.mc_worker.specs.Desk.{Desk, Goes};
 ghost use Rattle.mc_threads.specs.Working.{Finishes};
 
-use mc_core::{Gate, Worker};
 use mc_ring::SeatEnds;
 use mc_wake::Wakers;
+use mc_worker::{Gate, Worker};
 use std::alloc::{AllocError, Global};
 use std::sync::Arc;
 

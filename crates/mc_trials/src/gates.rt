@@ -1,6 +1,6 @@
 //! Gates at which shards wait for each other, round after round.
-use mc_core::Gate;
 use mc_split::Ticket;
+use mc_worker::Gate;
 use std::alloc::{AllocError, Global};
 use std::sync::Arc;
 use std::sync::atomic::{AtomicU64, Ordering};

@@ -1,10 +1,10 @@
 //! Serves lines over memory, by threads or alone.
 use crate::line::MemoryLine;
-use mc_core::{Gate, OpenGate};
 use mc_seat::{Clock, Line, Served};
 use mc_serve::{ServedLine, serve_over};
 use mc_server::{StillClock, serve_one};
 use mc_sizes::Sizes;
+use mc_worker::{Gate, OpenGate};
 use std::alloc::Global;
 use std::random::RandomSource;
 use std::sync::Wait;

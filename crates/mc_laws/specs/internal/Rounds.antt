@@ -1,12 +1,12 @@
 -- What the steps of settling say of one another.
 use Rattle.std.specs.Prelude.{ℕ, ◌≡◌, ◌≤◌, ◌^◌, ◌-◌, Bool, List, MatchBool}
 use Rattle.mc_sizes.specs.declared.sizes.Sizes.{Sizes}
-use Rattle.mc_core.specs.declared.sim.Sim.{Sim}
-use Rattle.mc_core.specs.World.{World}
-use Rattle.mc_core.specs.Events.{Event}
-use Rattle.mc_core.specs.Schedule.{Leads}
-use Rattle.mc_core.specs.Runs.{FoundMemory, done_in}
-use Rattle.mc_core.specs.Stands.{Stands}
+use Rattle.mc_sim.specs.declared.sim.Sim.{Sim}
+use Rattle.mc_model.specs.World.{World}
+use Rattle.mc_model.specs.Events.{Event}
+use Rattle.mc_model.specs.Schedule.{Leads}
+use Rattle.mc_sim.specs.Runs.{FoundMemory, done_in}
+use Rattle.mc_sim.specs.Stands.{Stands}
 use Rattle.mc_laws.specs.Settling.{repeated}
 
 -- The events were tried once more, and none was done.

@@ -12,7 +12,7 @@ use Rattle.mc_conn.specs.declared.conn.Conn.{Conn}
 use Rattle.mc_conn.specs.Conn.{IsConn}
 use Rattle.mc_conn.specs.Fits.{Fits}
 use Rattle.mc_conn.specs.Told.{KeepsHanded, Told, all_pieces}
-use Rattle.mc_core.specs.Log.{Entry, Leaves, on_shard, replies_in}
+use Rattle.mc_model.specs.Log.{Entry, Leaves, on_shard, replies_in}
 
 -- Each shard is what its part of the log leads to, from the empty state.
 abbrev pub Backs : Sizes → List Shard → List Entry → Type 0

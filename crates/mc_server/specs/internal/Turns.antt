@@ -7,7 +7,7 @@ use Rattle.mc_store.specs.declared.shard.Shard.{Shard}
 use Rattle.mc_conn.specs.declared.conn.Conn.{Conn}
 use Rattle.mc_conn.specs.Conn.{IsConn}
 use Rattle.mc_conn.specs.Told.{Told}
-use Rattle.mc_core.specs.Log.{Entry}
+use Rattle.mc_model.specs.Log.{Entry}
 use Rattle.mc_seat.specs.internal.Stands.{Serving}
 use Rattle.mc_server.specs.internal.Answering.{ShardsAnswered, replies_on}
 

@@ -1,7 +1,7 @@
 -- The log only grows, by pieces of commands that are not handed out.
-use Rattle.mc_core.specs.World.{empty_world}
-use Rattle.mc_core.proofs.Worlds.{at_begin}
-use Rattle.mc_core.proofs.Every.{all_kept}
+use Rattle.mc_model.specs.World.{empty_world}
+use Rattle.mc_model.proofs.Worlds.{at_begin}
+use Rattle.mc_model.proofs.Every.{all_kept}
 use Rattle.mc_laws.proofs.Ordering.{ran_before, ran_first, was_run}
 use Rattle.mc_laws.proofs.order.what_was_handed_out_ran_before.Goals as goal
 

@@ -1,7 +1,7 @@
 -- Each event of work lowers what is left, and that is no more than what the commands spelled take.
-use Rattle.mc_core.specs.World.{empty_world}
-use Rattle.mc_core.proofs.Worlds.{at_begin}
-use Rattle.mc_core.proofs.Every.{all_kept}
+use Rattle.mc_model.specs.World.{empty_world}
+use Rattle.mc_model.proofs.Worlds.{at_begin}
+use Rattle.mc_model.proofs.Every.{all_kept}
 use Rattle.mc_laws.proofs.Measure.{is_bounded, settles}
 use Rattle.mc_laws.proofs.progress.all_comes_to_rest.Goals as goal
 

@@ -1,7 +1,7 @@
 -- Less and less is left.
-use Rattle.mc_core.specs.World.{empty_world}
-use Rattle.mc_core.proofs.Worlds.{at_begin}
-use Rattle.mc_core.proofs.Every.{all_kept}
+use Rattle.mc_model.specs.World.{empty_world}
+use Rattle.mc_model.proofs.Worlds.{at_begin}
+use Rattle.mc_model.proofs.Every.{all_kept}
 use Rattle.mc_laws.proofs.Fairness.{all_seated, rests, seated_at_begin}
 use Rattle.mc_laws.proofs.progress.fair_runs_come_to_rest.Goals as goal
 

@@ -1,7 +1,7 @@
 -- The law holds, and wherever it does, some work can be done or all are at rest.
-use Rattle.mc_core.specs.World.{empty_world}
-use Rattle.mc_core.proofs.Worlds.{at_begin}
-use Rattle.mc_core.proofs.Every.{all_kept}
+use Rattle.mc_model.specs.World.{empty_world}
+use Rattle.mc_model.proofs.Worlds.{at_begin}
+use Rattle.mc_model.proofs.Every.{all_kept}
 use Rattle.mc_laws.proofs.Working.{rests_or_goes}
 use Rattle.mc_laws.proofs.progress.never_stuck.Goals as goal
 

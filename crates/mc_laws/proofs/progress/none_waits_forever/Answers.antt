@@ -1,7 +1,7 @@
 -- Each connection goes on, whatever the others do.
-use Rattle.mc_core.specs.World.{empty_world}
-use Rattle.mc_core.proofs.Worlds.{at_begin}
-use Rattle.mc_core.proofs.Every.{all_kept}
+use Rattle.mc_model.specs.World.{empty_world}
+use Rattle.mc_model.proofs.Worlds.{at_begin}
+use Rattle.mc_model.proofs.Every.{all_kept}
 use Rattle.mc_laws.proofs.Waiting.{none_waits}
 use Rattle.mc_laws.proofs.Fairness.{all_seated, seated_at_begin}
 use Rattle.mc_laws.proofs.progress.none_waits_forever.Goals as goal

@@ -1,5 +1,5 @@
 use Rattle.std.proofs.Common.{◌≡◌, ◌++◌, map}
-use Rattle.mc_core.specs.Asked.{event_of}
+use Rattle.mc_sim.specs.Asked.{event_of}
 use Rattle.mc_laws.specs.Settling.{lanes_round}
 use Rattle.mc_laws.proofs.settling.add_seat.Given as goal
 

@@ -1,6 +1,6 @@
 use Rattle.std.proofs.Common.{◌≡◌, ◌+◌, map, subst, arith}
-use Rattle.mc_core.specs.Asked.{event_of}
-use Rattle.mc_core.specs.Runs.{Runs}
+use Rattle.mc_sim.specs.Asked.{event_of}
+use Rattle.mc_sim.specs.Runs.{Runs}
 use Rattle.mc_laws.specs.Settling.{Works}
 use Rattle.mc_laws.proofs.Rounds.{on_err, tried_more, tried_quiet, tried_stops}
 use Rattle.mc_laws.proofs.settling.repeat.Goals as goal

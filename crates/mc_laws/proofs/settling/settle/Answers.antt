@@ -1,9 +1,9 @@
 use Rattle.std.proofs.Common.{◌≡◌, ◌+◌, ◌-◌, ◌*◌, ◌^◌, ◌∙◌, map, length, true, false, sym, ap, subst, arith}
 use Rattle.std.specs.List.{AllByRecursion}
 use Rattle.std.proofs.lemmas.List.{length-map}
-use Rattle.mc_core.specs.declared.sim.Connection.{Connection}
-use Rattle.mc_core.specs.Asked.{event_of}
-use Rattle.mc_core.specs.World.{Link}
+use Rattle.mc_sim.specs.declared.sim.Connection.{Connection}
+use Rattle.mc_sim.specs.Asked.{event_of}
+use Rattle.mc_model.specs.World.{Link}
 use Rattle.mc_laws.specs.Progress.{IsWork}
 use Rattle.mc_laws.specs.Settling.{Works}
 use Rattle.mc_laws.specs.internal.Rounds.{Repeats}

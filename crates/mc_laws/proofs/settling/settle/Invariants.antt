@@ -1,5 +1,5 @@
 use Rattle.std.proofs.Common.{map, ◌*◌, ◌-◌, ◌^◌}
-use Rattle.mc_core.specs.Asked.{event_of}
+use Rattle.mc_sim.specs.Asked.{event_of}
 use Rattle.mc_laws.specs.internal.Rounds.{Tried}
 use Rattle.mc_laws.proofs.settling.settle.Given as goal
 

@@ -1,7 +1,7 @@
 -- Each connection has its line, and no other has.
 use Rattle.std.proofs.Common.{Some, ap, sym, ◌∙◌}
 use Rattle.std.proofs.lemmas.Option.{slice_get-get_or}
-use Rattle.mc_core.specs.declared.sim.Connection.{Connection}
+use Rattle.mc_sim.specs.declared.sim.Connection.{Connection}
 use Rattle.mc_replay.proofs.Telling.{connection_lines_more, link_at}
 use Rattle.mc_replay.proofs.run.push_connections.Goals as goal
 

@@ -1,8 +1,8 @@
 -- The text has the lines of the connections so far, and lacks those of the others.
 use Rattle.std.proofs.Common.{◌≡◌, ◌++◌, drop}
 use Rattle.mc_sizes.specs.declared.sizes.Sizes.{Sizes}
-use Rattle.mc_core.specs.World.{World}
-use Rattle.mc_core.specs.Stands.{Stands}
+use Rattle.mc_model.specs.World.{World}
+use Rattle.mc_sim.specs.Stands.{Stands}
 use Rattle.mc_replay.specs.Replay.{connection_lines}
 use Rattle.mc_replay.proofs.run.push_connections.Given as goal
 

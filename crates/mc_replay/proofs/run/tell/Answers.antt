@@ -1,8 +1,8 @@
 -- The world in which the core stands after its run is the one that is told.
 use Rattle.std.proofs.Common.{ap, map, arith}
 use Rattle.std.proofs.lemmas.List.{length-map}
-use Rattle.mc_core.specs.World.{empty_world}
-use Rattle.mc_core.specs.Asked.{event_of}
+use Rattle.mc_model.specs.World.{empty_world}
+use Rattle.mc_sim.specs.Asked.{event_of}
 use Rattle.mc_replay.specs.Schedule.{events_of}
 use Rattle.mc_replay.proofs.Telling.{is_report_of}
 use Rattle.mc_replay.proofs.run.tell.Goals as goal

@@ -1,6 +1,6 @@
 -- The lines that are left spell what the events so far don't.
 use Rattle.std.proofs.Common.{◌≡◌, ◌++◌, map, Some}
-use Rattle.mc_core.specs.Asked.{event_of as shown}
+use Rattle.mc_sim.specs.Asked.{event_of as shown}
 use Rattle.mc_replay.specs.Schedule.{events_in}
 use Rattle.mc_replay.specs.internal.Parts.{parts_left}
 use Rattle.mc_replay.proofs.schedule.read_events.Given as goal

@@ -1,7 +1,7 @@
 -- One worker more has ended.
 use Rattle.std.proofs.Common.{◌<◌, ◌≤◌, length, refl, arith}
 use Rattle.std.proofs.lemmas.Option.{slice_get_read}
-use Rattle.mc_core.specs.Desk.{Desk, Goes}
+use Rattle.mc_worker.specs.Desk.{Desk, Goes}
 use Rattle.mc_threads.specs.Working.{Finishes}
 use Rattle.mc_serve.proofs.Parts.{all_next, all_taken}
 use Rattle.mc_serve.proofs.part.have_ended.Goals as goal

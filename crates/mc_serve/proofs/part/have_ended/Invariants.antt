@@ -1,7 +1,7 @@
 -- The workers looked at so far have ended.
 use Rattle.std.proofs.Common.{◌≡◌, length, take}
 use Rattle.std.specs.List.{AllByRecursion}
-use Rattle.mc_core.specs.Desk.{Desk, Goes}
+use Rattle.mc_worker.specs.Desk.{Desk, Goes}
 use Rattle.mc_threads.specs.Working.{Finishes}
 use Rattle.mc_serve.proofs.part.have_ended.Given as goal
 

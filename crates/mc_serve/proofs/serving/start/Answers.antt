@@ -1,6 +1,6 @@
 -- The threads start over new lanes.
 use Rattle.std.proofs.Common.{◌≡◌, List, length, map, ap, sym, subst, ◌∙◌}
-use Rattle.mc_core.proofs.Lists.{all_from}
+use Rattle.mc_model.proofs.Lists.{all_from}
 use Rattle.mc_ring.specs.Ends.{Ends}
 use Rattle.mc_ring.specs.Lane.{Far, Near}
 use Rattle.mc_ring.specs.Made.{AreLanes}

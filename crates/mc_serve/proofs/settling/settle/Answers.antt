@@ -2,7 +2,7 @@
 use Rattle.std.proofs.Common.{◌≡◌, List, [], ◌∷◌, ◌++◌, map, ap, subst, sym, ◌∙◌, append_assoc}
 use Rattle.mc_ring.specs.Lane.{Near}
 use Rattle.mc_ring.specs.Ends.{Ends}
-use Rattle.mc_core.specs.Desk.{Desk}
+use Rattle.mc_worker.specs.Desk.{Desk}
 use Rattle.mc_serve.specs.Asking.{AreTied, HasLanes}
 use Rattle.mc_serve.proofs.Lanes.{all_lanes, all_tied}
 use Rattle.mc_threads.proofs.Orders.{all_first, all_join, all_rest}

@@ -1,7 +1,7 @@
 -- The lane to one worker more is looked at.
 use Rattle.std.proofs.Common.{◌≡◌, ◌<◌, ◌+◌, ℕ, suc, List, length, map, refl, subst, ◌∙◌, sym, arith, slice_set}
 use Rattle.std.proofs.lemmas.Option.{slice_get_read}
-use Rattle.mc_core.specs.Desk.{Desk}
+use Rattle.mc_worker.specs.Desk.{Desk}
 use Rattle.mc_ring.specs.EndsLaws.{length-slice_set}
 use Rattle.mc_serve.proofs.Lanes.{Ties, lane_next, map-slice_set, map_here, ties_more}
 use Rattle.mc_serve.proofs.settling.tie.Goals as goal

@@ -3,7 +3,7 @@ use Rattle.std.proofs.Common.{List}
 use Rattle.mc_sizes.specs.declared.sizes.Sizes.{Sizes}
 use Rattle.mc_conn.specs.Conn.{IsConn}
 use Rattle.mc_conn.specs.Told.{Told}
-use Rattle.mc_core.specs.Log.{Entry}
+use Rattle.mc_model.specs.Log.{Entry}
 use Rattle.mc_server.specs.internal.Answering.{ShardsAnswered, AnswersMore}
 use Rattle.mc_server.proofs.Answering.{unsent_count}
 use Rattle.mc_server.proofs.serve.answer.Given as goal

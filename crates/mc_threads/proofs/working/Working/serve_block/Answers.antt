@@ -1,4 +1,4 @@
-use Rattle.mc_core.specs.DeskLaws.{goes_refl}
+use Rattle.mc_worker.specs.DeskLaws.{goes_refl}
 use Rattle.mc_threads.proofs.working.Working.serve_block.Goals as goal
 
 pub returns-in_default : goal.returns-in_default

@@ -1,4 +1,4 @@
-use Rattle.mc_core.specs.DeskLaws.{goes_refl}
+use Rattle.mc_worker.specs.DeskLaws.{goes_refl}
 use Rattle.mc_threads.proofs.working.Working.serve_seat.Goals as goal
 
 pub returns-then-not-index-clause-goes : goal.returns-then-not-index-clause-goes

@@ -1,5 +1,5 @@
 use Rattle.std.proofs.Common.{refl, ap, length, ◌∙◌}
-use Rattle.mc_core.specs.DeskLaws.{goes_refl, goes_trans}
+use Rattle.mc_worker.specs.DeskLaws.{goes_refl, goes_trans}
 use Rattle.mc_threads.proofs.working.Working.serve_seats.Goals as goal
 
 pub loop-seat-init : goal.loop-seat-init

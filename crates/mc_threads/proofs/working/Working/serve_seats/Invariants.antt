@@ -1,5 +1,5 @@
 use Rattle.std.specs.Prelude.{◌≡◌, length}
-use Rattle.mc_core.specs.Desk.{Goes}
+use Rattle.mc_worker.specs.Desk.{Goes}
 use Rattle.mc_threads.proofs.working.Working.serve_seats.Given as goal
 
 abbrev pub invariant-loop-seat : goal.invariant-loop-seat

@@ -1,4 +1,4 @@
-use Rattle.mc_core.specs.DeskLaws.{goes_refl, goes_trans}
+use Rattle.mc_worker.specs.DeskLaws.{goes_refl, goes_trans}
 use Rattle.mc_threads.proofs.working.Working.turn.Goals as goal
 
 pub loop-block-init : goal.loop-block-init

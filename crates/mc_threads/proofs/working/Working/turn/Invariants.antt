@@ -1,4 +1,4 @@
-use Rattle.mc_core.specs.Desk.{Goes}
+use Rattle.mc_worker.specs.Desk.{Goes}
 use Rattle.mc_threads.proofs.working.Working.turn.Given as goal
 
 abbrev pub invariant-loop-block : goal.invariant-loop-block

@@ -1,6 +1,0 @@
-use Rattle.std.proofs.Common.{◌∙◌}
-use Rattle.mc_core.proofs.SimViews.{log_shown}
-use Rattle.mc_core.proofs.sim.Sim.log.Goals as goal
-
-pub returns : goal.returns
-returns c sizes w stands = c.deref.ensures.value ∙ log_shown sizes c.args.self.now w stands

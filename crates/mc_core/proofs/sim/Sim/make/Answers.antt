@@ -1,5 +1,0 @@
-use Rattle.mc_core.proofs.Starting.{begins}
-use Rattle.mc_core.proofs.sim.Sim.make.Goals as goal
-
-pub returns : goal.returns
-returns g c = begins c.args.sizes _ c.requires c.in_ok-seats.ensures.count c.in_ok-seats.ensures.each c.new-2.ensures.items c.new-3.ensures.items c.in_ok-rings.ensures

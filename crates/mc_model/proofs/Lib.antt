@@ -1,0 +1,12 @@
+pub mod Lists
+pub mod Logs
+pub mod Links
+pub mod Worlds
+pub mod Follows
+pub mod Every
+pub mod Growing
+pub mod Rows
+pub mod Corners
+pub mod Crossing
+pub mod Alone
+pub mod Served

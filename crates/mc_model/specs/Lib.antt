@@ -1,0 +1,11 @@
+pub mod Sized
+pub mod Log
+pub mod World
+pub mod Rest
+pub mod Events
+pub mod Schedule
+pub mod Headline
+pub mod Law
+pub mod Grows
+pub mod Alone
+pub mod Served

@@ -1,0 +1,16 @@
+pub mod Changing
+pub mod Standing
+pub mod AtSeat
+pub mod AtRing
+pub mod Receiving
+pub mod Popping
+pub mod Feeding
+pub mod Handing
+pub mod SimRun
+pub mod Opening
+pub mod RingsChange
+pub mod RingsSteps
+pub mod RingsMaking
+pub mod RingsCalls
+pub mod SimViews
+pub mod Starting

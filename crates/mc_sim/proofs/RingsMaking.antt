@@ -1,0 +1,102 @@
+-- The rings as they are made, with workers of empty shards.
+use Rattle.std.proofs.Common.{◌≡◌, ℕ, zero, suc, ◌<◌, ◌+◌, Some, List, [], ◌∷◌, ◌++◌, length, map, refl, ap, sym, ◌∙◌, arith, append_assoc, append-nil}
+use Rattle.std.specs.List.{AllByRecursion, slice_get}
+use Rattle.std.proofs.lemmas.List.{length-append, length-map, map-append}
+use Rattle.std.proofs.lemmas.Option.{same_Some}
+use Rattle.mc_sizes.specs.declared.sizes.Sizes.{Sizes}
+use Rattle.mc_ring.specs.Lane.{Far, Near, Side}
+use Rattle.mc_ring.specs.Ends.{Ends, list_at}
+use Rattle.mc_ring.specs.Made.{AreLanes, IsUnused}
+use Rattle.mc_store.specs.Shard.{ShardContents, Keeps}
+use Rattle.mc_model.specs.Sized.{empty_shard}
+use Rattle.mc_worker.specs.Desk.{Desk, HasRun}
+use Rattle.mc_sim.specs.Rings.{HaveWires, IsStarted, ends_of, new_wires}
+
+at_end : {A : Type 0} (xs : List A) (y : A) (zs : List A) → slice_get (xs ++ y ∷ zs) (length xs) ≡ Some y
+at_end [] y zs = refl
+at_end (x ∷ xs) y zs = at_end xs y zs
+
+get_map : {A B : Type 0} (f : A → B) (xs : List A) (i : ℕ) (x : A) → slice_get xs i ≡ Some x → slice_get (map f xs) i ≡ Some (f x)
+get_map f [] i x here = absurd (cc)
+get_map f (y ∷ xs) zero x here = ap (λ z. Some (f z)) (same_Some y x here)
+get_map f (y ∷ xs) (suc i) x here = get_map f xs i x here
+
+all_at : {A : Type 0} (P : A → Type 0) (xs : List A) (i : ℕ) (x : A) → AllByRecursion P xs → slice_get xs i ≡ Some x → P x
+all_at P [] i x all here = absurd (cc)
+all_at P (y ∷ xs) zero x all here = rw (← same_Some y x here) all.0
+all_at P (y ∷ xs) (suc i) x all here = all_at P xs i x all.1 here
+
+pub all_more : {A : Type 0} (P : A → Type 0) (xs : List A) (x : A) → AllByRecursion P xs → P x → AllByRecursion P (xs ++ x ∷ [])
+all_more P [] x all one = (one, tt)
+all_more P (y ∷ xs) x all one = (all.0, all_more P xs x all.1 one)
+
+-- one worker more, of the next ends
+
+pub more_ends : (workers : List Desk) (desk : Desk) (ends : Ends Far) (before after shards : List (Ends Far)) → map ends_of workers ++ before ≡ shards → before ≡ ends ∷ after → desk.ends ≡ ends → map ends_of (workers ++ desk ∷ []) ++ after ≡ shards
+more_ends workers desk ends before after shards all first same =
+    ap (λ xs. xs ++ after) (map-append ends_of workers (desk ∷ [])) ∙ append_assoc (map ends_of workers) (desk.ends ∷ []) after
+    ∙ ap (λ x. map ends_of workers ++ x ∷ after) same ∙ ap (λ xs. map ends_of workers ++ xs) (sym first) ∙ all
+
+pub next_ends : (workers : List Desk) (ends : Ends Far) (before after shards : List (Ends Far)) → map ends_of workers ++ before ≡ shards → before ≡ ends ∷ after → slice_get shards (length workers) ≡ Some ends
+next_ends workers ends before after shards all first =
+    let whole : map ends_of workers ++ ends ∷ after ≡ shards = ap (λ xs. map ends_of workers ++ xs) (sym first) ∙ all in
+    ap (λ k. slice_get shards k) (sym (length-map workers ends_of)) ∙ ap (λ xs. slice_get xs (length (map ends_of workers))) (sym whole) ∙ at_end (map ends_of workers) ends after
+
+pub next_within : (workers : List Desk) (ends : Ends Far) (before after shards : List (Ends Far)) → map ends_of workers ++ before ≡ shards → before ≡ ends ∷ after → length workers < length shards
+next_within workers ends before after shards all first =
+    let whole : map ends_of workers ++ ends ∷ after ≡ shards = ap (λ xs. map ends_of workers ++ xs) (sym first) ∙ all in
+    let long : length shards ≡ length (map ends_of workers) + length (ends ∷ after) = ap length (sym whole) ∙ length-append (map ends_of workers) (ends ∷ after) in
+    let same = length-map workers ends_of in
+    let more : length (ends ∷ after) ≡ suc (length after) = refl in
+    omega arith
+
+pub all_ends : (workers : List Desk) (before shards : List (Ends Far)) → map ends_of workers ++ before ≡ shards → before ≡ [] → map ends_of workers ≡ shards
+all_ends workers before shards all none = sym (append-nil (map ends_of workers)) ∙ ap (λ xs. map ends_of workers ++ xs) (sym none) ∙ all
+
+-- what is held at the beginning
+pub begins_empty : (sizes : Sizes) (number : ℕ) (desk : Desk) → HasRun (empty_shard sizes number) desk [] → Keeps desk.shard (empty_shard sizes number)
+begins_empty sizes number desk run = rw (← run.ran) run.kept
+
+keeps_at : (held : ShardContents) (sizes : Sizes) (p q : ℕ) → p ≡ q → Keeps held (empty_shard sizes p) → Keeps held (empty_shard sizes q)
+keeps_at held sizes p q same keeps = rw (← same) keeps
+
+unused_list : {Out In B : Type 0} (read : Side Out In → List B) (lanes : List (Side Out In)) (k : ℕ) → ((end : Side Out In) → IsUnused end → read end ≡ []) → AllByRecursion IsUnused lanes → list_at read lanes k ≡ []
+unused_list read [] k none all = refl
+unused_list read (end ∷ lanes) zero none all = none end all.0
+unused_list read (end ∷ lanes) (suc k) none all = unused_list read lanes k none all.1
+
+-- New rings between seats and workers that begin over empty shards hold nothing.
+pub new_wired : (sizes : Sizes) (seats : List (Ends Near)) (shards : List (Ends Far)) (workers : List Desk) → AreLanes sizes.seats sizes.shards sizes.ring seats shards → map ends_of workers ≡ shards → AllByRecursion (IsStarted sizes) workers
+    → HaveWires sizes (record { seats = seats; workers = workers; places = sizes.ring }) (new_wires sizes)
+new_wired sizes seats shards workers lanes ends started =
+    let desk_ends : (s : ℕ) (desk : Desk) → slice_get workers s ≡ Some desk → slice_get shards s ≡ Some desk.ends =
+    λ s desk at. ap (λ xs. slice_get xs s) (sym ends) ∙ get_map ends_of workers s desk at in
+    record {
+      laid = record {
+        seat_number = λ c seat at. (lanes.each_seat c seat at).number_is;
+        worker_number = λ s desk at. (lanes.each_shard s desk.ends (desk_ends s desk at)).number_is;
+        each_lane = λ c s seat desk at at'. lanes.each_lane c s seat desk.ends at (desk_ends s desk at');
+      };
+      seat_count = lanes.seat_count;
+      shard_count = sym (length-map workers ends_of) ∙ ap length ends ∙ lanes.shard_count;
+      places = refl;
+      each_seat = λ c seat at. let new = lanes.each_seat c seat at in record { counted = new.counted; holds = new.holds };
+      each_worker = λ s desk at.
+          let new = lanes.each_shard s desk.ends (desk_ends s desk at) in
+          let begun = all_at (IsStarted sizes) workers s desk started at in
+          record {
+            counted = new.counted;
+            holds = new.holds;
+            marked = begun.marked;
+            live = begun.live;
+            hand_is = begun.free;
+            keeps = keeps_at desk.shard sizes desk.ends.number s new.number_is begun.keeps;
+          };
+      each_wire = λ c s seat desk at at'.
+          let near = (lanes.each_seat c seat at).unused in
+          let far = (lanes.each_shard s desk.ends (desk_ends s desk at')).unused in
+          record {
+            pieces_wait = unused_list (λ (end : Near). end.past.sent) seat.lanes s (λ end is. is.sent) near ∙ sym (ap (λ xs. xs ++ []) (unused_list (λ (end : Far). end.past.received) desk.ends.lanes c (λ end is. is.received) far));
+            replies_wait = unused_list (λ (end : Far). end.past.sent) desk.ends.lanes c (λ end is. is.sent) far ∙ sym (ap (λ xs. xs ++ []) (unused_list (λ (end : Near). end.past.received) seat.lanes s (λ end is. is.received) near));
+          };
+    }

@@ -1,0 +1,59 @@
+-- How a connection is fed: some byte is taken wherever one has to be.
+use Rattle.std.specs.Prelude.{ℕ, ◌≡◌, ◌+◌, ◌<◌, ◌≤◌, ◌⊎◌, false, Option, None, List, [], ◌++◌, length, take}
+use Rattle.mc_reader.specs.Spelling.{SpellsFront}
+use Rattle.mc_conn.specs.declared.conn.Conn.{Conn}
+use Rattle.mc_model.specs.declared.event.StepReply.{StepReply}
+use Rattle.mc_model.specs.declared.event.StepReply.TheVariants as replied
+use Rattle.mc_sim.specs.declared.sim.Connection.{Connection}
+use Rattle.mc_conn.specs.Conn.{IsAwaiting, IsConn}
+use Rattle.mc_conn.specs.Told.{IsAllTaken, IsAtRest, IsOpen, IsOver, IsShut, Told, all_texts, commands_of, waiting_text}
+
+-- The window has room for one more command.
+abbrev pub HasPlace : Told → Type 0
+HasPlace told = length told.taken < told.handed + told.window
+
+-- By its lists the connection is as before; where all commands are taken and the window has room, it takes a byte next.
+pub record Refreshed (told : Told) (new : Conn) : Type 0 where
+  pub now : IsConn new told
+  pub waits : IsOpen told → IsAllTaken told → HasPlace told → IsShut told ⊎ IsAwaiting new
+
+-- So many bytes were taken, from the front.
+pub record TakesBytes (told : Told) (bytes : List ℕ) (count : ℕ) (new : Conn) : Type 0 where
+  pub within : count ≤ length bytes
+  pub now : IsConn new (record told { fed = told.fed ++ take count bytes })
+  pub whole : SpellsFront told.rules 0 told.fed (commands_of told.taken) [] → length bytes ≤ told.rules.line_limit → count ≡ length bytes
+  pub some : IsAllTaken told → HasPlace told → 0 < length bytes → 0 < count
+
+-- The connection is neither ended nor broken, and there are bytes.
+abbrev pub MayTake : Connection → List ℕ → Type 0
+MayTake kept bytes = (kept.ended ≡ false) × (kept.broken ≡ false) × (0 < length bytes)
+
+-- A connection that is neither ended nor broken was fed, and what it took stands behind what it was fed before.
+abbrev pub FeedsInto : Conn → List ℕ → List ℕ → StepReply → Conn → List ℕ → Type 0
+FeedsInto old fed bytes replied.Done new fed' =
+    (count : ℕ) × (0 < count) × (fed' ≡ fed ++ take count bytes) × ((told : Told) → IsConn old told → IsOpen told → TakesBytes told bytes count new)
+FeedsInto old fed bytes replied.Idle new fed' = (fed' ≡ fed) × ((told : Told) → IsConn old told → IsOpen told → TakesBytes told bytes 0 new)
+FeedsInto old fed bytes replied.NoMemory new fed' = (fed' ≡ fed) × (new ≡ old)
+
+-- All replies whose turn had come were handed out, behind the bytes that were handed before.
+pub record HandsAll (told : Told) (new : Conn) (before after : List ℕ) : Type 0 where
+  pub count : ℕ
+  pub all : told.handed + count ≡ length (all_texts told)
+  pub now : IsConn new (record told { handed = told.handed + count })
+  pub bytes : after ≡ before ++ waiting_text told
+
+-- A connection that isn't broken hands out all of them, or there is no memory and nothing changes.
+abbrev pub HandsInto : Conn → List ℕ → StepReply → Conn → List ℕ → Type 0
+HandsInto old handed replied.Done new handed' = (told : Told) → IsConn old told → told.broken ≡ false → HandsAll told new handed handed'
+HandsInto old handed replied.Idle new handed' = (told : Told) → IsConn old told → told.broken ≡ false → ⊥
+HandsInto old handed replied.NoMemory new handed' = (told : Told) → IsConn old told → told.broken ≡ false → (handed' ≡ handed) × IsConn new told
+
+-- Onto a page with more room than is needed, all are handed out.
+abbrev pub HandsOnto : Told → List ℕ → StepReply → Conn → List ℕ → Type 0
+HandsOnto told before replied.Done new after = HandsAll told new before after
+HandsOnto told before replied.Idle new after = ⊥
+HandsOnto told before replied.NoMemory new after = ⊥
+
+-- A seat has had no connection, or its connection is at rest and closed or broken.
+abbrev pub MayBegin : Told → Option ℕ → Type 0
+MayBegin told current = (current ≡ None) ⊎ (IsAtRest told × IsOver told)

@@ -1,0 +1,6 @@
+pub mod Asked
+pub mod Feeding
+pub mod Stands
+pub mod Runs
+pub mod Rings
+pub mod Laid

@@ -1,0 +1,243 @@
+//! The whole core in one thread: connections, shards and the rings between them, moved by one event at a time.
+ghost use Rattle.std.specs.Prelude.{◌≡◌, ◌<◌, ℕ, length, map, IfErr, IfOk, IfSome, IfNone, OnErr, OnOk, Some};
+ghost use Rattle.std.specs.List.{AllByRecursion, slice_get};
+ghost use Rattle.std.specs.Option.{option_map};
+ghost use Rattle.mc_sizes.specs.Sizes.{AreWithin};
+ghost use Rattle.mc_sizes.specs.declared.sizes.Sizes.{Sizes};
+ghost use Rattle.mc_model.specs.World.{IsAt, IsLink, Link, World, empty_world};
+ghost use Rattle.mc_model.specs.Headline.{handed_bytes};
+ghost use Rattle.mc_sim.specs.Asked.{event_of};
+ghost use Rattle.mc_sim.specs.Stands.{IsNewSeat, IsRefused, Stands, StepsByEvent, line_of};
+ghost use Rattle.mc_sim.specs.Runs.{Runs, Stops};
+
+mod at_ring;
+mod at_seat;
+mod page;
+mod rings;
+
+use mc_conn::Conn;
+use mc_item::NoMemory;
+use mc_model::{Event, StepReply};
+use mc_sizes::{SizeFault, Sizes};
+use mc_split::Ticket;
+use rings::Rings;
+use std::alloc::{AllocError, Global};
+use std::random::RandomSource;
+use thiserror::Error;
+
+/// Why there is no simulated core.
+#[derive(Clone, Copy, Debug, PartialEq, Eq, Error)]
+pub enum SimRefusal {
+    /// A size is out of its limits.
+    #[error(transparent)]
+    Size(SizeFault),
+    /// Memory ran out.
+    #[error("out of memory")]
+    Memory,
+}
+
+/// A connection, and what is kept of it. Connections are numbered in the order in which they were opened, from 0.
+#[derive(Drop)]
+pub struct Connection {
+    pub seat: usize,
+    pub ended: bool,
+    pub broken: bool,
+    /// All bytes that it was fed.
+    fed: Vec<u8>,
+    /// All bytes that it was handed.
+    handed: Vec<u8>,
+}
+
+/// A piece that a shard ran.
+#[derive(Clone, Copy, Debug, PartialEq, Eq)]
+pub struct LogEntry {
+    pub shard: usize,
+    /// The number of the connection that it was for.
+    pub connection: usize,
+    pub ticket: Ticket,
+    pub part: usize,
+    /// When the command was taken, in seconds since 1970.
+    pub moment: u64,
+}
+
+/// A seat, and the number of the connection that it has.
+#[derive(Drop)]
+struct Seat {
+    conn: Conn,
+    current: Option<usize>,
+}
+
+/// A core of connections, shards and rings, in one thread.
+///
+/// The contracts speak of the world that it stands in: `Stands sizes sim world`.
+#[derive(Drop)]
+pub struct Sim {
+    seats: Vec<Seat>,
+    connections: Vec<Connection>,
+    log: Vec<LogEntry>,
+    rings: Rings,
+}
+
+impl Sim {
+    /// A core of these sizes, in which nothing has happened.
+    pub fn new<R: RandomSource>(rt: &R, alloc: Global, sizes: Sizes) -> Result<Sim, SimRefusal>
+        ensures ok { IfOk result (λ sim. Stands sizes sim empty_world) }
+        ensures within { OnOk result (AreWithin sizes) }
+        ensures refused { IfErr result (IsRefused sizes) }
+    {
+        if let Err(fault) = sizes.check() {
+            return Err(SimRefusal::Size(fault));
+        }
+        let Ok(sim) = Sim::make(rt, alloc, sizes) else {
+            return Err(SimRefusal::Memory);
+        };
+        Ok(sim)
+    }
+
+    /// A core of sizes that are within their limits.
+    fn make<R: RandomSource>(rt: &R, alloc: Global, sizes: Sizes) -> Result<Sim, AllocError>
+        requires { AreWithin sizes }
+        ensures { IfOk result (λ sim. Stands sizes sim empty_world) }
+    {
+        let seats = new_seats(alloc, sizes)?;
+        let rings = Rings::new(rt, alloc, sizes)?;
+        Ok(Sim {
+            seats,
+            connections: Vec::new(alloc),
+            log: Vec::new(alloc),
+            rings,
+        })
+    }
+
+    /// How many connections it has at a time.
+    pub fn seats(&self) -> usize
+        ensures { (sizes : Sizes) (w : World) → Stands sizes self.now w → result ≡ sizes.seats }
+    {
+        self.seats.len()
+    }
+
+    /// How many shards it has.
+    pub fn shards(&self) -> usize
+        ensures { (sizes : Sizes) (w : World) → Stands sizes self.now w → result ≡ sizes.shards }
+    {
+        self.rings.shards()
+    }
+
+    /// The connections, in the order in which they were opened.
+    pub fn connections(&self) -> &[Connection]
+        ensures seats { (sizes : Sizes) (w : World) → Stands sizes self.now w →
+            map (λ one. one.seat) result.now ≡ map (λ link. link.seat) w.links }
+        ensures ended { (sizes : Sizes) (w : World) → Stands sizes self.now w →
+            map (λ one. one.ended) result.now ≡ map (λ link. link.ended) w.links }
+        ensures broken { (sizes : Sizes) (w : World) → Stands sizes self.now w →
+            map (λ one. one.broken) result.now ≡ map (λ link. link.broken) w.links }
+    {
+        &self.connections
+    }
+
+    /// All bytes that the connection of this number was fed, where there is one.
+    pub fn fed(&self, number: usize) -> Option<&[u8]>
+        ensures kept { (sizes : Sizes) (w : World) (link : Link) → Stands sizes self.now w →
+            IsLink w number link → option_map (λ bytes. bytes.now) result ≡ Some link.fed }
+        ensures within { IfSome result (λ _.
+            (sizes : Sizes) (w : World) → Stands sizes self.now w → number < length w.links) }
+    {
+        let kept = self.connections.get(number)?;
+        Some(&kept.fed)
+    }
+
+    /// All bytes that the connection of this number was handed, where there is one.
+    pub fn handed(&self, number: usize) -> Option<&[u8]>
+        ensures kept { (sizes : Sizes) (w : World) (link : Link) → Stands sizes self.now w →
+            IsLink w number link →
+            option_map (λ bytes. bytes.now) result ≡ Some (handed_bytes sizes w number link) }
+        ensures within { IfSome result (λ _.
+            (sizes : Sizes) (w : World) → Stands sizes self.now w → number < length w.links) }
+    {
+        let connection = self.connections.get(number)?;
+        Some(&connection.handed)
+    }
+
+    /// What the shards ran, in the order in which they did.
+    pub fn log(&self) -> &[LogEntry]
+        ensures { (sizes : Sizes) (w : World) → Stands sizes self.now w →
+            result.now ≡ map line_of w.log }
+    {
+        &self.log
+    }
+
+    /// One event of a connection or a shard.
+    pub fn step(&mut self, alloc: Global, event: &Event) -> StepReply
+        ensures { StepsByEvent self.old (event_of event.now) result self.new }
+    {
+        match event {
+            Event::Open { seat } => self.begin(alloc, *seat),
+            Event::Feed { seat, bytes } => self.feed(alloc, *seat, bytes),
+            Event::Take { seat, moment } => self.take(alloc, *seat, *moment),
+            Event::Send { seat } => self.send(*seat),
+            Event::Pop { shard, seat } => self.pop(alloc, *shard, *seat),
+            Event::Give { shard } => self.give(alloc, *shard),
+            Event::Receive { seat, shard } => self.receive(*seat, *shard),
+            Event::Hand { seat } => self.hand(alloc, *seat),
+            Event::End { seat } => self.end(*seat),
+            Event::Break { seat } => self.cut(*seat),
+        }
+    }
+
+    /// Events one after another, up to the first that finds no memory; how many of them were done.
+    pub fn run(&mut self, alloc: Global, events: &[Event]) -> Result<u64, NoMemory>
+        ensures ran { IfOk result (λ done. Runs self.old (map event_of events.now) done self.new) }
+        ensures stopped { OnErr result (Stops self.old (map event_of events.now) self.new) }
+    {
+        let mut done = 0;
+        for event in events {
+            match self.step(alloc, event) {
+                StepReply::Done => done += 1,
+                StepReply::Idle => {}
+                StepReply::NoMemory => return Err(NoMemory),
+            }
+        }
+        Ok(done)
+    }
+
+    /// The number of the connection that a seat has.
+    fn find(&self, seat: usize) -> Option<usize>
+        ensures seat { IfSome result (λ number. seat < length self.now.seats.items) }
+        ensures kept { IfSome result (λ number. number < length self.now.connections.items) }
+        ensures current { IfSome result (λ number.
+            (place : _) × (slice_get self.now.seats.items seat ≡ Some place) ×
+            (place.current ≡ Some number)) }
+        ensures none { IfNone result
+            ((sizes : Sizes) (w : World) → Stands sizes self.now w → (k : ℕ) (link : Link) →
+            IsAt w seat k link → ⊥) }
+    {
+        if self.seats.len() <= seat {
+            return None;
+        }
+        let number = self.seats[seat].current?;
+        if self.connections.len() <= number {
+            return None;
+        }
+        Some(number)
+    }
+}
+
+/// So many seats, each with a connection in which nothing has happened.
+fn new_seats(alloc: Global, sizes: Sizes) -> Result<Vec<Seat>, AllocError>
+    requires { AreWithin sizes }
+    ensures count { IfOk result (λ seats. length seats.items ≡ sizes.seats) }
+    ensures each { IfOk result (λ seats. AllByRecursion (IsNewSeat sizes) seats.items) }
+{
+    let mut seats = Vec::with_capacity(alloc, sizes.seats)?;
+    for _ in 0..sizes.seats {
+        let rules = sizes.rules();
+        let Ok(conn) = Conn::under(alloc, sizes.shards, rules, sizes.window) else {
+            return Err(AllocError);
+        };
+        seats.push(Seat {
+            conn,
+            current: None,
+        })?;
+    }
+    Ok(seats)
+}

@@ -1,0 +1,4 @@
+pub mod Desks
+pub mod Steps
+pub mod Turning
+pub mod Marking

@@ -1,0 +1,5 @@
+pub mod Desk
+pub mod DeskLaws
+pub mod Turns
+pub mod Marks
+pub mod Serves

@@ -1,0 +1,10 @@
+-- Which seats a worker marks: those whose threads are to be woken.
+use Rattle.std.specs.Prelude.{ℕ, ◌≡◌, ◌<◌, ◌⊎◌, Bool, true, Some, List, length, slice_get}
+use Rattle.mc_ring.specs.Ends.{sent_on}
+use Rattle.mc_worker.specs.Desk.{Desk}
+
+-- Of each seat: nothing was sent to it and its mark is as before, or something was sent to it and it is marked.
+abbrev pub Marks : Desk → Desk → List Bool → List Bool → Type 0
+Marks old new before after = (seat : ℕ) →
+    ((sent_on new.ends seat ≡ sent_on old.ends seat) × (slice_get after seat ≡ slice_get before seat))
+    ⊎ ((length (sent_on old.ends seat) < length (sent_on new.ends seat)) × (slice_get after seat ≡ Some true))

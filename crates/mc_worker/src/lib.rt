@@ -1,0 +1,9 @@
+//! The worker of a shard, which takes pieces from the lanes of the seats, runs them and gives the replies, and the gate that it
+//! passes before each piece.
+#![tactic(auto)]
+
+mod gate;
+mod worker;
+
+pub use gate::{Gate, OpenGate};
+pub use worker::{Turn, Worker};

@@ -1,0 +1,276 @@
+//! The worker of one shard: it takes pieces from the seats' lanes, runs them and gives the replies.
+ghost use Rattle.std.specs.Prelude.{◌≡◌, ◌<◌, ◌≤◌, ◌↔◌, IsTrue, None, true, length, ℕ, [], IfOk, IfSome};
+ghost use Rattle.std.specs.Bool.{OnFalse, OnTrue};
+ghost use Rattle.std.specs.List.{AllByRecursion};
+ghost use Rattle.std.specs.Option.{option_map};
+ghost use Rattle.mc_sizes.specs.Sizes.{SuitShards};
+ghost use Rattle.mc_ring.specs.Ends.{AreSameEnds};
+ghost use Rattle.mc_ring.specs.Made.{IsLane, IsUnused, LooksAtBoth};
+ghost use Rattle.mc_store.specs.Shard.{IsShard};
+ghost use Rattle.mc_store.specs.State.{State};
+ghost use Rattle.mc_model.specs.Sized.{empty_shard};
+ghost use Rattle.mc_worker.specs.Desk.{Goes, HasEnded, HasRun, RunsNoMore};
+ghost use Rattle.mc_worker.specs.Turns.{FindsNothing, Gives, LogGrows, Turned};
+ghost use Rattle.mc_worker.specs.Marks.{Marks};
+ghost use Rattle.mc_worker.specs.Serves.{ServesSeat};
+
+use crate::gate::Gate;
+use mc_ring::{Parcel, Reply, SeatEnds, ShardEnds, beside};
+use mc_sizes::Sizes;
+use mc_split::{Piece, Ticket};
+use mc_store::Shard;
+use std::alloc::{AllocError, Global};
+use std::marker::Model;
+use std::random::RandomSource;
+
+/// So many turns are made for one seat before the worker looks at the next. A piece takes two: it is run, and its reply is given.
+const LANE_TURNS: usize = 64;
+
+/// What a turn of a worker did.
+#[derive(Clone, Copy, Debug, PartialEq, Eq)]
+pub enum Turn {
+    /// The reply in its hand went out.
+    Gave,
+    /// The reply stays in its hand, since the ring was full.
+    Blocked,
+    /// No parcel of the seat was there, or its End has come before.
+    Nothing,
+    /// The seat's End has come.
+    Ended,
+    /// A piece of the seat was run, and the reply is in its hand. The moment is in seconds since 1970.
+    Ran {
+        ticket: Ticket,
+        part: usize,
+        moment: u64,
+    },
+}
+
+/// A reply that is not given yet, with its seat.
+#[derive(Drop)]
+struct Hand {
+    seat: usize,
+    reply: Reply,
+}
+
+/// The worker of one shard.
+#[derive(Drop)]
+pub struct Worker {
+    shard: Shard,
+    ends: ShardEnds,
+    hand: Option<Hand>,
+    /// Of each lane, whether its End is still to come.
+    live: Vec<bool>,
+}
+
+impl Model for Worker {
+    ghost use Rattle.std.specs.Option.{option_map};
+    ghost use Rattle.mc_ring.specs.Reply.{shown};
+    ghost use Rattle.mc_store.specs.Shard.{held_of};
+    ghost use Rattle.mc_worker.specs.Desk.{Desk, IsWellMarked};
+
+    ghost Value = { Desk };
+
+    ghost view = { λ worker. record {
+      shard = held_of worker.shard;
+      ends = worker.ends;
+      hand = option_map (λ hand. (hand.seat, shown hand.reply)) worker.hand;
+      live = worker.live.items;
+    } };
+
+    ghost invariant = { λ worker. IsWellMarked (record {
+      shard = held_of worker.shard;
+      ends = worker.ends;
+      hand = option_map (λ hand. (hand.seat, shown hand.reply)) worker.hand;
+      live = worker.live.items;
+    }) };
+}
+
+impl Worker {
+    /// The worker of a shard, over ends on which nothing has passed.
+    pub fn new(alloc: Global, shard: Shard, ends: ShardEnds) -> Result<Worker, AllocError>
+        requires { AllByRecursion IsUnused ends.lanes }
+        ensures ends { IfOk result (λ worker. worker.ends ≡ ends) }
+        ensures free { IfOk result (λ worker. worker.hand ≡ None) }
+        ensures live { IfOk result (λ worker. AllByRecursion (λ live. live ≡ true) worker.live) }
+        ensures marked { IfOk result (λ worker. length worker.live ≡ length worker.ends.lanes) }
+
+        // It has run nothing.
+        ensures begins { IfOk result
+            (λ worker. (begin : State) → IsShard shard begin → HasRun begin worker []) }
+    {
+        let live = vec![in alloc; true; ends.seats()]?;
+        Ok(Worker {
+            shard,
+            ends,
+            hand: None,
+            live,
+        })
+    }
+
+    /// The same, of an empty shard of a server of these sizes.
+    pub fn start<R: RandomSource>(
+        rt: &R,
+        alloc: Global,
+        ends: ShardEnds,
+        sizes: Sizes,
+    ) -> Result<Worker, AllocError>
+        requires place { ends.number < sizes.shards }
+        requires sizes { SuitShards sizes }
+        requires unused { AllByRecursion IsUnused ends.lanes }
+        ensures ends { IfOk result (λ worker. worker.ends ≡ ends) }
+        ensures free { IfOk result (λ worker. worker.hand ≡ None) }
+        ensures live { IfOk result (λ worker. AllByRecursion (λ live. live ≡ true) worker.live) }
+        ensures marked { IfOk result (λ worker. length worker.live ≡ length worker.ends.lanes) }
+
+        // It has run nothing.
+        ensures begins { IfOk result (λ worker. HasRun (empty_shard sizes ends.number) worker []) }
+    {
+        let number = ends.number();
+        match Shard::empty(rt, alloc, number, sizes.shards, sizes.bytes, sizes.value) {
+            Ok(shard) => Worker::new(alloc, shard, ends),
+            Err(_) => Err(AllocError),
+        }
+    }
+
+    /// Shows its shard to the gate.
+    pub fn show<G: Gate>(&self, gate: &G) {
+        gate.after(self.ends.number(), &self.shard);
+    }
+
+    /// How many seats it serves.
+    pub fn seats(&self) -> usize
+        ensures { result ≡ length self.now.ends.lanes }
+    {
+        self.ends.seats()
+    }
+
+    /// Whether the End of every lane has come. Every reply is given then. No memory is taken.
+    pub fn ended(&self) -> bool
+        ensures ended { IsTrue result ↔ HasEnded self.now }
+        ensures given { OnTrue result (self.now.hand ≡ None) }
+        ensures marked { length self.now.live ≡ length self.now.ends.lanes }
+    {
+        !self.live.contains(&true)
+    }
+
+    /// One step: one push or one pop on one ring, and the work that goes with it. With a reply in its hand the worker tries
+    /// to give that; else it takes what waits on the seat's lane, and a piece is run at once, after the gate was called.
+    pub fn turn<G: Gate>(&mut self, alloc: Global, seat: usize, gate: &G) -> Turn
+        requires { seat < length self.old.ends.lanes }
+        ensures turned { Turned self.old seat result self.new }
+        ensures grows { LogGrows self.old seat result self.new }
+        ensures gives { Gives self.old result self.new }
+        ensures keeps { AreSameEnds self.old.ends self.new.ends }
+    {
+        let _ = &self.shard;
+        self.step(alloc, seat, gate)
+    }
+
+    /// How many parcels and how many replies wait on its lane of a seat, whose ends must be of the same call of `lanes`. No
+    /// memory is taken.
+    pub fn beside(&mut self, seat: &mut SeatEnds) -> (usize, usize)
+        requires { IsLane seat.old self.old.ends }
+        ensures looked { LooksAtBoth seat.old seat.new self.old.ends self.new.ends result.0
+            result.1 }
+        ensures rest { self.new ≡ record self.old { ends = self.new.ends } }
+        ensures ran { RunsNoMore self.old self.new }
+        ensures seat { AreSameEnds seat.old seat.new }
+        ensures keeps { AreSameEnds self.old.ends self.new.ends }
+    {
+        beside(seat, &mut self.ends)
+    }
+
+    /// Turns for one seat as long as its lane brings something, but no more than `LANE_TURNS`. It marks the seats that a reply
+    /// was given to, so that their threads can be woken. True where the first turn found something to do; false where nothing was
+    /// on the lane, and no reply waits to be given: then nothing was done.
+    pub fn serve<G: Gate>(
+        &mut self,
+        alloc: Global,
+        seat: usize,
+        gate: &G,
+        given: &mut [bool],
+    ) -> bool
+        requires seat { seat < length self.old.ends.lanes }
+        requires given { length given.old ≡ length self.old.ends.lanes }
+        ensures goes { Goes self.old self.new }
+        ensures marks { Marks self.old self.new given.old given.new }
+        ensures serves { OnTrue result (ServesSeat self.old seat self.new) }
+        ensures rests { OnFalse result (FindsNothing self.old seat self.new) }
+    {
+        let _ = &self.shard;
+        for turns in 0..LANE_TURNS {
+            let holder = self.holder();
+            match self.turn(alloc, seat, gate) {
+                Turn::Nothing => return turns > 0,
+                Turn::Blocked => return true,
+                Turn::Gave => {
+                    if let Some(holder) = holder {
+                        given[holder] = true;
+                    }
+                }
+                Turn::Ran { .. } | Turn::Ended => {}
+            }
+        }
+        true
+    }
+
+    /// The seat that the reply in its hand is for.
+    pub fn holder(&self) -> Option<usize>
+        ensures held { result ≡ option_map (λ held. held.0) self.now.hand }
+        ensures within { IfSome result (λ seat. seat < length self.now.ends.lanes) }
+    {
+        let hand = self.hand.as_ref()?;
+        Some(hand.seat)
+    }
+
+    /// A turn, without what it leaves of the log.
+    fn step<G: Gate>(&mut self, alloc: Global, seat: usize, gate: &G) -> Turn
+        requires { seat < length self.old.ends.lanes }
+        ensures { Turned self.old seat result self.new }
+    {
+        let Some(Hand { seat, reply }) = self.hand.take() else {
+            return self.take_from(alloc, seat, gate);
+        };
+        match self.ends.give(seat, reply) {
+            Ok(()) => Turn::Gave,
+            Err(reply) => {
+                self.hand = Some(Hand { seat, reply });
+                Turn::Blocked
+            }
+        }
+    }
+
+    /// Takes what waits on the seat's lane, and runs it where it is a piece.
+    fn take_from<G: Gate>(&mut self, alloc: Global, seat: usize, gate: &G) -> Turn
+        requires seat { seat < length self.old.ends.lanes }
+        requires free { self.old.hand ≡ None }
+        ensures { Turned self.old seat result self.new }
+    {
+        if !self.live[seat] {
+            return Turn::Nothing;
+        }
+        let Some(parcel) = self.ends.take(seat) else {
+            return Turn::Nothing;
+        };
+        let Parcel::Piece(piece) = parcel else {
+            self.live[seat] = false;
+            return Turn::Ended;
+        };
+        let Piece {
+            ticket,
+            part,
+            op,
+            moment,
+        } = piece;
+        gate.before(self.ends.number(), ticket);
+        let kind = op.kind();
+        let answer = self.shard.run(alloc, op, moment);
+        let reply = Reply::new(ticket, part, kind, answer);
+        self.hand = Some(Hand { seat, reply });
+        Turn::Ran {
+            ticket,
+            part,
+            moment,
+        }
+    }
+}
