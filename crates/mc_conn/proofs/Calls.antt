@@ -11,7 +11,7 @@ use Rattle.mc_command.specs.declared.command.Command.{Command}
 use Rattle.mc_reader.specs.Reader.{IsAmidSkipped, IsClosedLine, IsReader, entries_of}
 use Rattle.mc_reader.specs.Spelling.{Given, SpellsFront, is_closed}
 use Rattle.mc_ring.specs.Reply.{Shown}
-use Rattle.mc_split.specs.declared.form.Form.{Form}
+use Rattle.mc_reply.specs.declared.form.Form.{Form}
 use Rattle.mc_split.specs.declared.plan.Piece.{Piece}
 use Rattle.mc_join.specs.Held.{Held, TakesIn}
 use Rattle.mc_join.specs.Joined.{IsJoiner}

@@ -5,7 +5,7 @@ use Rattle.std.proofs.lemmas.Option.{same_Some}
 use Rattle.mc_command.specs.declared.command.Command.{Command}
 use Rattle.mc_item.specs.Kind.{kind_of}
 use Rattle.mc_ring.specs.Reply.{Shown}
-use Rattle.mc_split.specs.declared.plan.Ticket.{Ticket}
+use Rattle.mc_reply.specs.declared.ticket.Ticket.{Ticket}
 use Rattle.mc_split.specs.Pieces.{ShardOp, pieces_of}
 use Rattle.mc_split.specs.Plan.{form_kind, form_of, no_answers}
 use Rattle.mc_split.proofs.Shards.{pieces_alike}

@@ -7,7 +7,7 @@ use Rattle.mc_command.specs.declared.command.Command.{Command}
 use Rattle.mc_reader.specs.Reader.{IsReader}
 use Rattle.mc_reader.specs.Spelling.{BeginCommands}
 use Rattle.mc_ring.specs.Reply.{Shown}
-use Rattle.mc_split.specs.declared.form.Form.{Form}
+use Rattle.mc_reply.specs.declared.form.Form.{Form}
 use Rattle.mc_split.specs.Plan.{form_of}
 use Rattle.mc_join.specs.Held.{Held, AreNumbered, Fills, with_answer}
 use Rattle.mc_join.specs.Joined.{IsJoiner}

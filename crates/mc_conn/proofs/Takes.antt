@@ -12,9 +12,9 @@ use Rattle.mc_reader.specs.declared.reader.Next.TheVariants as next
 use Rattle.mc_reader.specs.Reader.{NextSays, entries_of}
 use Rattle.mc_reader.specs.Spelling.{AreCommands, BeginCommands, Given, is_closed, most_commands}
 use Rattle.mc_ring.specs.Reply.{Shown}
-use Rattle.mc_split.specs.declared.form.Form.{Form}
+use Rattle.mc_reply.specs.declared.form.Form.{Form}
 use Rattle.mc_split.specs.declared.plan.Piece.{Piece}
-use Rattle.mc_split.specs.declared.plan.Ticket.{Ticket}
+use Rattle.mc_reply.specs.declared.ticket.Ticket.{Ticket}
 use Rattle.mc_split.specs.Pieces.{pieces_of}
 use Rattle.mc_split.specs.Plan.{form_of, parts_from}
 use Rattle.mc_join.specs.Held.{Held, opened_count}

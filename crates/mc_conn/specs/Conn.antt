@@ -5,7 +5,7 @@ use Rattle.mc_wire.specs.Outlet as outlet
 use Rattle.mc_reader.specs.Reader.{IsWaiting}
 use Rattle.mc_reader.specs.Reader as reader
 use Rattle.mc_reader.specs.Spelling.{BeginCommands, is_closed}
-use Rattle.mc_split.specs.declared.plan.Ticket.{Ticket}
+use Rattle.mc_reply.specs.declared.ticket.Ticket.{Ticket}
 use Rattle.mc_conn.specs.declared.conn.Conn.{Conn}
 use Rattle.mc_conn.specs.declared.conn.Taken.{Taken as Took}
 use Rattle.mc_conn.specs.declared.conn.Taken.TheVariants as took

@@ -7,7 +7,7 @@ use Rattle.mc_command.specs.declared.refusal.Refusal.TheVariants.{Memory}
 use Rattle.mc_command.specs.Command.{can_give_up}
 use Rattle.mc_item.specs.declared.answer.Answer.{Answer}
 use Rattle.mc_split.specs.Pieces.{pieces_of}
-use Rattle.mc_split.specs.Text.{memory_line, text_of}
+use Rattle.mc_reply.specs.Text.{memory_line, text_of}
 
 -- a command that was taken
 pub record Taken : Type 0 where

@@ -6,7 +6,7 @@ use Rattle.mc_command.specs.declared.line.Line.TheVariants.{Skip}
 use Rattle.mc_command.specs.declared.refusal.Refusal.{Refusal}
 use Rattle.mc_reader.specs.Spelling.{AreCommands, BeginCommands, HasNoEnd, SpellsFront, is_closed, line_says}
 use Rattle.mc_ring.specs.Reply.{Shown}
-use Rattle.mc_split.specs.declared.form.Form.{Form}
+use Rattle.mc_reply.specs.declared.form.Form.{Form}
 use Rattle.mc_split.specs.declared.plan.Piece.{Piece}
 use Rattle.mc_join.specs.Replies.{replies}
 use Rattle.mc_conn.specs.History.{Taken, MayBeTaken}

@@ -2,7 +2,7 @@
 ghost use Rattle.std.specs.Prelude.{◌≡◌, ◌<◌, ◌++◌, ◌∷◌, [], List, ℕ, IfOk, length};
 ghost use Rattle.mc_command.specs.declared.command.Command.TheVariants as command;
 ghost use Rattle.mc_ring.specs.Reply.{Shown};
-ghost use Rattle.mc_split.specs.declared.form.Form.{Form};
+ghost use Rattle.mc_reply.specs.declared.form.Form.{Form};
 ghost use Rattle.mc_join.specs.Held.{opened_count};
 ghost use Rattle.mc_join.specs.Joined.{IsJoiner};
 
@@ -11,8 +11,9 @@ use mc_command::{Command, MetaGet, MetaSet, Profile};
 use mc_item::NoMemory;
 use mc_join::Joiner;
 use mc_plain::Commands;
+use mc_reply::{Form, Ticket};
 use mc_split::{
-    Form, Piece, Ticket, form_of_get_one, form_of_meta_get_value, form_of_set, queue_get_one,
+    Piece, form_of_get_one, form_of_meta_get_value, form_of_set, queue_get_one,
     queue_meta_get_value, queue_set, split_get, split_meta_get, split_meta_set, split_no_op,
 };
 use std::alloc::Global;

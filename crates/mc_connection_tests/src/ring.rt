@@ -5,9 +5,10 @@ ghost use Rattle.mc_ring.specs.Ends.{AreSameEnds};
 use crate::asserting::{equal, holds};
 use mc_command::Profile;
 use mc_item::{Answer, Kind, Op};
+use mc_reply::Ticket;
 use mc_ring::{Parcel, Reply, RingRefusal, SeatEnds, ShardEnds, beside, lanes};
 use mc_sizes::Sizes;
-use mc_split::{Piece, Ticket};
+use mc_split::Piece;
 use std::test::Fail;
 
 /// Two seats, three shards, and rings of one place.
@@ -153,11 +154,7 @@ fn numbers_out_of_range_are_refused(rt: HostRuntime) {
             ring,
             ..SIZES
         };
-        equal(
-            &rt,
-            lanes(rt.alloc(), sizes).err(),
-            Some(RingRefusal::Size),
-        );
+        equal(&rt, lanes(rt.alloc(), sizes).err(), Some(RingRefusal::Size));
     }
     for (seats, shards, ring) in [(64, 16, 1), (1, 1, 1024)] {
         let sizes = Sizes {

@@ -7,7 +7,8 @@ use mc_command::{
     Returned, Storage, StoreMode,
 };
 use mc_item::{Answer, Kind, Op};
-use mc_split::{Form, Plan, Shape, Ticket, split};
+use mc_reply::{Form, Shape, Ticket};
+use mc_split::{Plan, split};
 use mc_wire::{Key, words};
 use std::alloc::Global;
 use std::process::Abort;

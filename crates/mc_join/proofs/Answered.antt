@@ -6,9 +6,9 @@ use Rattle.std.proofs.lemmas.Option.{same_Some}
 use Rattle.std.proofs.lemmas.List.Sums.{sum_by-cons}
 use Rattle.mc_item.specs.declared.answer.Answer.{Answer}
 use Rattle.mc_ring.specs.Reply.{Shown}
-use Rattle.mc_split.specs.declared.form.Form.{Form}
-use Rattle.mc_split.specs.declared.plan.Ticket.{Ticket}
-use Rattle.mc_split.specs.Slots.{missing_in}
+use Rattle.mc_reply.specs.declared.form.Form.{Form}
+use Rattle.mc_reply.specs.declared.ticket.Ticket.{Ticket}
+use Rattle.mc_reply.specs.Slots.{missing_in}
 use Rattle.mc_join.specs.Held.{AreNumbered, IsDue, with_answer}
 use Rattle.mc_join.specs.Replies.{is_to, answer_to, slot_after, slots_after, answered, answers_of}
 

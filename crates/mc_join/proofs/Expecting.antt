@@ -7,8 +7,8 @@ use Rattle.std.proofs.lemmas.Option.{same_Some, slice_get-map, get_or_from_slice
 use Rattle.mc_item.specs.declared.answer.Answer.{Answer}
 use Rattle.circular_buffer.proofs.Places.{slice_get-drop}
 use Rattle.mc_ring.specs.Reply.{Shown}
-use Rattle.mc_split.specs.declared.form.Form.{Form}
-use Rattle.mc_split.specs.declared.plan.Ticket.{Ticket}
+use Rattle.mc_reply.specs.declared.form.Form.{Form}
+use Rattle.mc_reply.specs.declared.ticket.Ticket.{Ticket}
 use Rattle.mc_join.specs.Expects.{Expects}
 use Rattle.mc_join.specs.Held.{Held, IsAwaited, IsDue}
 use Rattle.mc_join.specs.Joined.{IsJoiner}

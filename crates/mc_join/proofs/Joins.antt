@@ -7,8 +7,8 @@ use Rattle.std.proofs.lemmas.List.Folds.{length-prefix_len}
 use Rattle.std.proofs.lemmas.List.Sums.{prefix_len-le-length}
 use Rattle.circular_buffer.proofs.Places.{slice_get-drop as behind}
 use Rattle.mc_ring.specs.Reply.{Shown}
-use Rattle.mc_split.specs.declared.form.Form.{Form}
-use Rattle.mc_split.specs.declared.plan.Ticket.{Ticket}
+use Rattle.mc_reply.specs.declared.form.Form.{Form}
+use Rattle.mc_reply.specs.declared.ticket.Ticket.{Ticket}
 use Rattle.mc_join.specs.Held.{Held, AreNumbered, AwaitsAt, Fills, due_text, opened_count, with_answer}
 use Rattle.mc_join.specs.Joined.{IsJoiner, unhanded}
 use Rattle.mc_join.specs.Replies.{answered, complete, form_text, is_answered, replies}

@@ -1,8 +1,7 @@
 pub mod Answered
-pub mod Digits
 pub mod Gatherings
 pub mod Joins
 pub mod Queues
 mod Rows
-pub mod Texts
 pub mod Expecting
+pub mod Written

@@ -7,9 +7,9 @@ use Rattle.mc_item.specs.declared.answer.Answer.TheVariants as answer
 use Rattle.mc_item.specs.Tally.{no_counts}
 use Rattle.mc_item.specs.declared.answer.Kind.TheVariants as kind
 use Rattle.mc_ring.specs.Reply.{Shown}
-use Rattle.mc_split.specs.declared.form.Form.{Form}
-use Rattle.mc_split.specs.declared.form.Shape.TheVariants as shape
-use Rattle.mc_split.specs.Text.{shape_text}
+use Rattle.mc_reply.specs.declared.form.Form.{Form}
+use Rattle.mc_reply.specs.declared.form.Shape.TheVariants as shape
+use Rattle.mc_reply.specs.Text.{shape_text}
 use Rattle.mc_join.specs.Replies.{replies}
 
 -- the form of `get a b`

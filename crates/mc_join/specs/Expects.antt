@@ -2,7 +2,7 @@
 use Rattle.std.specs.Prelude.{◌≡◌, List, Some, None}
 use Rattle.std.specs.List.{slice_get}
 use Rattle.mc_ring.specs.Reply.{Shown}
-use Rattle.mc_split.specs.declared.form.Form.{Form}
+use Rattle.mc_reply.specs.declared.form.Form.{Form}
 use Rattle.mc_join.specs.Replies.{answered}
 
 -- The command of the reply's ticket was taken; it has such a part, whose answer has not come yet, and is of the reply's kind.

@@ -3,7 +3,7 @@ use Rattle.std.specs.Prelude.{ℕ, ◌≡◌, ◌+◌, ◌<◌, Bool, true, fals
 use Rattle.std.specs.List.{concat}
 use Rattle.mc_item.specs.declared.answer.Answer.{Answer}
 use Rattle.mc_ring.specs.Reply.{Shown}
-use Rattle.mc_split.specs.declared.form.Form.{Form}
+use Rattle.mc_reply.specs.declared.form.Form.{Form}
 use Rattle.mc_join.specs.Replies.{complete, form_text, is_answered}
 
 pub record Held : Type 0 where

@@ -2,7 +2,7 @@
 use Rattle.std.specs.Prelude.{ℕ, ◌≡◌, ◌<◌, List, length, drop, take, map}
 use Rattle.std.specs.List.{AllByRecursion, concat}
 use Rattle.mc_ring.specs.Reply.{Shown}
-use Rattle.mc_split.specs.declared.form.Form.{Form}
+use Rattle.mc_reply.specs.declared.form.Form.{Form}
 use Rattle.mc_join.specs.Held.{Held, AreNumbered}
 use Rattle.mc_join.specs.Replies.{answered, replies}
 

@@ -3,10 +3,10 @@ use Rattle.std.specs.Prelude.{ℕ, ◌+◌, ◌==◌, Bool, ◌&&◌, List, [], 
 use Rattle.std.specs.List.{take_while}
 use Rattle.mc_item.specs.declared.answer.Answer.{Answer}
 use Rattle.mc_ring.specs.Reply.{Shown}
-use Rattle.mc_split.specs.declared.form.Form.{Form}
-use Rattle.mc_split.specs.declared.plan.Ticket.{Ticket}
-use Rattle.mc_split.specs.Slots.{missing_in}
-use Rattle.mc_split.specs.Text.{shape_text}
+use Rattle.mc_reply.specs.declared.form.Form.{Form}
+use Rattle.mc_reply.specs.declared.ticket.Ticket.{Ticket}
+use Rattle.mc_reply.specs.Slots.{missing_in}
+use Rattle.mc_reply.specs.Text.{shape_text}
 
 -- every part has its answer
 abbrev pub is_answered : Form → Bool

@@ -1,7 +1,7 @@
 //! Holds the answers that come back early until their turn.
 ghost use Rattle.std.specs.Prelude.{◌≡◌, ◌≢◌, ◌<◌, ◌≤◌, ◌+◌, ◌^◌, ◌-◌, ◌∷◌, ◌++◌, [], ℕ, List, true, false, IsTrue, IsOk, IfOk, IfErr, IfSome, IfNone, OnOk, OnErr, Ok, length, min, drop};
 ghost use Rattle.mc_ring.specs.Reply.{Shown, shown};
-ghost use Rattle.mc_split.specs.declared.form.Form.{Form};
+ghost use Rattle.mc_reply.specs.declared.form.Form.{Form};
 ghost use Rattle.mc_wire.specs.Outlet.{Writes};
 ghost use Rattle.mc_join.specs.Expects.{Expects};
 ghost use Rattle.mc_join.specs.Held.{AreNumbered, AwaitsAt, IsAwaited, TakesIn, due_text, nothing_held, opened_count};
@@ -12,8 +12,8 @@ ghost use Rattle.mc_join.specs.Replies.{complete, replies};
 use crate::queue::{add, awaits, count_complete, drop_first, fill, put_first, texts_len};
 use crate::room::Room;
 use circular_buffer::HeapCircularBuffer;
+use mc_reply::{Form, Ticket};
 use mc_ring::Reply;
-use mc_split::{Form, Ticket};
 use mc_wire::Outlet;
 use std::alloc::{AllocError, Global};
 use std::fmt;

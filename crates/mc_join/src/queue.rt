@@ -2,20 +2,19 @@
 ghost use Rattle.std.specs.Prelude.{◌≡◌, ◌<◌, ◌≤◌, ℕ, List, [], ◌∷◌, ◌++◌, IsTrue, false, IfOk, OnOk, OnErr, Some, None, drop, length, map, take, slice_get, IfSome, ◌↔◌};
 ghost use Rattle.std.specs.List.{concat, prefix_len};
 ghost use Rattle.mc_ring.specs.Reply.{shown};
-ghost use Rattle.mc_split.specs.declared.form.Form.{Form};
+ghost use Rattle.mc_reply.specs.declared.form.Form.{Form};
 ghost use Rattle.mc_wire.specs.Outlet.{Writes};
-ghost use Rattle.mc_join.specs.Held.{Awaits, Fills, HasPart};
+ghost use Rattle.mc_join.specs.Held.{Awaits, Fills, HasPart, IsDue};
 ghost use Rattle.mc_join.specs.Length.{capped};
 ghost use Rattle.mc_join.specs.Replies.{complete, form_text, is_answered};
 
 use crate::gathering::{Gathering, Start};
 use crate::length::Counter;
 use crate::room::Room;
-use crate::text::put_due;
 use circular_buffer::HeapCircularBuffer;
 use mc_item::Answer;
+use mc_reply::{Form, put_reply};
 use mc_ring::Reply;
-use mc_split::Form;
 use mc_wire::{OutFault, Outlet};
 use std::marker::{Brand, PhantomData};
 
@@ -115,6 +114,14 @@ fn put_each<O: Outlet>(out: &mut O, forms: &HeapCircularBuffer<Form>) -> Result<
         put_due(out, form)?;
     }
     Ok(())
+}
+
+/// Writes the reply of a form whose parts are all answered.
+fn put_due<O: Outlet>(out: &mut O, form: &Form) -> Result<(), OutFault>
+    requires { IsDue form.now }
+    ensures { Writes (form_text form.now) result (O.sight out.old) (O.sight out.new) }
+{
+    put_reply(out, form)
 }
 
 /// Lets the first forms go. Where none is left the next ones come to lie in the same places, so that a connection whose client

@@ -9,10 +9,10 @@ use Rattle.mc_item.specs.declared.op.Op.{Op}
 use Rattle.mc_item.specs.declared.answer.Answer.{Answer}
 use Rattle.mc_item.specs.declared.answer.Answer.TheVariants.{NoMemory}
 use Rattle.mc_ring.specs.Reply.{Shown}
-use Rattle.mc_split.specs.declared.plan.Ticket.{Ticket}
+use Rattle.mc_reply.specs.declared.ticket.Ticket.{Ticket}
 use Rattle.mc_split.specs.Pieces.{ShardOp, pieces_of}
 use Rattle.mc_split.specs.Plan.{no_answers, parts_from}
-use Rattle.mc_split.specs.Text.{text_of}
+use Rattle.mc_reply.specs.Text.{text_of}
 use Rattle.mc_split.proofs.Shards.{pieces_within}
 use Rattle.mc_store.specs.State.{State}
 use Rattle.mc_store.specs.Step.{Answers, IsStep, Outcome, noted_in}

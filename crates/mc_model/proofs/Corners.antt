@@ -6,8 +6,8 @@ use Rattle.mc_sizes.specs.declared.sizes.Sizes.{Sizes}
 use Rattle.mc_reader.specs.Spelling.{SpellsNothing}
 use Rattle.mc_item.specs.Kind.{kind_of}
 use Rattle.mc_split.specs.Pieces.{pieces_of}
-use Rattle.mc_split.specs.Shape.{shape_of}
-use Rattle.mc_split.specs.Text.{shape_text}
+use Rattle.mc_reply.specs.Shape.{shape_of}
+use Rattle.mc_reply.specs.Text.{shape_text}
 use Rattle.mc_conn.specs.Fits.{HasCome}
 use Rattle.mc_model.specs.Log.{Entry}
 use Rattle.mc_model.specs.World.{IsAt, Link, World, empty_world, new_link, ran, sent_to}

@@ -10,8 +10,8 @@ use Rattle.mc_item.specs.Expiry.{expiry_of}
 use Rattle.mc_item.specs.Kind.{key_of, kind_of}
 use Rattle.mc_split.specs.declared.plan.Piece.{Piece}
 use Rattle.mc_split.specs.Pieces.{pieces_of}
-use Rattle.mc_split.specs.Shape.{shape_of}
-use Rattle.mc_split.specs.Text.{shape_text}
+use Rattle.mc_reply.specs.Shape.{shape_of}
+use Rattle.mc_reply.specs.Text.{shape_text}
 use Rattle.mc_store.specs.State.{State, empty_state}
 use Rattle.mc_store.specs.Step.{Answers, IsStep, noted_in, step_of}
 use Rattle.mc_conn.specs.History.{Taken}

@@ -9,10 +9,10 @@ use Rattle.std.proofs.lemmas.List.Sums.{sum_by-cons, take_while-cons}
 use Rattle.mc_sizes.specs.declared.sizes.Sizes.{Sizes}
 use Rattle.mc_item.specs.declared.answer.Answer.{Answer}
 use Rattle.mc_ring.specs.Reply.{Shown}
-use Rattle.mc_split.specs.declared.form.Form.{Form}
-use Rattle.mc_split.specs.declared.plan.Ticket.{Ticket}
+use Rattle.mc_reply.specs.declared.form.Form.{Form}
+use Rattle.mc_reply.specs.declared.ticket.Ticket.{Ticket}
 use Rattle.mc_split.specs.Plan.{form_of}
-use Rattle.mc_split.specs.Slots.{missing_in}
+use Rattle.mc_reply.specs.Slots.{missing_in}
 use Rattle.mc_join.specs.Replies.{answer_to, answered, complete, form_text, is_answered, is_to, replies, slots_after}
 use Rattle.mc_conn.specs.History.{Taken, planned}
 use Rattle.mc_conn.specs.Due.{forms_from, forms_of, ticket_at}

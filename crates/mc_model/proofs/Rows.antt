@@ -18,8 +18,8 @@ use Rattle.mc_item.specs.Expiry.{expiry_of}
 use Rattle.mc_item.specs.Kind.{key_of, kind_of}
 use Rattle.mc_split.specs.declared.plan.Piece.{Piece}
 use Rattle.mc_split.specs.Pieces.{pieces_of}
-use Rattle.mc_split.specs.Shape.{shape_of}
-use Rattle.mc_split.specs.Text.{shape_text}
+use Rattle.mc_reply.specs.Shape.{shape_of}
+use Rattle.mc_reply.specs.Text.{shape_text}
 use Rattle.mc_reader.specs.Spelling.{AreCommands, BeginCommands, HasNoEnd, Spells}
 use Rattle.mc_reader.proofs.Machine.{lined}
 use Rattle.mc_reader.proofs.Texts.{nothing_without_end}

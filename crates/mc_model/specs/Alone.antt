@@ -8,7 +8,7 @@ use Rattle.mc_item.specs.declared.answer.Answer.{Answer}
 use Rattle.mc_item.specs.declared.answer.Answer.TheVariants.{NoMemory}
 use Rattle.mc_item.specs.Kind.{key_of}
 use Rattle.mc_split.specs.Pieces.{ShardOp, pieces_of}
-use Rattle.mc_split.specs.Text.{text_of}
+use Rattle.mc_reply.specs.Text.{text_of}
 use Rattle.mc_store.specs.State.{State, settle}
 use Rattle.mc_store.specs.Step.{Outcome, noted_in, step_of}
 use Rattle.mc_conn.specs.History.{AnsweredCommand, Taken}

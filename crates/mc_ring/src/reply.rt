@@ -3,7 +3,7 @@ ghost use Rattle.std.specs.Prelude.{◌≡◌, true};
 ghost use Rattle.mc_item.specs.Kind.{is_lawful};
 
 use mc_item::{Answer, Kind};
-use mc_split::Ticket;
+use mc_reply::Ticket;
 
 /// The answer to one piece. Whoever receives it knows that the answer is lawful for the piece's kind.
 #[derive(Drop)]

@@ -28,8 +28,8 @@ use Rattle.mc_wire.specs.Number.{number_of}
 use Rattle.mc_store.specs.State.{State, Used, with_given, first, entered}
 use Rattle.mc_store.specs.Step.{step_of}
 use Rattle.mc_split.specs.Pieces.{pieces_of}
-use Rattle.mc_split.specs.Text.{shape_text}
-use Rattle.mc_split.specs.Shape.{shape_of}
+use Rattle.mc_reply.specs.Text.{shape_text}
+use Rattle.mc_reply.specs.Shape.{shape_of}
 use Rattle.mc_rows.specs.Conversation.{Sent, replies, reply_on, outcomes_on, step_on, found_by}
 
 -- The table of outcomes is the step, whatever stands under the key.

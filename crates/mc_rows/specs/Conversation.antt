@@ -21,7 +21,7 @@ use Rattle.mc_reader.specs.Spelling.{line_says, block_entry, skip_entry}
 use Rattle.mc_conn.specs.History.{Taken}
 use Rattle.mc_model.specs.Alone.{alone}
 use Rattle.mc_split.specs.Pieces.{pieces_of}
-use Rattle.mc_split.specs.Text.{text_of}
+use Rattle.mc_reply.specs.Text.{text_of}
 use Rattle.mc_store.specs.State.{State, Used}
 use Rattle.mc_store.specs.Step.{Outcome, fetch_step, store_step, mode_of, compare_of, count_step, delete_step, touch_step, flush_step, coming, meta_get_step, meta_delete_step, stats_of}
 

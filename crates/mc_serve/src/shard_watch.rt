@@ -1,6 +1,6 @@
 //! What is watched of the shards: the gate of their workers shows what each has counted.
 use crossbeam_utils::CachePadded;
-use mc_split::Ticket;
+use mc_reply::Ticket;
 use mc_store::Shard;
 use mc_watch::ShardCounts;
 use mc_worker::Gate;

@@ -3,10 +3,10 @@
 use crate::asserting::{equal, holds};
 use crate::sizes::{ONE_LANE, SMALL};
 use mc_model::{Event, StepReply};
+use mc_reply::Ticket;
 use mc_ring::lanes;
 use mc_sim::{LogEntry, Sim, SimRefusal};
 use mc_sizes::Sizes;
-use mc_split::Ticket;
 use mc_store::Shard;
 use mc_worker::Worker;
 use std::alloc::{AllocError, Global};

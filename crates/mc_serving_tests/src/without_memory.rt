@@ -9,9 +9,10 @@ use mc_command::{Command, Refusal, StoreMode};
 use mc_conn::{Conn, Taken};
 use mc_item::{Answer, Expiry, Item, Kind, MetaDelete, Op, PackedExpiry, Value, expiry};
 use mc_reader::{Next, Reader};
+use mc_reply::Ticket;
 use mc_ring::{Parcel, Reply, SeatEnds, ShardEnds, lanes};
 use mc_sizes::Sizes;
-use mc_split::{Piece, Ticket};
+use mc_split::Piece;
 use mc_store::Shard;
 use mc_wire::{
     DEFAULT_LINE_LIMIT, DEFAULT_VALUE_LIMIT, Key, WireFault, key_fault, number_i64, number_u64,

@@ -11,7 +11,7 @@ use Rattle.mc_sizes.specs.declared.sizes.Sizes.{Sizes}
 use Rattle.mc_reader.specs.Spelling.{is_closed}
 use Rattle.mc_reader.proofs.Fronts.{commands_begin, last_of}
 use Rattle.mc_ring.specs.Reply.{Shown}
-use Rattle.mc_split.specs.declared.plan.Ticket.{Ticket}
+use Rattle.mc_reply.specs.declared.ticket.Ticket.{Ticket}
 use Rattle.mc_join.specs.Replies.{replies}
 use Rattle.mc_conn.specs.Conn.{FillsWindow, IsConn, NeedsMore, Opens}
 use Rattle.mc_conn.specs.Told.{IsOver, Told}

@@ -10,7 +10,7 @@ use Rattle.mc_ring.specs.Reply.{Shown}
 use Rattle.mc_split.specs.declared.plan.Piece.{Piece}
 use Rattle.mc_item.specs.declared.answer.Answer.{Answer}
 use Rattle.mc_join.specs.Replies.{answer_to, answers_of, replies, slots_after}
-use Rattle.mc_split.specs.declared.plan.Ticket.{Ticket}
+use Rattle.mc_reply.specs.declared.ticket.Ticket.{Ticket}
 use Rattle.mc_split.specs.Plan.{no_answers, parts_from}
 use Rattle.mc_split.specs.Pieces.{ShardOp, pieces_of}
 use Rattle.mc_conn.specs.declared.conn.Conn.{Conn}

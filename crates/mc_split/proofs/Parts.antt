@@ -10,7 +10,7 @@ use Rattle.mc_item.specs.declared.op.Op.{Op}
 use Rattle.mc_item.specs.declared.op.Op.TheVariants as op
 use Rattle.mc_item.specs.Kind.{kind_of}
 use Rattle.mc_item.specs.declared.answer.Answer.{Answer}
-use Rattle.mc_split.specs.declared.plan.Ticket.{Ticket}
+use Rattle.mc_reply.specs.declared.ticket.Ticket.{Ticket}
 use Rattle.mc_split.specs.declared.plan.Piece.{Piece}
 use Rattle.mc_split.specs.Pieces.{ShardOp, asked_of}
 use Rattle.mc_split.specs.Plan.{form_kind, no_answers, parts_from}
@@ -18,8 +18,8 @@ use Rattle.mc_split.specs.internal.Splits.{Splits}
 use Rattle.std.specs.Result.{IsErr}
 use Rattle.mc_item.specs.declared.answer.Kind.{Kind}
 use Rattle.mc_item.specs.declared.memory.NoMemory.{NoMemory}
-use Rattle.mc_split.specs.declared.form.Form.{Form}
-use Rattle.mc_split.specs.declared.form.Shape.{Shape}
+use Rattle.mc_reply.specs.declared.form.Form.{Form}
+use Rattle.mc_reply.specs.declared.form.Shape.{Shape}
 
 abbrev pub numbered : ℕ → Ticket → ℕ → ShardOp → ℕ × Piece
 numbered part ticket moment asked = (asked.shard, record { ticket = ticket; part = part; op = asked.op; moment = moment })

@@ -11,11 +11,11 @@ use Rattle.mc_command.specs.declared.meta.MetaFlags.{MetaFlags}
 use Rattle.mc_command.specs.declared.rules.Profile.TheVariants.{Own}
 use Rattle.mc_command.specs.declared.meta.ReturnFlag.TheVariants as flag
 use Rattle.mc_item.specs.declared.op.Op.TheVariants as op
-use Rattle.mc_split.specs.declared.form.Shape.TheVariants as shape
-use Rattle.mc_split.specs.declared.form.Fixed.TheVariants as fixed
+use Rattle.mc_reply.specs.declared.form.Shape.TheVariants as shape
+use Rattle.mc_reply.specs.declared.form.Fixed.TheVariants as fixed
 use Rattle.mc_command.specs.declared.meta.MetaKind.TheVariants as kind
 use Rattle.mc_split.specs.Pieces.{pieces_of}
-use Rattle.mc_split.specs.Shape.{shape_of}
+use Rattle.mc_reply.specs.Shape.{shape_of}
 
 -- the keys of a get in the order of the request, a repeated one each time: with two shards a and c are on the
 -- first, b and d on the second

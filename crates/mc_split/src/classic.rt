@@ -1,15 +1,15 @@
 //! The pieces of the classic commands.
 ghost use Rattle.std.specs.Prelude.{◌≡◌, ◌<◌, ◌∷◌, [], IfOk, OnErr, false, length, map};
 ghost use Rattle.mc_split.specs.Pieces.{pieces_of, asked_of};
-ghost use Rattle.mc_split.specs.Shape.{shape_of};
+ghost use Rattle.mc_reply.specs.Shape.{shape_of};
 ghost use Rattle.mc_split.specs.internal.Splits.{Splits};
 
-use crate::form::{Fixed, Form, Shape};
 use crate::plan::Piece;
 use crate::splitter::Splitter;
 use crate::stats::ToAll;
 use mc_command::{Block, Command, Direction, Refusal, Retrieval, Storage};
 use mc_item::{Kind, NoMemory, Op, Value};
+use mc_reply::{Fixed, Form, Shape};
 use mc_wire::Key;
 use std::collections::VecDeque;
 
@@ -33,7 +33,7 @@ pub(crate) fn plain_line(noreply: bool) -> Shape
 
 impl Splitter {
     /// `set`, `add`, `replace`, `append`, `prepend`, `cas`.
-    #[tactic(auto, unfolding(crate::specs::Pieces::pieces_of, crate::specs::Shape::shape_of))]
+    #[tactic(auto, unfolding(crate::specs::Pieces::pieces_of, mc_reply::specs::Shape::shape_of))]
     pub fn store(
         self,
         queue: &mut VecDeque<(usize, Piece)>,
@@ -59,7 +59,7 @@ impl Splitter {
     }
 
     /// `get`, `gets`, `gat`, `gats`: one piece a key, in the order of the request.
-    #[tactic(auto, unfolding(crate::specs::Pieces::pieces_of, crate::specs::Shape::shape_of))]
+    #[tactic(auto, unfolding(crate::specs::Pieces::pieces_of, mc_reply::specs::Shape::shape_of))]
     pub fn get(
         self,
         queue: &mut VecDeque<(usize, Piece)>,
@@ -90,7 +90,7 @@ impl Splitter {
     }
 
     /// `delete`.
-    #[tactic(auto, unfolding(crate::specs::Pieces::pieces_of, crate::specs::Shape::shape_of))]
+    #[tactic(auto, unfolding(crate::specs::Pieces::pieces_of, mc_reply::specs::Shape::shape_of))]
     pub fn delete(
         self,
         queue: &mut VecDeque<(usize, Piece)>,
@@ -106,7 +106,7 @@ impl Splitter {
     }
 
     /// A set whose value is too large, by memcached's rules: the item goes, whatever the shard answers, and the line is refused.
-    #[tactic(auto, unfolding(crate::specs::Pieces::pieces_of, crate::specs::Shape::shape_of))]
+    #[tactic(auto, unfolding(crate::specs::Pieces::pieces_of, mc_reply::specs::Shape::shape_of))]
     pub fn discard(
         self,
         queue: &mut VecDeque<(usize, Piece)>,
@@ -123,7 +123,7 @@ impl Splitter {
     }
 
     /// `incr`, `decr`.
-    #[tactic(auto, unfolding(crate::specs::Pieces::pieces_of, crate::specs::Shape::shape_of))]
+    #[tactic(auto, unfolding(crate::specs::Pieces::pieces_of, mc_reply::specs::Shape::shape_of))]
     pub fn count(
         self,
         queue: &mut VecDeque<(usize, Piece)>,
@@ -148,7 +148,7 @@ impl Splitter {
     }
 
     /// `touch`.
-    #[tactic(auto, unfolding(crate::specs::Pieces::pieces_of, crate::specs::Shape::shape_of))]
+    #[tactic(auto, unfolding(crate::specs::Pieces::pieces_of, mc_reply::specs::Shape::shape_of))]
     pub fn touch(
         self,
         queue: &mut VecDeque<(usize, Piece)>,
@@ -172,7 +172,7 @@ impl Splitter {
     }
 
     /// `flush_all`: one piece a shard, rising.
-    #[tactic(auto, unfolding(crate::specs::Pieces::pieces_of, crate::specs::Shape::shape_of))]
+    #[tactic(auto, unfolding(crate::specs::Pieces::pieces_of, mc_reply::specs::Shape::shape_of))]
     pub fn flush_all(
         self,
         queue: &mut VecDeque<(usize, Piece)>,

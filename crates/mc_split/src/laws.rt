@@ -1,6 +1,5 @@
 //! Laws of the pieces and of the reply of every command.
-ghost use Rattle.mc_split.specs.Laws.{NumbersParts, AsksOneKind, AsksShardOfKey, AsksShardsWithin};
-ghost use Rattle.mc_split.specs.TextLaws.{IsEmptyWhereSilent, IsEmptyOrLoud, AsksAsLoud, OrdersFlags, AsksAlike};
+ghost use Rattle.mc_split.specs.Laws.{NumbersParts, AsksOneKind, AsksShardOfKey, AsksShardsWithin, IsEmptyWhereSilent, AsksAsLoud, AsksAlike};
 
 /// The parts of a command are 0, 1, 2 and so on, in the order of its pieces.
 pub fn parts_are_numbered()
@@ -27,14 +26,12 @@ pub fn only_silent_replies_are_empty()
     ensures { IsEmptyWhereSilent }
 {}
 
-/// The reply to a quiet command is empty or that to the loud one, and its pieces are those of the loud one.
-pub fn quiet_replies_are_empty_or_loud()
-    ensures text { IsEmptyOrLoud }
-    ensures pieces { AsksAsLoud }
+/// A quiet command asks the same of the same shards as the loud one.
+pub fn quiet_commands_ask_as_loud()
+    ensures { AsksAsLoud }
 {}
 
-/// Returned flags in another order change nothing but the order in which they are returned.
-pub fn flags_change_their_order_alone()
-    ensures text { OrdersFlags }
-    ensures pieces { AsksAlike }
+/// Returned flags, whichever and in whatever order, change nothing of what is asked.
+pub fn flags_change_no_piece()
+    ensures { AsksAlike }
 {}

@@ -2,11 +2,10 @@
 ghost use Rattle.std.specs.Prelude.{◌≡◌, ◌<◌, IfOk};
 ghost use Rattle.std.specs.List.{list_any};
 ghost use Rattle.mc_split.specs.Pieces.{pieces_of};
-ghost use Rattle.mc_split.specs.Shape.{is_key_flag, is_lenient_in, shape_of, shown_key};
+ghost use Rattle.mc_reply.specs.Shape.{is_key_flag, is_lenient_in, shape_of, shown_key};
 ghost use Rattle.mc_split.specs.internal.Splits.{Splits};
 
 use crate::classic::value_of;
-use crate::form::{Form, Shape};
 use crate::plan::Piece;
 use crate::splitter::Splitter;
 use mc_command::{
@@ -14,6 +13,7 @@ use mc_command::{
     ReturnFlag,
 };
 use mc_item::{NoMemory, Op, Vivify};
+use mc_reply::{Form, Shape};
 use mc_wire::Key;
 use std::alloc::AllocError;
 use std::collections::VecDeque;
@@ -52,7 +52,7 @@ fn is_lenient_in(profile: Profile, mode: MetaMode) -> bool
 
 impl Splitter {
     /// `mg`.
-    #[tactic(auto, unfolding(crate::specs::Pieces::pieces_of, crate::specs::Shape::shape_of))]
+    #[tactic(auto, unfolding(crate::specs::Pieces::pieces_of, mc_reply::specs::Shape::shape_of))]
     pub fn meta_get(
         self,
         queue: &mut VecDeque<(usize, Piece)>,
@@ -81,7 +81,7 @@ impl Splitter {
     }
 
     /// `ms`.
-    #[tactic(auto, unfolding(crate::specs::Pieces::pieces_of, crate::specs::Shape::shape_of))]
+    #[tactic(auto, unfolding(crate::specs::Pieces::pieces_of, mc_reply::specs::Shape::shape_of))]
     pub fn meta_set(
         self,
         queue: &mut VecDeque<(usize, Piece)>,
@@ -112,7 +112,7 @@ impl Splitter {
     }
 
     /// `md`.
-    #[tactic(auto, unfolding(crate::specs::Pieces::pieces_of, crate::specs::Shape::shape_of))]
+    #[tactic(auto, unfolding(crate::specs::Pieces::pieces_of, mc_reply::specs::Shape::shape_of))]
     pub fn meta_delete(
         self,
         queue: &mut VecDeque<(usize, Piece)>,
@@ -141,7 +141,7 @@ impl Splitter {
     }
 
     /// `ma`. The item that it makes of a miss has the exptime of `N` and the number of `J`.
-    #[tactic(auto, unfolding(crate::specs::Pieces::pieces_of, crate::specs::Shape::shape_of))]
+    #[tactic(auto, unfolding(crate::specs::Pieces::pieces_of, mc_reply::specs::Shape::shape_of))]
     pub fn meta_arithmetic(
         self,
         queue: &mut VecDeque<(usize, Piece)>,

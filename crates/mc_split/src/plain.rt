@@ -11,25 +11,25 @@ ghost use Rattle.mc_wire.specs.declared.TheConstants.{GREATEST_VALUE_LIMIT};
 ghost use Rattle.mc_plain.specs.Plain.{get_of, meta_get_of, set_of};
 ghost use Rattle.mc_split.specs.Pieces.{pieces_of};
 ghost use Rattle.mc_split.specs.Plan.{form_of, Queues, SplitsInto};
-ghost use Rattle.mc_split.specs.Shape.{shape_of};
+ghost use Rattle.mc_reply.specs.Shape.{shape_of};
 ghost use Rattle.mc_split.specs.internal.Splits.{Splits};
 
 use crate::classic::plain_line;
-use crate::form::{Fixed, Form, Shape, Slots};
-use crate::plan::{Piece, Ticket};
+use crate::plan::Piece;
 use crate::splitter::Splitter;
 use mc_command::{
     Block, Keys, MetaFlags, MetaGet, MetaKind, MetaSet, Opaque, Profile, Retrieval, Returned,
     StoreMode,
 };
 use mc_item::{Kind, NoMemory, Op, Value};
+use mc_reply::{Fixed, Form, Shape, Slots, Ticket};
 use mc_wire::Key;
 use std::alloc::Global;
 use std::collections::VecDeque;
 
 /// The form of the reply to `mn`.
 #[inline(always)]
-#[tactic(auto, unfolding(crate::specs::Pieces::pieces_of, crate::specs::Shape::shape_of))]
+#[tactic(auto, unfolding(crate::specs::Pieces::pieces_of, mc_reply::specs::Shape::shape_of))]
 pub fn split_no_op(alloc: Global, ticket: Ticket, moment: u64, shards: usize) -> Form
     ensures { result ≡ form_of shards ticket command.MetaNoop }
 {
@@ -76,7 +76,7 @@ pub fn queue_get_one(
 
 /// The form of the reply to `get KEY`, or to `gets KEY`, which shows the unique. It takes no memory.
 #[inline(always)]
-#[tactic(auto, unfolding(crate::specs::Pieces::pieces_of, crate::specs::Shape::shape_of))]
+#[tactic(auto, unfolding(crate::specs::Pieces::pieces_of, mc_reply::specs::Shape::shape_of))]
 pub fn form_of_get_one(alloc: Global, key: Key, with_unique: bool, ticket: Ticket) -> Form
     ensures { (shards : ℕ) → result ≡ form_of shards ticket (get_of (key ∷ []) with_unique) }
 {
@@ -158,7 +158,7 @@ pub fn queue_meta_get_value(
 
 /// The form of the reply to `mg KEY v`, which follows these rules. It takes no memory.
 #[inline(always)]
-#[tactic(auto, unfolding(crate::specs::Pieces::pieces_of, crate::specs::Shape::shape_of))]
+#[tactic(auto, unfolding(crate::specs::Pieces::pieces_of, mc_reply::specs::Shape::shape_of))]
 pub fn form_of_meta_get_value(ticket: Ticket, profile: Profile) -> Form
     ensures { (shards : ℕ) (key : List ℕ) →
         result ≡ form_of shards ticket (meta_get_of profile key) }
@@ -279,7 +279,7 @@ pub fn queue_set(
 
 /// The form of the reply to `set`, which `noreply` hides. It takes no memory.
 #[inline(always)]
-#[tactic(auto, unfolding(crate::specs::Pieces::pieces_of, crate::specs::Shape::shape_of))]
+#[tactic(auto, unfolding(crate::specs::Pieces::pieces_of, mc_reply::specs::Shape::shape_of))]
 pub fn form_of_set(ticket: Ticket, noreply: bool) -> Form
     ensures { (shards : ℕ) (key : List ℕ) (flags : ℕ) (exptime : ℤ) (block : List ℕ) →
         result ≡ form_of shards ticket (set_of key flags exptime noreply block) }
@@ -302,7 +302,7 @@ fn form_of_one(shape: Shape, kind: Kind, ticket: Ticket) -> Form
 
 impl Splitter {
     /// `get KEY ..` and `gets KEY ..`.
-    #[tactic(auto, unfolding(crate::specs::Pieces::pieces_of, crate::specs::Shape::shape_of))]
+    #[tactic(auto, unfolding(crate::specs::Pieces::pieces_of, mc_reply::specs::Shape::shape_of))]
     fn get_keys(
         self,
         queue: &mut VecDeque<(usize, Piece)>,
@@ -329,7 +329,7 @@ impl Splitter {
     }
 
     /// `ms` with this block.
-    #[tactic(auto, unfolding(crate::specs::Pieces::pieces_of, crate::specs::Shape::shape_of))]
+    #[tactic(auto, unfolding(crate::specs::Pieces::pieces_of, mc_reply::specs::Shape::shape_of))]
     fn meta_set_with(
         self,
         queue: &mut VecDeque<(usize, Piece)>,

@@ -2,20 +2,16 @@
 ghost use Rattle.std.specs.Prelude.{◌≡◌, ◌<◌, ◌++◌, IfOk, IsTrue, OnOk, OnErr, length};
 ghost use Rattle.mc_command.specs.Command.{can_give_up};
 ghost use Rattle.mc_split.specs.Pieces.{pieces_of};
-ghost use Rattle.mc_split.specs.Shape.{shape_of};
+ghost use Rattle.mc_reply.specs.Shape.{shape_of};
 ghost use Rattle.mc_split.specs.Plan.{form_of, parts_from};
 ghost use Rattle.mc_split.specs.internal.Splits.{Splits};
 
-use crate::form::{Fixed, Form};
 use crate::splitter::Splitter;
 use mc_command::Command;
 use mc_item::{NoMemory, Op};
+use mc_reply::{Fixed, Form, Ticket};
 use std::alloc::Global;
 use std::collections::VecDeque;
-
-/// The place of a command in the list of commands of its connection, from 0.
-#[derive(Clone, Copy, Debug, PartialEq, Eq)]
-pub struct Ticket(pub u64);
 
 /// One part of a command, for one shard.
 #[derive(Drop)]
@@ -91,7 +87,7 @@ pub fn split(
 
 impl Splitter {
     /// Splits a command.
-    #[tactic(auto, unfolding(crate::specs::Pieces::pieces_of, crate::specs::Shape::shape_of))]
+    #[tactic(auto, unfolding(crate::specs::Pieces::pieces_of, mc_reply::specs::Shape::shape_of))]
     fn split(self, queue: &mut VecDeque<(usize, Piece)>, command: Command) -> Result<Form, NoMemory>
         requires { 0 < self.shards }
         ensures splits { Splits result self.ticket self.moment (shape_of command)

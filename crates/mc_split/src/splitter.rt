@@ -5,9 +5,9 @@ ghost use Rattle.mc_split.specs.Pieces.{ShardOp};
 ghost use Rattle.mc_split.specs.Plan.{form_with};
 ghost use Rattle.mc_split.specs.internal.Splits.{Splits};
 
-use crate::form::{Fixed, Form, Shape, Slots};
-use crate::plan::{Piece, Ticket};
+use crate::plan::Piece;
 use mc_item::{Kind, NoMemory, Op};
+use mc_reply::{Fixed, Form, Shape, Slots, Ticket};
 use std::alloc::{AllocError, Global};
 use std::collections::VecDeque;
 

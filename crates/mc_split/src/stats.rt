@@ -1,16 +1,16 @@
 //! The pieces of what every shard is asked, and of `stats`.
 ghost use Rattle.std.specs.Prelude.{◌≡◌, ◌<◌};
 ghost use Rattle.mc_split.specs.Pieces.{asked_of_all, pieces_of};
-ghost use Rattle.mc_split.specs.Shape.{shape_of};
+ghost use Rattle.mc_reply.specs.Shape.{shape_of};
 ghost use Rattle.mc_split.specs.internal.Splits.{Splits};
 ghost use Rattle.mc_split.specs.internal.ToAll.{op_of};
 
 use crate::classic::plain_line;
-use crate::form::{Fixed, Form, Shape};
 use crate::plan::Piece;
 use crate::splitter::Splitter;
 use mc_command::{Command, StatsRequest};
 use mc_item::{NoMemory, Op};
+use mc_reply::{Fixed, Form, Shape};
 use std::collections::VecDeque;
 
 /// What every shard is asked.
@@ -39,7 +39,7 @@ impl ToAll {
 
 impl Splitter {
     /// `stats`, and `stats reset`. Other counts are none, and ask no shard.
-    #[tactic(auto, unfolding(crate::specs::Pieces::pieces_of, crate::specs::Shape::shape_of))]
+    #[tactic(auto, unfolding(crate::specs::Pieces::pieces_of, mc_reply::specs::Shape::shape_of))]
     pub fn stats(
         self,
         queue: &mut VecDeque<(usize, Piece)>,

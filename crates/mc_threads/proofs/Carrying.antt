@@ -9,8 +9,7 @@ use Rattle.mc_ring.specs.declared.parcel.Parcel.TheVariants as parcel
 use Rattle.mc_ring.specs.declared.reply.Reply.{Reply}
 use Rattle.mc_ring.specs.Reply.{Shown, shown}
 use Rattle.mc_ring.specs.Lane.{Near}
-use Rattle.mc_ring.specs.Ends.{AreSameEnds, AtLane, Ends, Sends, received_on, sent_on}
-use Rattle.mc_ring.specs.Ends.{Receives}
+use Rattle.mc_ring.specs.Ends.{AreSameEnds, AtLane, Ends, Sends, received_on, sent_on, Receives}
 use Rattle.mc_ring.specs.EndsLaws.{at_lane-kept, at_lane-longer, at_lane-other, get-set_other, get-set_same, length-slice_set, same_ends-trans}
 use Rattle.mc_split.specs.declared.plan.Piece.{Piece}
 use Rattle.mc_join.specs.Expects.{Expects}

@@ -1,5 +1,5 @@
 //! Gates at which shards wait for each other, round after round.
-use mc_split::Ticket;
+use mc_reply::Ticket;
 use mc_worker::Gate;
 use std::alloc::{AllocError, Global};
 use std::sync::Arc;

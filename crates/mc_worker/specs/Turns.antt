@@ -6,7 +6,7 @@ use Rattle.mc_ring.specs.declared.reply.Reply.{Reply}
 use Rattle.mc_ring.specs.Lane.{Far}
 use Rattle.mc_ring.specs.Reply.{Shown, shown}
 use Rattle.mc_ring.specs.Ends.{AtLane, Receives, Sends, sent_on}
-use Rattle.mc_split.specs.declared.plan.Ticket.{Ticket}
+use Rattle.mc_reply.specs.declared.ticket.Ticket.{Ticket}
 use Rattle.mc_store.specs.State.{State}
 use Rattle.mc_store.specs.Step.{IsStep}
 use Rattle.mc_store.specs.Shard.{Keeps}

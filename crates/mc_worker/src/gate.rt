@@ -1,5 +1,5 @@
 //! A gate that a worker passes before each piece.
-use mc_split::Ticket;
+use mc_reply::Ticket;
 use mc_store::Shard;
 
 /// Is called before a shard runs a piece. Whoever wants to hold workers up, or to see what they run, gives one of their own.

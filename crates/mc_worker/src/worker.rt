@@ -15,9 +15,10 @@ ghost use Rattle.mc_worker.specs.Marks.{Marks};
 ghost use Rattle.mc_worker.specs.Serves.{ServesSeat};
 
 use crate::gate::Gate;
+use mc_reply::Ticket;
 use mc_ring::{Parcel, Reply, SeatEnds, ShardEnds, beside};
 use mc_sizes::Sizes;
-use mc_split::{Piece, Ticket};
+use mc_split::Piece;
 use mc_store::Shard;
 use std::alloc::{AllocError, Global};
 use std::marker::Model;

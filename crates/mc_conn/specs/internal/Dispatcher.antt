@@ -6,7 +6,7 @@ use Rattle.mc_command.specs.declared.refusal.Refusal.TheVariants.{Memory}
 use Rattle.mc_item.specs.declared.memory.NoMemory.{NoMemory}
 use Rattle.mc_split.specs.Plan.{form_of}
 use Rattle.mc_ring.specs.Reply.{Shown}
-use Rattle.mc_split.specs.declared.form.Form.{Form}
+use Rattle.mc_reply.specs.declared.form.Form.{Form}
 use Rattle.mc_join.specs.Held.{opened_count}
 use Rattle.mc_join.specs.Joined.{IsJoiner}
 use Rattle.mc_conn.specs.declared.dispatcher.Dispatcher.{Dispatcher}

@@ -12,9 +12,10 @@ ghost use Rattle.mc_model.specs.Sized.{empty_shard};
 ghost use Rattle.mc_sim.specs.Laid.{AreIn, LooksAt};
 ghost use Rattle.mc_sim.specs.Rings.{AreWired, GivesNone, GivesReply, KeepsPiece, ReceivesNone, ReceivesReply, RunsNone, RunsOldest, IsStarted, SendsPiece, TellsWaiting, Wires, ends_of, new_wires};
 
+use mc_reply::Ticket;
 use mc_ring::{Parcel, Reply, SeatEnds, ShardEnds, lanes};
 use mc_sizes::Sizes;
-use mc_split::{Piece, Ticket};
+use mc_split::Piece;
 use mc_worker::{OpenGate, Turn, Worker};
 use std::alloc::{AllocError, Global};
 use std::marker::Model;

@@ -1,10 +1,10 @@
 -- What the parts of the splitter promise of the pieces and the form that they make.
 use Rattle.std.specs.Prelude.{ℕ, ◌≡◌, ◌<◌, List, ◌++◌, Result, IfOk, OnOk, OnErr, length, take}
 use Rattle.mc_item.specs.declared.memory.NoMemory.{NoMemory}
-use Rattle.mc_split.specs.declared.form.Form.{Form}
-use Rattle.mc_split.specs.declared.form.Shape.{Shape}
+use Rattle.mc_reply.specs.declared.form.Form.{Form}
+use Rattle.mc_reply.specs.declared.form.Shape.{Shape}
 use Rattle.mc_split.specs.declared.plan.Piece.{Piece}
-use Rattle.mc_split.specs.declared.plan.Ticket.{Ticket}
+use Rattle.mc_reply.specs.declared.ticket.Ticket.{Ticket}
 use Rattle.mc_split.specs.Pieces.{ShardOp}
 use Rattle.mc_split.specs.Plan.{form_with, parts_from}
 

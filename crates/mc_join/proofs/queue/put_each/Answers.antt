@@ -2,7 +2,8 @@ use Rattle.std.proofs.Common.{◌≡◌, ◌∷◌, rules}
 use Rattle.mc_wire.proofs.Outlets.{breaks}
 use Rattle.mc_join.specs.Held.{IsDue}
 use Rattle.mc_join.specs.Replies.{form_text}
-use Rattle.mc_join.proofs.Texts.{part_breaks, reply_next, texts, wrote_more}
+use Rattle.mc_reply.proofs.Texts.{part_breaks, wrote_more}
+use Rattle.mc_join.proofs.Written.{reply_next, texts}
 use Rattle.mc_join.proofs.queue.put_each.Goals as goal
 
 pub loop-form-preserved : goal.loop-form-preserved

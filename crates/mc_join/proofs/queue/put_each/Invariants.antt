@@ -2,7 +2,7 @@
 use Rattle.std.proofs.Common.{map}
 use Rattle.std.specs.List.{concat}
 use Rattle.mc_join.specs.Replies.{complete, form_text}
-use Rattle.mc_join.proofs.Texts.{WroteBut}
+use Rattle.mc_reply.proofs.Texts.{WroteBut}
 use Rattle.mc_join.proofs.queue.put_each.Given as goal
 
 abbrev pub invariant-loop-form : goal.invariant-loop-form

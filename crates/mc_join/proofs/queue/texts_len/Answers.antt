@@ -1,4 +1,4 @@
-use Rattle.mc_join.proofs.Texts.{counted}
+use Rattle.mc_join.proofs.Written.{counted}
 use Rattle.mc_join.proofs.queue.texts_len.Goals as goal
 
 pub returns : goal.returns

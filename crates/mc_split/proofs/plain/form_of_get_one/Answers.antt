@@ -1,7 +1,7 @@
 use Rattle.std.proofs.Common.{refl}
 use Rattle.mc_item.specs.Kind.{kind_of}
 use Rattle.mc_split.specs.Pieces.{pieces_of}
-use Rattle.mc_split.specs.Shape.{shape_of}
+use Rattle.mc_reply.specs.Shape.{shape_of}
 use Rattle.mc_split.proofs.plain.form_of_get_one.Goals as goal
 
 pub returns : goal.returns

@@ -1,6 +1,6 @@
 use Rattle.mc_item.specs.Kind.{kind_of}
 use Rattle.mc_split.specs.Pieces.{pieces_of}
-use Rattle.mc_split.specs.Shape.{shape_of}
+use Rattle.mc_reply.specs.Shape.{shape_of}
 use Rattle.mc_split.proofs.plain.form_of_set.Goals as goal
 
 pub returns : goal.returns

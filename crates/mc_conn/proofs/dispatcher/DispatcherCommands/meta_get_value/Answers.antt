@@ -1,5 +1,5 @@
 use Rattle.std.proofs.Common.{ap, refl, ◌∙◌}
-use Rattle.mc_split.specs.declared.form.Form.{Form}
+use Rattle.mc_reply.specs.declared.form.Form.{Form}
 use Rattle.mc_plain.specs.Plain.{meta_get_of}
 use Rattle.mc_conn.specs.internal.Dispatcher.{refusal_of}
 use Rattle.mc_conn.proofs.Dispatching.{plans_queued}

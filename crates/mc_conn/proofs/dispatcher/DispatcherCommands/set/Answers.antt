@@ -3,7 +3,7 @@ use Rattle.std.proofs.lemmas.Int.{to_z-of_z}
 use mir.Val.{SFits}
 use mir.Syntax.{w64}
 use Rattle.mc_plain.specs.Plain.{set_of}
-use Rattle.mc_split.specs.declared.form.Form.{Form}
+use Rattle.mc_reply.specs.declared.form.Form.{Form}
 use Rattle.mc_conn.specs.internal.Dispatcher.{refusal_of}
 use Rattle.mc_conn.proofs.Dispatching.{plans_queued}
 use Rattle.mc_conn.proofs.GivenUp.{plans_refusal}

@@ -2,7 +2,7 @@
 use Rattle.std.proofs.Common.{w64}
 use Rattle.std.proofs.lemmas.Int.{to_z-of_z}
 use Rattle.mc_split.specs.Pieces.{pieces_of}
-use Rattle.mc_split.specs.Shape.{shape_of}
+use Rattle.mc_reply.specs.Shape.{shape_of}
 use Rattle.mc_split.proofs.splitter.Splitter.flush_all.Goals as goal
 
 pub returns : goal.returns

@@ -2,7 +2,7 @@
 use Rattle.std.proofs.Common.{◌≡◌, ◌-◌, length, arith, deque_len, rules}
 use Rattle.mc_wire.specs.Words.{words_left}
 use Rattle.mc_split.specs.Pieces.{pieces_of}
-use Rattle.mc_split.specs.Shape.{shape_of}
+use Rattle.mc_reply.specs.Shape.{shape_of}
 use Rattle.mc_split.proofs.Parts.{get_first, get_more, splits_get}
 use Rattle.mc_split.proofs.splitter.Splitter.get.Goals as goal
 

@@ -1,0 +1,6 @@
+use Rattle.mc_join.specs.Replies.{answers_of}
+use Rattle.mc_join.proofs.Answered.{due_slots}
+use Rattle.mc_join.proofs.queue.put_due.Goals as goal
+
+pub returns : goal.returns
+returns g c = c.put_reply.ensures (answers_of c.args.form.now.slots) (due_slots c.args.form.now c.requires)

@@ -1,0 +1,164 @@
+-- Worked replies, each computed from the command and its answers.
+use Rattle.std.proofs.Common.{◌≡◌, ℕ, Bool, true, false, List, [], ◌∷◌, ◌++◌, Option, Some, None, refl, replicate}
+use Rattle.std.specs.Prelude.{codes, map, pos}
+use Rattle.std.specs.Fmt.{digits}
+use Rattle.mc_command.specs.declared.command.Command.{Command}
+use Rattle.mc_command.specs.declared.command.Command.TheVariants as command
+use Rattle.mc_command.specs.declared.command.Direction.TheVariants as direction
+use Rattle.mc_command.specs.declared.command.StoreMode.{StoreMode}
+use Rattle.mc_command.specs.declared.command.StoreMode.TheVariants as store
+use Rattle.mc_command.specs.declared.meta.MetaMode.{MetaMode}
+use Rattle.mc_command.specs.declared.meta.MetaMode.TheVariants as mode
+use Rattle.mc_command.specs.declared.meta.MetaFlags.{MetaFlags}
+use Rattle.mc_command.specs.declared.meta.ReturnFlag.{ReturnFlag}
+use Rattle.mc_command.specs.declared.meta.ReturnFlag.TheVariants as flag
+use Rattle.mc_command.specs.declared.refusal.Refusal.TheVariants as refusal
+use Rattle.mc_command.specs.declared.command.StatsRequest.TheVariants as request
+use Rattle.mc_command.specs.declared.rules.Profile.TheVariants.{DropIn, Own}
+use Rattle.mc_item.specs.declared.tally.CountedAs.TheVariants as asked
+use Rattle.mc_item.specs.declared.tally.Status.TheVariants as status
+use Rattle.mc_item.specs.Tally.{no_counts, noted}
+use Rattle.mc_item.specs.declared.answer.Answer.{Answer}
+use Rattle.mc_item.specs.declared.answer.Answer.TheVariants as answer
+use Rattle.mc_reply.specs.Shape.{shape_of}
+use Rattle.mc_reply.specs.Text.{shape_text, text_of}
+use Rattle.mc_wire.specs.Base64Key.{base64_of}
+
+abbrev got : List (List ℕ) → Bool → Command
+got keys with_unique = command.Get (record { keys = keys; touch = None; with_unique = with_unique })
+
+-- a hit of a value of one byte
+abbrev hit_x : Answer
+hit_x = answer.Hit 0 1 (codes "x")
+
+-- the items stand in the order of the keys, a repeated one each time, and a miss shows nothing; one part without memory is the
+-- whole reply
+gets : (text_of (got (codes "a" ∷ codes "b" ∷ codes "a" ∷ codes "c" ∷ []) false) (hit_x ∷ answer.Hit 0 2 (codes "yy") ∷ hit_x ∷ answer.Miss ∷ [])
+    ≡ codes "VALUE a 0 1\r\nx\r\nVALUE b 0 2\r\nyy\r\nVALUE a 0 1\r\nx\r\nEND\r\n")
+    × (text_of (got (codes "a" ∷ []) true) (answer.Hit 5 1 (codes "abc") ∷ []) ≡ codes "VALUE a 5 3 1\r\nabc\r\nEND\r\n")
+    × (text_of (got (codes "a" ∷ codes "b" ∷ []) false) (hit_x ∷ answer.NoMemory ∷ []) ≡ codes "SERVER_ERROR out of memory\r\n")
+unfolding shape_of shape_text digits
+gets = (refl, refl, refl)
+
+-- a refusal is shown as it is
+lines : (text_of (command.FlushAll (pos 10) false) (answer.Done ∷ answer.Done ∷ []) ≡ codes "OK\r\n")
+    × (text_of (command.Count (codes "a") direction.Increment 1 true) (answer.NonNumeric ∷ []) ≡ [])
+    × (text_of (command.Count (codes "a") direction.Increment 1 false) (answer.Number 8 ∷ []) ≡ codes "8\r\n")
+    × (text_of (command.Refused refusal.BadChunk) [] ≡ codes "CLIENT_ERROR bad data chunk\r\n")
+unfolding shape_of shape_text digits
+lines = (refl, refl, refl, refl)
+
+-- the flags of a meta command
+abbrev flags_of : Bool → Bool → List ReturnFlag → List ℕ → MetaFlags
+flags_of base64 quiet returned token = record { base64 = base64; quiet = quiet; profile = Own; returned = returned; opaque = token }
+
+abbrev meta_get : List ℕ → MetaFlags → Bool → Command
+meta_get key flags value = command.MetaGet (record { key = key; flags = flags; value = value; touch = None; vivify = None; recache = None; unnoted = false })
+
+abbrev meta_set : List ℕ → MetaFlags → Command
+meta_set key flags = command.MetaSet (record { key = key; flags = flags; mode = mode.Set; compare = None; unique = None; client_flags = 0; exptime = pos 0; block = codes "x" })
+
+abbrev meta_hit : List ℕ → ℕ → Option ℕ → Bool → Bool → Bool → Answer
+meta_hit value unique left won stale sent = answer.MetaHit (record { value = value; flags = 0; unique = unique; fetched = true; idle = 2; left = left; marks = record { won = won; stale = stale; sent = sent } })
+
+abbrev meta_done : ℕ → ℕ → ℕ → Answer
+meta_done unique size number = answer.MetaDone (record { unique = unique; size = size; left = None; number = number })
+
+-- an item made by this command, and one that another client was told to recompute: the marks stand last
+hits : (text_of (meta_get (codes "a") (flags_of false false (flag.TimeLeft ∷ []) []) true) (meta_hit [] 1 (Some 30) true false false ∷ []) ≡ codes "VA 0 t30 W\r\n\r\n")
+    × (text_of (meta_get (codes "a") (flags_of false false (flag.Unique ∷ []) []) true) (meta_hit (codes "x") 5 None false true true ∷ []) ≡ codes "VA 1 c5 X Z\r\nx\r\n")
+    × (text_of (meta_get (codes "a") (flags_of false false (flag.Fetched ∷ flag.LastAccess ∷ flag.TimeLeft ∷ []) []) false) (meta_hit (codes "x") 1 (Some 93) false false false ∷ [])
+    ≡ codes "HD h1 l2 t93\r\n")
+unfolding shape_of shape_text digits
+hits = (refl, refl, refl)
+
+-- of a miss only the key and the token are told, in the order of the request
+misses : (text_of (meta_get (codes "zz") (flags_of false false (flag.Key ∷ flag.Size ∷ flag.Opaque ∷ []) (codes "7")) true) (answer.Miss ∷ []) ≡ codes "EN kzz O7\r\n")
+    × (text_of (meta_get (codes "zz") (flags_of false true (flag.Key ∷ []) []) true) (answer.Miss ∷ []) ≡ [])
+unfolding shape_of shape_text digits
+misses = (refl, refl)
+
+-- a key whose base64 is `YQ==` is told so, and `b` stands behind it
+coded_key : (key : List ℕ) → base64_of key ≡ codes "YQ==" → text_of (meta_get key (flags_of true false (flag.Key ∷ []) []) true) (meta_hit (codes "x") 1 None false false false ∷ []) ≡ codes "VA 1 kYQ== b\r\nx\r\n"
+unfolding shape_of shape_text digits
+coded_key key coded = rw coded refl
+
+-- quiet `ms` hides that it stored, and nothing else; an error line has no flags
+sets : (text_of (meta_set (codes "a") (flags_of false true (flag.Unique ∷ []) [])) (meta_done 5 1 0 ∷ []) ≡ [])
+    × (text_of (meta_set (codes "a") (flags_of false true (flag.Size ∷ flag.Opaque ∷ []) (codes "2"))) (answer.NotStored ∷ []) ≡ codes "NS O2\r\n")
+    × (text_of (meta_set (codes "a") (flags_of false false (flag.Key ∷ flag.Opaque ∷ flag.Size ∷ []) (codes "1"))) (meta_done 1 1 0 ∷ []) ≡ codes "HD ka O1 s1\r\n")
+    × (text_of (meta_set (codes "a") (flags_of false true (flag.Key ∷ []) [])) (answer.TooLarge ∷ []) ≡ codes "SERVER_ERROR object too large for cache\r\n")
+unfolding shape_of shape_text digits
+sets = (refl, refl, refl, refl)
+
+-- `ma` with `v` shows its number, also where it is quiet
+arithmetic : text_of (command.MetaArithmetic (record { key = codes "c"; flags = flags_of false true (flag.Unique ∷ []) []; value = true; compare = None; unique = None; direction = direction.Increment; amount = 2; initial = 0; vivify = None; exptime = None })) (meta_done 3 2 15 ∷ []) ≡ codes "VA 2 c3\r\n15\r\n"
+unfolding shape_of shape_text digits
+arithmetic = refl
+
+-- By memcached's rules: the marks stand the other way round, `ms` shows the unique 0 of what it did not store, also where it is
+-- quiet, and a joined value that is too large counts as not stored.
+abbrev by_memcached : MetaFlags → MetaFlags
+by_memcached flags = record flags { profile = DropIn }
+
+abbrev joined : StoreMode → Bool → Bool → Command
+joined mode noreply lenient = command.Store (record { key = codes "a"; mode = mode; flags = 0; exptime = pos 0; noreply = noreply; lenient = lenient; block = codes "x" })
+
+-- the reply to `ms` with these flags in this mode, whose value is too large
+abbrev ms_too_large : MetaFlags → MetaMode → List ℕ
+ms_too_large flags mode = text_of (command.MetaSet (record { key = codes "a"; flags = flags; mode = mode; compare = None; unique = None; client_flags = 0; exptime = pos 0; block = codes "x" })) (answer.TooLarge ∷ [])
+
+memcached_marks : (text_of (meta_get (codes "a") (by_memcached (flags_of false false (flag.Unique ∷ []) [])) true) (meta_hit (codes "x") 5 None false true true ∷ []) ≡ codes "VA 1 c5 Z X\r\nx\r\n")
+    × (text_of (meta_get (codes "a") (by_memcached (flags_of false false [] [])) false) (meta_hit (codes "x") 5 None true true false ∷ []) ≡ codes "HD X W\r\n")
+    × (text_of (meta_get (codes "a") (flags_of false false [] []) false) (meta_hit (codes "x") 5 None true true false ∷ []) ≡ codes "HD W X\r\n")
+unfolding shape_of shape_text digits
+memcached_marks = (refl, refl, refl)
+
+memcached_zero : (text_of (meta_set (codes "a") (by_memcached (flags_of false true (flag.Key ∷ flag.Unique ∷ flag.Opaque ∷ []) (codes "1")))) (answer.NotStored ∷ []) ≡ codes "NS ka c0 O1\r\n")
+    × (text_of (meta_set (codes "a") (by_memcached (flags_of false false (flag.Unique ∷ flag.Size ∷ []) []))) (answer.Exists ∷ []) ≡ codes "EX c0\r\n")
+    × (text_of (meta_set (codes "a") (by_memcached (flags_of false false (flag.Unique ∷ []) []))) (answer.NotFound ∷ []) ≡ codes "NF c0\r\n")
+    × (text_of (meta_set (codes "a") (flags_of false false (flag.Unique ∷ []) [])) (answer.NotFound ∷ []) ≡ codes "NF\r\n")
+    × (text_of (command.MetaArithmetic (record { key = codes "c"; flags = by_memcached (flags_of false false (flag.Unique ∷ []) []); value = false; compare = None; unique = None; direction = direction.Increment; amount = 2; initial = 0; vivify = None; exptime = None })) (answer.NotFound ∷ []) ≡ codes "NF\r\n")
+unfolding shape_of shape_text digits
+memcached_zero = (refl, refl, refl, refl, refl)
+
+joined_too_large : (text_of (joined store.Append false true) (answer.TooLarge ∷ []) ≡ codes "NOT_STORED\r\n")
+    × (text_of (joined store.Append true true) (answer.TooLarge ∷ []) ≡ [])
+    × (text_of (joined store.Append false false) (answer.TooLarge ∷ []) ≡ codes "SERVER_ERROR object too large for cache\r\n")
+unfolding shape_of shape_text digits
+joined_too_large = (refl, refl, refl)
+
+abbrev quiet_flags : MetaFlags
+quiet_flags = flags_of false true (flag.Unique ∷ flag.Key ∷ []) []
+
+-- It counts so in the modes that join alone, and by memcached's rules alone.
+ms_joined_too_large : (map (ms_too_large (by_memcached quiet_flags)) (mode.Append ∷ mode.Prepend ∷ []) ≡ replicate 2 (codes "NS c0 ka\r\n"))
+    × (map (ms_too_large (by_memcached quiet_flags)) (mode.Set ∷ mode.Add ∷ mode.Replace ∷ []) ≡ replicate 3 (codes "SERVER_ERROR object too large for cache\r\n"))
+    × (map (ms_too_large quiet_flags) (mode.Append ∷ mode.Prepend ∷ []) ≡ replicate 2 (codes "SERVER_ERROR object too large for cache\r\n"))
+unfolding shape_of shape_text digits
+ms_joined_too_large = (refl, refl, refl)
+
+-- a shard that was asked for two items and had one of them, and another that had one, stored one with a unique, and let the most
+-- items go that can be counted
+abbrev first_shard : Answer
+first_shard = answer.Stats (record { tally = noted (noted no_counts asked.Get status.Hit) asked.Get status.Miss; evicted = 3; items = 4; bytes = 400; budget = 1000 })
+
+abbrev second_shard : Answer
+second_shard = answer.Stats (record { tally = noted (noted no_counts asked.Get status.Hit) asked.Cas status.Hit; evicted = 18446744073709551615; items = 5; bytes = 500; budget = 1000 })
+
+-- The numbers of the shards are added up, and a count starts anew after its greatest value.
+counts : text_of (command.Stats request.General) (first_shard ∷ second_shard ∷ [])
+    ≡ codes "STAT version 1.6.18\r\nSTAT cmd_get 3\r\nSTAT cmd_set 1\r\nSTAT cmd_flush 0\r\nSTAT cmd_touch 0\r\nSTAT get_hits 2\r\nSTAT get_misses 1\r\n"
+    ++ codes "STAT delete_misses 0\r\nSTAT delete_hits 0\r\nSTAT incr_misses 0\r\nSTAT incr_hits 0\r\nSTAT decr_misses 0\r\nSTAT decr_hits 0\r\n"
+    ++ codes "STAT cas_misses 0\r\nSTAT cas_hits 1\r\nSTAT cas_badval 0\r\nSTAT touch_hits 0\r\nSTAT touch_misses 0\r\nSTAT limit_maxbytes 2000\r\n"
+    ++ codes "STAT bytes 900\r\nSTAT curr_items 9\r\nSTAT total_items 1\r\nSTAT evictions 2\r\nSTAT threads 2\r\nEND\r\n"
+unfolding shape_of shape_text digits
+counts = refl
+
+-- what other words behind `stats` are answered with, and the release
+other_counts : (text_of (command.Stats request.Reset) (answer.Reset ∷ answer.Reset ∷ []) ≡ codes "RESET\r\n")
+    × (text_of (command.Stats request.Empty) [] ≡ codes "END\r\n")
+    × (text_of (command.Stats request.General) (first_shard ∷ answer.NoMemory ∷ []) ≡ codes "SERVER_ERROR out of memory\r\n")
+    × (text_of (command.Version DropIn) [] ≡ codes "VERSION 1.6.18\r\n")
+unfolding shape_of shape_text digits
+other_counts = (refl, refl, refl, refl)

@@ -1,0 +1,5 @@
+pub mod Shape
+pub mod Slots
+pub mod Text
+pub mod TextLaws
+pub mod internal

@@ -1,0 +1,55 @@
+-- What the text of a reply depends on beside the answers.
+use Rattle.std.specs.Prelude.{ℕ, Bool, true, false, List, Option, Some, None, if◌then◌else◌}
+use Rattle.std.specs.List.{list_any}
+use Rattle.mc_command.specs.declared.command.Command.{Command}
+use Rattle.mc_command.specs.declared.command.Command.TheVariants as command
+use Rattle.mc_command.specs.declared.command.StatsRequest.TheVariants as request
+use Rattle.mc_command.specs.declared.meta.MetaFlags.{MetaFlags}
+use Rattle.mc_command.specs.declared.meta.MetaMode.{MetaMode}
+use Rattle.mc_command.specs.declared.meta.MetaMode.TheVariants.{Append, Prepend}
+use Rattle.mc_command.specs.declared.meta.ReturnFlag.{ReturnFlag}
+use Rattle.mc_command.specs.declared.meta.ReturnFlag.TheVariants.{Key}
+use Rattle.mc_command.specs.declared.rules.Profile.{Profile}
+use Rattle.mc_command.specs.declared.rules.Profile.TheVariants.{DropIn}
+use Rattle.mc_reply.specs.declared.form.Shape.{Shape}
+use Rattle.mc_reply.specs.declared.form.Shape.TheVariants.{Fixed, Line, Values, Stats, Meta}
+use Rattle.mc_reply.specs.declared.form.Fixed.TheVariants as fixed
+use Rattle.mc_command.specs.declared.meta.MetaKind.TheVariants as kind
+
+-- the flag k
+abbrev pub is_key_flag : ReturnFlag → Bool
+is_key_flag Key = true
+is_key_flag flag = false
+
+-- the key, where the flag k asks for it
+abbrev pub shown_key : MetaFlags → List ℕ → Option (List ℕ)
+shown_key flags key = if list_any is_key_flag flags.returned then Some key else None
+
+-- By memcached's rules a value that `ms` joins counts as not stored where it is too large, and that is no error.
+abbrev pub is_lenient_in : Profile → MetaMode → Bool
+is_lenient_in DropIn Append = true
+is_lenient_in DropIn Prepend = true
+is_lenient_in profile mode = false
+
+-- the shape of the reply to a command
+unfoldable pub shape_of : Command → Shape
+shape_of (command.Store storage) = Line storage.noreply storage.lenient
+shape_of (command.Get retrieval) = Values retrieval.keys retrieval.with_unique
+shape_of (command.Delete key noreply) = Line noreply false
+shape_of (command.Count key direction amount noreply) = Line noreply false
+shape_of (command.Touch key exptime noreply) = Line noreply false
+shape_of (command.FlushAll delay noreply) = Line noreply false
+shape_of (command.Version profile) = Fixed (fixed.Version profile)
+shape_of (command.Verbosity noreply) = Fixed (if noreply then fixed.Nothing else fixed.Ok)
+shape_of (command.Stats request.General) = Stats
+shape_of (command.Stats request.Reset) = Line false false
+shape_of (command.Stats request.Empty) = Fixed fixed.End
+shape_of command.Quit = Fixed fixed.Nothing
+shape_of command.MetaNoop = Fixed fixed.MetaNoop
+shape_of (command.MetaGet get) = Meta kind.Get get.flags get.value (shown_key get.flags get.key) false
+shape_of (command.MetaSet set) = Meta kind.Set set.flags false (shown_key set.flags set.key) (is_lenient_in set.flags.profile set.mode)
+shape_of (command.MetaDelete delete) = Meta kind.Delete delete.flags false (shown_key delete.flags delete.key) false
+shape_of (command.MetaArithmetic arithmetic) =
+    Meta kind.Arithmetic arithmetic.flags arithmetic.value (shown_key arithmetic.flags arithmetic.key) false
+shape_of (command.Refused refusal) = Fixed (fixed.Refused refusal)
+shape_of (command.Discard key refusal) = Fixed (fixed.Refused refusal)

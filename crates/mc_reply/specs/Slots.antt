@@ -1,0 +1,15 @@
+-- The slots of a form, however they are kept.
+use Rattle.std.specs.Prelude.{ℕ, List, [], ◌∷◌, Option, count_by}
+use Rattle.std.specs.Option.{is_none}
+use Rattle.mc_item.specs.declared.answer.Answer.{Answer}
+use Rattle.mc_reply.specs.declared.form.Kept.{Kept}
+use Rattle.mc_reply.specs.declared.form.Kept.TheVariants.{One, Many}
+
+-- the answers by part
+abbrev pub answers_in : Kept → List (Option Answer)
+answers_in (One answer) = answer ∷ []
+answers_in (Many answers) = answers.items
+
+-- how many parts have no answer yet
+abbrev pub missing_in : List (Option Answer) → ℕ
+missing_in answers = count_by is_none answers

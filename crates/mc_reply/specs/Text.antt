@@ -1,0 +1,228 @@
+-- The texts of replies, as functions of the whole list of answers (protocol.txt, the reply lines of each command).
+use Rattle.std.specs.Prelude.{ℕ, ◌^◌, ◌%◌, Bool, true, false, ◌&&◌, List, [], ◌∷◌, ◌++◌, length, codes, decimal, Option, Some, None, if◌then◌else◌}
+use Rattle.std.specs.List.{concat, flat_map, list_any, sum_by, zip}
+use Rattle.mc_command.specs.declared.command.Command.{Command}
+use Rattle.mc_command.specs.declared.meta.MetaFlags.{MetaFlags}
+use Rattle.mc_command.specs.declared.meta.ReturnFlag.{ReturnFlag}
+use Rattle.mc_command.specs.declared.meta.ReturnFlag.TheVariants as return_flag
+use Rattle.mc_command.specs.declared.refusal.Refusal.{Refusal}
+use Rattle.mc_command.specs.declared.rules.Profile.{Profile}
+use Rattle.mc_command.specs.declared.rules.Profile.TheVariants as profile
+use Rattle.mc_command.specs.declared.refusal.Refusal.TheVariants as refusal
+use Rattle.mc_item.specs.declared.answer.Answer.{Answer}
+use Rattle.mc_item.specs.declared.answer.Answer.TheVariants.{Stored, NotStored, Exists, NotFound, TooLarge, NoCas, NoMemory, Hit, Miss, Number, NonNumeric, Deleted, Touched, Done, Reset}
+use Rattle.mc_item.specs.declared.answer.Answer.TheVariants as answer
+use Rattle.mc_item.specs.declared.answer.Marks.{Marks}
+use Rattle.mc_item.specs.declared.stat.Stat.{Stat}
+use Rattle.mc_item.specs.Stat.{all_stats, row_of}
+use Rattle.mc_reply.specs.declared.form.Fixed.{Fixed}
+use Rattle.mc_reply.specs.declared.form.Fixed.TheVariants as fixed
+use Rattle.mc_command.specs.declared.meta.MetaKind.{MetaKind}
+use Rattle.mc_command.specs.declared.meta.MetaKind.TheVariants as kind
+use Rattle.mc_reply.specs.declared.form.Shape.{Shape}
+use Rattle.mc_reply.specs.declared.form.Shape.TheVariants as shape
+use Rattle.mc_reply.specs.Shape.{shape_of}
+use Rattle.mc_wire.specs.Base64Key.{base64_of}
+
+-- the line of a refusal (protocol.txt, "Error strings"; the words after the first are this server's)
+abbrev pub refusal_line : Refusal → List ℕ
+refusal_line refusal.Unknown = codes "ERROR\r\n"
+refusal_line refusal.BadFormat = codes "CLIENT_ERROR bad command line format\r\n"
+refusal_line refusal.BadKey = codes "CLIENT_ERROR bad key\r\n"
+refusal_line refusal.InvalidFlag = codes "CLIENT_ERROR invalid flag\r\n"
+refusal_line refusal.DuplicateFlag = codes "CLIENT_ERROR duplicate flag\r\n"
+refusal_line refusal.OpaqueTooLong = codes "CLIENT_ERROR opaque token too long\r\n"
+refusal_line refusal.TooLarge = codes "SERVER_ERROR object too large for cache\r\n"
+refusal_line refusal.BadChunk = codes "CLIENT_ERROR bad data chunk\r\n"
+refusal_line refusal.LineTooLong = codes "CLIENT_ERROR line too long\r\n"
+refusal_line refusal.Memory = codes "SERVER_ERROR out of memory\r\n"
+refusal_line refusal.WordCount = codes "ERROR\r\n"
+refusal_line refusal.Hidden = []
+
+-- the release of memcached that its rules follow, whose parts clients compare as numbers
+abbrev pub release : List ℕ
+release = codes "1.6.18"
+
+-- the line of `version`; by memcached's rules that of the release that they follow
+abbrev pub version_line : Profile → List ℕ
+version_line profile.Own = codes "VERSION 1.6.0-sharded\r\n"
+version_line profile.DropIn = concat (codes "VERSION " ∷ release ∷ codes "\r\n" ∷ [])
+
+-- a reply that no answer changes
+abbrev pub fixed_text : Fixed → List ℕ
+fixed_text fixed.Nothing = []
+fixed_text fixed.Ok = codes "OK\r\n"
+fixed_text (fixed.Version profile) = version_line profile
+fixed_text fixed.End = codes "END\r\n"
+fixed_text fixed.MetaNoop = codes "MN\r\n"
+fixed_text (fixed.Refused refusal) = refusal_line refusal
+
+-- the reply to a command of which any part found no memory
+abbrev pub memory_line : List ℕ
+memory_line = codes "SERVER_ERROR out of memory\r\n"
+
+abbrev pub is_no_memory : Answer → Bool
+is_no_memory NoMemory = true
+is_no_memory answer = false
+
+-- the text, or the memory line where any answer says that memory ran out
+abbrev pub unless_no_memory : List Answer → List ℕ → List ℕ
+unless_no_memory answers text = if list_any is_no_memory answers then memory_line else text
+
+-- the line of an answer that has one, whichever command of its kind it answers
+abbrev pub answer_line : Answer → List ℕ
+answer_line Stored = codes "STORED\r\n"
+answer_line NotStored = codes "NOT_STORED\r\n"
+answer_line Exists = codes "EXISTS\r\n"
+answer_line NotFound = codes "NOT_FOUND\r\n"
+answer_line TooLarge = codes "SERVER_ERROR object too large for cache\r\n"
+answer_line NoCas = codes "SERVER_ERROR out of cas uniques\r\n"
+answer_line NoMemory = memory_line
+answer_line (Number number) = concat (decimal number ∷ codes "\r\n" ∷ [])
+answer_line NonNumeric = codes "CLIENT_ERROR cannot increment or decrement non-numeric value\r\n"
+answer_line Deleted = codes "DELETED\r\n"
+answer_line Touched = codes "TOUCHED\r\n"
+answer_line Done = codes "OK\r\n"
+answer_line Reset = codes "RESET\r\n"
+answer_line answer = []
+
+-- An answer as it is told: where that counts as not stored, none is too large.
+abbrev pub told : Answer → Bool → Answer
+told TooLarge true = NotStored
+told answer lenient = answer
+
+-- the text of the first answer: a command of several parts that has one line has the same answer to each
+abbrev pub of_first : (Answer → List ℕ) → List Answer → List ℕ
+of_first text [] = []
+of_first text (answer ∷ answers) = text answer
+
+-- an item that was found (protocol.txt, "Retrieval command"), with its unique or without; a miss shows nothing
+abbrev pub item_text : Bool → List ℕ → Answer → List ℕ
+item_text with_unique key (Hit flags unique value) =
+    concat (codes "VALUE " ∷ key ∷ codes " " ∷ decimal flags ∷ codes " " ∷ decimal (length value)
+    ∷ (if with_unique then codes " " ++ decimal unique else []) ∷ codes "\r\n" ∷ value ∷ codes "\r\n" ∷ [])
+item_text with_unique key answer = []
+
+-- the items found, in the order of the keys, and the line that ends them
+abbrev pub values_text : List (List ℕ) → Bool → List Answer → List ℕ
+values_text keys with_unique answers = flat_map (λ pair. item_text with_unique pair.0 pair.1) (zip keys answers) ++ codes "END\r\n"
+
+-- a line of `stats` (protocol.txt, "General-purpose statistics")
+abbrev pub stat_text : List ℕ → List ℕ → List ℕ
+stat_text name value = concat (codes "STAT " ∷ name ∷ codes " " ∷ value ∷ codes "\r\n" ∷ [])
+
+-- what the answer of a shard tells of a number
+abbrev pub stat_in : Stat → Answer → ℕ
+stat_in stat (answer.Stats stats) = (row_of stat).1 stats
+stat_in stat answer = 0
+
+-- a number of all shards together; a count starts anew after 2^64 - 1
+abbrev pub together : Stat → List Answer → ℕ
+together stat answers = sum_by (stat_in stat) answers % 2 ^ 64
+
+-- the release, the numbers of all shards together, and how many shards there are, each of which runs in a thread of its own
+abbrev pub stats_text : List Answer → List ℕ
+stats_text answers =
+    concat (stat_text (codes "version") release ∷ flat_map (λ stat. stat_text (row_of stat).0 (decimal (together stat answers))) all_stats
+    ∷ stat_text (codes "threads") (decimal (length answers)) ∷ codes "END\r\n" ∷ [])
+
+-- what the flag `q` hides (protocol.txt, "Meta Commands": "noreply semantics for return codes"): of `mg` the miss,
+-- of `ms` that it is stored, of `md` that it is done or not found, of `ma` the same, unless it shows the number
+abbrev pub is_hidden : MetaKind → Bool → Answer → Bool
+is_hidden kind.Get value Miss = true
+is_hidden kind.Set value (answer.MetaDone done) = true
+is_hidden kind.Delete value Deleted = true
+is_hidden kind.Delete value Done = true
+is_hidden kind.Delete value NotFound = true
+is_hidden kind.Arithmetic false (answer.MetaDone done) = true
+is_hidden kind.Arithmetic value NotFound = true
+is_hidden kind value answer = false
+
+-- the key word: as it stands, or its base64 (RFC 4648, section 4), which the flag `b` then marks
+abbrev pub key_flag : Bool → Option (List ℕ) → List ℕ
+key_flag base64 None = []
+key_flag false (Some key) = concat (codes " k" ∷ key ∷ [])
+key_flag true (Some key) = concat (codes " k" ∷ base64_of key ∷ codes " b" ∷ [])
+
+-- the seconds left, -1 for never
+abbrev pub left_flag : Option ℕ → List ℕ
+left_flag None = codes " t-1"
+left_flag (Some left) = concat (codes " t" ∷ decimal left ∷ [])
+
+-- a returned flag of what was found, stored or changed; other answers show none
+abbrev pub item_flag : Answer → ReturnFlag → List ℕ
+item_flag (answer.MetaHit hit) return_flag.Unique = concat (codes " c" ∷ decimal hit.unique ∷ [])
+item_flag (answer.MetaHit hit) return_flag.ClientFlags = concat (codes " f" ∷ decimal hit.flags ∷ [])
+item_flag (answer.MetaHit hit) return_flag.Fetched = if hit.fetched then codes " h1" else codes " h0"
+item_flag (answer.MetaHit hit) return_flag.LastAccess = concat (codes " l" ∷ decimal hit.idle ∷ [])
+item_flag (answer.MetaHit hit) return_flag.Size = concat (codes " s" ∷ decimal (length hit.value) ∷ [])
+item_flag (answer.MetaHit hit) return_flag.TimeLeft = left_flag hit.left
+item_flag (answer.MetaDone done) return_flag.Unique = concat (codes " c" ∷ decimal done.unique ∷ [])
+item_flag (answer.MetaDone done) return_flag.Size = concat (codes " s" ∷ decimal done.size ∷ [])
+item_flag (answer.MetaDone done) return_flag.TimeLeft = left_flag done.left
+item_flag answer flag = []
+
+-- a returned flag: the key and the opaque token of every reply, and what the answer tells of the item
+abbrev pub flag_text : MetaFlags → Option (List ℕ) → Answer → ReturnFlag → List ℕ
+flag_text flags key answer return_flag.Key = key_flag flags.base64 key
+flag_text flags key answer return_flag.Opaque = concat (codes " O" ∷ flags.opaque ∷ [])
+flag_text flags key answer flag = item_flag answer flag
+
+-- the returned flags, in the order of the request
+abbrev pub flags_text : MetaFlags → Option (List ℕ) → Answer → List ℕ
+flags_text flags key answer = flat_map (flag_text flags key answer) flags.returned
+
+-- the same where nothing was stored or changed: by memcached's rules `ms` shows a unique of 0
+abbrev pub failed_flag : MetaKind → Profile → (ReturnFlag → List ℕ) → ReturnFlag → List ℕ
+failed_flag kind.Set profile.DropIn text return_flag.Unique = codes " c0"
+failed_flag kind profile text flag = text flag
+
+abbrev pub failed_text : MetaKind → MetaFlags → Option (List ℕ) → Answer → List ℕ
+failed_text kind flags key answer = flat_map (failed_flag kind flags.profile (flag_text flags key answer)) flags.returned
+
+-- the marks of a hit, behind its flags; in memcached the other way round
+abbrev pub marks_text : Profile → Marks → List ℕ
+marks_text profile.DropIn marks =
+    concat ((if marks.sent then codes " Z" else []) ∷ (if marks.stale then codes " X" else []) ∷ (if marks.won then codes " W" else []) ∷ [])
+marks_text profile.Own marks =
+    concat ((if marks.won then codes " W" else []) ∷ (if marks.stale then codes " X" else []) ∷ (if marks.sent then codes " Z" else []) ∷ [])
+
+-- a reply without a value: the code, the flags, the marks
+abbrev pub head_text : List ℕ → List ℕ → List ℕ → List ℕ
+head_text code flags marks = concat (code ∷ flags ∷ marks ∷ codes "\r\n" ∷ [])
+
+-- a reply with this value, whose size stands behind the code, or without it
+abbrev pub value_text : Bool → List ℕ → List ℕ → List ℕ → List ℕ
+value_text true value flags marks =
+    concat (codes "VA " ∷ decimal (length value) ∷ flags ∷ marks ∷ codes "\r\n" ∷ value ∷ codes "\r\n" ∷ [])
+value_text false value flags marks = head_text (codes "HD") flags marks
+
+-- the reply of a meta command, with its value or number where that is asked for (protocol.txt, "Meta Commands");
+-- an error line has no flags
+abbrev pub coded_text : MetaKind → MetaFlags → Option (List ℕ) → Answer → Bool → List ℕ
+coded_text kind flags key (answer.MetaHit hit) value = value_text value hit.value (flags_text flags key (answer.MetaHit hit)) (marks_text flags.profile hit.marks)
+coded_text kind flags key (answer.MetaDone done) value = value_text value (decimal done.number) (flags_text flags key (answer.MetaDone done)) []
+coded_text kind flags key Deleted value = head_text (codes "HD") (flags_text flags key Deleted) []
+coded_text kind flags key Done value = head_text (codes "HD") (flags_text flags key Done) []
+coded_text kind flags key Miss value = head_text (codes "EN") (flags_text flags key Miss) []
+coded_text kind flags key NotStored value = head_text (codes "NS") (failed_text kind flags key NotStored) []
+coded_text kind flags key Exists value = head_text (codes "EX") (failed_text kind flags key Exists) []
+coded_text kind flags key NotFound value = head_text (codes "NF") (failed_text kind flags key NotFound) []
+coded_text kind flags key answer value = answer_line answer
+
+-- the reply of a meta command, or nothing where `q` hides it
+abbrev pub meta_text : MetaKind → MetaFlags → Bool → Option (List ℕ) → Bool → Answer → List ℕ
+meta_text kind flags value key lenient answer =
+    if flags.quiet && is_hidden kind value answer then [] else coded_text kind flags key (told answer lenient) value
+
+-- the text of a reply of this shape, from the answers of all parts
+unfoldable pub shape_text : Shape → List Answer → List ℕ
+shape_text (shape.Fixed fixed) answers = fixed_text fixed
+shape_text (shape.Line noreply lenient) answers = if noreply then [] else unless_no_memory answers (of_first (λ answer. answer_line (told answer lenient)) answers)
+shape_text (shape.Values keys with_unique) answers = unless_no_memory answers (values_text keys with_unique answers)
+shape_text shape.Stats answers = unless_no_memory answers (stats_text answers)
+shape_text (shape.Meta kind flags value key lenient) answers = unless_no_memory answers (of_first (meta_text kind flags value key lenient) answers)
+
+-- the reply to a command, from the answers of all its pieces
+abbrev pub text_of : Command → List Answer → List ℕ
+text_of command answers = shape_text (shape_of command) answers

@@ -1,0 +1,87 @@
+-- What holds of the texts of all replies.
+use Rattle.std.specs.Prelude.{ℕ, ◌≡◌, Bool, true, false, ◌&&◌, ◌⊎◌, List, [], ◌∷◌, ◌++◌}
+use Rattle.std.specs.List.{flat_map}
+use Rattle.std.specs.List.Sorted.{IsPermutation}
+use Rattle.mc_command.specs.declared.command.Command.{Command}
+use Rattle.mc_command.specs.declared.command.Command.TheVariants as command
+use Rattle.mc_command.specs.declared.meta.MetaFlags.{MetaFlags}
+use Rattle.mc_command.specs.declared.meta.ReturnFlag.{ReturnFlag}
+use Rattle.mc_command.specs.declared.refusal.Refusal.{Refusal}
+use Rattle.mc_command.specs.declared.refusal.Refusal.TheVariants as refusal
+use Rattle.mc_command.specs.FlagOrder.{returned_in, with_returned}
+use Rattle.mc_item.specs.declared.answer.Answer.{Answer}
+use Rattle.mc_command.specs.declared.meta.MetaKind.{MetaKind}
+use Rattle.mc_command.specs.declared.meta.MetaKind.TheVariants as kind
+use Rattle.mc_reply.specs.Text.{is_hidden, text_of}
+
+-- the flag `q` stands, and hides the answer
+abbrev pub hides : MetaKind → MetaFlags → Bool → List Answer → Bool
+hides kind flags value [] = false
+hides kind flags value (answer ∷ answers) = flags.quiet && is_hidden kind value answer
+
+-- Nothing is shown of the refusal.
+abbrev pub is_hidden_refusal : Refusal → Bool
+is_hidden_refusal refusal.Hidden = true
+is_hidden_refusal refused = false
+
+-- Nothing is shown of the command: of `quit`, where `noreply` stands, and where `q` hides what was answered. A
+-- refusal that isn't a hidden one is always shown, and so is a get.
+abbrev pub is_silent : Command → List Answer → Bool
+is_silent (command.Store storage) answers = storage.noreply
+is_silent (command.Get retrieval) answers = false
+is_silent (command.Delete key noreply) answers = noreply
+is_silent (command.Count key direction amount noreply) answers = noreply
+is_silent (command.Touch key exptime noreply) answers = noreply
+is_silent (command.FlushAll delay noreply) answers = noreply
+is_silent (command.Version profile) answers = false
+is_silent (command.Verbosity noreply) answers = noreply
+is_silent (command.Stats asked) answers = false
+is_silent command.Quit answers = true
+is_silent command.MetaNoop answers = false
+is_silent (command.MetaGet get) answers = hides kind.Get get.flags get.value answers
+is_silent (command.MetaSet set) answers = hides kind.Set set.flags false answers
+is_silent (command.MetaDelete delete) answers = hides kind.Delete delete.flags false answers
+is_silent (command.MetaArithmetic arithmetic) answers = hides kind.Arithmetic arithmetic.flags arithmetic.value answers
+is_silent (command.Refused refused) answers = is_hidden_refusal refused
+is_silent (command.Discard key refused) answers = is_hidden_refusal refused
+
+-- the flags without `q`
+abbrev pub without_quiet : MetaFlags → MetaFlags
+without_quiet flags = record flags { quiet = false }
+
+-- the command without `noreply` and without `q`
+abbrev pub loud : Command → Command
+loud (command.Store storage) = command.Store (record storage { noreply = false })
+loud (command.Get retrieval) = command.Get retrieval
+loud (command.Delete key noreply) = command.Delete key false
+loud (command.Count key direction amount noreply) = command.Count key direction amount false
+loud (command.Touch key exptime noreply) = command.Touch key exptime false
+loud (command.FlushAll delay noreply) = command.FlushAll delay false
+loud (command.Version profile) = command.Version profile
+loud (command.Verbosity noreply) = command.Verbosity false
+loud (command.Stats asked) = command.Stats asked
+loud command.Quit = command.Quit
+loud command.MetaNoop = command.MetaNoop
+loud (command.MetaGet get) = command.MetaGet (record get { flags = without_quiet get.flags })
+loud (command.MetaSet set) = command.MetaSet (record set { flags = without_quiet set.flags })
+loud (command.MetaDelete delete) = command.MetaDelete (record delete { flags = without_quiet delete.flags })
+loud (command.MetaArithmetic arithmetic) = command.MetaArithmetic (record arithmetic { flags = without_quiet arithmetic.flags })
+loud (command.Refused refusal) = command.Refused refusal
+loud (command.Discard key refusal) = command.Discard key refusal
+
+-- The reply to a quiet command is empty or that to the loud one, whatever was answered.
+abbrev pub IsEmptyOrLoud : Type 0
+IsEmptyOrLoud = (command : Command) (answers : List Answer) → (text_of command answers ≡ []) ⊎ (text_of command answers ≡ text_of (loud command) answers)
+
+-- Two texts are the same, but that the texts of some flags stand in the order of these and of those.
+pub record DiffersInOrder (flags others : List ReturnFlag) (text other : List ℕ) : Type 0 where
+  pub before : List ℕ
+  pub behind : List ℕ
+  pub one : ReturnFlag → List ℕ
+  pub text_is : text ≡ before ++ (flat_map one flags ++ behind)
+  pub other_is : other ≡ before ++ (flat_map one others ++ behind)
+
+-- Returned flags in another order change nothing but the order in which they are returned.
+abbrev pub OrdersFlags : Type 0
+OrdersFlags = (command : Command) (returned : List ReturnFlag) → IsPermutation (returned_in command) returned → (answers : List Answer) →
+    DiffersInOrder (returned_in command) returned (text_of command answers) (text_of (with_returned command returned) answers)

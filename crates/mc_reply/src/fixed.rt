@@ -1,0 +1,60 @@
+//! The replies that no answer changes.
+ghost use Rattle.std.specs.Prelude.{◌≡◌, IsTrue, OnOk, OnErr};
+ghost use Rattle.mc_wire.specs.Outlet.{Writes};
+ghost use Rattle.mc_reply.specs.Text.{refusal_line, fixed_text, memory_line};
+
+use crate::form::Fixed;
+use mc_command::{Profile, Refusal};
+use mc_wire::{OutFault, Outlet, put_all};
+
+/// The line of a command that found no memory.
+pub const MEMORY_LINE: &[u8] = b"SERVER_ERROR out of memory\r\n";
+
+/// Writes a reply that no answer changes. Where the outlet fails, it took a beginning of it.
+pub fn put_fixed<O: Outlet>(out: &mut O, fixed: Fixed) -> Result<(), OutFault>
+    ensures { Writes (fixed_text fixed) result (O.sight out.old) (O.sight out.new) }
+{
+    put_all(out, fixed_line(fixed))
+}
+
+/// A reply that no answer changes.
+pub fn fixed_line(fixed: Fixed) -> &'static [u8]
+    ensures { result.now ≡ fixed_text fixed }
+{
+    match fixed {
+        Fixed::Nothing => b"",
+        Fixed::Ok => b"OK\r\n",
+        Fixed::Version(Profile::Own) => b"VERSION 1.6.0-sharded\r\n",
+        Fixed::Version(Profile::DropIn) => b"VERSION 1.6.18\r\n",
+        Fixed::End => b"END\r\n",
+        Fixed::MetaNoop => b"MN\r\n",
+        Fixed::Refused(refusal) => refused_line(refusal),
+    }
+}
+
+/// The line of a refusal.
+fn refused_line(refusal: Refusal) -> &'static [u8]
+    ensures { result.now ≡ refusal_line refusal }
+{
+    match refusal {
+        Refusal::Unknown => b"ERROR\r\n",
+        Refusal::BadFormat => b"CLIENT_ERROR bad command line format\r\n",
+        Refusal::BadKey => b"CLIENT_ERROR bad key\r\n",
+        Refusal::InvalidFlag => b"CLIENT_ERROR invalid flag\r\n",
+        Refusal::DuplicateFlag => b"CLIENT_ERROR duplicate flag\r\n",
+        Refusal::OpaqueTooLong => b"CLIENT_ERROR opaque token too long\r\n",
+        Refusal::TooLarge => b"SERVER_ERROR object too large for cache\r\n",
+        Refusal::BadChunk => b"CLIENT_ERROR bad data chunk\r\n",
+        Refusal::LineTooLong => b"CLIENT_ERROR line too long\r\n",
+        Refusal::Memory => MEMORY_LINE,
+        Refusal::WordCount => b"ERROR\r\n",
+        Refusal::Hidden => b"",
+    }
+}
+
+/// Writes the line of a command that found no memory.
+pub fn put_memory_line<O: Outlet>(out: &mut O) -> Result<(), OutFault>
+    ensures { Writes memory_line result (O.sight out.old) (O.sight out.new) }
+{
+    put_all(out, MEMORY_LINE)
+}

@@ -1,0 +1,178 @@
+//! The form of a reply: what is known of its text before the answers come, and a slot for each answer.
+ghost use Rattle.std.specs.Prelude.{◌≡◌, ◌<◌, ◌↔◌, ◌∷◌, [], Some, None, IsTrue, IfOk, length, replicate, slice_set};
+ghost use Rattle.mc_reply.specs.Slots.{missing_in};
+
+use crate::ticket::Ticket;
+use mc_command::{Keys, MetaFlags, MetaKind, Profile, Refusal};
+use mc_item::{Answer, Kind};
+use mc_wire::Key;
+use std::alloc::{AllocError, Global};
+use std::marker::Model;
+use std::{mem, slice};
+
+/// What the text of a reply depends on beside the answers.
+#[derive(Drop)]
+pub enum Shape {
+    /// A text that no answer changes.
+    Fixed(Fixed),
+    /// The line of the answer, or nothing.
+    Line {
+        noreply: bool,
+        /// Too large counts as not stored.
+        lenient: bool,
+    },
+    /// The items found, then `END`.
+    Values {
+        keys: Keys,
+        with_unique: bool,
+    },
+    /// The counts of all shards together.
+    Stats,
+    /// The reply of a meta command.
+    Meta {
+        kind: MetaKind,
+        flags: MetaFlags,
+        /// The value, or number, of a hit is shown.
+        value: bool,
+        /// The key, where the reply shows it.
+        key: Option<Key>,
+        /// Too large counts as not stored.
+        lenient: bool,
+    },
+}
+
+/// A reply that no answer changes.
+#[derive(Clone, Copy, Debug, PartialEq, Eq)]
+pub enum Fixed {
+    /// Nothing at all: `quit`, and `verbosity` with `noreply`.
+    Nothing,
+    /// `OK`, to `verbosity`.
+    Ok,
+    /// `VERSION ..`, by the profile.
+    Version(Profile),
+    /// `END`, where `stats` has nothing to show.
+    End,
+    /// `MN`.
+    MetaNoop,
+    /// The line of a refusal.
+    Refused(Refusal),
+}
+
+/// The answers of a command's parts, as far as they have come. One part takes no room of its own.
+#[derive(Drop)]
+pub struct Slots {
+    kept: Kept,
+    /// How many answers have not come yet.
+    missing: usize,
+}
+
+/// What the slots are kept in.
+#[derive(Drop)]
+enum Kept {
+    One(Option<Answer>),
+    Many(Vec<Option<Answer>>),
+}
+
+impl Model for Slots {
+    ghost use Rattle.std.specs.Prelude.{◌≡◌, List, Option};
+    ghost use Rattle.mc_item.specs.declared.answer.Answer.{Answer};
+
+    ghost Value = { List (Option Answer) };
+
+    ghost use Rattle.mc_reply.specs.Slots.{answers_in, missing_in};
+
+    ghost view = { λ slots. answers_in slots.kept };
+
+    ghost invariant = { λ slots. slots.missing ≡ missing_in (answers_in slots.kept) };
+}
+
+impl Slots {
+    /// No slots, for a command that asks no shard.
+    pub fn none(alloc: Global) -> Slots
+        ensures { result ≡ [] }
+    {
+        Slots {
+            kept: Kept::Many(Vec::new(alloc)),
+            missing: 0,
+        }
+    }
+
+    /// One empty slot. It takes no memory.
+    pub fn one() -> Slots
+        ensures { result ≡ None ∷ [] }
+    {
+        Slots {
+            kept: Kept::One(None),
+            missing: 1,
+        }
+    }
+
+    /// So many empty slots.
+    pub fn empty(alloc: Global, count: usize) -> Result<Slots, AllocError>
+        ensures { IfOk result (λ slots. slots ≡ replicate count None) }
+    {
+        if count == 1 {
+            return Ok(Slots::one());
+        }
+        let mut answers = Vec::with_capacity(alloc, count)?;
+        for _ in 0..count {
+            answers.push(None)?;
+        }
+        Ok(Slots {
+            kept: Kept::Many(answers),
+            missing: count,
+        })
+    }
+
+    /// The answers by part, with `None` where one has not come.
+    pub fn answers(&self) -> &[Option<Answer>]
+        ensures { result.now ≡ self.now }
+    {
+        match &self.kept {
+            Kept::One(answer) => slice::from_ref(answer),
+            Kept::Many(answers) => answers.as_slice(),
+        }
+    }
+
+    /// Whether every part is answered. The slots are not looked through.
+    pub fn is_filled(&self) -> bool
+        ensures { IsTrue result ↔ (missing_in self.now ≡ 0) }
+    {
+        self.missing == 0
+    }
+
+    /// Puts the answer of a part into its slot.
+    pub fn fill(&mut self, part: usize, answer: Answer)
+        requires { part < length self.old }
+        ensures { self.new ≡ slice_set self.old part (Some answer) }
+    {
+        let before = match &mut self.kept {
+            Kept::One(slot) => mem::replace(slot, Some(answer)),
+            Kept::Many(slots) => mem::replace(&mut slots[part], Some(answer)),
+        };
+        if before.is_none() {
+            self.missing -= 1;
+        }
+    }
+}
+
+/// The form of a reply, with a slot for the answer of each part.
+#[derive(Drop)]
+pub struct Form {
+    pub ticket: Ticket,
+    /// The kind of the command's pieces; of no meaning where it has none.
+    pub kind: Kind,
+    pub shape: Shape,
+    pub slots: Slots,
+}
+
+impl Form {
+    /// Puts the answer of a part into its slot.
+    pub fn fill(&mut self, part: usize, answer: Answer)
+        requires { part < length self.old.slots }
+        ensures { self.new ≡
+            record self.old { slots = slice_set self.old.slots part (Some answer) } }
+    {
+        self.slots.fill(part, answer);
+    }
+}

@@ -1,0 +1,19 @@
+//! The text of every reply: its form and its shape, what it says, the laws of what replies say, and what writes them.
+#![tactic(auto)]
+
+mod block;
+mod classic;
+mod fixed;
+mod form;
+mod header;
+mod laws;
+mod meta;
+mod number;
+mod stats;
+mod text;
+mod ticket;
+
+pub use form::{Fixed, Form, Shape, Slots};
+pub use laws::{flags_change_their_order_alone, quiet_replies_are_empty_or_loud};
+pub use text::put_reply;
+pub use ticket::Ticket;

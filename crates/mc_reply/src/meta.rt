@@ -1,0 +1,391 @@
+//! The replies of the meta commands (protocol.txt, "Meta Commands").
+ghost use Rattle.std.specs.Prelude.{◌≡◌, ◌∷◌, ◌++◌, [], codes, decimal};
+ghost use Rattle.std.specs.List.{concat};
+ghost use Rattle.mc_item.specs.declared.answer.Answer.TheVariants as answers;
+ghost use Rattle.mc_command.specs.declared.meta.MetaKind.{MetaKind};
+ghost use Rattle.mc_wire.specs.Base64Key.{base64_of};
+ghost use Rattle.mc_wire.specs.Outlet.{Writes};
+ghost use Rattle.mc_reply.specs.Text.{meta_text, coded_text, failed_flag, failed_text, head_text, told, flags_text, flag_text, item_flag, key_flag, left_flag};
+ghost use Rattle.mc_reply.specs.Text as spec;
+
+use crate::block::put_block;
+use crate::classic::put_line;
+use crate::header::sized;
+use itoa::Buffer;
+use mc_command::{MetaFlags, MetaKind, Profile, ReturnFlag};
+use mc_item::{Answer, Marks, MetaDone, MetaHit};
+use mc_wire::{BASE64_LIMIT, Key, OutFault, Outlet, put_all, put_parts};
+
+/// Room for `VA` and the size of a value.
+const SIZE_LIMIT: usize = 48;
+
+/// Writes the reply of a meta command, in which too large may count as not stored, or nothing where `q` hides it.
+pub fn put_meta<O: Outlet>(
+    out: &mut O,
+    kind: MetaKind,
+    flags: &MetaFlags,
+    value: bool,
+    key: &Option<Key>,
+    lenient: bool,
+    answer: &Answer,
+) -> Result<(), OutFault>
+    ensures { Writes (meta_text kind flags.now value key.now lenient answer.now) result
+        (O.sight out.old) (O.sight out.new) }
+{
+    if flags.quiet && is_hidden(kind, value, answer) {
+        return put_all(out, b"");
+    }
+    put_coded(out, kind, flags, value, key, lenient, answer)
+}
+
+/// Whether `q` hides the reply (protocol.txt, "noreply semantics for return codes").
+pub fn is_hidden(kind: MetaKind, value: bool, answer: &Answer) -> bool
+    ensures { result ≡ spec.is_hidden kind value answer.now }
+{
+    match kind {
+        MetaKind::Get => matches!(answer, Answer::Miss),
+        MetaKind::Set => matches!(answer, Answer::MetaDone(_)),
+        MetaKind::Delete => { matches!(answer, Answer::Deleted | Answer::Done | Answer::NotFound) }
+        MetaKind::Arithmetic => match answer {
+            Answer::MetaDone(_) => !value,
+            answer => matches!(answer, Answer::NotFound),
+        },
+    }
+}
+
+fn put_coded<O: Outlet>(
+    out: &mut O,
+    kind: MetaKind,
+    flags: &MetaFlags,
+    value: bool,
+    key: &Option<Key>,
+    lenient: bool,
+    answer: &Answer,
+) -> Result<(), OutFault>
+    ensures { Writes (coded_text kind flags.now key.now (told answer.now lenient) value) result
+        (O.sight out.old) (O.sight out.new) }
+{
+    match answer {
+        Answer::MetaHit(hit) => put_found(out, flags, value, key, answer, hit),
+        Answer::MetaDone(done) => put_done(out, flags, value, key, answer, done),
+        Answer::Deleted => put_head(out, b"HD", flags, key, answer, b"\r\n"),
+        Answer::Done => put_head(out, b"HD", flags, key, answer, b"\r\n"),
+        Answer::Miss => put_head(out, b"EN", flags, key, answer, b"\r\n"),
+        Answer::TooLarge if lenient => put_failed(out, b"NS", kind, flags, key, &Answer::NotStored),
+        Answer::NotStored => put_failed(out, b"NS", kind, flags, key, answer),
+        Answer::Exists => put_failed(out, b"EX", kind, flags, key, answer),
+        Answer::NotFound => put_failed(out, b"NF", kind, flags, key, answer),
+        Answer::Stored
+        | Answer::TooLarge
+        | Answer::NoCas
+        | Answer::NoMemory
+        | Answer::Hit { .. }
+        | Answer::Number(_)
+        | Answer::NonNumeric
+        | Answer::Touched
+        | Answer::Stats(_)
+        | Answer::Reset => put_line(out, answer),
+    }
+}
+
+/// Writes the reply of a hit of `mg`.
+fn put_found<O: Outlet>(
+    out: &mut O,
+    flags: &MetaFlags,
+    value: bool,
+    key: &Option<Key>,
+    answer: &Answer,
+    hit: &MetaHit,
+) -> Result<(), OutFault>
+    requires { answer.now ≡ answers.MetaHit hit.now }
+    ensures { (kind : MetaKind) →
+        Writes (coded_text kind flags.now key.now answer.now value) result (O.sight out.old)
+        (O.sight out.new) }
+{
+    let end = marks_line(flags.profile, hit.marks);
+    if !value {
+        return put_head(out, b"HD", flags, key, answer, end);
+    }
+    put_size(out, hit.value.len(), flags, key, answer)?;
+    put_block(out, end, &hit.value)
+}
+
+/// Writes the reply of what `ms` or `ma` did, with the number where `v` shows it.
+fn put_done<O: Outlet>(
+    out: &mut O,
+    flags: &MetaFlags,
+    value: bool,
+    key: &Option<Key>,
+    answer: &Answer,
+    done: &MetaDone,
+) -> Result<(), OutFault>
+    requires { answer.now ≡ answers.MetaDone done.now }
+    ensures { (kind : MetaKind) →
+        Writes (coded_text kind flags.now key.now answer.now value) result (O.sight out.old)
+        (O.sight out.new) }
+{
+    if !value {
+        return put_head(out, b"HD", flags, key, answer, b"\r\n");
+    }
+    let mut digits = Buffer::new();
+    let number = digits.format(done.number).as_bytes();
+    put_size(out, number.len(), flags, key, answer)?;
+    put_parts(out, &[b"\r\n", number, b"\r\n"])
+}
+
+/// Writes a reply without a value: a code, the flags, and what ends the line.
+fn put_head<O: Outlet>(
+    out: &mut O,
+    code: &[u8],
+    flags: &MetaFlags,
+    key: &Option<Key>,
+    answer: &Answer,
+    end: &[u8],
+) -> Result<(), OutFault>
+    ensures { Writes (code.now ++ (flags_text flags.now key.now answer.now ++ end.now)) result
+        (O.sight out.old) (O.sight out.new) }
+{
+    put_all(out, code)?;
+    put_flags(out, flags, key, answer)?;
+    put_all(out, end)
+}
+
+/// Writes the reply to what stored or changed nothing.
+fn put_failed<O: Outlet>(
+    out: &mut O,
+    code: &[u8],
+    kind: MetaKind,
+    flags: &MetaFlags,
+    key: &Option<Key>,
+    answer: &Answer,
+) -> Result<(), OutFault>
+    ensures { Writes (head_text code.now (failed_text kind flags.now key.now answer.now) []) result
+        (O.sight out.old) (O.sight out.new) }
+{
+    put_all(out, code)?;
+    put_failed_flags(out, kind, flags, key, answer)?;
+    put_all(out, b"\r\n")
+}
+
+/// Writes the returned flags where nothing was stored or changed, in the order of the request.
+fn put_failed_flags<O: Outlet>(
+    out: &mut O,
+    kind: MetaKind,
+    flags: &MetaFlags,
+    key: &Option<Key>,
+    answer: &Answer,
+) -> Result<(), OutFault>
+    ensures { Writes (failed_text kind flags.now key.now answer.now) result (O.sight out.old)
+        (O.sight out.new) }
+{
+    for flag in flags.returned.flags() {
+        put_failed_flag(out, kind, flags, key, answer, *flag)?;
+    }
+    Ok(())
+}
+
+/// Writes such a flag: by memcached's rules `ms` shows the unique 0 of what it did not store.
+fn put_failed_flag<O: Outlet>(
+    out: &mut O,
+    kind: MetaKind,
+    flags: &MetaFlags,
+    key: &Option<Key>,
+    answer: &Answer,
+    flag: ReturnFlag,
+) -> Result<(), OutFault>
+    ensures { Writes
+        (failed_flag kind flags.now.profile (flag_text flags.now key.now answer.now) flag) result
+        (O.sight out.old) (O.sight out.new) }
+{
+    match (kind, flags.profile, flag) {
+        (MetaKind::Set, Profile::DropIn, ReturnFlag::Unique) => put_all(out, b" c0"),
+        _ => put_flag(out, flags, key, answer, flag),
+    }
+}
+
+/// Writes the front of a reply with a value: its size, and the flags.
+fn put_size<O: Outlet>(
+    out: &mut O,
+    size: usize,
+    flags: &MetaFlags,
+    key: &Option<Key>,
+    answer: &Answer,
+) -> Result<(), OutFault>
+    ensures { Writes (codes "VA " ++ (decimal size ++ flags_text flags.now key.now answer.now))
+        result (O.sight out.old) (O.sight out.new) }
+{
+    let mut room = [0; SIZE_LIMIT];
+    put_all(out, sized(&mut room, size))?;
+    put_flags(out, flags, key, answer)
+}
+
+/// The marks of a hit, in their order, and the end of the line.
+pub fn marks_line(profile: Profile, marks: Marks) -> &'static [u8]
+    ensures { result.now ≡ spec.marks_text profile marks ++ codes "\r\n" }
+{
+    match profile {
+        Profile::Own => own_marks(marks),
+        Profile::DropIn => memcached_marks(marks),
+    }
+}
+
+/// The marks of a hit in memcached's order, and the end of the line.
+fn memcached_marks(marks: Marks) -> &'static [u8]
+    ensures { result.now ≡ spec.marks_text Profile.DropIn marks ++ codes "\r\n" }
+{
+    match (marks.sent, marks.stale, marks.won) {
+        (false, false, false) => b"\r\n",
+        (false, false, true) => b" W\r\n",
+        (false, true, false) => b" X\r\n",
+        (false, true, true) => b" X W\r\n",
+        (true, false, false) => b" Z\r\n",
+        (true, false, true) => b" Z W\r\n",
+        (true, true, false) => b" Z X\r\n",
+        (true, true, true) => b" Z X W\r\n",
+    }
+}
+
+/// The marks of a hit in this server's own order, and the end of the line.
+fn own_marks(marks: Marks) -> &'static [u8]
+    ensures { result.now ≡ spec.marks_text Profile.Own marks ++ codes "\r\n" }
+{
+    match (marks.won, marks.stale, marks.sent) {
+        (false, false, false) => b"\r\n",
+        (false, false, true) => b" Z\r\n",
+        (false, true, false) => b" X\r\n",
+        (false, true, true) => b" X Z\r\n",
+        (true, false, false) => b" W\r\n",
+        (true, false, true) => b" W Z\r\n",
+        (true, true, false) => b" W X\r\n",
+        (true, true, true) => b" W X Z\r\n",
+    }
+}
+
+/// Writes the returned flags, in the order of the request.
+fn put_flags<O: Outlet>(
+    out: &mut O,
+    flags: &MetaFlags,
+    key: &Option<Key>,
+    answer: &Answer,
+) -> Result<(), OutFault>
+    ensures { Writes (flags_text flags.now key.now answer.now) result (O.sight out.old)
+        (O.sight out.new) }
+{
+    for flag in flags.returned.flags() {
+        put_flag(out, flags, key, answer, *flag)?;
+    }
+    Ok(())
+}
+
+fn put_flag<O: Outlet>(
+    out: &mut O,
+    flags: &MetaFlags,
+    key: &Option<Key>,
+    answer: &Answer,
+    flag: ReturnFlag,
+) -> Result<(), OutFault>
+    ensures { Writes (flag_text flags.now key.now answer.now flag) result (O.sight out.old)
+        (O.sight out.new) }
+{
+    match flag {
+        ReturnFlag::Key => put_key(out, flags.base64, key),
+        ReturnFlag::Opaque => put_parts(out, &[b" O", flags.opaque.bytes()]),
+        ReturnFlag::Unique
+        | ReturnFlag::ClientFlags
+        | ReturnFlag::Fetched
+        | ReturnFlag::LastAccess
+        | ReturnFlag::Size
+        | ReturnFlag::TimeLeft => put_item_flag(out, answer, flag),
+    }
+}
+
+/// Writes the flag `k`, with ` b` behind a key in base64.
+fn put_key<O: Outlet>(out: &mut O, base64: bool, key: &Option<Key>) -> Result<(), OutFault>
+    ensures { Writes (key_flag base64 key.now) result (O.sight out.old) (O.sight out.new) }
+{
+    match key {
+        None => put_all(out, b""),
+        Some(key) if base64 => {
+            let mut room = [0; BASE64_LIMIT];
+            put_parts(out, &[b" k", key.to_base64(&mut room), b" b"])
+        }
+        Some(key) => put_parts(out, &[b" k", key.bytes()]),
+    }
+}
+
+/// Writes a flag of what was found, stored or changed.
+fn put_item_flag<O: Outlet>(out: &mut O, answer: &Answer, flag: ReturnFlag) -> Result<(), OutFault>
+    ensures { Writes (item_flag answer.now flag) result (O.sight out.old) (O.sight out.new) }
+{
+    match answer {
+        Answer::MetaHit(hit) => put_hit_flag(out, hit, flag),
+        Answer::MetaDone(done) => put_done_flag(out, done, flag),
+        Answer::Stored
+        | Answer::NotStored
+        | Answer::Exists
+        | Answer::NotFound
+        | Answer::TooLarge
+        | Answer::NoCas
+        | Answer::NoMemory
+        | Answer::Hit { .. }
+        | Answer::Miss
+        | Answer::Number(_)
+        | Answer::NonNumeric
+        | Answer::Deleted
+        | Answer::Touched
+        | Answer::Done
+        | Answer::Stats(_)
+        | Answer::Reset => put_all(out, b""),
+    }
+}
+
+fn put_hit_flag<O: Outlet>(out: &mut O, hit: &MetaHit, flag: ReturnFlag) -> Result<(), OutFault>
+    ensures { Writes (item_flag (answers.MetaHit hit.now) flag) result (O.sight out.old)
+        (O.sight out.new) }
+{
+    match flag {
+        ReturnFlag::Unique => put_number(out, b" c", hit.unique),
+        ReturnFlag::ClientFlags => put_number(out, b" f", u64::from(hit.flags)),
+        ReturnFlag::Fetched if hit.fetched => put_all(out, b" h1"),
+        ReturnFlag::Fetched => put_all(out, b" h0"),
+        ReturnFlag::LastAccess => put_number(out, b" l", hit.idle),
+        ReturnFlag::Size => put_number(out, b" s", hit.value.bytes().len() as u64),
+        ReturnFlag::TimeLeft => put_left(out, hit.left),
+        ReturnFlag::Key | ReturnFlag::Opaque => put_all(out, b""),
+    }
+}
+
+fn put_done_flag<O: Outlet>(out: &mut O, done: &MetaDone, flag: ReturnFlag) -> Result<(), OutFault>
+    ensures { Writes (item_flag (answers.MetaDone done.now) flag) result (O.sight out.old)
+        (O.sight out.new) }
+{
+    match flag {
+        ReturnFlag::Unique => put_number(out, b" c", done.unique),
+        ReturnFlag::Size => put_number(out, b" s", done.size),
+        ReturnFlag::TimeLeft => put_left(out, done.left),
+        ReturnFlag::ClientFlags
+        | ReturnFlag::Fetched
+        | ReturnFlag::LastAccess
+        | ReturnFlag::Key
+        | ReturnFlag::Opaque => put_all(out, b""),
+    }
+}
+
+/// Writes the flag `t`: the seconds left, -1 for never.
+fn put_left<O: Outlet>(out: &mut O, left: Option<u64>) -> Result<(), OutFault>
+    ensures { Writes (left_flag left) result (O.sight out.old) (O.sight out.new) }
+{
+    match left {
+        Some(seconds) => put_number(out, b" t", seconds),
+        None => put_all(out, b" t-1"),
+    }
+}
+
+/// Writes a flag's letter and its number.
+fn put_number<O: Outlet>(out: &mut O, letter: &[u8], number: u64) -> Result<(), OutFault>
+    ensures { Writes (concat (letter.now ∷ decimal number ∷ [])) result (O.sight out.old)
+        (O.sight out.new) }
+{
+    let mut digits = Buffer::new();
+    put_parts(out, &[letter, digits.format(number).as_bytes()])
+}
