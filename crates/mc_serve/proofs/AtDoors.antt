@@ -6,7 +6,7 @@ use Rattle.std.proofs.lemmas.Option.{same_Some, slice_get_within}
 use Rattle.mc_sizes.specs.Sizes.{rules_of}
 use Rattle.mc_sizes.specs.declared.sizes.Sizes.{Sizes}
 use Rattle.mc_model.proofs.Lists.{all_from, all_unmap}
-use Rattle.mc_crew.specs.Zips.{Zips}
+use Rattle.mc_wake.specs.Zips.{Zips}
 use Rattle.mc_ring.specs.Lane.{Near}
 use Rattle.mc_ring.specs.Ends.{AreSameEnds, Ends}
 use Rattle.mc_ring.specs.EndsLaws.{lane_kept, same_ends-trans}

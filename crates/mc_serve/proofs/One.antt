@@ -7,7 +7,7 @@ use Rattle.mc_wire.specs.Outlet.{Sight}
 use Rattle.mc_sizes.specs.declared.sizes.Sizes.{Sizes}
 use Rattle.mc_conn.specs.History.{AnsweredCommand}
 use Rattle.mc_model.specs.Log.{Entry, of_asker, on_shard}
-use Rattle.mc_crew.specs.Zips.{Zips}
+use Rattle.mc_wake.specs.Zips.{Zips}
 use Rattle.mc_server.specs.Explains.{ExplainsLine, IsLogOfLines, LineTold, log_of}
 use Rattle.mc_serve.specs.Over.{CameBack, ServesAll, lines_told}
 use Rattle.mc_serve.proofs.Lanes.{map_map}

@@ -10,7 +10,7 @@ use Rattle.std.specs.Prelude.{OnOk}
 use Rattle.mc_ring.specs.Made.{AreLanes}
 use Rattle.mc_worker.specs.Desk.{Desk, Goes}
 use Rattle.mc_worker.specs.DeskLaws.{goes_refl, goes_trans}
-use Rattle.mc_crew.specs.Zips.{Zips}
+use Rattle.mc_wake.specs.Zips.{Zips}
 use Rattle.mc_threads.specs.declared.session.Session.{Session}
 use Rattle.mc_threads.specs.Workers.{IsFresh, ends_of}
 use Rattle.mc_threads.specs.Working.{Finishes}

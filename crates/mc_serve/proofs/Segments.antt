@@ -22,7 +22,7 @@ use Rattle.mc_conn.proofs.Serving.{keys_came}
 use Rattle.mc_conn.proofs.Telling.{ran_on-same, tells}
 use Rattle.mc_model.specs.Log.{Entry, of_asker, on_shard, pieces_in, replies_in}
 use Rattle.mc_worker.specs.Desk.{Desk, end_come}
-use Rattle.mc_crew.specs.Zips.{Zips}
+use Rattle.mc_wake.specs.Zips.{Zips}
 use Rattle.mc_seat.specs.LineServed.{Exchanges, LineServed}
 use Rattle.mc_seat.specs.Reads.{ReadsOwingNothing}
 use Rattle.mc_seat.specs.Story.{Story}

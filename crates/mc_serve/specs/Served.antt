@@ -5,7 +5,7 @@ use Rattle.mc_sizes.specs.Sizes.{rules_of}
 use Rattle.mc_sizes.specs.declared.sizes.Sizes.{Sizes}
 use Rattle.mc_conn.specs.History.{AnsweredCommand, IsAnswered, entries_of, taken_of, text_done}
 use Rattle.mc_model.specs.Log.{Entry, of_asker, on_shard}
-use Rattle.mc_crew.specs.Zips.{Zips}
+use Rattle.mc_wake.specs.Zips.{Zips}
 use Rattle.mc_seat.specs.Story.{Story}
 use Rattle.mc_seat.specs.Reads.{ReadsOwingNothing}
 use Rattle.mc_server.specs.Explains.{IsLogOfLines, LineTold, log_of}

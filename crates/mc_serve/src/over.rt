@@ -1,7 +1,7 @@
 //! Serves lines over memory, each by a door of its own.
 ghost use Rattle.std.specs.Prelude.{◌≡◌, ◌≢◌, [], IfErr, IfOk, length, map};
 ghost use Rattle.mc_sizes.specs.Sizes.{MayServe};
-ghost use Rattle.mc_crew.specs.Zips.{Zips};
+ghost use Rattle.mc_wake.specs.Zips.{Zips};
 ghost use Rattle.mc_serve.specs.Over.{ServesAll, came_back};
 ghost use Rattle.mc_serve.specs.declared.refusal.ServeRefusal.TheVariants.{Bind};
 ghost use Rattle.mc_serve.specs.One.{IsBack, told_one, waits};

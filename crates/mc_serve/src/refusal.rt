@@ -1,5 +1,5 @@
 //! Why a server doesn't serve.
-use mc_crew::CrewRefusal;
+use mc_wake::CrewRefusal;
 use mc_ring::RingRefusal;
 use std::alloc::AllocError;
 use thiserror::Error;
@@ -31,7 +31,7 @@ impl From<AllocError> for ServeRefusal {
 
 impl From<CrewRefusal> for ServeRefusal {
     ghost use Rattle.std.specs.Prelude.{◌≡◌, ◌≢◌};
-    ghost use Rattle.mc_crew.specs.declared.crew.CrewRefusal.TheVariants as crew;
+    ghost use Rattle.mc_wake.specs.declared.crew.CrewRefusal.TheVariants as crew;
     ghost use Rattle.mc_serve.specs.declared.refusal.ServeRefusal.TheVariants.{Bind, Memory, Thread};
 
     ghost from_gives = { λ why refusal.

@@ -2,7 +2,7 @@
 ghost use Rattle.mc_command.specs.declared.rules.Rules.{Rules};
 ghost use Rattle.std.specs.Prelude.{◌≡◌, ℕ, List, IfOk, IsTrue};
 ghost use Rattle.std.specs.List.{AllByRecursion};
-ghost use Rattle.mc_crew.specs.Zips.{Zips};
+ghost use Rattle.mc_wake.specs.Zips.{Zips};
 ghost use Rattle.mc_serve.specs.Seats.{SeatAt, SeatStands};
 ghost use Rattle.mc_serve.specs.declared.sitting.Phase.TheVariants as phase;
 

@@ -5,7 +5,7 @@ ghost use Rattle.mc_serve.specs.Asking.{AreTied, HasLanes, passed_by};
 
 use crate::door::Door;
 use crate::sitting::Sitting;
-use mc_crew::CrewRefusal;
+use mc_wake::CrewRefusal;
 use mc_ring::SeatEnds;
 use mc_threads::Working;
 use mc_worker::Gate;

@@ -2,7 +2,7 @@
 ghost use Rattle.std.specs.Prelude.{◌≡◌, true};
 
 use crate::asserting::{equal, holds};
-use mc_crew::{Crew, CrewRefusal, Task};
+use mc_wake::{Crew, CrewRefusal, Task};
 use std::alloc::{AllocError, Global};
 use std::sync::atomic::{AtomicU64, Ordering};
 use std::sync::{Arc, Wait};

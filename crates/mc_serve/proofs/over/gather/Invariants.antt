@@ -1,7 +1,7 @@
 -- The lines reported so far, then the doors that are left.
 use Rattle.std.proofs.Common.{◌≡◌, ◌++◌, List}
 use Rattle.std.specs.Vec.Iter.{into_iter_items}
-use Rattle.mc_crew.specs.Zips.{Zips}
+use Rattle.mc_wake.specs.Zips.{Zips}
 use Rattle.mc_serve.specs.One.{IsBack, told_one}
 use Rattle.mc_serve.proofs.over.gather.Given as goal
 

@@ -1,7 +1,7 @@
 -- The workers that had their turns, and the others.
 use Rattle.std.proofs.Common.{◌≡◌, List, length, map}
 use Rattle.mc_worker.specs.Desk.{Desk, Goes}
-use Rattle.mc_crew.specs.Zips.{Zips}
+use Rattle.mc_wake.specs.Zips.{Zips}
 use Rattle.mc_serve.proofs.part.serve_callers.Given as goal
 
 abbrev pub invariant-loop-place : goal.invariant-loop-place

@@ -2,7 +2,7 @@
 use Rattle.std.proofs.Common.{◌≡◌, map}
 use Rattle.mc_sizes.specs.Sizes.{rules_of}
 use Rattle.mc_worker.specs.Desk.{Goes}
-use Rattle.mc_crew.specs.Zips.{Zips}
+use Rattle.mc_wake.specs.Zips.{Zips}
 use Rattle.mc_serve.specs.Seats.{SeatStands, seat_at}
 use Rattle.mc_serve.proofs.part.Part.run.Given as goal
 

@@ -1,6 +1,6 @@
 -- The seats stepped so far, and the others, stand as they did.
 use Rattle.std.proofs.Common.{ℕ, List}
-use Rattle.mc_crew.specs.Zips.{Zips}
+use Rattle.mc_wake.specs.Zips.{Zips}
 use Rattle.mc_serve.specs.Seats.{SeatAt, SeatStands}
 use Rattle.mc_serve.proofs.seats.Seats.step.Given as goal
 use Rattle.mc_command.specs.declared.rules.Rules.{Rules}

@@ -1,7 +1,7 @@
 -- Threads are joined one after another.
 use Rattle.std.proofs.Common.{◌≡◌, List, [], ◌∷◌, ◌++◌, length, map, refl, sym, ◌∙◌, arith, append_assoc, append-nil, Result, Ok, Err}
 use Rattle.std.specs.Prelude.{OnOk}
-use Rattle.mc_crew.specs.Zips.{Zips}
+use Rattle.mc_wake.specs.Zips.{Zips}
 
 -- Of these tasks those left are not joined yet; the others are done, if all went well.
 pub record Joins {A E : Type 0} (does : A → A → Type 0) (tasks done left : List A) (all : Result (Unit {0}) E) : Type 0 where

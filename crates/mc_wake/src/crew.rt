@@ -1,6 +1,6 @@
 //! Threads are started, told to begin or to leave, and joined.
 ghost use Rattle.std.specs.Prelude.{◌≡◌, [], ◌∷◌, ◌++◌, IfOk, OnOk, OnErr};
-ghost use Rattle.mc_crew.specs.Zips.{Zips};
+ghost use Rattle.mc_wake.specs.Zips.{Zips};
 
 use crate::task::{Done, Task, Word, begin};
 use crossbeam_channel::{Sender, bounded};
@@ -23,7 +23,7 @@ pub enum CrewRefusal {
 }
 
 impl From<AllocError> for CrewRefusal {
-    ghost use Rattle.mc_crew.specs.declared.crew.CrewRefusal.TheVariants.{Memory};
+    ghost use Rattle.mc_wake.specs.declared.crew.CrewRefusal.TheVariants.{Memory};
 
     ghost from_gives = { λ _ refusal. refusal ≡ Memory };
 

@@ -1,5 +1,5 @@
-use Rattle.mc_crew.proofs.Joining.{joins_less, joins_more}
-use Rattle.mc_crew.proofs.crew.Crew.join.Goals as goal
+use Rattle.mc_wake.proofs.Joining.{joins_less, joins_more}
+use Rattle.mc_wake.proofs.crew.Crew.join.Goals as goal
 
 pub loop-handle-preserved-in-Err : goal.loop-handle-preserved-in-Err
 loop-handle-preserved-in-Err g c = joins_less g.T.Task.does _ _ _ _ _ _ _ (rw c.in-Some.ensures.steps.0 at c.loop-handle.invariant)
