@@ -12,7 +12,7 @@ use Rattle.mc_ring.specs.Ends.{AreSameEnds, Ends}
 use Rattle.mc_ring.specs.EndsLaws.{lane_kept, same_ends-trans}
 use Rattle.mc_ring.specs.Made.{AreLanes, AreNewEnds}
 use Rattle.mc_worker.specs.Desk.{Desk}
-use Rattle.mc_server.specs.Explains.{LineTold}
+use Rattle.mc_seat.specs.Explains.{LineTold}
 use Rattle.mc_serve.specs.Asking.{AreTied, HasLanes}
 use Rattle.mc_serve.specs.Logs.{together}
 use Rattle.mc_threads.specs.Workers.{IsFresh, ends_of}
@@ -22,7 +22,7 @@ use Rattle.mc_serve.proofs.Lanes.{map_map}
 use Rattle.mc_serve.proofs.Served.{IsJoined}
 use Rattle.mc_serve.proofs.Zipped.{all_at, all_map, get_map, met_at, zips_each, zips_length}
 use Rattle.mc_serve.proofs.WorkerLogs.{have_logs}
-use Rattle.mc_serve.specs.Told.{DoorTold}
+use Rattle.mc_doors.specs.Told.{DoorTold}
 use Rattle.mc_serve.specs.Seats.{AllFit, SeatAt, SeatServes}
 use Rattle.mc_serve.specs.Served.{ExplainsSeat, PassEach, ServesDoors}
 use Rattle.mc_serve.proofs.Chain.{lines_same}

@@ -5,9 +5,9 @@ use Rattle.mc_wire.specs.Outlet.{Sight}
 use Rattle.mc_ring.specs.Lane.{Near}
 use Rattle.mc_ring.specs.Ends.{AreSameEnds, Ends}
 use Rattle.mc_ring.specs.EndsLaws.{same_ends-refl, same_ends-trans}
-use Rattle.mc_server.specs.Explains.{LineTold}
+use Rattle.mc_seat.specs.Explains.{LineTold}
 use Rattle.mc_threads.proofs.Orders.{map_one}
-use Rattle.mc_serve.specs.Told.{Comes, DoorTold, IsFree, IsNext, Passes, TellsLines, TellsNothing, later, let_in, took_back}
+use Rattle.mc_doors.specs.Told.{Comes, DoorTold, IsFree, IsNext, Passes, TellsLines, TellsNothing, later, let_in, took_back}
 use Rattle.mc_serve.specs.Seats.{AllFit, LineFits, SeatAt, ServesDoorLine, ServesLines}
 use Rattle.mc_command.specs.declared.rules.Rules.{Rules}
 

@@ -4,11 +4,12 @@ use Rattle.std.specs.List.{AllByRecursion}
 use Rattle.std.proofs.lemmas.List.{length-map}
 use Rattle.mc_wire.specs.Outlet.{Sight}
 use Rattle.mc_sizes.specs.declared.sizes.Sizes.{Sizes}
-use Rattle.mc_server.specs.Explains.{LineTold}
-use Rattle.mc_serve.specs.Told.{DoorTold, IsFree, TellsLines, TellsNothing, closed}
+use Rattle.mc_seat.specs.Explains.{LineTold}
+use Rattle.mc_doors.specs.Told.{DoorTold, IsFree, TellsLines, TellsNothing, closed}
 use Rattle.mc_serve.specs.Served.{PassEach, PassesAll, ServesDoors}
-use Rattle.mc_serve.specs.Tcp.{ServesConnections, gone_count, gone_line, how_many, new_line, told_tcp}
-use Rattle.mc_serve.specs.declared.tcp_door.Gone.{Gone}
+use Rattle.mc_doors.specs.Tcp.{gone_count, gone_line, new_line, told_tcp}
+use Rattle.mc_serve.specs.Connections.{ServesConnections, how_many}
+use Rattle.mc_doors.specs.declared.tcp_door.Gone.{Gone}
 
 -- a door by which nothing came in yet
 abbrev pub new_door : DoorTold

@@ -9,10 +9,6 @@ pub mod Chain
 pub mod Steps
 pub mod Segments
 pub mod AtDoors
-pub mod Buffers
 pub mod Parts
-pub mod Sent
-pub mod TcpSent
 pub mod One
 pub mod Connections
-mod RowsForeign

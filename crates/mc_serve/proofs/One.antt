@@ -8,13 +8,13 @@ use Rattle.mc_sizes.specs.declared.sizes.Sizes.{Sizes}
 use Rattle.mc_conn.specs.History.{AnsweredCommand}
 use Rattle.mc_model.specs.Log.{Entry, of_asker, on_shard}
 use Rattle.mc_wake.specs.Zips.{Zips}
-use Rattle.mc_server.specs.Explains.{ExplainsLine, IsLogOfLines, LineTold, log_of}
+use Rattle.mc_seat.specs.Explains.{ExplainsLine, IsLogOfLines, LineTold, log_of}
 use Rattle.mc_serve.specs.Over.{CameBack, ServesAll, lines_told}
 use Rattle.mc_serve.proofs.Lanes.{map_map}
 use Rattle.mc_serve.proofs.Zipped.{get_map, zips_seen}
-use Rattle.mc_serve.specs.Told.{DoorTold, IsFree, TellsLines, closed}
+use Rattle.mc_doors.specs.Told.{DoorTold, IsFree, TellsLines, closed}
 use Rattle.mc_serve.specs.Served.{ExplainsHistory, PassEach, PassesAll, ServesDoors}
-use Rattle.mc_serve.specs.One.{IsBack, waits}
+use Rattle.mc_doors.specs.One.{IsBack, waits}
 
 -- the one line of a door that waited and was served
 one_line : (line : Sight) (lines : List LineTold) (door : DoorTold) (back : CameBack) → PassesAll (waits line) lines door → IsBack door back.line back.commands back.broke → lines ≡ record { begin = line; now = back.line; commands = back.commands; broke = back.broke } ∷ []

@@ -14,7 +14,7 @@ use Rattle.mc_wake.specs.Zips.{Zips}
 use Rattle.mc_threads.specs.declared.session.Session.{Session}
 use Rattle.mc_threads.specs.Workers.{IsFresh, ends_of}
 use Rattle.mc_threads.specs.Working.{Finishes}
-use Rattle.mc_serve.specs.Told.{DoorTold}
+use Rattle.mc_doors.specs.Told.{DoorTold}
 use Rattle.mc_serve.specs.declared.sitting.Phase.{Phase}
 use Rattle.mc_serve.specs.declared.sitting.Phase.TheVariants as phase
 use Rattle.mc_serve.specs.Seats.{CanStep, HasSatDown, SeatAt, SeatServes, SeatStands, seat_at}

@@ -26,7 +26,7 @@ use Rattle.mc_wake.specs.Zips.{Zips}
 use Rattle.mc_seat.specs.LineServed.{Exchanges, LineServed}
 use Rattle.mc_seat.specs.Reads.{ReadsOwingNothing}
 use Rattle.mc_seat.specs.Story.{Story}
-use Rattle.mc_server.specs.Explains.{LineTold, log_of}
+use Rattle.mc_seat.specs.Explains.{LineTold, log_of}
 use Rattle.mc_serve.specs.Asking.{IsTied}
 use Rattle.mc_serve.specs.Logs.{IsLogOf, together}
 use Rattle.mc_serve.proofs.Joined.{worker_at}

@@ -8,7 +8,7 @@ use Rattle.mc_conn.specs.declared.conn.Conn.{Conn}
 use Rattle.mc_conn.specs.Conn.{IsConn}
 use Rattle.mc_conn.specs.Told.{IsAtRest, IsOver, Told}
 use Rattle.mc_seat.specs.LineServed.{LineServed}
-use Rattle.mc_server.specs.Explains.{LineTold}
+use Rattle.mc_seat.specs.Explains.{LineTold}
 use Rattle.mc_threads.specs.declared.service.Service.{Service}
 use Rattle.mc_threads.specs.declared.session.Session.{Session}
 use Rattle.mc_threads.specs.Serving.{EndsAll, IsIdle}
@@ -17,7 +17,7 @@ use Rattle.mc_threads.specs.Service.{WasServedBy}
 use Rattle.mc_threads.specs.Session.{HasServed, IsServingLine, IsVacant, MayStep}
 use Rattle.mc_threads.proofs.Ending.{ends_all, ends_next, ends_none, ends_still}
 use Rattle.mc_threads.proofs.Sessions.{SomeAnd, may_serve, some_and}
-use Rattle.mc_serve.specs.Told.{DoorTold, IsDone, IsFree, IsNext, closed, let_in, took_back}
+use Rattle.mc_doors.specs.Told.{DoorTold, IsDone, IsFree, IsNext, closed, let_in, took_back}
 use Rattle.mc_serve.specs.declared.sitting.Phase.{Phase}
 use Rattle.mc_serve.specs.declared.sitting.Phase.TheVariants as phase
 use Rattle.mc_serve.specs.Seats.{CanStep, ClosesOn, LineFits, SeatAt, SeatServes, SeatStands, ServesDoor, ServesDoorLine, SitsBeginning, SitsClosing, SitsFree, SitsServing, seat_at}

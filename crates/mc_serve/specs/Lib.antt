@@ -1,9 +1,6 @@
-pub mod Told
 pub mod Asking
 pub mod Logs
 pub mod Seats
 pub mod Served
 pub mod Over
-pub mod One
-pub mod Foreign
-pub mod Tcp
+pub mod Connections

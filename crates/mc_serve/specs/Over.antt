@@ -2,7 +2,7 @@
 use Rattle.std.specs.Prelude.{ℕ, ◌≡◌, Bool, List, [], ◌∷◌, length}
 use Rattle.mc_wire.specs.Outlet.{Sight}
 use Rattle.mc_sizes.specs.declared.sizes.Sizes.{Sizes}
-use Rattle.mc_server.specs.Explains.{Explains, LineTold}
+use Rattle.mc_seat.specs.Explains.{Explains, LineTold}
 
 -- a line as it is reported
 pub record CameBack : Type 0 where

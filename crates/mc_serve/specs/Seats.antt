@@ -6,12 +6,12 @@ use Rattle.mc_ring.specs.Ends.{Ends}
 use Rattle.mc_conn.specs.declared.conn.Conn.{Conn}
 use Rattle.mc_conn.specs.Fits.{KeysFit}
 use Rattle.mc_seat.specs.LineServed.{LineServed}
-use Rattle.mc_server.specs.Explains.{LineTold}
+use Rattle.mc_seat.specs.Explains.{LineTold}
 use Rattle.mc_threads.specs.Ending.{EndsFirst}
 use Rattle.mc_threads.specs.Serving.{EndsAll}
 use Rattle.mc_threads.specs.Session.{IsServingLine, IsVacant, MayStep}
 use Rattle.mc_threads.specs.declared.session.Session.{Session}
-use Rattle.mc_serve.specs.Told.{DoorTold, IsDone, IsFree, IsNext, Passes, closed, let_in}
+use Rattle.mc_doors.specs.Told.{DoorTold, IsDone, IsFree, IsNext, Passes, closed, let_in}
 use Rattle.mc_serve.specs.declared.sitting.Phase.{Phase}
 use Rattle.mc_serve.specs.declared.sitting.Phase.TheVariants as phase
 use Rattle.mc_command.specs.declared.rules.Rules.{Rules}

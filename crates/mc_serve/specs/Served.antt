@@ -8,8 +8,8 @@ use Rattle.mc_model.specs.Log.{Entry, of_asker, on_shard}
 use Rattle.mc_wake.specs.Zips.{Zips}
 use Rattle.mc_seat.specs.Story.{Story}
 use Rattle.mc_seat.specs.Reads.{ReadsOwingNothing}
-use Rattle.mc_server.specs.Explains.{IsLogOfLines, LineTold, log_of}
-use Rattle.mc_serve.specs.Told.{DoorTold, IsDone, Passes, closed}
+use Rattle.mc_seat.specs.Explains.{IsLogOfLines, LineTold, log_of}
+use Rattle.mc_doors.specs.Told.{DoorTold, IsDone, Passes, closed}
 
 -- The line's commands, each with its moment and answers, explain what was read of it and what it took.
 pub record ExplainsHistory (sizes : Sizes) (may_answer : ℕ → Type 0) (line : LineTold) (history : List AnsweredCommand) : Type 0 where

@@ -4,11 +4,11 @@ ghost use Rattle.mc_sizes.specs.Sizes.{MayServe};
 ghost use Rattle.mc_wake.specs.Zips.{Zips};
 ghost use Rattle.mc_serve.specs.Over.{ServesAll, came_back};
 ghost use Rattle.mc_serve.specs.declared.refusal.ServeRefusal.TheVariants.{Bind};
-ghost use Rattle.mc_serve.specs.One.{IsBack, told_one, waits};
+ghost use Rattle.mc_doors.specs.One.{IsBack, told_one, waits};
 
-use crate::one_door::{OneDoor, ServedLine};
 use crate::refusal::ServeRefusal;
 use crate::serving::serve;
+use mc_doors::{OneDoor, ServedLine};
 use mc_seat::{Clock, Line};
 use mc_sizes::Sizes;
 use mc_wake::{Patience, Sleeper};

@@ -9,13 +9,13 @@ ghost use Rattle.mc_threads.specs.Working.{Finishes};
 ghost use Rattle.mc_serve.specs.Seats.{HasSatDown, SeatServes, seat_at};
 ghost use Rattle.mc_serve.specs.declared.sitting.Phase.TheVariants as phase;
 
-use crate::door::Door;
 use crate::seats::{Seats, WORD};
 use crate::sitting::Sitting;
-use mc_wake::{Sleeper, Task};
+use mc_doors::Door;
 use mc_seat::{Clock, Rooms};
 use mc_sizes::Sizes;
 use mc_threads::Working;
+use mc_wake::{Sleeper, Task};
 use mc_worker::Gate;
 use std::alloc::{AllocError, Global};
 use std::sync::Wait;

@@ -1,6 +1,6 @@
 //! Why a server doesn't serve.
-use mc_wake::CrewRefusal;
 use mc_ring::RingRefusal;
+use mc_wake::CrewRefusal;
 use std::alloc::AllocError;
 use thiserror::Error;
 

@@ -6,8 +6,8 @@ ghost use Rattle.mc_wake.specs.Zips.{Zips};
 ghost use Rattle.mc_serve.specs.Seats.{SeatAt, SeatStands};
 ghost use Rattle.mc_serve.specs.declared.sitting.Phase.TheVariants as phase;
 
-use crate::door::Door;
 use crate::sitting::{Sitting, Stepped};
+use mc_doors::Door;
 use mc_seat::{Clock, Ready, Rooms};
 use mc_wake::{Marked, Readiness, Sleeper};
 use std::alloc::{AllocError, Global};

@@ -3,11 +3,11 @@ ghost use Rattle.std.specs.Prelude.{◌≡◌, [], IfOk, map};
 ghost use Rattle.std.specs.List.{AllByRecursion};
 ghost use Rattle.mc_serve.specs.Asking.{AreTied, HasLanes, passed_by};
 
-use crate::door::Door;
 use crate::sitting::Sitting;
-use mc_wake::CrewRefusal;
+use mc_doors::Door;
 use mc_ring::SeatEnds;
 use mc_threads::Working;
+use mc_wake::CrewRefusal;
 use mc_worker::Gate;
 
 /// Looks at the lanes between all seats and all workers from both ends, and hands back the doors. The room for them is for as

@@ -9,7 +9,7 @@ ghost use Rattle.mc_threads.specs.Session.{IsVacant, MayStep};
 ghost use Rattle.mc_serve.specs.Seats.{CanStep, ClosesOn, SeatAt, SeatStands, SitsBeginning, SitsFree, SitsServing};
 ghost use Rattle.mc_serve.specs.declared.sitting.Phase.TheVariants as phase;
 
-use crate::door::{Arrival, Door};
+use mc_doors::{Arrival, Door};
 use mc_ring::SeatEnds;
 use mc_seat::{Clock, Line, Ready, Rooms};
 use mc_sizes::Sizes;

@@ -3,15 +3,15 @@ ghost use Rattle.std.specs.Prelude.{◌≡◌, ◌<◌, ◌^◌, ◌-◌, [], No
 ghost use Rattle.std.specs.List.{AllByRecursion};
 ghost use Rattle.mc_command.specs.Rules.{is_drop_in};
 ghost use Rattle.mc_sizes.specs.Sizes.{MayServe, rules_of};
-ghost use Rattle.mc_serve.specs.Tcp.{ServesConnections, gone_count, told_tcp};
-ghost use Rattle.mc_serve.specs.Told.{TellsLines};
+ghost use Rattle.mc_doors.specs.Tcp.{gone_count, told_tcp};
+ghost use Rattle.mc_serve.specs.Connections.{ServesConnections};
+ghost use Rattle.mc_doors.specs.Told.{TellsLines};
 
-use crate::entrance::{Bell, Entrance};
 use crate::refusal::ServeRefusal;
 use crate::serving::serve;
 use crate::shard_watch::ShardWatch;
-use crate::tcp_door::TcpDoor;
 use crate::warden::Warden;
+use mc_doors::{Bell, Entrance, TcpDoor};
 use mc_seat::Clock;
 use mc_sizes::Sizes;
 use mc_wake::{Patience, Sleeper};

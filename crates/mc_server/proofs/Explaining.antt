@@ -32,7 +32,7 @@ use Rattle.mc_model.proofs.Lists.{all_unmap}
 use Rattle.mc_model.proofs.Alone.{Continues, all_mine, alone_goes, on_its_shard, pieces_of_ran, ran_of, replies_of_ran, run_of}
 use Rattle.mc_seat.specs.Story.{Story}
 use Rattle.mc_seat.specs.internal.Steps.{IsServed}
-use Rattle.mc_server.specs.Explains.{IsExplained, entry_of}
+use Rattle.mc_seat.specs.Explains.{IsExplained, entry_of}
 use Rattle.mc_server.specs.internal.Answering.{ShardsAnswered, piece_in, replies_on}
 use Rattle.mc_server.proofs.Answering.{lane_ran}
 use Rattle.mc_server.proofs.Backing.{lawful}

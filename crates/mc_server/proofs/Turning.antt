@@ -24,7 +24,7 @@ use Rattle.mc_seat.specs.internal.Steps.{GoOnSays, GoesOn, IsServed, StopsAt, Tu
 use Rattle.mc_seat.proofs.Along.{serving_along, stops_along}
 use Rattle.mc_seat.proofs.Fronts.{begins_length}
 use Rattle.mc_seat.proofs.Standing.{stands_first, stands_fits, stands_take}
-use Rattle.mc_server.specs.Explains.{IsExplained}
+use Rattle.mc_seat.specs.Explains.{IsExplained}
 use Rattle.mc_server.specs.internal.Answering.{ShardsAnswered, AnswersAll, Backs, replies_on}
 use Rattle.mc_server.specs.internal.Turns.{Turns}
 use Rattle.mc_server.proofs.Answering.{told_more}

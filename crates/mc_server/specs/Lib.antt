@@ -1,2 +1,1 @@
-pub mod Explains
 pub mod internal

@@ -2,7 +2,7 @@
 use crate::asserting::{equal, holds};
 use crate::sizes::SMALL;
 use mc_seat::{Line, Ready, Unwritten};
-use mc_serve::{Peek, TcpLine, VectoredWrite};
+use mc_doors::{Peek, TcpLine, VectoredWrite};
 use mc_server::{StillClock, serve_one};
 use mc_sizes::Sizes;
 use mc_watch::Meter;

@@ -1,6 +1,6 @@
 //! The commands of a load, and the replies that they must have.
 use crate::line::{Cutting, MemoryLine};
-use mc_serve::ServedLine;
+use mc_doors::ServedLine;
 use std::alloc::{AllocError, Global};
 
 /// Each line has so many keys of its own.

@@ -1,7 +1,7 @@
 //! Serves one line, as the command line says.
 ghost use Rattle.std.specs.Prelude.{IfOk};
 ghost use Rattle.mc_sizes.specs.Sizes.{AreWithin};
-ghost use Rattle.mc_server.specs.Explains.{IsExplained};
+ghost use Rattle.mc_seat.specs.Explains.{IsExplained};
 ghost use Rattle.mcd.specs.Served.{MayBe};
 
 use mc_seat::{Clock, Line, Served};

@@ -1,7 +1,7 @@
 -- The doors made so far, then the lines that are left.
 use Rattle.std.proofs.Common.{◌≡◌, ◌++◌, map}
 use Rattle.std.specs.Vec.Iter.{into_iter_items}
-use Rattle.mc_serve.specs.One.{told_one, waits}
+use Rattle.mc_doors.specs.One.{told_one, waits}
 use Rattle.mc_serve.proofs.over.doors_for.Given as goal
 
 abbrev pub invariant-loop-line : goal.invariant-loop-line

@@ -1,7 +1,7 @@
 -- One door more gave its line.
 use Rattle.std.proofs.Common.{◌≡◌, [], ◌∷◌, ◌++◌, ◌∙◌, sym, append_assoc, append-nil, ap, rules}
 use Rattle.std.specs.Vec.Iter.{into_iter_items}
-use Rattle.mc_serve.specs.One.{IsBack, told_one}
+use Rattle.mc_doors.specs.One.{IsBack, told_one}
 use Rattle.mc_serve.proofs.One.{empty_when, zips_are, zips_push}
 use Rattle.mc_serve.proofs.over.gather.Goals as goal
 

@@ -2,7 +2,7 @@
 use Rattle.std.proofs.Common.{◌≡◌, ◌++◌, List}
 use Rattle.std.specs.Vec.Iter.{into_iter_items}
 use Rattle.mc_wake.specs.Zips.{Zips}
-use Rattle.mc_serve.specs.One.{IsBack, told_one}
+use Rattle.mc_doors.specs.One.{IsBack, told_one}
 use Rattle.mc_serve.proofs.over.gather.Given as goal
 
 abbrev pub invariant-loop-door : goal.invariant-loop-door

@@ -3,11 +3,11 @@ use Rattle.std.proofs.Common.{◌≡◌, ◌∙◌, ℕ, ap, length, subst, sym}
 use Rattle.std.proofs.lemmas.List.{length-map}
 use Rattle.mc_sizes.specs.Sizes.{MayServe}
 use Rattle.mc_serve.specs.Over.{came_back}
-use Rattle.mc_serve.specs.One.{told_one, waits}
+use Rattle.mc_doors.specs.One.{told_one, waits}
 use Rattle.mc_serve.proofs.One.{all_free, if_ok, over_all}
 use denote.Exit.{no}
 use denote.Param.Send.{arg_send, param_send}
-use Rattle.mc_serve.proofs.Sent.{door_send}
+use Rattle.mc_doors.proofs.Sent.{door_send}
 use Rattle.mc_serve.proofs.over.serve_over.Goals as goal
 
 pub serve-requires-clause-free : goal.serve-requires-clause-free

@@ -4,7 +4,7 @@ use Rattle.std.specs.Vec.Iter.{into_iter_items}
 use Rattle.mc_sizes.specs.Sizes.{rules_of}
 use Rattle.mc_threads.proofs.Orders.{all_first, all_more, all_rest, order_all, order_more}
 use Rattle.mc_serve.specs.Seats.{HasSatDown}
-use Rattle.mc_serve.specs.Told.{IsFree}
+use Rattle.mc_doors.specs.Told.{IsFree}
 use Rattle.mc_serve.proofs.serving.sit_down.Goals as goal
 
 pub loop-ends-preserved : goal.loop-ends-preserved

@@ -4,7 +4,7 @@ use Rattle.std.specs.List.{AllByRecursion}
 use Rattle.std.specs.Vec.Iter.{into_iter_items}
 use Rattle.mc_sizes.specs.Sizes.{rules_of}
 use Rattle.mc_serve.specs.Seats.{HasSatDown}
-use Rattle.mc_serve.specs.Told.{IsFree}
+use Rattle.mc_doors.specs.Told.{IsFree}
 use Rattle.mc_serve.proofs.serving.sit_down.Given as goal
 
 abbrev pub invariant-loop-ends : goal.invariant-loop-ends

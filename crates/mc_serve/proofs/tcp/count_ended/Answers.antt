@@ -1,7 +1,7 @@
 -- The connections of one door more are counted.
 use Rattle.std.proofs.Common.{◌≡◌, ◌∙◌, ℕ, [], ap, length, map, arith, rules}
 use Rattle.std.specs.Vec.Iter.{into_iter_items}
-use Rattle.mc_serve.specs.Tcp.{gone_count, told_tcp}
+use Rattle.mc_doors.specs.Tcp.{gone_count, told_tcp}
 use Rattle.mc_serve.proofs.Connections.{count_all, count_more, gone_one}
 use Rattle.mc_serve.proofs.One.{empty_when}
 use Rattle.mc_serve.proofs.tcp.count_ended.Goals as goal

@@ -1,7 +1,7 @@
 -- Those counted so far, and those of the doors that are left.
 use Rattle.std.proofs.Common.{◌≡◌, ◌+◌, ◌-◌, ◌^◌, ◌≤◌, min, map}
 use Rattle.std.specs.Vec.Iter.{into_iter_items}
-use Rattle.mc_serve.specs.Tcp.{gone_count, told_tcp}
+use Rattle.mc_doors.specs.Tcp.{gone_count, told_tcp}
 use Rattle.mc_serve.proofs.tcp.count_ended.Given as goal
 
 abbrev pub invariant-loop-door : goal.invariant-loop-door

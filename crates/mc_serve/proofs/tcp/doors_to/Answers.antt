@@ -3,8 +3,8 @@ use Rattle.std.proofs.Common.{◌≡◌, List, [], ◌∷◌, ◌++◌, ◌∙�
 use Rattle.std.specs.List.{AllByRecursion}
 use Rattle.mc_command.specs.Rules.{is_drop_in}
 use Rattle.mc_sizes.specs.Sizes.{rules_of}
-use Rattle.mc_serve.specs.Told.{TellsLines}
-use Rattle.mc_serve.specs.Tcp.{told_tcp}
+use Rattle.mc_doors.specs.Told.{TellsLines}
+use Rattle.mc_doors.specs.Tcp.{told_tcp}
 use Rattle.mc_serve.proofs.tcp.doors_to.Goals as goal
 
 appended : {X : Type 0} (P : X → Type 0) (xs : List X) (x : X) → AllByRecursion P xs → P x → AllByRecursion P (xs ++ x ∷ [])

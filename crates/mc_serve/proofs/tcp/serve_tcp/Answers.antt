@@ -2,12 +2,12 @@
 use Rattle.std.proofs.Common.{ℕ, map, subst, sym}
 use Rattle.mc_sizes.specs.Sizes.{MayServe}
 use Rattle.mc_serve.specs.Served.{ServesDoors}
-use Rattle.mc_serve.specs.Tcp.{told_tcp}
+use Rattle.mc_doors.specs.Tcp.{told_tcp}
 use Rattle.mc_serve.proofs.Connections.{all_connections, new_free, tcp_new}
 use Rattle.mc_serve.proofs.One.{if_ok}
 use denote.Exit.{no}
 use denote.Param.Send.{arg_send, param_send}
-use Rattle.mc_serve.proofs.TcpSent.{tcp_send}
+use Rattle.mc_doors.proofs.TcpSent.{tcp_send}
 use Rattle.mc_serve.proofs.tcp.serve_tcp.Goals as goal
 
 pub serve-served-requires-clause-free : goal.serve-served-requires-clause-free

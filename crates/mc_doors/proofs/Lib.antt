@@ -1,0 +1,4 @@
+pub mod Buffers
+pub mod Sent
+pub mod TcpSent
+mod RowsForeign

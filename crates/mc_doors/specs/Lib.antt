@@ -1,0 +1,4 @@
+pub mod Told
+pub mod One
+pub mod Foreign
+pub mod Tcp

@@ -1,0 +1,30 @@
+//! Connections that speak another protocol.
+ghost use Rattle.std.specs.Prelude.{◌≡◌};
+ghost use Rattle.mc_doors.specs.Foreign.{is_foreign, is_http};
+
+/// So many bytes at most tell that a connection speaks another protocol.
+pub(crate) const FIRST_BYTES: usize = 9;
+
+/// Whether a connection whose first bytes these are speaks another protocol: memcached's binary protocol, TLS or HTTP. No command
+/// begins like that: their names are lower case.
+#[tactic(auto, unfolding(crate::specs::Foreign::is_foreign))]
+pub(crate) fn is_foreign(bytes: &[u8]) -> bool
+    ensures { result ≡ is_foreign bytes.now }
+{
+    bytes.starts_with(&[0x80]) || bytes.starts_with(&[0x16, 0x03]) || is_http(bytes)
+}
+
+/// Whether these are the first bytes of an HTTP request.
+#[tactic(auto, unfolding(crate::specs::Foreign::is_http))]
+fn is_http(bytes: &[u8]) -> bool
+    ensures { result ≡ is_http bytes.now }
+{
+    bytes.starts_with(b"GET /")
+        || bytes.starts_with(b"HEAD /")
+        || bytes.starts_with(b"POST /")
+        || bytes.starts_with(b"PUT /")
+        || bytes.starts_with(b"DELETE /")
+        || bytes.starts_with(b"OPTIONS /")
+        || bytes.starts_with(b"PATCH /")
+        || bytes.starts_with(b"TRACE /")
+}
