@@ -153,11 +153,7 @@ fn numbers_out_of_range_are_refused(rt: HostRuntime) {
             ring,
             ..SIZES
         };
-        equal(
-            &rt,
-            lanes(rt.alloc(), sizes).err(),
-            Some(RingRefusal::Size),
-        );
+        equal(&rt, lanes(rt.alloc(), sizes).err(), Some(RingRefusal::Size));
     }
     for (seats, shards, ring) in [(64, 16, 1), (1, 1, 1024)] {
         let sizes = Sizes {

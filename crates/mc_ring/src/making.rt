@@ -34,10 +34,7 @@ impl From<AllocError> for RingRefusal {
 
 /// The ends of a lane between each seat and each shard, with rings of so many places. `Size` where the number of seats, of
 /// shards or of places is out of its limits, which is tested first.
-pub fn lanes(
-    alloc: Global,
-    sizes: Sizes,
-) -> Result<(Vec<SeatEnds>, Vec<ShardEnds>), RingRefusal>
+pub fn lanes(alloc: Global, sizes: Sizes) -> Result<(Vec<SeatEnds>, Vec<ShardEnds>), RingRefusal>
     ensures made { IfOk result
         (λ ends. AreLanes sizes.seats sizes.shards sizes.ring ends.0.items ends.1.items) }
     ensures size { IsErrOf result RingRefusal.Size → ¬ (SuitLanes sizes) }

@@ -60,16 +60,7 @@ fn serve_client<
         ..SMALL
     };
     let watch = Watch::nothing(alloc);
-    let ended = serve_tcp(
-        rt,
-        alloc,
-        listener,
-        sizes,
-        Some(1),
-        StillClock(1000),
-        watch,
-    )
-    .ok();
+    let ended = serve_tcp(rt, alloc, listener, sizes, Some(1), StillClock(1000), watch).ok();
     Ok((client.join(rt)?, ended))
 }
 
@@ -109,16 +100,7 @@ fn serve_three<
         ..SMALL
     };
     let watch = Watch::nothing(alloc);
-    let ended = serve_tcp(
-        rt,
-        alloc,
-        listener,
-        sizes,
-        Some(3),
-        StillClock(1000),
-        watch,
-    )
-    .ok();
+    let ended = serve_tcp(rt, alloc, listener, sizes, Some(3), StillClock(1000), watch).ok();
     let no_op = first.join(rt)?.as_slice() == b"MN\r\n".as_slice();
     let miss = second.join(rt)?.as_slice() == b"END\r\n".as_slice();
     let bad = third.join(rt)?.as_slice() == b"CLIENT_ERROR bad key\r\n".as_slice();
@@ -160,16 +142,7 @@ fn serve_idle<
         seconds: Seconds::new(alloc)?,
         limit: 1,
     });
-    let ended = serve_tcp(
-        rt,
-        alloc,
-        listener,
-        SMALL,
-        Some(1),
-        StillClock(1000),
-        watch,
-    )
-    .ok();
+    let ended = serve_tcp(rt, alloc, listener, SMALL, Some(1), StillClock(1000), watch).ok();
     let mut totals = counts.totals();
     // The connection that has ended is the one that was counted.
     totals.ended = totals.ended.min(ended.unwrap_or(0));
