@@ -10,9 +10,9 @@ ghost use Rattle.mc_store.specs.Step.{is_other};
 ghost use Rattle.mc_store.specs.internal.Access.{met, read_item, read_shelf, seen_shelf};
 ghost use Rattle.mc_store.specs.internal.Listed.{FitsBudget, freed_by, listed_cost, put_in, within};
 
+use crate::ITEM_OVERHEAD;
 use crate::access::{Access, Use};
 use crate::hashing::PolynomialState;
-use crate::ITEM_OVERHEAD;
 use lru::LruCache;
 use mc_item::{Item, NoMemory, PackedExpiry, Reserve};
 use mc_sizes::{GREATEST_BUDGET, LEAST_BUDGET};

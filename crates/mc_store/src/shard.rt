@@ -19,8 +19,8 @@ mod running;
 mod stats;
 mod storing;
 
-use crate::items::{Items, cost_of};
 use crate::access;
+use crate::items::{Items, cost_of};
 use mc_item::{Answer, CountedAs, Item, MetaDone, Op, PackedExpiry, Status, Tally, Value};
 use mc_sizes::{GREATEST_BUDGET, LEAST_BUDGET};
 use mc_wire::{GREATEST_VALUE_LIMIT, Key, LATEST_MOMENT};

@@ -38,13 +38,7 @@ pub fn listen<
         + Send
         + Drop
         + 'static,
->(
-    rt: &R,
-    address: &str,
-    connections: Option<u64>,
-    sizes: Sizes,
-    wishes: Wishes<'_>,
-) -> ExitCode
+>(rt: &R, address: &str, connections: Option<u64>, sizes: Sizes, wishes: Wishes<'_>) -> ExitCode
     requires { AreWithin sizes }
 {
     let listener = match TcpListener::bind(rt, address) {

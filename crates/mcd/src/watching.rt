@@ -75,12 +75,7 @@ pub fn start_watching<
         + Send
         + Drop
         + 'static,
->(
-    rt: &R,
-    port: u16,
-    sizes: Sizes,
-    wishes: Wishes<'_>,
-) -> Result<(Watch, Watching), NotWatching> {
+>(rt: &R, port: u16, sizes: Sizes, wishes: Wishes<'_>) -> Result<(Watch, Watching), NotWatching> {
     let mut watching = Watching {
         tellers: Vec::new(rt.alloc()),
     };
