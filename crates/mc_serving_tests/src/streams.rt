@@ -1,8 +1,8 @@
 //! A connection over a stream that takes and gives little at a call, and whose calls a signal interrupts.
 use crate::asserting::{equal, holds};
 use crate::sizes::SMALL;
-use mc_seat::{Line, Ready, Unwritten};
 use mc_doors::{Peek, TcpLine, VectoredWrite};
+use mc_seat::{Line, Ready, Unwritten};
 use mc_server::{StillClock, serve_one};
 use mc_sizes::Sizes;
 use mc_watch::Meter;

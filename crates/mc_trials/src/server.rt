@@ -1,7 +1,7 @@
 //! Serves lines over memory, by threads or alone.
 use crate::line::MemoryLine;
-use mc_seat::{Clock, Line, Served};
 use mc_doors::ServedLine;
+use mc_seat::{Clock, Line, Served};
 use mc_serve::serve_over;
 use mc_server::{StillClock, serve_one};
 use mc_sizes::Sizes;
