@@ -11,7 +11,7 @@ use Rattle.mc_conn.specs.History.{MayBeTaken, Taken}
 use Rattle.mc_conn.specs.Due.{due, pieces}
 use Rattle.mc_conn.specs.Fits.{HasCome}
 use Rattle.mc_model.specs.Log.{Entry, Leaves}
-use Rattle.mc_model.specs.World.{IsAt, IsLink, Link, World, new_link, ran, sent_to, with_link}
+use Rattle.mc_model.specs.World.{HoldsAnswerFor, IsAt, IsLink, Link, World, new_link, ran, sent_to, with_link}
 use Rattle.mc_model.specs.Rest.{HasWindow, IsAllTaken, IsNextCommand, IsUsedUp, MayRenew}
 
 pub data Event : Type 0 where
@@ -120,7 +120,7 @@ rule_of (Pop shard seat) = with_memory (plain_rule
     (λ sizes w k link w'. (entry : Entry) × RunsNext sizes w shard k link entry × (w' ≡ record w { log = w.log ++ entry ∷ [] })))
 -- A shard's worker gives the answer that it holds to the connection that asked, where the ring to it has room.
 rule_of (Give shard) = plain_rule
-    (λ sizes w k link. IsLink w k link × (link.given shard < ran w k shard) × (link.given shard < link.received shard + sizes.ring))
+    (λ sizes w k link. IsLink w k link × HoldsAnswerFor w shard k link × (link.given shard < link.received shard + sizes.ring))
     (λ sizes w k link w'. w' ≡ with_link w k (record link { given = one_more link.given shard }))
 -- The connection receives the next answer that the shard has given.
 rule_of (Receive seat shard) = plain_rule
