@@ -5,13 +5,15 @@
 
 Each crate is told when it is proved, with how many are left. What was proved stays in crates/NAME/out, so a second start takes
 seconds, and one that was stopped goes on where it was. Nothing is built that isn't proved: where a crate isn't, its words are
-shown and nothing starts. N crates are proved at a time, each by as many processes as `rt` finds room for: where nothing is said,
-one for each core and for 6 GiB of memory. One that is proved alone gets a process for each core and for 4 GiB.
+shown and nothing starts. N crates are proved at a time: where nothing is said, one for each core and for 6 GiB of memory. There
+is room for a process for each core and for 4 GiB, and those crates that can be proved at a time share it: each process reads all
+crates below, so one crate gets several only where the others leave room.
 """
 import argparse
 import concurrent.futures
 import contextlib
 import fcntl
+import math
 import os
 import pathlib
 import re
@@ -74,8 +76,9 @@ def room_for(size):
     return max(1, min(len(os.sched_getaffinity(0)), memory // size))
 
 
-# How `rt` proves a crate that nothing is proved beside.
-ALONE = ["--jobs", str(room_for(BYTES_A_PROCESS))]
+def shared_by(crates):
+    """How many processes `rt` takes for each of so many crates that are proved side by side."""
+    return ["--jobs", str(max(1, math.ceil(room_for(BYTES_A_PROCESS) / crates)))]
 
 
 def minutes(seconds):
@@ -134,7 +137,7 @@ def prove_all(needs, jobs):
     with concurrent.futures.ThreadPoolExecutor(jobs) as pool:
         while left or running:
             ready = [it for it in left if proved.issuperset(needs[it])]
-            flags = ALONE if len(ready) + len(running) == 1 else []
+            flags = shared_by(max(1, min(jobs, len(ready) + len(running))))
             for name in ready[: jobs - len(running)]:
                 running[pool.submit(prove, name, needs[name], flags)] = name
                 left.remove(name)
@@ -161,7 +164,7 @@ def main():
         return 1
     print(f"{PROGRAM} itself is proved next, built and started", flush=True)
     os.chdir(CRATES / PROGRAM)
-    os.execvp("rt", ["rt", "run", *ALONE, "--", *asked.options])
+    os.execvp("rt", ["rt", "run", *shared_by(1), "--", *asked.options])
 
 
 if __name__ == "__main__":
