@@ -1,12 +1,15 @@
 -- The ends of new lanes are as workers and seats want them.
-use Rattle.std.proofs.Common.{◌≡◌, ℕ, ◌<◌, List, ◌∷◌, length, arith, subst}
+use Rattle.std.proofs.Common.{◌≡◌, ℕ, ◌<◌, List, [], ◌∷◌, length, arith, subst, sym}
 use Rattle.std.specs.List.{AllByRecursion}
 use Rattle.std.proofs.lemmas.Option.{slice_get_within}
 use Rattle.mc_model.proofs.Lists.{all_from}
 use Rattle.mc_ring.specs.Lane.{Far, Near}
 use Rattle.mc_ring.specs.Ends.{Ends}
 use Rattle.mc_ring.specs.Made.{AreLanes}
-use Rattle.mc_threads.specs.Workers.{AreFresh}
+use Rattle.mc_sizes.specs.declared.sizes.Sizes.{Sizes}
+use Rattle.mc_model.specs.Sized.{empty_shard}
+use Rattle.mc_worker.specs.Desk.{Desk, HasRun}
+use Rattle.mc_threads.specs.Workers.{AreFresh, IsFresh}
 
 -- Of new lanes the ends of each shard are those of a shard that is there, and nothing has passed on them.
 pub all_fresh : (seats shards capacity : ℕ) (near : List (Ends Near)) (far : List (Ends Far)) → AreLanes seats shards capacity near far → AllByRecursion (AreFresh shards) far
@@ -25,3 +28,7 @@ first_fresh shards all ends rest is fresh = (subst (λ (xs : List (Ends Far)). A
 -- Where the ends of all shards are fresh, so are those of all but the first.
 pub rest_fresh : (shards : ℕ) (all : List (Ends Far)) (ends : Ends Far) (rest : List (Ends Far)) → all ≡ ends ∷ rest → AllByRecursion (AreFresh shards) all → AllByRecursion (AreFresh shards) rest
 rest_fresh shards all ends rest is fresh = (subst (λ (xs : List (Ends Far)). AllByRecursion (AreFresh shards) xs) is fresh).1
+
+-- A worker that has run nothing, over an empty shard of the number of these ends, is fresh where they are its own.
+pub fresh_by_ends : (sizes : Sizes) (desk : Desk) (ends : Ends Far) → desk.ends ≡ ends → HasRun (empty_shard sizes ends.number) desk [] → IsFresh sizes desk
+fresh_by_ends sizes desk ends is begins = subst (λ (those : Ends Far). HasRun (empty_shard sizes those.number) desk []) (sym is) begins
