@@ -230,21 +230,68 @@ where
     ensures same { OnOk result
         (AllByRecursion (λ part. (part.clock ≡ clock) × (part.sizes ≡ sizes)) crew.new) }
 {
-    let mut seats = seats.into_iter();
-    let mut workers = workers.into_iter();
+    let mut left = Unassigned {
+        seats: seats.into_iter(),
+        workers: workers.into_iter(),
+    };
     for sleeper in sleepers {
-        let own = take_some(alloc, &mut seats, sleeper.places())?;
-        let working = take_some(alloc, &mut workers, sleeper.workers())?;
-        let part = Part::new(alloc, own, working, sleeper, sizes, clock)?;
+        let part = left.next_part(alloc, sleeper, sizes, clock)?;
         crew.start(rt, alloc, part)?;
     }
-    let None = seats.next() else {
-        return Err(CrewRefusal::Thread);
-    };
-    let None = workers.next() else {
-        return Err(CrewRefusal::Thread);
-    };
+    left.none()?;
     Ok(())
+}
+
+/// The seats and the workers that no thread serves yet.
+#[derive(Drop)]
+struct Unassigned<D: Door, G> {
+    seats: IntoIter<Sitting<D>>,
+    workers: IntoIter<Working<G>>,
+}
+
+impl<D: Door + Drop, G: Gate + Drop> Unassigned<D, G> {
+    /// The part of the thread that has this sleeper: the next of them, as many as it has places and workers for.
+    fn next_part<K: Clock + Drop>(
+        &mut self,
+        alloc: Global,
+        sleeper: Sleeper,
+        sizes: Sizes,
+        clock: K,
+    ) -> Result<Part<D, G, K>, AllocError>
+        requires begin { AllByRecursion (λ one.
+            HasSatDown sizes.shards (rules_of sizes) (D.told one.door) one.session one.phase)
+            (into_iter_items self.old.seats) }
+        ensures seats { IfOk result (λ part.
+            part.seats.all.items ++ into_iter_items self.new.seats ≡
+            into_iter_items self.old.seats) }
+        ensures workers { IfOk result (λ part.
+            part.workers.items ++ into_iter_items self.new.workers ≡
+            into_iter_items self.old.workers) }
+        ensures sizes { IfOk result (λ part. part.sizes ≡ sizes) }
+        ensures clock { IfOk result (λ part. part.clock ≡ clock) }
+    {
+        let seats = take_some(alloc, &mut self.seats, sleeper.places())?;
+        let workers = take_some(alloc, &mut self.workers, sleeper.workers())?;
+        Part::new(alloc, seats, workers, sleeper, sizes, clock)
+    }
+
+    /// That there are none. `Thread`: some are left.
+    fn none(self) -> Result<(), CrewRefusal>
+        ensures seats { OnOk result (length (into_iter_items self.seats) ≡ 0) }
+        ensures workers { OnOk result (length (into_iter_items self.workers) ≡ 0) }
+    {
+        let Unassigned {
+            mut seats,
+            mut workers,
+        } = self;
+        let None = seats.next() else {
+            return Err(CrewRefusal::Thread);
+        };
+        let None = workers.next() else {
+            return Err(CrewRefusal::Thread);
+        };
+        Ok(())
+    }
 }
 
 /// The next so many, or all that are left.

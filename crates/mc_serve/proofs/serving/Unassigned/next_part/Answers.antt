@@ -1,0 +1,10 @@
+-- The part takes the first of what is left.
+use Rattle.std.specs.Vec.Iter.{into_iter_items}
+use Rattle.mc_sizes.specs.Sizes.{rules_of}
+use Rattle.mc_serve.specs.Seats.{HasSatDown}
+use Rattle.mc_serve.proofs.Parts.{all_parted}
+use Rattle.mc_serve.proofs.serving.Unassigned.next_part.Goals as goal
+
+pub new-requires : goal.new-requires
+new-requires g c =
+    (all_parted c.in_ok-seats.seats.items (into_iter_items c.take_some.new.left) _ (λ one. HasSatDown c.args.sizes.shards (rules_of c.args.sizes) (g.D.Door.told one.door) one.session one.phase) c.in_ok-seats.ensures c.requires).0
