@@ -42,11 +42,20 @@ struct Closing {
 }
 
 /// How the doors and the server reach the entrance.
-#[derive(Drop)]
 pub struct Bell {
     closing: Arc<Closing, Global>,
     /// What wakes the entrance.
     wakers: Wakers,
+}
+
+impl Drop for Bell {
+    /// By hand, so that to let one go is one call for whoever holds it (docs/DECISIONS.md).
+    fn drop(self) {
+        let Bell {
+            closing: _closing,
+            wakers: _wakers,
+        } = self;
+    }
 }
 
 impl Bell {
@@ -101,7 +110,6 @@ pub(crate) struct Caller {
 }
 
 /// The way of connections to a seat.
-#[derive(Drop)]
 pub struct Way {
     /// The number of the seat.
     pub(crate) seat: usize,
@@ -114,8 +122,20 @@ pub struct Way {
     pub(crate) watch: SeatWatch,
 }
 
+impl Drop for Way {
+    /// By hand, so that to let one go is one call for whoever holds it (docs/DECISIONS.md).
+    fn drop(self) {
+        let Way {
+            seat: _seat,
+            come: _come,
+            bell: _bell,
+            seats: _seats,
+            watch: _watch,
+        } = self;
+    }
+}
+
 /// The listener, and the ways from it to the seats.
-#[derive(Drop)]
 pub struct Entrance {
     listener: TcpListener,
     /// So many more connections are taken, or any number.
@@ -128,6 +148,22 @@ pub struct Entrance {
     ways: Vec<Producer<Caller>>,
     seats: Wakers,
     watch: EntranceWatch,
+}
+
+impl Drop for Entrance {
+    /// By hand, so that to let one go is one call for whoever holds it (docs/DECISIONS.md).
+    fn drop(self) {
+        let Entrance {
+            listener: _listener,
+            left: _left,
+            sleeper: _sleeper,
+            bell: _bell,
+            free: _free,
+            ways: _ways,
+            seats: _seats,
+            watch: _watch,
+        } = self;
+    }
 }
 
 impl Entrance {

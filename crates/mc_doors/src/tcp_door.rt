@@ -22,7 +22,6 @@ pub struct Gone {
 
 /// Lets in the connections of one seat, which an entrance hands to it, and closes them. It keeps none of them: contracts alone
 /// see the list of those that are gone.
-#[derive(Drop)]
 pub struct TcpDoor<R> {
     rt: R,
     way: Way,
@@ -42,6 +41,24 @@ pub struct TcpDoor<R> {
     /// Whether it could accept no more, though more connections may come.
     pub failed: bool,
     ghost counted: { ended ≡ min (length gone.items) (2 ^ 64 - 1) },
+}
+
+impl<R: Drop> Drop for TcpDoor<R> {
+    /// By hand, so that to let one go is one call for whoever holds it (docs/DECISIONS.md).
+    fn drop(self) {
+        let TcpDoor {
+            rt: _rt,
+            way: _way,
+            is_wary: _is_wary,
+            told_free: _told_free,
+            lingering: _lingering,
+            is_out: _is_out,
+            gone: _gone,
+            is_over: _is_over,
+            ended: _ended,
+            failed: _failed,
+        } = self;
+    }
 }
 
 impl<R: time::Clock> TcpDoor<R> {

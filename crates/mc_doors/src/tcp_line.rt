@@ -21,7 +21,6 @@ use std::{io, thread};
 
 /// A stream of bytes in both directions, as a TCP connection. It tells each byte that its own reads gave and its own writes
 /// took, to contracts alone.
-#[derive(Drop)]
 pub struct TcpLine<S> {
     stream: S,
     /// A poll tells when the stream has something new: it is `rouse`d then, and not asked again before.
@@ -43,6 +42,26 @@ pub struct TcpLine<S> {
     reads: Log<Trail, Trail>,
     /// What it measures of itself.
     meter: Meter,
+}
+
+impl<S: Drop> Drop for TcpLine<S> {
+    /// By hand, so that to let one go is one call for whoever holds it (docs/DECISIONS.md).
+    fn drop(self) {
+        let TcpLine {
+            stream: _stream,
+            is_polled: _is_polled,
+            may_read: _may_read,
+            may_write: _may_write,
+            is_closing: _is_closing,
+            wary: _wary,
+            failed: _failed,
+            ended: _ended,
+            given: _given,
+            taken: _taken,
+            reads: _reads,
+            meter: _meter,
+        } = self;
+    }
 }
 
 impl<S> TcpLine<S> {
@@ -144,7 +163,15 @@ impl<S: Drop> TcpLine<S> {
             stream,
             failed,
             ended,
-            ..
+            is_polled: _is_polled,
+            may_read: _may_read,
+            may_write: _may_write,
+            is_closing: _is_closing,
+            wary: _wary,
+            given: _given,
+            taken: _taken,
+            reads: _reads,
+            meter: _meter,
         } = self;
         if failed || ended { None } else { Some(stream) }
     }

@@ -46,7 +46,6 @@ impl Debug for Stranger {
 }
 
 /// The replies of one connection, in the order of its commands, whenever their answers come.
-#[derive(Drop)]
 pub struct Joiner {
     /// The forms of the open tickets, in order.
     forms: HeapCircularBuffer<Form>,
@@ -55,6 +54,18 @@ pub struct Joiner {
     /// The outlet has failed.
     gone: bool,
     room: Room,
+}
+
+impl Drop for Joiner {
+    /// By hand, so that to let one go is one call for whoever holds it (docs/DECISIONS.md).
+    fn drop(self) {
+        let Joiner {
+            forms: _forms,
+            handed: _handed,
+            gone: _gone,
+            room: _room,
+        } = self;
+    }
 }
 
 impl Model for Joiner {

@@ -38,7 +38,6 @@ impl Calls {
 
 /// Any number of seats and any number of workers, which one thread serves. In each turn the seats come first: what they send is
 /// on the lanes before a worker waits at its gate.
-#[derive(Drop)]
 pub struct Part<D: Door, G, K> {
     pub(crate) seats: Seats<D>,
     pub(crate) workers: Vec<Working<G>>,
@@ -47,6 +46,21 @@ pub struct Part<D: Door, G, K> {
     rooms: Rooms,
     sizes: Sizes,
     clock: K,
+}
+
+impl<D: Door + Drop, G: Drop, K: Drop> Drop for Part<D, G, K> {
+    /// By hand, so that to let one go is one call for whoever holds it (docs/DECISIONS.md).
+    fn drop(self) {
+        let Part {
+            seats: _seats,
+            workers: _workers,
+            calls: _calls,
+            sleeper: _sleeper,
+            rooms: _rooms,
+            sizes: _sizes,
+            clock: _clock,
+        } = self;
+    }
 }
 
 impl<D: Door + Drop, G: Gate + Drop, K: Clock + Drop> Part<D, G, K> {
@@ -141,7 +155,15 @@ impl<D: Door + Drop, G: Gate + Drop, K: Clock + Drop> Part<D, G, K> {
         ensures seats { result.0 ≡ self.seats.all }
         ensures workers { result.1 ≡ self.workers }
     {
-        let Part { seats, workers, .. } = self;
+        let Part {
+            seats,
+            workers,
+            calls: _calls,
+            sleeper: _sleeper,
+            rooms: _rooms,
+            sizes: _sizes,
+            clock: _clock,
+        } = self;
         (seats.into_all(), workers)
     }
 }

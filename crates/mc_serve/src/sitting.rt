@@ -45,11 +45,21 @@ pub enum Phase<L> {
 }
 
 /// A door and its seat.
-#[derive(Drop)]
 pub struct Sitting<D: Door> {
     pub(crate) session: Session,
     pub(crate) phase: Phase<D::Line>,
     pub door: D,
+}
+
+impl<D: Door + Drop> Drop for Sitting<D> {
+    /// By hand, so that to let one go is one call for whoever holds it (docs/DECISIONS.md).
+    fn drop(self) {
+        let Sitting {
+            session: _session,
+            phase: _phase,
+            door: _door,
+        } = self;
+    }
 }
 
 impl<D: Door + Drop> Sitting<D> {
@@ -207,7 +217,11 @@ impl<D: Door + Drop> Sitting<D> {
         ensures ends { result.0 ≡ self.session.courier.ends }
         ensures door { result.1 ≡ self.door }
     {
-        let Sitting { session, door, .. } = self;
+        let Sitting {
+            session,
+            door,
+            phase: _phase,
+        } = self;
         (session.into_ends(), door)
     }
 }

@@ -70,12 +70,23 @@ struct Seat {
 /// A core of connections, shards and rings, in one thread.
 ///
 /// The contracts speak of the world that it stands in: `Stands sizes sim world`.
-#[derive(Drop)]
 pub struct Sim {
     seats: Vec<Seat>,
     connections: Vec<Connection>,
     log: Vec<LogEntry>,
     rings: Rings,
+}
+
+impl Drop for Sim {
+    /// By hand, so that to let one go is one call for whoever holds it (docs/DECISIONS.md).
+    fn drop(self) {
+        let Sim {
+            seats: _seats,
+            connections: _connections,
+            log: _log,
+            rings: _rings,
+        } = self;
+    }
 }
 
 impl Sim {

@@ -11,7 +11,6 @@ use mc_sizes::Sizes;
 use std::alloc::{AllocError, Global};
 
 /// What a seat serves one line by, and how far it is with the line.
-#[derive(Drop)]
 pub struct Service {
     alloc: Global,
     conn: Conn,
@@ -22,6 +21,20 @@ pub struct Service {
     commands: u64,
     /// Why no further command was.
     stop: Taken,
+}
+
+impl Drop for Service {
+    /// By hand, so that to let one go is one call for whoever holds it (docs/DECISIONS.md).
+    fn drop(self) {
+        let Service {
+            alloc: _alloc,
+            conn: _conn,
+            seat: _seat,
+            unwritten: _unwritten,
+            commands: _commands,
+            stop: _stop,
+        } = self;
+    }
 }
 
 impl Service {

@@ -25,7 +25,6 @@ pub enum Stepped {
 
 /// What a seat needs to serve lines, one after another. Until the first line comes it has its ends of the lanes alone; the room
 /// that a line is served in is made then, and kept for the lines that follow.
-#[derive(Drop)]
 pub struct Session {
     alloc: Global,
     pub(crate) courier: Courier,
@@ -34,6 +33,18 @@ pub struct Session {
     /// What lines are served by, once the first has come.
     service: Option<Service>,
     ghost suited: { SuitLines sizes },
+}
+
+impl Drop for Session {
+    /// By hand, so that to let one go is one call for whoever holds it (docs/DECISIONS.md).
+    fn drop(self) {
+        let Session {
+            alloc: _alloc,
+            courier: _courier,
+            sizes: _sizes,
+            service: _service,
+        } = self;
+    }
 }
 
 impl Session {
@@ -154,7 +165,12 @@ impl Session {
     pub fn into_ends(self) -> SeatEnds
         ensures { result ≡ self.courier.ends }
     {
-        let Session { courier, .. } = self;
+        let Session {
+            courier,
+            alloc: _alloc,
+            sizes: _sizes,
+            service: _service,
+        } = self;
         courier.into_ends()
     }
 }

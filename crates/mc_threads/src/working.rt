@@ -18,7 +18,6 @@ const BLOCK: usize = 64;
 
 /// A worker, with all that its turns need. It serves the seats in blocks of 64, and passes over the blocks in which no seat has
 /// anything for it.
-#[derive(Drop)]
 pub struct Working<G> {
     pub worker: Worker,
     gate: Arc<G, Global>,
@@ -32,6 +31,21 @@ pub struct Working<G> {
     alloc: Global,
     ghost each_seat: { length given.items ≡ length worker.ends.lanes },
     ghost each_lane: { length waiting.items ≡ length worker.ends.lanes },
+}
+
+impl<G: Drop> Drop for Working<G> {
+    /// By hand, so that to let one go is one call for whoever holds it (docs/DECISIONS.md).
+    fn drop(self) {
+        let Working {
+            worker: _worker,
+            gate: _gate,
+            seats: _seats,
+            waiting: _waiting,
+            blocks: _blocks,
+            given: _given,
+            alloc: _alloc,
+        } = self;
+    }
 }
 
 impl<G: Gate + Drop> Working<G> {

@@ -33,7 +33,6 @@ enum Bed {
 
 /// Waits for one thread while there is nothing to do. Contracts see how many seats may call its workers, and how many seats and
 /// workers it has.
-#[derive(Drop)]
 pub struct Sleeper {
     bed: Bed,
     waker: Arc<Waker, Global>,
@@ -49,6 +48,23 @@ pub struct Sleeper {
     workers: usize,
     ghost of_callers: { (arc_value waker).callers ≡ div_ceil callers 64 },
     ghost of_places: { (arc_value waker).roused ≡ div_ceil places 64 },
+}
+
+impl Drop for Sleeper {
+    /// By hand, so that to let one go is one call for whoever holds it (docs/DECISIONS.md).
+    fn drop(self) {
+        let Sleeper {
+            bed: _bed,
+            waker: _waker,
+            patience: _patience,
+            vain: _vain,
+            turns: _turns,
+            looks: _looks,
+            callers: _callers,
+            places: _places,
+            workers: _workers,
+        } = self;
+    }
 }
 
 impl Model for Sleeper {

@@ -25,9 +25,15 @@ struct Directory {
 }
 
 /// Wakes the threads of a server, by the numbers of its shards and seats.
-#[derive(Drop)]
 pub struct Wakers {
     all: Arc<Directory, Global>,
+}
+
+impl Drop for Wakers {
+    /// By hand, so that to let one go is one call for whoever holds it (docs/DECISIONS.md).
+    fn drop(self) {
+        let Wakers { all: _all } = self;
+    }
 }
 
 impl Wakers {

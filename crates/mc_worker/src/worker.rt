@@ -54,13 +54,24 @@ struct Hand {
 }
 
 /// The worker of one shard.
-#[derive(Drop)]
 pub struct Worker {
     shard: Shard,
     ends: ShardEnds,
     hand: Option<Hand>,
     /// Of each lane, whether its End is still to come.
     live: Vec<bool>,
+}
+
+impl Drop for Worker {
+    /// By hand, so that to let one go is one call for whoever holds it (docs/DECISIONS.md).
+    fn drop(self) {
+        let Worker {
+            shard: _shard,
+            ends: _ends,
+            hand: _hand,
+            live: _live,
+        } = self;
+    }
 }
 
 impl Model for Worker {
