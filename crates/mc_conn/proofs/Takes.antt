@@ -21,7 +21,7 @@ use Rattle.mc_join.specs.Held.{Held, opened_count}
 use Rattle.mc_join.specs.Joined.{IsJoiner}
 use Rattle.mc_join.proofs.Joins.{opened_length}
 use Rattle.mc_conn.specs.declared.conn.Conn.{Conn}
-use Rattle.mc_conn.specs.Conn.{FillsWindow, IsAwaiting, IsConn, NeedsMore, Opens}
+use Rattle.mc_conn.specs.Conn.{FillsWindow, IsAwaiting, IsConn, NeedsMore, TakesCommand}
 use Rattle.mc_conn.specs.internal.Inside.{put_first}
 use Rattle.mc_conn.specs.Due.{forms_of, pieces_from, ticket_at}
 use Rattle.mc_conn.specs.History.{Taken, MayBeTaken, planned}
@@ -106,7 +106,7 @@ pub opens : (old new : Conn) (shown : Command) (ticket : Ticket) (moment : ℕ) 
     new.dispatcher.joiner ≡ record old.dispatcher.joiner { forms = old.dispatcher.joiner.forms ++ form ∷ [] } →
     ((opened : List Form) (accepted : List Shown) (handed : List (List ℕ)) → IsJoiner old.dispatcher.joiner opened accepted handed → IsJoiner new.dispatcher.joiner (opened ++ form ∷ []) accepted handed) →
     new.put_back ≡ old.put_back → new.dispatcher.shards ≡ old.dispatcher.shards → new.broken ≡ old.broken →
-    (told : Told) → IsConn old told → Opens told moment ticket new
+    (told : Told) → IsConn old told → TakesCommand told moment ticket new
 unfolding IsConn
 opens old new shown ticket moment form on room number says plan joiner joins put_back shards broken told h =
     let said = says told.rules told.fed told.ended h.given h.read in

@@ -30,7 +30,7 @@ unfoldable pub SkipsBytes : Conn → Type 0
 SkipsBytes conn = reader.IsSkipping conn.reader
 
 -- One command more was taken, at this moment.
-pub record Opens (told : Told) (moment : ℕ) (ticket : Ticket) (new : Conn) : Type 0 where
+pub record TakesCommand (told : Told) (moment : ℕ) (ticket : Ticket) (new : Conn) : Type 0 where
   pub one : Taken
   pub moment_is : one.moment ≡ moment
   -- It is given up only where it may be.
@@ -61,7 +61,7 @@ pub record FillsWindow (told : Told) (new : Conn) : Type 0 where
 
 -- What taking a command answers, and what the connection is then.
 abbrev pub TakeSays : Conn → ℕ → Took → Conn → Type 0
-TakeSays old moment (took.Opened ticket) new = (told : Told) → IsConn old told → Opens told moment ticket new
+TakeSays old moment (took.Opened ticket) new = (told : Told) → IsConn old told → TakesCommand told moment ticket new
 TakeSays old moment took.NeedMore new = (told : Told) → IsConn old told → NeedsMore told new
 TakeSays old moment took.Full new = (told : Told) → IsConn old told → FillsWindow told new
 TakeSays old moment took.Closed new = (told : Told) → IsConn old told → IsOver told × IsConn new told
@@ -77,7 +77,7 @@ pub record HandsOut (told : Told) (count : ℕ) (new : Conn) (before after : Sig
   pub none_waits : waiting_text (record told { handed = told.handed + count }) ≡ []
 
 -- The outlet failed: it took a beginning of what was due, and the connection is broken.
-pub record BreaksOff (told : Told) (new : Conn) (before after : Sight) : Type 0 where
+pub record FailsToHand (told : Told) (new : Conn) (before after : Sight) : Type 0 where
   pub whole : told.broken ≡ false
   pub cut : outlet.BreaksOff (waiting_text told) before after
   pub now : IsConn new (record told { broken = true })

@@ -47,7 +47,7 @@ pub struct Conn {
 }
 
 impl Conn {
-    ghost use Rattle.mc_conn.specs.Conn.{IsConn, IsAwaiting, TakeSays, HandsOut, BreaksOff, SkipsBytes, StaysSilent, held_bytes};
+    ghost use Rattle.mc_conn.specs.Conn.{IsConn, IsAwaiting, TakeSays, HandsOut, FailsToHand, SkipsBytes, StaysSilent, held_bytes};
 
     /// A new connection over so many shards by this server's own rules, for values of at most `limit` bytes and with this
     /// window. It takes the room for the longest line and for the open commands. `Memory`: memory ran out.
@@ -236,7 +236,7 @@ impl Conn {
             (told : Told) → IsConn self.old told → told.broken ≡ false →
             HandsOut told count self.new (O.sight out.old) (O.sight out.new)) }
         ensures gone { OnErr result ((told : Told) → IsConn self.old told →
-            BreaksOff told self.new (O.sight out.old) (O.sight out.new)) }
+            FailsToHand told self.new (O.sight out.old) (O.sight out.new)) }
         ensures silent { IfOk result (λ count.
             (told : Told) → IsConn self.old told → IsTrue told.broken →
             StaysSilent told count self.new (O.sight out.old) (O.sight out.new)) }

@@ -86,11 +86,11 @@ impl Dispatcher {
 }
 
 impl Commands for Dispatcher {
-    ghost use Rattle.mc_conn.specs.internal.Dispatcher.{CanOpen, Opens};
+    ghost use Rattle.mc_conn.specs.internal.Dispatcher.{CanOpen, OpensForm};
 
     ghost can_take = { CanOpen };
 
-    ghost takes = { Opens };
+    ghost takes = { OpensForm };
 
     fn no_op(&mut self) {
         let form = split_no_op(self.alloc, self.ticket, self.moment, self.shards);

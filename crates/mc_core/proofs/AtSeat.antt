@@ -11,7 +11,7 @@ use Rattle.mc_reader.proofs.Fronts.{commands_begin, last_of}
 use Rattle.mc_ring.specs.Reply.{Shown}
 use Rattle.mc_split.specs.declared.plan.Ticket.{Ticket}
 use Rattle.mc_join.specs.Replies.{replies}
-use Rattle.mc_conn.specs.Conn.{FillsWindow, IsConn, NeedsMore, Opens}
+use Rattle.mc_conn.specs.Conn.{FillsWindow, IsConn, NeedsMore, TakesCommand}
 use Rattle.mc_conn.specs.Told.{IsOver, Told}
 use Rattle.mc_conn.specs.History.{Taken}
 use Rattle.mc_conn.specs.Due.{forms_from, forms_of, lane, pieces, pieces_from}
@@ -209,7 +209,7 @@ taken_bytes sizes w k link one law =
     ap concat (sym stay ∙ (ap (λ rs. take link.handed (replies (forms_of sizes.shards link.taken ++ others) rs)) (append-nil own) ∙ ap (λ fs. take link.handed (replies fs own)) (sym forms)))
 
 -- A command is taken.
-pub takes : (old new : Sim) (c number moment : ℕ) (ticket : Ticket) (place after : Seat) → Finds old c number place → number < length old.connections.items → ((told : Told) → IsConn place.conn told → Opens told moment ticket after.conn) →
+pub takes : (old new : Sim) (c number moment : ℕ) (ticket : Ticket) (place after : Seat) → Finds old c number place → number < length old.connections.items → ((told : Told) → IsConn place.conn told → TakesCommand told moment ticket after.conn) →
     after.current ≡ place.current → Differs old new c after → new.connections.items ≡ old.connections.items → StepsByEvent old (Take c moment) replied.Done new
 unfolding Stands
 takes old new c number moment ticket place after finds below conn same differs connections sizes w world =

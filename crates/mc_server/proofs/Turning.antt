@@ -7,7 +7,7 @@ use Rattle.mc_store.specs.declared.shard.Shard.{Shard}
 use Rattle.mc_conn.specs.declared.conn.Conn.{Conn}
 use Rattle.mc_conn.specs.declared.conn.Taken.{Taken as Took}
 use Rattle.mc_conn.specs.declared.conn.Taken.TheVariants as took
-use Rattle.mc_conn.specs.Conn.{IsConn, Opens, TakeSays}
+use Rattle.mc_conn.specs.Conn.{IsConn, TakeSays, TakesCommand}
 use Rattle.mc_conn.specs.Due.{pieces_from}
 use Rattle.mc_conn.specs.Fits.{KeysFit}
 use Rattle.mc_conn.specs.History.{Taken}
@@ -63,7 +63,7 @@ pub turns_take : (sizes : Sizes) (may_answer : ℕ → Type 0) (begin now : Sigh
     Turns sizes may_answer begin now unread conn shards commands → Turns sizes may_answer begin now unread new shards later
 turns_take sizes may_answer begin now unread conn new shards commands later moment ticket may says later_is turns =
     let told = turns.told in
-    let opens : Opens told moment ticket new = says told turns.conn_is in
+    let opens : TakesCommand told moment ticket new = says told turns.conn_is in
     let taken : List Taken = told.taken ++ opens.one ∷ [] in
     let keeps = keeps_take conn told opens.one turns.conn_is in
     let answers = turns.answers in

@@ -13,7 +13,7 @@ use Rattle.mc_split.specs.declared.plan.Ticket.{Ticket}
 use Rattle.mc_conn.specs.declared.conn.Conn.{Conn}
 use Rattle.mc_conn.specs.declared.conn.Taken.{Taken as Took}
 use Rattle.mc_conn.specs.declared.conn.Taken.TheVariants as took
-use Rattle.mc_conn.specs.Conn.{IsConn, Opens, TakeSays}
+use Rattle.mc_conn.specs.Conn.{IsConn, TakeSays, TakesCommand}
 use Rattle.mc_conn.specs.Due.{due, lane, pieces_from}
 use Rattle.mc_conn.specs.Fits.{KeysFit, Serves}
 use Rattle.mc_conn.specs.History.{Taken}
@@ -118,7 +118,7 @@ pub turns_take : (shards : ℕ) (rules : Rules) (may_answer : ℕ → Type 0) (b
     TurnsOverLanes shards rules may_answer begin now before ends ways unread conn commands → TurnsOverLanes shards rules may_answer begin now before ends ways unread new later
 turns_take shards rules may_answer begin now before ends ways unread conn new commands later moment ticket may says later_is turns =
     let told = turns.told in
-    let opens : Opens told moment ticket new = says told turns.conn_is in
+    let opens : TakesCommand told moment ticket new = says told turns.conn_is in
     let taken : List Taken = told.taken ++ opens.one ∷ [] in
     let keeps = keeps_take conn told opens.one turns.conn_is in
     let short = begins_length told.rules told.fed (commands_of taken) opens.next in

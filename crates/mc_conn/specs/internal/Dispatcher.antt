@@ -18,7 +18,7 @@ pub record CanOpen (dispatcher : Dispatcher) : Type 0 where
   pub number : dispatcher.ticket.0 ≡ opened_count dispatcher.joiner
 
 -- The command was planned, whole or as given up, and the form of its reply is the last of those that are open.
-pub record Opens (old : Dispatcher) (command : Command) (new : Dispatcher) : Type 0 where
+pub record OpensForm (old : Dispatcher) (command : Command) (new : Dispatcher) : Type 0 where
   pub form : Form
   pub plan : Plans old.shards old.ticket old.moment command form old.unsent.items new.unsent.items
   pub joiner : new.joiner ≡ record old.joiner { forms = old.joiner.forms ++ form ∷ [] }
