@@ -1,2 +1,3 @@
 -- The lemmas of this crate.
+pub mod Hearing
 pub mod Summing

@@ -1,26 +1,32 @@
--- Sums and totals.
+-- Sums and totals, and what threads share.
 use Rattle.std.proofs.Common.{◌≡◌, ℕ, ◌+◌, ◌<◌, List, [], ◌∷◌, ◌++◌, length, take, get_or, refl, sym, ap, subst, ◌∙◌}
 use Rattle.std.proofs.lemmas.List.{take_more}
-use Rattle.std.specs.Fn.{Shared}
 use Rattle.std.specs.List.{FoldsTo}
+use Rattle.std.specs.declared.sync.Arc.{Arc}
+use Rattle.crossbeam_utils.specs.declared.cache_padded.CachePadded.{CachePadded}
 use Rattle.mc_item.specs.declared.tally.Tally.{Tally}
-use Rattle.mc_watch.specs.Told.{IsTaken}
+use Rattle.mc_watch.specs.Counts.{shared_value, shared_values}
 use Rattle.mc_watch.specs.Totals.{totals_counted}
-use denote.Ref.{Bor}
+
+-- what the first of them share, and what one more shares
+pub shared_more : {X Z : Type 0} (all : List (Arc (CachePadded X) Z)) (one : Arc (CachePadded X) Z) → shared_values (all ++ one ∷ []) ≡ shared_values all ++ shared_value one ∷ []
+shared_more [] one = refl
+shared_more (first ∷ rest) one = ap (λ xs. shared_value first ∷ xs) (shared_more rest one)
+
+-- the first of them, and the next one
+pub shared_next : {X Z : Type 0} (all : List (Arc (CachePadded X) Z)) (place : ℕ) (one : Arc (CachePadded X) Z) → place < length all → one ≡ get_or all place one → shared_values (take (place + 1) all) ≡ shared_values (take place all) ++ shared_value one ∷ []
+shared_next all place one within is =
+    ap shared_values (take_more all place one within ∙ ap (λ y. take place all ++ y ∷ []) (sym is)) ∙ shared_more (take place all) one
 
 -- steps over a list, and one more step over one more element, are steps over both
 folds_on : {P A : Type 0} (R : P → A → P → Type 0) (p : P) (xs : List A) (q : P) (x : A) (r : P) → FoldsTo R p xs q → R q x r → FoldsTo R p (xs ++ x ∷ []) r
 folds_on R p [] q x r is one = (r, subst (λ s. R s x r) (sym is) one, refl)
 folds_on R p (y ∷ ys) q x r steps one = (steps.0, steps.1, folds_on R steps.0 ys q x r steps.2 one)
 
--- steps over the first elements of a list go on by a step over the next one
-pub folds_more : {P A : Type 0} (R : P → A → P → Type 0) (p : P) (xs : List A) (place : ℕ) (q : P) (x : A) (r : P) → place < length xs → x ≡ get_or xs place x → FoldsTo R p (take place xs) q → R q x r → FoldsTo R p (take (place + 1) xs) r
-folds_more R p xs place q x r within is steps one =
-    subst (λ ys. FoldsTo R p ys r) (sym (take_more xs place x within ∙ ap (λ y. take place xs ++ y ∷ []) (sym is))) (folds_on R p (take place xs) q x r steps one)
-
--- a call at a counter and a count hands the count to the counter
-pub taken_at : {F C : Type 0} (calls : Shared F (Bor C × (ℕ × Unit {0})) (Unit {0})) {take : F} {counter : Bor C} {count : ℕ} → calls.post take (counter, (count, tt)) tt → IsTaken calls take counter.now count
-taken_at calls {take} {counter} {count} says = record { shown = counter; shows = refl; says = record { met = says } }
+-- steps over what the first of them share go on by a step over what the next one shares
+pub folds_shared : {P X Z : Type 0} (R : P → X → P → Type 0) (p : P) (all : List (Arc (CachePadded X) Z)) (place : ℕ) (q : P) (one : Arc (CachePadded X) Z) (r : P) → place < length all → one ≡ get_or all place one → FoldsTo R p (shared_values (take place all)) q → R q (shared_value one) r → FoldsTo R p (shared_values (take (place + 1) all)) r
+folds_shared R p all place q one r within is steps next =
+    subst (λ ys. FoldsTo R p ys r) (sym (shared_next all place one within is)) (folds_on R p (shared_values (take place all)) q (shared_value one) r steps next)
 
 -- the same counts make the same totals
 pub same_totals : {items bytes evicted items' bytes' evicted' : ℕ} {tally tally' : Tally} → items ≡ items' → bytes ≡ bytes' → evicted ≡ evicted' → tally ≡ tally'

@@ -1,7 +1,102 @@
--- What the threads of a server count.
-use Rattle.std.specs.Prelude.{ℕ, length}
+-- What the threads of a server count, and what is told of it.
+use Rattle.std.specs.Prelude.{ℕ, ◌≡◌, Bool, List, map, length, Option, Some, None, option_map, slice_get}
+use Rattle.std.specs.Arc.{arc_value}
+use Rattle.std.specs.Int.{from_bool}
+use Rattle.std.specs.List.{FoldsTo}
+use Rattle.std.specs.declared.sync.Arc.{Arc}
+use Rattle.crossbeam_utils.specs.Padded.{padded_value}
+use Rattle.crossbeam_utils.specs.declared.cache_padded.CachePadded.{CachePadded}
 use Rattle.mc_watch.specs.declared.counts.Counts.{Counts}
+use Rattle.mc_watch.specs.declared.counts.EntranceCounts.{EntranceCounts}
+use Rattle.mc_watch.specs.declared.counts.SeatCounts.{SeatCounts}
+use Rattle.mc_watch.specs.declared.counts.Totals.{Totals}
+use Rattle.mc_watch.specs.declared.shard_counts.ShardCounts.{ShardCounts}
+use Rattle.mc_watch.specs.declared.shard_counts.ShardTotals.{ShardTotals}
+use Rattle.mc_watch.specs.Told.{EachShown}
+use Rattle.mc_watch.specs.Totals.{IsSummed, no_shards, shards_of_both, sum_of}
+
+-- what threads share, apart from other values in memory
+abbrev pub shared_value : {X Z : Type 0} → Arc (CachePadded X) Z → X
+shared_value shared = padded_value (arc_value shared)
+
+-- what several share
+abbrev pub shared_values : {X Z : Type 0} → List (Arc (CachePadded X) Z) → List X
+shared_values all = map shared_value all
 
 -- how many shards show what they hold and were asked
-abbrev pub shard_count : Counts → ℕ
+abbrev pub shard_count : {C : Type 0} → Counts C → ℕ
 shard_count counts = length counts.shards.items
+
+-- what each shard shows, by its number
+abbrev pub shards_of : {C : Type 0} → Counts C → List (ShardCounts C)
+shards_of counts = shared_values counts.shards.items
+
+-- what each thread counts that serves connections, by its number
+abbrev pub threads_of : {C : Type 0} → Counts C → List (SeatCounts C)
+threads_of counts = shared_values counts.threads.items
+
+-- what the thread of this number counts, if there is one and it counts
+abbrev pub thread_of : {C : Type 0} → Option (Counts C) → ℕ → Option (SeatCounts C)
+thread_of None number = None
+thread_of (Some counts) number = option_map shared_value (slice_get counts.threads.items number)
+
+-- what the thread counts that accepts connections, if it counts
+abbrev pub entrance_of : {C : Type 0} → Option (Counts C) → Option (EntranceCounts C)
+entrance_of None = None
+entrance_of (Some counts) = Some (shared_value counts.entrance)
+
+-- one counts what the other counts
+pub record SameCounts {C : Type 0} (one other : Counts C) : Type 0 where
+  pub entrance : shared_value one.entrance ≡ shared_value other.entrance
+  pub threads : threads_of one ≡ threads_of other
+  pub shards : shards_of one ≡ shards_of other
+
+module _ {C : Type 0} (added : C → ℕ → Type 0) where
+  -- a connection that took so many commands has ended, and was broken or not
+  pub record CountsEnd (counts : SeatCounts C) (commands : ℕ) (broke : Bool) : Type 0 where
+    pub commands_are : added counts.commands commands
+    pub broken : added counts.broken (from_bool broke)
+    pub ended : added counts.ended 1
+
+  -- a connection that was accepted has ended unserved
+  pub record CountsUnserved (counts : SeatCounts C) : Type 0 where
+    pub broken : added counts.broken 1
+    pub ended : added counts.ended 1
+
+-- nothing was counted
+abbrev pub no_totals : Totals
+no_totals = record { accepted = 0; failed = 0; ended = 0; broken = 0; commands = 0; read = 0; written = 0; shards = no_shards }
+
+module _ {C : Type 0} (told : C → ℕ → Type 0) where
+  -- what the counter told is added
+  pub record Adds (counter : C) (before after : ℕ) : Type 0 where
+    pub count : ℕ
+    pub is_told : told counter count
+    pub sum : after ≡ sum_of before count
+
+  -- what a thread told that serves connections is added, and what others count stays
+  pub record AddsThread (before : Totals) (thread : SeatCounts C) (after : Totals) : Type 0 where
+    pub ended : Adds thread.ended before.ended after.ended
+    pub broken : Adds thread.broken before.broken after.broken
+    pub commands : Adds thread.commands before.commands after.commands
+    pub read : Adds thread.read before.read after.read
+    pub written : Adds thread.written before.written after.written
+    pub accepted : after.accepted ≡ before.accepted
+    pub failed : after.failed ≡ before.failed
+    pub shards : after.shards ≡ before.shards
+
+  -- what a shard told is added
+  pub record AddsShard (before : ShardTotals) (shard : ShardCounts C) (after : ShardTotals) : Type 0 where
+    pub totals : ShardTotals
+    pub is_told : EachShown told shard totals
+    pub summed : IsSummed totals
+    pub sum : after ≡ shards_of_both before totals
+
+  -- the totals are what all counters told, each thread and each shard in turn
+  pub record AreTotals (counts : Counts C) (totals : Totals) : Type 0 where
+    pub seats : Totals
+    pub threads : FoldsTo AddsThread no_totals (threads_of counts) seats
+    pub sums : totals ≡ record seats { accepted = totals.accepted; failed = totals.failed; shards = totals.shards }
+    pub accepted : told (shared_value counts.entrance).accepted totals.accepted
+    pub failed : told (shared_value counts.entrance).failed totals.failed
+    pub shards : FoldsTo AddsShard no_shards (shards_of counts) totals.shards

@@ -41,6 +41,27 @@ shards_of_both one other = record {
   flush = commands_of_both one.flush other.flush;
 }
 
+-- no command was asked
+abbrev pub no_commands : CommandTotals
+no_commands = record { hits = 0; misses = 0; bad_values = 0; no_memory = 0; refused = 0 }
+
+-- nothing is held, and nothing was asked
+abbrev pub no_shards : ShardTotals
+no_shards = record {
+  items = 0;
+  bytes = 0;
+  evicted = 0;
+  out_of_memory = 0;
+  get = no_commands;
+  set = no_commands;
+  cas = no_commands;
+  touch = no_commands;
+  delete = no_commands;
+  incr = no_commands;
+  decr = no_commands;
+  flush = no_commands;
+}
+
 -- what all kinds of commands came to together
 abbrev pub commands_of_all : ShardTotals → CommandTotals
 commands_of_all totals =

@@ -1,5 +1,34 @@
 //! A number that one thread counts up and any thread reads.
+ghost use Rattle.std.specs.Prelude.{⊤};
+
 use std::sync::atomic::{AtomicU64, Ordering};
+
+/// What counts: a number that threads share. Any thread may change it, so no clause knows what it holds. What counts connections
+/// and shards is written for any that counts: so its clauses say which one was handed which number, and which one told it.
+pub trait Count: Drop {
+    ghost use Rattle.std.specs.Prelude.{ℕ};
+
+    /// It was handed so many more.
+    ghost was_added: { Self → ℕ → Type 0 };
+
+    /// It was set to so many.
+    ghost was_set: { Self → ℕ → Type 0 };
+
+    /// It told that it is at so many.
+    ghost has_told: { Self → ℕ → Type 0 };
+
+    /// So many more. To be called by one thread alone: what another adds meanwhile is lost.
+    fn add(&self, count: u64)
+        ensures { was_added self.now count };
+
+    /// It is as large as this. To be called by one thread alone.
+    fn set(&self, count: u64)
+        ensures { was_set self.now count };
+
+    /// How many were counted.
+    fn get(&self) -> u64
+        ensures { has_told self.now result };
+}
 
 /// A number that one thread alone counts up, in one word. Any thread reads it, without a lock. After 2^64 - 1 comes 0.
 #[derive(Drop)]
@@ -14,21 +43,26 @@ impl Counter {
             word: AtomicU64::new(0),
         }
     }
+}
 
-    /// So many more. To be called by one thread alone: what another adds meanwhile is lost.
-    pub fn add(&self, count: u64) {
+impl Count for Counter {
+    ghost was_added = { λ _ _. ⊤ };
+
+    ghost was_set = { λ _ _. ⊤ };
+
+    ghost has_told = { λ _ _. ⊤ };
+
+    fn add(&self, count: u64) {
         let before = self.word.load(Ordering::SeqCst);
         self.word
             .store(before.wrapping_add(count), Ordering::SeqCst);
     }
 
-    /// It is as large as this. To be called by one thread alone.
-    pub fn set(&self, count: u64) {
+    fn set(&self, count: u64) {
         self.word.store(count, Ordering::SeqCst);
     }
 
-    /// How many were counted.
-    pub fn get(&self) -> u64 {
+    fn get(&self) -> u64 {
         self.word.load(Ordering::SeqCst)
     }
 }

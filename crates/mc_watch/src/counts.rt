@@ -1,8 +1,8 @@
 //! What the threads of a server count.
-ghost use Rattle.std.specs.Prelude.{◌≡◌, ◌-◌, ◌<◌, ◌≤◌, IfOk, IsSome, length};
-ghost use Rattle.mc_watch.specs.Counts.{shard_count};
+ghost use Rattle.std.specs.Prelude.{◌≡◌, ◌-◌, IfOk, length, option_map, slice_get};
+ghost use Rattle.mc_watch.specs.Counts.{AddsThread, AreTotals, SameCounts, entrance_of, shard_count, shared_value, shared_values, shards_of, thread_of};
 
-use crate::counter::Counter;
+use crate::counter::{Count, Counter};
 use crate::shard_counts::{ShardCounts, ShardTotals};
 use crossbeam_utils::CachePadded;
 use std::alloc::{AllocError, Global};
@@ -10,26 +10,26 @@ use std::sync::Arc;
 
 /// What a thread counts that serves connections.
 #[derive(Drop)]
-pub struct SeatCounts {
+pub struct SeatCounts<C = Counter> {
     /// Connections that have ended, those that broke among them.
-    pub ended: Counter,
+    pub ended: C,
     /// Connections that broke or were idle for too long.
-    pub broken: Counter,
+    pub broken: C,
     /// Commands of the connections that have ended.
-    pub commands: Counter,
+    pub commands: C,
     /// Bytes that were read.
-    pub read: Counter,
+    pub read: C,
     /// Bytes that were written.
-    pub written: Counter,
+    pub written: C,
 }
 
 /// What the thread counts that accepts connections.
 #[derive(Drop)]
-pub struct EntranceCounts {
+pub struct EntranceCounts<C = Counter> {
     /// Connections that were accepted.
-    pub accepted: Counter,
+    pub accepted: C,
     /// Accepts that failed.
-    pub failed: Counter,
+    pub failed: C,
 }
 
 /// What all threads of a server have counted together. It was read counter by counter, while they went on.
@@ -55,13 +55,13 @@ pub struct Totals {
 
 /// What the threads of a server count: each its own, apart from the others in memory.
 #[derive(Drop)]
-pub struct Counts {
-    entrance: Arc<CachePadded<EntranceCounts>, Global>,
-    threads: Vec<Arc<CachePadded<SeatCounts>, Global>>,
-    shards: Vec<Arc<CachePadded<ShardCounts>, Global>>,
+pub struct Counts<C = Counter> {
+    entrance: Arc<CachePadded<EntranceCounts<C>>, Global>,
+    threads: Vec<Arc<CachePadded<SeatCounts<C>>, Global>>,
+    shards: Vec<Arc<CachePadded<ShardCounts<C>>, Global>>,
 }
 
-impl SeatCounts {
+impl SeatCounts<Counter> {
     fn new() -> SeatCounts {
         SeatCounts {
             ended: Counter::new(),
@@ -81,17 +81,9 @@ impl Totals {
         self.accepted.saturating_sub(self.ended)
     }
 
-    fn add(&mut self, counts: &SeatCounts)
-        // Another thread's counts only add to what there is.
-        ensures ended { self.old.ended ≤ self.new.ended }
-        ensures broken { self.old.broken ≤ self.new.broken }
-        ensures commands { self.old.commands ≤ self.new.commands }
-        ensures read { self.old.read ≤ self.new.read }
-        ensures written { self.old.written ≤ self.new.written }
-        // What others count stays.
-        ensures accepted { self.new.accepted ≡ self.old.accepted }
-        ensures failed { self.new.failed ≡ self.old.failed }
-        ensures shards { self.new.shards ≡ self.old.shards }
+    /// Adds what a thread has counted that serves connections.
+    fn add<C: Count>(&mut self, counts: &SeatCounts<C>)
+        ensures { AddsThread C.has_told self.old counts.now self.new }
     {
         self.ended = self.ended.saturating_add(counts.ended.get());
         self.broken = self.broken.saturating_add(counts.broken.get());
@@ -101,7 +93,7 @@ impl Totals {
     }
 }
 
-impl Counts {
+impl Counts<Counter> {
     /// Nothing was counted yet, by so many threads that serve, each with a shard, and the one that accepts.
     pub fn new(alloc: Global, threads: usize) -> Result<Counts, AllocError>
         ensures threads { IfOk result (λ counts. length counts.threads.items ≡ threads) }
@@ -122,12 +114,12 @@ impl Counts {
         }
         Ok(counts)
     }
+}
 
+impl<C: Count> Counts<C> {
     /// The same counts, for one more.
-    pub fn share(&self, alloc: Global) -> Result<Counts, AllocError>
-        ensures threads { IfOk result
-            (λ shared. length shared.threads.items ≡ length self.now.threads.items) }
-        ensures shards { IfOk result (λ shared. shard_count shared ≡ shard_count self.now) }
+    pub fn share(&self, alloc: Global) -> Result<Counts<C>, AllocError>
+        ensures { IfOk result (λ shared. SameCounts shared self.now) }
     {
         let mut threads = Vec::with_capacity(alloc, self.threads.len())?;
         for thread in &self.threads {
@@ -141,23 +133,32 @@ impl Counts {
     }
 
     /// What the thread counts that accepts connections.
-    pub fn entrance(&self) -> Result<Arc<CachePadded<EntranceCounts>, Global>, AllocError> {
+    pub fn entrance(&self) -> Result<Arc<CachePadded<EntranceCounts<C>>, Global>, AllocError>
+        ensures { IfOk result (λ counts. shared_value counts ≡ shared_value self.now.entrance) }
+    {
         Arc::try_clone(&self.entrance)
     }
 
     /// What the thread of this number counts; nothing where there is none.
-    pub fn thread(&self, number: usize) -> Option<Arc<CachePadded<SeatCounts>, Global>>
-        ensures { IsSome result → number < length self.now.threads.items }
+    pub fn thread(
+        &self,
+        number: usize,
+    ) -> Result<Option<Arc<CachePadded<SeatCounts<C>>, Global>>, AllocError>
+        ensures { IfOk result (λ counts. option_map shared_value counts ≡
+            option_map shared_value (slice_get self.now.threads.items number)) }
     {
-        Arc::try_clone(self.threads.get(number)?).ok()
+        match self.threads.get(number) {
+            Some(thread) => Ok(Some(Arc::try_clone(thread)?)),
+            None => Ok(None),
+        }
     }
 
     /// What each shard shows, by its number.
     pub fn shards(
         &self,
         alloc: Global,
-    ) -> Result<Vec<Arc<CachePadded<ShardCounts>, Global>>, AllocError>
-        ensures { IfOk result (λ shards. length shards.items ≡ shard_count self.now) }
+    ) -> Result<Vec<Arc<CachePadded<ShardCounts<C>>, Global>>, AllocError>
+        ensures { IfOk result (λ shards. shared_values shards.items ≡ shards_of self.now) }
     {
         let mut shards = Vec::with_capacity(alloc, self.shards.len())?;
         for shard in &self.shards {
@@ -166,24 +167,18 @@ impl Counts {
         Ok(shards)
     }
 
-    /// What all shards show together.
-    fn shard_totals(&self) -> ShardTotals {
-        ShardTotals::default().and_each(
-            &self.shards,
-            &|shard: &Arc<CachePadded<ShardCounts>, Global>| shard.totals(),
-        )
-    }
-
     /// What all threads have counted so far. The connections that ended are read first, so that no more have ended than were
     /// accepted.
-    pub fn totals(&self) -> Totals {
+    pub fn totals(&self) -> Totals
+        ensures { AreTotals C.has_told self.now result }
+    {
         let mut totals = Totals::default();
         for thread in &self.threads {
             totals.add(thread);
         }
         totals.accepted = self.entrance.accepted.get();
         totals.failed = self.entrance.failed.get();
-        totals.shards = self.shard_totals();
+        totals.shards = ShardTotals::default().and_each(&self.shards);
         totals
     }
 }

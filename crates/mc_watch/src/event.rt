@@ -40,6 +40,11 @@ pub enum Event {
 }
 
 impl fmt::Display for Manner {
+    ghost use Rattle.std.specs.Prelude.{Some};
+    ghost use Rattle.mc_watch.specs.EventText.{manner_text};
+
+    ghost output = { λ manner. Some (manner_text manner) };
+
     fn fmt<W: fmt::Write>(&self, f: &mut fmt::Formatter<W>) -> fmt::Result {
         f.write_str(match self {
             Manner::Ended => "ended",
@@ -50,6 +55,10 @@ impl fmt::Display for Manner {
 }
 
 impl fmt::Display for Event {
+    ghost use Rattle.mc_watch.specs.EventText.{event_text};
+
+    ghost output = { event_text };
+
     fn fmt<W: fmt::Write>(&self, f: &mut fmt::Formatter<W>) -> fmt::Result {
         match self {
             Event::Opened { peer, seat } => write!(f, "{peer} on seat {seat}: opened"),

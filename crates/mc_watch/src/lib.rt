@@ -12,7 +12,7 @@ mod reporter;
 mod shard_counts;
 mod watch;
 
-pub use counter::Counter;
+pub use counter::{Count, Counter};
 pub use counts::{Counts, EntranceCounts, SeatCounts, Totals};
 pub use dismissal::Dismissal;
 pub use event::{Event, Manner};

@@ -1,7 +1,9 @@
 //! What a connection measures of itself.
-ghost use Rattle.std.specs.Prelude.{◌≡◌, ◌+◌, ◌-◌, ◌^◌, None, false, min};
-ghost use Rattle.mc_watch.specs.Limits.{limit_of};
+ghost use Rattle.std.specs.Prelude.{◌≡◌, ◌+◌, ◌-◌, ◌^◌, None, IfSome, min};
+ghost use Rattle.mc_watch.specs.Counts.{shared_value};
+ghost use Rattle.mc_watch.specs.Pulse.{MayBeIdle, MayBeat};
 
+use crate::counter::{Count, Counter};
 use crate::counts::SeatCounts;
 use crate::pulse::Pulse;
 use crossbeam_utils::CachePadded;
@@ -10,18 +12,18 @@ use std::sync::Arc;
 
 /// Counts the bytes of one connection, and knows whether it is idle.
 #[derive(Drop)]
-pub struct Meter {
+pub struct Meter<C = Counter> {
     read: u64,
     written: u64,
     /// What its thread counts, if it counts.
-    counts: Option<Arc<CachePadded<SeatCounts>, Global>>,
+    counts: Option<Arc<CachePadded<SeatCounts<C>>, Global>>,
     /// Where a connection may not be idle for good.
-    pulse: Option<Pulse>,
+    pulse: Option<Pulse<C>>,
 }
 
-impl Meter {
+impl<C: Count> Meter<C> {
     /// Of a connection that nobody watches.
-    pub fn unwatched() -> Meter
+    pub fn unwatched() -> Meter<C>
         ensures read { result.read ≡ 0 }
         ensures written { result.written ≡ 0 }
         ensures timeless { result.pulse ≡ None }
@@ -37,9 +39,9 @@ impl Meter {
 
     /// Of a connection that begins. Its thread counts there, if it counts.
     pub fn begin(
-        counts: Option<Arc<CachePadded<SeatCounts>, Global>>,
-        pulse: Option<Pulse>,
-    ) -> Meter
+        counts: Option<Arc<CachePadded<SeatCounts<C>>, Global>>,
+        pulse: Option<Pulse<C>>,
+    ) -> Meter<C>
         ensures read { result.read ≡ 0 }
         ensures written { result.written ≡ 0 }
         ensures pulse { result.pulse ≡ pulse }
@@ -57,8 +59,9 @@ impl Meter {
     pub fn note_read(&mut self, count: usize)
         ensures read { self.new.read ≡ min (self.old.read + count) (2 ^ 64 - 1) }
         ensures written { self.new.written ≡ self.old.written }
-        ensures timeless { self.old.pulse ≡ None → self.new.pulse ≡ None }
-        ensures limit { limit_of self.new ≡ limit_of self.old }
+        ensures counted { IfSome self.old.counts
+            (λ counts. C.was_added (shared_value counts).read count) }
+        ensures beats { MayBeat C.has_told self.old.pulse self.new.pulse }
         ensures counts { self.new.counts ≡ self.old.counts }
     {
         let count = count as u64;
@@ -73,8 +76,9 @@ impl Meter {
     pub fn note_written(&mut self, count: usize)
         ensures read { self.new.read ≡ self.old.read }
         ensures written { self.new.written ≡ min (self.old.written + count) (2 ^ 64 - 1) }
-        ensures timeless { self.old.pulse ≡ None → self.new.pulse ≡ None }
-        ensures limit { limit_of self.new ≡ limit_of self.old }
+        ensures counted { IfSome self.old.counts
+            (λ counts. C.was_added (shared_value counts).written count) }
+        ensures beats { MayBeat C.has_told self.old.pulse self.new.pulse }
         ensures counts { self.new.counts ≡ self.old.counts }
     {
         let count = count as u64;
@@ -88,8 +92,7 @@ impl Meter {
     fn beat(&mut self)
         ensures read { self.new.read ≡ self.old.read }
         ensures written { self.new.written ≡ self.old.written }
-        ensures timeless { self.old.pulse ≡ None → self.new.pulse ≡ None }
-        ensures limit { limit_of self.new ≡ limit_of self.old }
+        ensures beats { MayBeat C.has_told self.old.pulse self.new.pulse }
         ensures counts { self.new.counts ≡ self.old.counts }
     {
         if let Some(pulse) = &mut self.pulse {
@@ -100,7 +103,7 @@ impl Meter {
     /// Whether it moved no byte for longer than it may.
     pub fn is_idle(&self) -> bool
         // One of which nobody asks that never is.
-        ensures { self.now.pulse ≡ None → result ≡ false }
+        ensures { MayBeIdle C.has_told self.now.pulse result }
     {
         match &self.pulse {
             Some(pulse) => pulse.is_idle(),

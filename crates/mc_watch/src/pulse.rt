@@ -1,55 +1,66 @@
 //! Whether a connection moves bytes, by a clock of whole seconds that costs no call of the system.
-ghost use Rattle.std.specs.Prelude.{◌≡◌, ◌-◌, ◌<◌, ◌↔◌, IsTrue};
+ghost use Rattle.std.specs.Prelude.{◌≡◌, ◌-◌, ◌<◌, ◌↔◌, IfOk, IsTrue};
+ghost use Rattle.mc_watch.specs.Pulse.{Beats, IsIdle, clock_of};
 
+use crate::counter::{Count, Counter};
 use std::alloc::{AllocError, Global};
 use std::sync::Arc;
-use std::sync::atomic::{AtomicU64, Ordering};
 
 /// The seconds since the server began, as one thread tells them to all others.
 #[derive(Drop)]
-pub struct Seconds {
-    passed: Arc<AtomicU64, Global>,
+pub struct Seconds<C = Counter> {
+    passed: Arc<C, Global>,
 }
 
-impl Seconds {
+/// When a connection last moved a byte, and how long it may move none.
+#[derive(Drop)]
+pub struct Pulse<C = Counter> {
+    seconds: Seconds<C>,
+    last: u64,
+    /// In seconds.
+    limit: u64,
+}
+
+impl Seconds<Counter> {
     /// None has passed.
     pub fn new(alloc: Global) -> Result<Seconds, AllocError> {
         Ok(Seconds {
-            passed: Arc::new(alloc, AtomicU64::new(0))?,
+            passed: Arc::new(alloc, Counter::new())?,
         })
     }
+}
 
+impl<C: Count> Seconds<C> {
     /// The same seconds, for one more.
-    pub fn share(&self) -> Result<Seconds, AllocError> {
+    pub fn share(&self) -> Result<Seconds<C>, AllocError>
+        ensures { IfOk result (λ shared. clock_of shared ≡ clock_of self.now) }
+    {
         Ok(Seconds {
             passed: Arc::try_clone(&self.passed)?,
         })
     }
 
     /// So many have passed.
-    pub fn tell(&self, passed: u64) {
-        self.passed.store(passed, Ordering::SeqCst);
+    pub fn tell(&self, passed: u64)
+        ensures { C.was_set (clock_of self.now) passed }
+    {
+        self.passed.set(passed);
     }
 
     /// How many have passed.
-    pub fn passed(&self) -> u64 {
-        self.passed.load(Ordering::SeqCst)
+    pub fn passed(&self) -> u64
+        ensures { C.has_told (clock_of self.now) result }
+    {
+        self.passed.get()
     }
 }
 
-/// When a connection last moved a byte, and how long it may move none.
-#[derive(Drop)]
-pub struct Pulse {
-    seconds: Seconds,
-    last: u64,
-    /// In seconds.
-    limit: u64,
-}
-
-impl Pulse {
+impl<C: Count> Pulse<C> {
     /// Of a connection that begins now, and that may be idle for so many seconds.
-    pub fn begin(seconds: Seconds, limit: u64) -> Pulse
-        ensures { result.limit ≡ limit }
+    pub fn begin(seconds: Seconds<C>, limit: u64) -> Pulse<C>
+        ensures limit { result.limit ≡ limit }
+        ensures clock { clock_of result.seconds ≡ clock_of seconds }
+        ensures now { C.has_told (clock_of seconds) result.last }
     {
         let last = seconds.passed();
         Pulse {
@@ -61,13 +72,15 @@ impl Pulse {
 
     /// It moves bytes now.
     pub fn beat(&mut self)
-        ensures { self.new.limit ≡ self.old.limit }
+        ensures { Beats C.has_told self.old self.new }
     {
         self.last = self.seconds.passed();
     }
 
     /// Whether it moved none for more seconds than it may.
-    pub fn is_idle(&self) -> bool {
+    pub fn is_idle(&self) -> bool
+        ensures { IsIdle C.has_told self.now result }
+    {
         is_past(self.seconds.passed(), self.last, self.limit)
     }
 }

@@ -1,5 +1,6 @@
 //! The way of what happens from the threads that serve to one that writes it down.
 ghost use Rattle.std.specs.Prelude.{◌≡◌, None, IfOk, length};
+ghost use Rattle.mc_watch.specs.Reports.{AreHeard, Tells};
 
 use crate::dismissal::Dismissal;
 use crate::event::Event;
@@ -40,7 +41,7 @@ pub struct Reports {
 /// So many reporters, and what they tell.
 pub fn reporters(alloc: Global, count: usize) -> Result<(Vec<Reporter>, Reports), AllocError>
     ensures reporters { IfOk result (λ both. length both.0.items ≡ count) }
-    ensures reports { IfOk result (λ both. length both.1.queues.items ≡ count) }
+    ensures reports { IfOk result (λ both. AreHeard both.0.items both.1.queues.items) }
 {
     let mut all = Vec::with_capacity(alloc, count)?;
     let mut queues = Vec::with_capacity(alloc, count)?;
@@ -69,7 +70,7 @@ impl Reporter {
 
     /// Tells what happened.
     pub fn tell(&mut self, event: Event)
-        ensures unheard { self.old.queue ≡ None → self.new ≡ self.old }
+        ensures { Tells self.old event self.new }
     {
         let Some(queue) = &mut self.queue else {
             return;

@@ -3,12 +3,16 @@ ghost use Rattle.std.specs.Prelude.{◌≡◌};
 ghost use Rattle.std.specs.List.{FoldsTo};
 ghost use Rattle.mc_store.specs.Shard.{IsShard};
 ghost use Rattle.mc_store.specs.State.{State};
+ghost use Rattle.mc_watch.specs.Counts.{AddsShard, shared_values};
+ghost use Rattle.mc_watch.specs.Told.{EachOfCommand, EachOfShard, EachShown};
 ghost use Rattle.mc_watch.specs.Totals.{IsSummed, commands_counted, commands_of_all, commands_of_both, shards_of_both, shown_of, totals_counted, with_out_of_memory};
-ghost use Rattle.mc_watch.specs.Told.{AreTaken, AreTold, CommandsAreTaken, CommandsAreTold, GoesOn};
 
-use crate::counter::Counter;
+use crate::counter::{Count, Counter};
+use crossbeam_utils::CachePadded;
 use mc_item::{CountedAs, Status, Tally};
 use mc_store::Shard;
+use std::alloc::Global;
+use std::sync::Arc;
 
 /// How often a command of one kind came to what.
 #[derive(Clone, Copy, Debug, Default, PartialEq, Eq)]
@@ -73,8 +77,8 @@ struct ShardCounters<C> {
 
 /// What the thread of a shard shows of it. One thread writes it, any reads it, number by number.
 #[derive(Drop)]
-pub struct ShardCounts {
-    counters: ShardCounters<Counter>,
+pub struct ShardCounts<C = Counter> {
+    counters: ShardCounters<C>,
 }
 
 impl CommandTotals {
@@ -155,14 +159,16 @@ impl ShardTotals {
         }
     }
 
-    /// The sum of these and of what each of the shards tells.
-    pub(crate) fn and_each<T, F: Fn(&T) -> ShardTotals>(self, shards: &[T], tell: &F) -> ShardTotals
-        requires { F.IsAlwaysCallable tell.now }
-        ensures { FoldsTo (GoesOn F.Fn tell.now) self shards.now result }
+    /// The sum of these and of what each of the shards shows.
+    pub(crate) fn and_each<C: Count>(
+        self,
+        shards: &[Arc<CachePadded<ShardCounts<C>>, Global>],
+    ) -> ShardTotals
+        ensures { FoldsTo (AddsShard C.has_told) self (shared_values shards.now) result }
     {
         let mut totals = self;
         for shard in shards {
-            totals = totals.and(tell(shard));
+            totals = totals.and(shard.totals());
         }
         totals
     }
@@ -199,76 +205,72 @@ impl CommandCounters<Counter> {
     }
 }
 
-impl<C> CommandCounters<C> {
+impl<C: Count> CommandCounters<C> {
     /// What each of them tells, under its name.
-    fn read<F: Fn(&C) -> u64>(&self, tell: &F) -> CommandTotals
-        requires { F.IsAlwaysCallable tell.now }
-        ensures { CommandsAreTold F.Fn tell.now self.now result }
+    fn read(&self) -> CommandTotals
+        ensures { EachOfCommand C.has_told self.now result }
     {
         CommandTotals {
-            hits: tell(&self.hits),
-            misses: tell(&self.misses),
-            bad_values: tell(&self.bad_values),
-            no_memory: tell(&self.no_memory),
-            refused: tell(&self.refused),
+            hits: self.hits.get(),
+            misses: self.misses.get(),
+            bad_values: self.bad_values.get(),
+            no_memory: self.no_memory.get(),
+            refused: self.refused.get(),
         }
     }
 
-    /// Each of them takes the count of its name.
-    fn write<F: Fn(&C, u64)>(&self, take: &F, totals: &CommandTotals)
-        requires { F.IsAlwaysCallable take.now }
-        ensures { CommandsAreTaken F.Fn take.now self.now totals.now }
+    /// Each of them is set to the count of its name.
+    fn write(&self, totals: &CommandTotals)
+        ensures { EachOfCommand C.was_set self.now totals.now }
     {
-        take(&self.hits, totals.hits);
-        take(&self.misses, totals.misses);
-        take(&self.bad_values, totals.bad_values);
-        take(&self.no_memory, totals.no_memory);
-        take(&self.refused, totals.refused);
+        self.hits.set(totals.hits);
+        self.misses.set(totals.misses);
+        self.bad_values.set(totals.bad_values);
+        self.no_memory.set(totals.no_memory);
+        self.refused.set(totals.refused);
     }
 }
 
-impl<C> ShardCounters<C> {
+impl<C: Count> ShardCounters<C> {
     /// What each of them tells, under its name.
-    fn read<F: Fn(&C) -> u64>(&self, tell: &F) -> ShardTotals
-        requires { F.IsAlwaysCallable tell.now }
-        ensures { AreTold F.Fn tell.now self.now result }
+    fn read(&self) -> ShardTotals
+        ensures { EachOfShard C.has_told self.now result }
     {
         ShardTotals {
-            items: tell(&self.items),
-            bytes: tell(&self.bytes),
-            evicted: tell(&self.evicted),
+            items: self.items.get(),
+            bytes: self.bytes.get(),
+            evicted: self.evicted.get(),
             out_of_memory: 0,
-            get: self.get.read(tell),
-            set: self.set.read(tell),
-            cas: self.cas.read(tell),
-            touch: self.touch.read(tell),
-            delete: self.delete.read(tell),
-            incr: self.incr.read(tell),
-            decr: self.decr.read(tell),
-            flush: self.flush.read(tell),
+            get: self.get.read(),
+            set: self.set.read(),
+            cas: self.cas.read(),
+            touch: self.touch.read(),
+            delete: self.delete.read(),
+            incr: self.incr.read(),
+            decr: self.decr.read(),
+            flush: self.flush.read(),
         }
     }
 
-    /// Each of them takes the count of its name.
-    fn write<F: Fn(&C, u64)>(&self, take: &F, totals: &ShardTotals)
-        requires { F.IsAlwaysCallable take.now }
-        ensures { AreTaken F.Fn take.now self.now totals.now }
+    /// Each of them is set to the count of its name.
+    fn write(&self, totals: &ShardTotals)
+        ensures { EachOfShard C.was_set self.now totals.now }
     {
-        take(&self.items, totals.items);
-        take(&self.bytes, totals.bytes);
-        take(&self.evicted, totals.evicted);
-        self.get.write(take, &totals.get);
-        self.set.write(take, &totals.set);
-        self.cas.write(take, &totals.cas);
-        self.touch.write(take, &totals.touch);
-        self.delete.write(take, &totals.delete);
-        self.incr.write(take, &totals.incr);
-        self.decr.write(take, &totals.decr);
-        self.flush.write(take, &totals.flush);
+        self.items.set(totals.items);
+        self.bytes.set(totals.bytes);
+        self.evicted.set(totals.evicted);
+        self.get.write(&totals.get);
+        self.set.write(&totals.set);
+        self.cas.write(&totals.cas);
+        self.touch.write(&totals.touch);
+        self.delete.write(&totals.delete);
+        self.incr.write(&totals.incr);
+        self.decr.write(&totals.decr);
+        self.flush.write(&totals.flush);
     }
 }
 
-impl ShardCounts {
+impl ShardCounts<Counter> {
     /// Of a shard that was asked nothing yet.
     pub fn new() -> ShardCounts {
         ShardCounts {
@@ -287,20 +289,22 @@ impl ShardCounts {
             },
         }
     }
+}
 
+impl<C: Count> ShardCounts<C> {
     /// Shows what the shard holds and has counted. To be called by the thread of the shard alone.
-    pub fn show(&self, shard: &Shard) {
-        let totals = ShardTotals::of(shard);
-        self.counters
-            .write(&|counter: &Counter, count| counter.set(count), &totals);
+    pub fn show(&self, shard: &Shard)
+        ensures { (state : State) → IsShard shard.now state →
+            EachShown C.was_set self.now (shown_of state) }
+    {
+        self.counters.write(&ShardTotals::of(shard));
     }
 
     /// What was shown last.
     pub fn totals(&self) -> ShardTotals
-        ensures { IsSummed result }
+        ensures told { EachShown C.has_told self.now result }
+        ensures summed { IsSummed result }
     {
-        self.counters
-            .read(&|counter: &Counter| counter.get())
-            .with_out_of_memory()
+        self.counters.read().with_out_of_memory()
     }
 }

@@ -1,8 +1,12 @@
 //! What is watched of the connections of a server, and of each of its seats.
-ghost use Rattle.std.specs.Prelude.{◌≡◌, [], None, Some, false, true, IfOk, IfSome, length};
-ghost use Rattle.mc_watch.specs.Counts.{shard_count};
-ghost use Rattle.mc_watch.specs.Limits.{patience_limit};
+ghost use Rattle.std.specs.Prelude.{◌≡◌, ◌∷◌, ◌++◌, ◌<◌, [], None, Some, IfNone, IfOk, IfSome, OnErr, option_map, vec_len};
+ghost use Rattle.mc_watch.specs.Closing.{IsManner, TellsClosed};
+ghost use Rattle.mc_watch.specs.Counts.{CountsEnd, CountsUnserved, entrance_of, shards_of, shared_value, shared_values, thread_of};
+ghost use Rattle.mc_watch.specs.Pulse.{clock_of, patience_of, pulse_of};
+ghost use Rattle.mc_watch.specs.Reports.{Tells};
+ghost use Rattle.mc_watch.specs.declared.event.Event.TheVariants.{NotAccepted, Opened};
 
+use crate::counter::{Count, Counter};
 use crate::counts::{Counts, EntranceCounts, SeatCounts};
 use crate::event::{Event, Manner};
 use crate::meter::Meter;
@@ -16,30 +20,30 @@ use std::sync::Arc;
 
 /// How long a connection may be idle.
 #[derive(Drop)]
-pub struct Patience {
+pub struct Patience<C = Counter> {
     /// The seconds since the server began.
-    pub seconds: Seconds,
+    pub seconds: Seconds<C>,
     /// A connection may move no byte for so many of them.
     pub limit: u64,
 }
 
 /// What is watched of the connections of a server.
 #[derive(Drop)]
-pub struct Watch {
+pub struct Watch<C = Counter> {
     /// How long a connection may be idle; none is given up where nothing is said.
-    pub patience: Option<Patience>,
+    pub patience: Option<Patience<C>>,
     /// Where the threads count, if they count.
-    pub counts: Option<Counts>,
+    pub counts: Option<Counts<C>>,
     /// Where the seats tell what happens, each by one of them. Where there are none left a seat tells nothing.
     pub reporters: Vec<Reporter>,
 }
 
 /// What is watched of the connections of one seat.
 #[derive(Drop)]
-pub struct SeatWatch {
+pub struct SeatWatch<C = Counter> {
     seat: usize,
-    counts: Option<Arc<CachePadded<SeatCounts>, Global>>,
-    patience: Option<Patience>,
+    counts: Option<Arc<CachePadded<SeatCounts<C>>, Global>>,
+    patience: Option<Patience<C>>,
     reporter: Reporter,
     /// Who the last connection came from.
     peer: Option<SocketAddr>,
@@ -47,15 +51,17 @@ pub struct SeatWatch {
 
 /// What is watched where connections come in.
 #[derive(Drop)]
-pub struct EntranceWatch {
-    counts: Option<Arc<CachePadded<EntranceCounts>, Global>>,
+pub struct EntranceWatch<C = Counter> {
+    counts: Option<Arc<CachePadded<EntranceCounts<C>>, Global>>,
     reporter: Reporter,
 }
 
-impl Patience {
+impl<C: Count> Patience<C> {
     /// The same, for one more.
-    pub fn share(&self) -> Result<Patience, AllocError>
-        ensures { IfOk result (λ shared. shared.limit ≡ self.now.limit) }
+    pub fn share(&self) -> Result<Patience<C>, AllocError>
+        ensures limit { IfOk result (λ shared. shared.limit ≡ self.now.limit) }
+        ensures clock { IfOk result
+            (λ shared. clock_of shared.seconds ≡ clock_of self.now.seconds) }
     {
         Ok(Patience {
             seconds: self.seconds.share()?,
@@ -64,9 +70,9 @@ impl Patience {
     }
 }
 
-impl Watch {
+impl<C: Count> Watch<C> {
     /// Nothing is watched.
-    pub fn nothing(alloc: Global) -> Watch
+    pub fn nothing(alloc: Global) -> Watch<C>
         ensures timeless { result.patience ≡ None }
         ensures uncounted { result.counts ≡ None }
         ensures unheard { result.reporters.items ≡ [] }
@@ -79,11 +85,19 @@ impl Watch {
     }
 
     /// What is watched of a seat, which the thread of this number serves.
-    pub fn seat(&mut self, seat: usize, thread: usize) -> Result<SeatWatch, AllocError>
+    pub fn seat(&mut self, seat: usize, thread: usize) -> Result<SeatWatch<C>, AllocError>
         ensures seat { IfOk result (λ watch. watch.seat ≡ seat) }
         ensures nobody { IfOk result (λ watch. watch.peer ≡ None) }
         ensures limit { IfOk result
-            (λ watch. patience_limit watch.patience ≡ patience_limit self.old.patience) }
+            (λ watch. patience_of watch.patience ≡ patience_of self.old.patience) }
+        ensures counted { IfOk result
+            (λ watch. option_map shared_value watch.counts ≡ thread_of self.old.counts thread) }
+        ensures heard { IfOk result (λ watch.
+            0 < vec_len self.old.reporters →
+            self.old.reporters.items ≡ self.new.reporters.items ++ watch.reporter ∷ []) }
+        ensures unheard { IfOk result (λ watch.
+            self.old.reporters.items ≡ [] → watch.reporter.queue ≡ None) }
+        ensures err { OnErr result (self.new ≡ self.old) }
         ensures patience { self.new.patience ≡ self.old.patience }
         ensures counts { self.new.counts ≡ self.old.counts }
     {
@@ -92,7 +106,7 @@ impl Watch {
             None => None,
         };
         let counts = match &self.counts {
-            Some(counts) => counts.thread(thread),
+            Some(counts) => counts.thread(thread)?,
             None => None,
         };
         Ok(SeatWatch {
@@ -108,9 +122,9 @@ impl Watch {
     pub fn shards(
         &self,
         alloc: Global,
-    ) -> Result<Vec<Arc<CachePadded<ShardCounts>, Global>>, AllocError>
-        ensures each { IfSome self.now.counts
-            (λ counts. IfOk result (λ shards. length shards.items ≡ shard_count counts)) }
+    ) -> Result<Vec<Arc<CachePadded<ShardCounts<C>>, Global>>, AllocError>
+        ensures each { IfSome self.now.counts (λ counts.
+            IfOk result (λ shards. shared_values shards.items ≡ shards_of counts)) }
         ensures none { self.now.counts ≡ None → IfOk result (λ shards. shards.items ≡ []) }
     {
         match &self.counts {
@@ -120,8 +134,15 @@ impl Watch {
     }
 
     /// What is watched where connections come in.
-    pub fn entrance(&mut self) -> Result<EntranceWatch, AllocError>
-        ensures uncounted { self.old.counts ≡ None → IfOk result (λ watch. watch.counts ≡ None) }
+    pub fn entrance(&mut self) -> Result<EntranceWatch<C>, AllocError>
+        ensures counted { IfOk result
+            (λ watch. option_map shared_value watch.counts ≡ entrance_of self.old.counts) }
+        ensures heard { IfOk result (λ watch.
+            0 < vec_len self.old.reporters →
+            self.old.reporters.items ≡ self.new.reporters.items ++ watch.reporter ∷ []) }
+        ensures unheard { IfOk result (λ watch.
+            self.old.reporters.items ≡ [] → watch.reporter.queue ≡ None) }
+        ensures err { OnErr result (self.new ≡ self.old) }
         ensures patience { self.new.patience ≡ self.old.patience }
         ensures counts { self.new.counts ≡ self.old.counts }
     {
@@ -135,7 +156,11 @@ impl Watch {
         })
     }
 
+    /// One of the reporters, or one to which nobody listens where there are none left.
     fn reporter(&mut self) -> Reporter
+        ensures heard { 0 < vec_len self.old.reporters →
+            self.old.reporters.items ≡ self.new.reporters.items ++ result ∷ [] }
+        ensures unheard { self.old.reporters.items ≡ [] → result.queue ≡ None }
         ensures patience { self.new.patience ≡ self.old.patience }
         ensures counts { self.new.counts ≡ self.old.counts }
     {
@@ -146,18 +171,22 @@ impl Watch {
     }
 }
 
-impl SeatWatch {
+impl<C: Count> SeatWatch<C> {
     /// A connection of this peer is served from now on. What it measures of itself.
-    pub fn open(&mut self, peer: SocketAddr) -> Meter
+    pub fn open(&mut self, peer: SocketAddr) -> Meter<C>
         ensures read { result.read ≡ 0 }
         ensures written { result.written ≡ 0 }
         // Where nobody says how long a connection may be idle, it may be for good.
         ensures timeless { self.old.patience ≡ None → result.pulse ≡ None }
         ensures limit { IfSome result.pulse
-            (λ pulse. patience_limit self.old.patience ≡ Some pulse.limit) }
+            (λ pulse. pulse_of (Some pulse) ≡ patience_of self.old.patience) }
+        ensures counted { IfSome result.counts
+            (λ counts. option_map shared_value self.old.counts ≡ Some (shared_value counts)) }
+        ensures told { Tells self.old.reporter (Opened peer self.old.seat) self.new.reporter }
         ensures peer { self.new.peer ≡ Some peer }
         ensures seat { self.new.seat ≡ self.old.seat }
         ensures patience { self.new.patience ≡ self.old.patience }
+        ensures counts { self.new.counts ≡ self.old.counts }
     {
         let seat = self.seat;
         self.peer = Some(peer);
@@ -166,10 +195,17 @@ impl SeatWatch {
     }
 
     /// The connection is served no more: it took so many commands, and broke or not.
-    pub fn close(&mut self, meter: &Meter, commands: u64, broke: bool)
+    pub fn close(&mut self, meter: &Meter<C>, commands: u64, broke: bool)
+        ensures counted { IfSome self.old.counts
+            (λ counts. CountsEnd C.was_added (shared_value counts) commands broke) }
+        ensures told { IfSome self.old.peer (λ peer.
+            TellsClosed C.has_told peer self.old.seat meter.now commands broke
+            self.old.reporter self.new.reporter) }
+        ensures silent { IfNone self.old.peer (self.new.reporter ≡ self.old.reporter) }
         ensures nobody { self.new.peer ≡ None }
         ensures seat { self.new.seat ≡ self.old.seat }
         ensures patience { self.new.patience ≡ self.old.patience }
+        ensures counts { self.new.counts ≡ self.old.counts }
     {
         if let Some(counts) = &self.counts {
             counts.commands.add(commands);
@@ -185,7 +221,9 @@ impl SeatWatch {
 
     /// A connection that was accepted can't be served.
     pub fn turn_away(&mut self)
-        ensures { self.new ≡ self.old }
+        ensures counted { IfSome self.old.counts
+            (λ counts. CountsUnserved C.was_added (shared_value counts)) }
+        ensures same { self.new ≡ self.old }
     {
         if let Some(counts) = &self.counts {
             counts.broken.add(1);
@@ -193,24 +231,29 @@ impl SeatWatch {
         }
     }
 
-    fn counts(&self) -> Option<Arc<CachePadded<SeatCounts>, Global>> {
+    fn counts(&self) -> Option<Arc<CachePadded<SeatCounts<C>>, Global>>
+        ensures { IfSome result
+            (λ counts. option_map shared_value self.now.counts ≡ Some (shared_value counts)) }
+    {
         Arc::try_clone(self.counts.as_ref()?).ok()
     }
 
-    fn pulse(&self) -> Option<Pulse>
+    fn pulse(&self) -> Option<Pulse<C>>
         ensures timeless { self.now.patience ≡ None → result ≡ None }
         ensures limit { IfSome result
-            (λ pulse. patience_limit self.now.patience ≡ Some pulse.limit) }
+            (λ pulse. pulse_of (Some pulse) ≡ patience_of self.now.patience) }
     {
         let patience = self.patience.as_ref()?;
         Some(Pulse::begin(patience.seconds.share().ok()?, patience.limit))
     }
 }
 
-impl EntranceWatch {
+impl<C: Count> EntranceWatch<C> {
     /// A connection was accepted.
     pub fn accepted(&mut self)
-        ensures { self.new ≡ self.old }
+        ensures counted { IfSome self.old.counts
+            (λ counts. C.was_added (shared_value counts).accepted 1) }
+        ensures same { self.new ≡ self.old }
     {
         if let Some(counts) = &self.counts {
             counts.accepted.add(1);
@@ -219,7 +262,10 @@ impl EntranceWatch {
 
     /// None could be accepted, for the reason of this number, if the system told one.
     pub fn failed(&mut self, fault: Option<i32>)
-        ensures { self.new.counts ≡ self.old.counts }
+        ensures counted { IfSome self.old.counts
+            (λ counts. C.was_added (shared_value counts).failed 1) }
+        ensures told { Tells self.old.reporter (NotAccepted fault) self.new.reporter }
+        ensures counts { self.new.counts ≡ self.old.counts }
     {
         if let Some(counts) = &self.counts {
             counts.failed.add(1);
@@ -229,7 +275,13 @@ impl EntranceWatch {
 }
 
 /// What is told of a connection that is served no more.
-fn closed(peer: SocketAddr, seat: usize, manner: Manner, commands: u64, meter: &Meter) -> Event
+fn closed<C: Count>(
+    peer: SocketAddr,
+    seat: usize,
+    manner: Manner,
+    commands: u64,
+    meter: &Meter<C>,
+) -> Event
     ensures { result ≡ Event.Closed peer seat manner commands meter.now.read meter.now.written }
 {
     Event::Closed {
@@ -243,10 +295,8 @@ fn closed(peer: SocketAddr, seat: usize, manner: Manner, commands: u64, meter: &
 }
 
 /// How a connection ended.
-fn manner_of(meter: &Meter, broke: bool) -> Manner
-    ensures ended { broke ≡ false → result ≡ Manner.Ended }
-    ensures broken { result ≡ Manner.Ended → broke ≡ false }
-    ensures timeless { broke ≡ true → meter.now.pulse ≡ None → result ≡ Manner.Broke }
+fn manner_of<C: Count>(meter: &Meter<C>, broke: bool) -> Manner
+    ensures { IsManner C.has_told meter.now broke result }
 {
     if !broke {
         Manner::Ended

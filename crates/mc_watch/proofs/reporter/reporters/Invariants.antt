@@ -1,6 +1,7 @@
--- The reporters so far, and as many queues.
+-- The reporters so far, and where they are heard.
 use Rattle.std.proofs.Common.{◌≡◌, length}
+use Rattle.mc_watch.specs.Reports.{AreHeard}
 use Rattle.mc_watch.proofs.reporter.reporters.Given as goal
 
 abbrev pub invariant-loop : goal.invariant-loop
-invariant-loop l = (length l.all.items ≡ l.counter) × (length l.queues.items ≡ l.counter)
+invariant-loop l = (length l.all.items ≡ l.counter) × AreHeard l.all.items l.queues.items
