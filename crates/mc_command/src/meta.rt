@@ -9,7 +9,7 @@ use arrayvec::ArrayVec;
 use mc_wire::{Key, OPAQUE_LIMIT};
 use std::marker::Model;
 
-/// So many flags are given back in a reply.
+/// The number of flags that a reply can give back.
 pub const RETURN_FLAGS: usize = 8;
 
 /// A flag that is given back in the reply.

@@ -138,7 +138,7 @@ impl Drop for Way {
 /// The listener, and the ways from it to the seats.
 pub struct Entrance {
     listener: TcpListener,
-    /// So many more connections are taken, or any number.
+    /// Connections still to be taken, where their number is bounded.
     left: Option<u64>,
     /// The seats call it when they are free.
     sleeper: Sleeper,

@@ -2,7 +2,7 @@
 ghost use Rattle.std.specs.Prelude.{◌≡◌};
 ghost use Rattle.mc_doors.specs.Foreign.{is_foreign, is_http};
 
-/// So many bytes at most tell that a connection speaks another protocol.
+/// The most bytes that it takes to tell that a connection speaks another protocol.
 pub(crate) const FIRST_BYTES: usize = 9;
 
 /// Whether a connection whose first bytes these are speaks another protocol: memcached's binary protocol, TLS or HTTP. No command

@@ -14,10 +14,10 @@ const LINGER_MILLIS: u64 = 500;
 /// At most so many reads of its peer's bytes are dropped.
 const LINGER_READS: u32 = 1_024;
 
-/// So many at once.
+/// Reads at once, before other seats have their turn.
 const READS_AT_ONCE: u32 = 16;
 
-/// So many bytes are dropped by one read at most.
+/// The most bytes that one read drops.
 const LINGER_BYTES: usize = 4_096;
 
 /// How a connection lingers on.
@@ -36,7 +36,7 @@ pub(crate) enum Lingers {
 #[derive(Drop)]
 pub(crate) struct Lingering {
     stream: TcpStream,
-    /// So many reads of it may still be dropped.
+    /// Reads of it that may still be dropped.
     reads: u32,
     /// It lingers no longer.
     until: Instant,

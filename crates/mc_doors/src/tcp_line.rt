@@ -116,7 +116,7 @@ impl<S> TcpLine<S> {
         self.reads = self.reads.and(&self.given, &self.taken);
     }
 
-    /// So many bytes were read into the front of the room.
+    /// Notes the bytes that were read into the front of the room.
     fn give(&mut self, room: &[u8], count: usize)
         requires { count ≤ length room.now }
         ensures sight { sight_of self.new ≡ gave (take count room.now) (sight_of self.old) }

@@ -44,7 +44,7 @@ pub enum Status {
     Refused,
 }
 
-/// So many kinds are counted, and so many statuses of each.
+/// The number of kinds that are counted; each by its statuses.
 const KINDS: usize = 9;
 
 const STATUSES: usize = 5;

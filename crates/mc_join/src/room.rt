@@ -4,14 +4,14 @@ ghost use Rattle.std.specs.Prelude.{◌≡◌, [], ◌++◌, IsTrue, false, IfOk
 use std::alloc::{AllocError, Global};
 use std::marker::Model;
 
-/// So many bytes are gathered at most.
+/// The most bytes that are gathered.
 const ROOM: usize = 16_384;
 
 /// A room of fixed size. Contracts see the bytes that wait in it.
 #[derive(Drop)]
 pub(crate) struct Room {
     bytes: Vec<u8>,
-    /// So many of the bytes went out.
+    /// Bytes that went out, from the front.
     sent: usize,
 }
 

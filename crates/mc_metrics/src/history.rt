@@ -4,7 +4,7 @@ ghost use Rattle.std.specs.Prelude.{◌≤◌, length};
 use mc_watch::Totals;
 use std::alloc::{AllocError, Global};
 
-/// So many samples are kept.
+/// The number of samples that are kept.
 pub(crate) const KEPT: usize = 121;
 
 /// What all threads had counted at the last moments, the oldest first.

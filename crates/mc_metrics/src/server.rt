@@ -13,7 +13,7 @@ use std::sync::Wait;
 use std::time::{Duration, Instant};
 use std::{io, net, time};
 
-/// So many visitors stay at a time: one more takes the place of the one who came first.
+/// The most visitors at a time: one more takes the place of the one who came first.
 const MOST_VISITORS: usize = 32;
 
 /// At most so many come in at a turn.

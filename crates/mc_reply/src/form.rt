@@ -107,7 +107,7 @@ impl Slots {
         }
     }
 
-    /// So many empty slots.
+    /// Empty slots, `count` of them.
     pub fn empty(alloc: Global, count: usize) -> Result<Slots, AllocError>
         ensures { IfOk result (λ slots. slots ≡ replicate count None) }
     {

@@ -19,7 +19,7 @@ const MOMENT: u64 = 1_000;
 struct Feeding {
     /// At most so many bytes are fed at once.
     piece: usize,
-    /// So many commands may be open. None is answered, so that with a window of 1 the bytes behind the first command
+    /// The most commands that may be open. None is answered, so that with a window of 1 the bytes behind the first command
     /// stay unread.
     window: usize,
 }

@@ -22,7 +22,7 @@ use std::random::RandomSource;
 use std::sync::Wait;
 use std::{fs, io};
 
-/// So many bytes that nothing of a row's small parts is cut.
+/// Bytes a read, enough that nothing of a row's small parts is cut.
 const WHOLE: usize = 65_536;
 
 /// No read or write fails.
@@ -45,7 +45,7 @@ const WINDOWS: [usize; 2] = [1, WIDE];
 /// A window that no row fills.
 const WIDE: usize = 256;
 
-/// So many of the first reads and writes of a line fail in turn.
+/// The number of first reads and writes of a line that fail in turn.
 const FAILURES: usize = 200;
 
 /// What became of a line that new shards served at the row's moment, by this window; none where the server refuses.

@@ -69,7 +69,7 @@ impl Unread {
         front.split_at(self.start).1
     }
 
-    /// So many bytes, from the front, were fed.
+    /// Notes that `count` bytes, from the front, were fed.
     pub(crate) fn advance(&mut self, count: usize)
         requires { count ≤ length self.old }
         ensures { self.new ≡ drop count self.old }

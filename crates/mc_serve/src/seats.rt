@@ -12,7 +12,7 @@ use mc_seat::{Clock, Ready, Rooms};
 use mc_wake::{Marked, Readiness, Sleeper};
 use std::alloc::{AllocError, Global};
 
-/// So many seats stand in a word, each with a bit.
+/// Seats a word, each with a bit.
 pub(crate) const WORD: usize = 64;
 
 /// The seats that one thread serves. It steps those that were roused, and those of which the last step did something.

@@ -35,7 +35,7 @@ impl Task for Adds {
 /// So large a stack is had nowhere.
 const TOO_LARGE: usize = 1 << 47;
 
-/// So many threads are started.
+/// The number of threads that are started.
 const THREADS: u64 = 4;
 
 /// Starts the threads, of which the refused one is given too large a stack.

@@ -13,7 +13,7 @@ use std::io::{ErrorKind, Read, Write};
 use std::sync::ArcSlice;
 use std::test::Fail;
 
-/// So many bytes it takes and gives at most.
+/// The most bytes that it takes or gives at once.
 const MOST: usize = 3;
 
 /// A stream over memory, of which every second call is interrupted before it does anything.

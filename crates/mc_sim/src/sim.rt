@@ -233,7 +233,7 @@ impl Sim {
     }
 }
 
-/// So many seats, each with a connection in which nothing has happened.
+/// The seats, each with a connection in which nothing has happened.
 fn new_seats(alloc: Global, sizes: Sizes) -> Result<Vec<Seat>, AllocError>
     requires { AreWithin sizes }
     ensures count { IfOk result (λ seats. length seats.items ≡ sizes.seats) }

@@ -12,13 +12,13 @@ pub const LEAST: usize = 1;
 /// The greatest number of seats.
 pub const GREATEST_SEATS: usize = 4_096;
 
-/// So many seats there are where nothing else is said.
+/// The default number of seats.
 pub const DEFAULT_SEATS: usize = 1_024;
 
 /// The greatest number of shards.
 pub const GREATEST_SHARDS: usize = 16;
 
-/// So many shards there are where nothing else is said.
+/// The default number of shards.
 pub const DEFAULT_SHARDS: usize = 2;
 
 /// The least budget of a shard, in bytes.
@@ -27,17 +27,17 @@ pub const LEAST_BUDGET: usize = 1_024;
 /// The greatest budget of a shard, in bytes.
 pub const GREATEST_BUDGET: usize = 1_073_741_824;
 
-/// The budget of a shard, in bytes, where nothing else is said.
+/// The default budget of a shard, in bytes.
 pub const DEFAULT_BUDGET: usize = 16_777_216;
 
 /// The greatest number of places in a ring.
 pub const GREATEST_RING: usize = 1_024;
 
-/// So many places a ring has where nothing else is said.
+/// The default number of places in a ring.
 pub const DEFAULT_RING: usize = 20;
 
 /// The greatest number of open commands of a connection.
 pub const GREATEST_WINDOW: usize = 4_096;
 
-/// So many commands of a connection may be open where nothing else is said.
+/// The default number of open commands of a connection.
 pub const DEFAULT_WINDOW: usize = 256;

@@ -13,7 +13,7 @@ use mc_worker::{Gate, Worker};
 use std::alloc::{AllocError, Global};
 use std::sync::Arc;
 
-/// So many seats stand in a block, each with a bit of a word.
+/// Seats a block, each with a bit of a word.
 const BLOCK: usize = 64;
 
 /// A worker, with all that its turns need. It serves the seats in blocks of 64, and passes over the blocks in which no seat has

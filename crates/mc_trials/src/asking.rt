@@ -14,7 +14,7 @@ struct Talk {
     chooser: Chooser,
     /// How many commands of all lines have begun, and how many have ended: the one clock of all lines.
     moments: Come,
-    /// So many commands are still to be sent.
+    /// Commands still to be sent.
     left: u64,
     /// The command that was sent last.
     command: String,

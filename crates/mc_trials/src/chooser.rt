@@ -3,10 +3,10 @@ use crate::text::split_line;
 use mc_wire::{number_u64, words};
 use std::alloc::{AllocError, Global};
 
-/// So many keys are registers, and as many are counters as there are behind them.
+/// The number of keys that are registers; those behind them are counters.
 const REGISTERS: usize = 10;
 
-/// So many keys there are.
+/// The number of keys.
 const KEYS: usize = 16;
 
 /// What is asked of a key.

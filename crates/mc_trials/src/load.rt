@@ -23,7 +23,7 @@ pub struct Load {
 }
 
 impl Load {
-    /// So many commands, of which one read gives a batch.
+    /// A load of `commands` commands, of which one read gives a batch.
     pub fn new(alloc: Global, line: u64, commands: u64, batch: u64) -> Result<Load, AllocError> {
         let mut load = Load {
             alloc,
@@ -89,7 +89,7 @@ pub struct Loads {
 }
 
 impl Loads {
-    /// So many lines, each with so many commands, of which one read gives a batch.
+    /// The loads of `count` lines, each of `commands` commands, of which one read gives a batch.
     pub fn new(alloc: Global, count: u64, commands: u64, batch: u64) -> Result<Loads, AllocError> {
         let mut loads = Loads {
             lines: Vec::new(alloc),

@@ -50,7 +50,7 @@ const CONVERSATIONS: [Conversation; 4] = [
     },
 ];
 
-/// So many lines, served over rings and windows of these sizes, and cut so.
+/// How many lines, over rings and windows of which sizes, and how they are cut.
 #[derive(Clone, Copy)]
 struct Shape {
     lines: usize,

@@ -6,7 +6,7 @@ use std::alloc::{AllocError, Global};
 use std::marker::Model;
 use std::sync::atomic::{AtomicU64, Ordering};
 
-/// So many marks stand in a word.
+/// Marks a word.
 pub(crate) const WORD: usize = 64;
 
 /// A mark for each number below a bound. Contracts see the number of words.
@@ -24,7 +24,7 @@ impl Model for Board {
 }
 
 impl Board {
-    /// So many numbers, none of which is marked.
+    /// A board for `numbers` numbers, none of which is marked.
     pub(crate) fn new(alloc: Global, numbers: usize) -> Result<Board, AllocError>
         ensures { IfOk result (λ board. board ≡ div_ceil numbers 64) }
     {

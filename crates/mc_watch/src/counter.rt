@@ -17,7 +17,7 @@ pub trait Count: Drop {
     /// It told that it is at so many.
     ghost has_told: { Self → ℕ → Type 0 };
 
-    /// So many more. To be called by one thread alone: what another adds meanwhile is lost.
+    /// Adds `count`. To be called by one thread alone: what another adds meanwhile is lost.
     fn add(&self, count: u64)
         ensures { was_added self.now count };
 

@@ -55,7 +55,7 @@ impl<C: Count> Meter<C> {
         }
     }
 
-    /// So many bytes were read of it; none where its input has ended.
+    /// Notes that `count` bytes were read of it; none where its input has ended.
     pub fn note_read(&mut self, count: usize)
         ensures read { self.new.read ≡ min (self.old.read + count) (2 ^ 64 - 1) }
         ensures written { self.new.written ≡ self.old.written }
@@ -72,7 +72,7 @@ impl<C: Count> Meter<C> {
         self.beat();
     }
 
-    /// So many bytes were written to it.
+    /// Notes that `count` bytes were written to it.
     pub fn note_written(&mut self, count: usize)
         ensures read { self.new.read ≡ self.old.read }
         ensures written { self.new.written ≡ min (self.old.written + count) (2 ^ 64 - 1) }

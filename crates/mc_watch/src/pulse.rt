@@ -40,7 +40,7 @@ impl<C: Count> Seconds<C> {
         })
     }
 
-    /// So many have passed.
+    /// Tells that `passed` seconds have passed.
     pub fn tell(&self, passed: u64)
         ensures { C.was_set (clock_of self.now) passed }
     {

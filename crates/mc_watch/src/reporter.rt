@@ -10,7 +10,7 @@ use std::io::Eprint;
 use std::sync::Wait;
 use std::time::Duration;
 
-/// So many events of one reporter may wait.
+/// The most events of one reporter that wait.
 const ROOM: usize = 8;
 
 /// What happened is looked for so often, in milliseconds.
@@ -20,7 +20,7 @@ const LOOK_MILLIS: u64 = 20;
 #[derive(Clone, Copy, Debug, PartialEq, Eq)]
 struct Report {
     event: Event,
-    /// So many events before it found no room.
+    /// Events before it that found no room.
     dropped: u64,
 }
 
@@ -38,7 +38,7 @@ pub struct Reports {
     queues: Vec<Consumer<Report>>,
 }
 
-/// So many reporters, and what they tell.
+/// A number of reporters, and what reads all that they tell.
 pub fn reporters(alloc: Global, count: usize) -> Result<(Vec<Reporter>, Reports), AllocError>
     ensures reporters { IfOk result (λ both. length both.0.items ≡ count) }
     ensures reports { IfOk result (λ both. AreHeard both.0.items both.1.queues.items) }

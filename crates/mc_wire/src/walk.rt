@@ -5,7 +5,7 @@ ghost use Rattle.std.specs.List.{position, list_any};
 ghost use Rattle.mc_wire.specs.Words.{words_of, words_left, is_space};
 ghost use Rattle.mc_wire.specs.internal.Steps.{with_word};
 
-/// So many bytes are searched for a space at once.
+/// Bytes that are searched for a space at once.
 const RUN: usize = 16;
 
 /// The words of a text, one after another.

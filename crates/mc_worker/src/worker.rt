@@ -24,7 +24,7 @@ use std::alloc::{AllocError, Global};
 use std::marker::Model;
 use std::random::RandomSource;
 
-/// So many turns are made for one seat before the worker looks at the next. A piece takes two: it is run, and its reply is given.
+/// Turns that are made for one seat before the worker looks at the next. A piece takes two: it is run, and its reply is given.
 const LANE_TURNS: usize = 64;
 
 /// What a turn of a worker did.

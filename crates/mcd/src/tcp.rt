@@ -20,7 +20,7 @@ use std::sync::Wait;
 use std::thread::Threads;
 use std::{io, time};
 
-/// So many connections may wait in the system's queue until they are accepted. The system has a limit of its own
+/// The most connections that wait in the system's queue until they are accepted. The system has a limit of its own
 /// (net.core.somaxconn).
 const QUEUE: i32 = 4_096;
 

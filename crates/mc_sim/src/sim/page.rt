@@ -7,7 +7,7 @@ use mc_wire::{OutFault, Outlet};
 #[derive(Drop)]
 pub(crate) struct Page {
     pub(crate) bytes: Vec<u8>,
-    /// So many bytes it holds at most.
+    /// The most bytes that it holds.
     pub(crate) limit: usize,
     pub(crate) failed: bool,
     ghost room: { limit ≤ vec_capacity bytes },

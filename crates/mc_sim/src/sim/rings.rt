@@ -35,7 +35,7 @@ pub(crate) struct Ran {
 pub(crate) struct Rings {
     seats: Vec<SeatEnds>,
     workers: Vec<Worker>,
-    /// So many items one ring holds.
+    /// The places of one ring.
     places: usize,
 }
 
