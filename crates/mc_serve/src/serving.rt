@@ -261,6 +261,10 @@ impl<D: Door + Drop, G: Gate + Drop> Unassigned<D, G> {
         requires begin { AllByRecursion (λ one.
             HasSatDown sizes.shards (rules_of sizes) (D.told one.door) one.session one.phase)
             (into_iter_items self.old.seats) }
+        ensures ready { IfOk result (λ part.
+            AllByRecursion (λ one.
+            HasSatDown part.sizes.shards (rules_of part.sizes) (D.told one.door) one.session
+            one.phase) part.seats.all.items) }
         ensures seats { IfOk result (λ part.
             part.seats.all.items ++ into_iter_items self.new.seats ≡
             into_iter_items self.old.seats) }

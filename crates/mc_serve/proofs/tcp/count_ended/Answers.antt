@@ -6,8 +6,8 @@ use Rattle.mc_serve.proofs.Connections.{count_all, count_more, gone_one}
 use Rattle.mc_serve.proofs.One.{empty_when}
 use Rattle.mc_serve.proofs.tcp.count_ended.Goals as goal
 
-pub loop-door-preserved-else-door : goal.loop-door-preserved-else-door
-loop-door-preserved-else-door g c =
+pub loop-door-preserved : goal.loop-door-preserved
+loop-door-preserved g c =
     let was = c.loop-door.invariant in
     let door = c.in-Some.door in
     let next = c.saturating_add-ended.ensures in
