@@ -18,19 +18,6 @@ loop-door-preserved g c =
           (ap (λ doors. gone_count (map (λ door. told_tcp door.is_out door.gone.items door.is_over) doors)) c.in-Some.ensures.steps.0 ∙ gone_one door.is_out door.gone.items door.is_over _) was.counted;
     }
 
--- the same where a door that goes has nothing left to drop
-pub loop-door-preserved : goal.loop-door-preserved
-loop-door-preserved g c =
-    let was = c.loop-door.invariant in
-    let door = c.in-Some.door in
-    let next = c.saturating_add-ended.ensures in
-    let left : ℕ = gone_count (map (λ door. told_tcp door.is_out door.gone.items door.is_over) (into_iter_items c.loop-door.door-iterator)) in
-    record {
-      within = omega (arith, next);
-      counted = count_more c.loop-door.ended _ door.ended (length door.gone.items) _ left _ next door.counted
-          (ap (λ doors. gone_count (map (λ door. told_tcp door.is_out door.gone.items door.is_over) doors)) c.in-Some.ensures.steps.0 ∙ gone_one door.is_out door.gone.items door.is_over _) was.counted;
-    }
-
 pub returns : goal.returns
 returns g c =
     let was = c.loop-door.invariant in
