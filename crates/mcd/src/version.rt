@@ -7,7 +7,7 @@ use std::process::ExitCode;
 pub const VERSION: &str = "1.0.0";
 
 /// The toolchain by which it was proved, as `rt version` names it.
-const TOOLCHAIN: &str = "rattle-kit-13f logic dac8208d650f15bf";
+const TOOLCHAIN: &str = "rattle-kit-13b logic dac8208d650f15bf";
 
 /// Tells name, version and toolchain on standard output; the status with which the program ends.
 pub fn tell_version<R: Print + Eprint>(rt: &R) -> ExitCode {
