@@ -29,8 +29,8 @@ use std::vec::IntoIter;
 
 /// Serves the lines of the doors until no more come. There is a thread for each sleeper, which serves as many of the seats and
 /// of the shards as the sleeper has places and workers: in their order, so that each seat and each shard has its thread. Each
-/// door has a seat, whatever the sizes say. Every worker passes the gate before each piece. Where it refuses, no door was asked for a line: `Thread` also where the sleepers
-/// have places or workers for more or fewer.
+/// door has a seat, whatever the sizes say. Every worker passes the gate before each piece. Where it refuses, no door was asked
+/// for a line: `Thread` also where the sleepers have places or workers for more or fewer.
 pub fn serve<
     R: Threads + Wait + RandomSource + Copy + Send + Drop + 'static,
     D: Door + Send + Drop + 'static,
