@@ -26,6 +26,7 @@ TOP = pathlib.Path(__file__).resolve().parent.parent
 CRATES = TOP / "crates"
 ASIDE = TOP / "out"
 LIST = "crates.txt"
+RT = [sys.executable, str(TOP / "tools" / "quick_rt.py")]
 PROGRAM = "mcd"
 BYTES_A_CRATE = 6 * 1024**3
 BYTES_A_PROCESS = 4 * 1024**3
@@ -126,7 +127,7 @@ def prove(name, wanted, flags):
     """Proves a crate, over those below it; its seconds, and what was said where it isn't proved."""
     begun = time.monotonic()
     with copied(name, wanted) as folder:
-        ran = subprocess.run(["rt", "lib", *flags], cwd=folder, stdout=subprocess.PIPE, stderr=subprocess.STDOUT, text=True, errors="replace")
+        ran = subprocess.run([*RT, "lib", *flags], cwd=folder, stdout=subprocess.PIPE, stderr=subprocess.STDOUT, text=True, errors="replace")
     return time.monotonic() - begun, ran.stdout if ran.returncode else None
 
 
@@ -164,7 +165,7 @@ def main():
         return 1
     print(f"{PROGRAM} itself is proved next, built and started", flush=True)
     os.chdir(CRATES / PROGRAM)
-    os.execvp("rt", ["rt", "run", *shared_by(1), "--", *asked.options])
+    os.execv(sys.executable, [*RT, "run", *shared_by(1), "--", *asked.options])
 
 
 if __name__ == "__main__":

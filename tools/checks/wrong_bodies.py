@@ -1,15 +1,16 @@
 #!/usr/bin/env python3
 """Tries wrong bodies, and reads for what the prover refuses each.
 
-    tools/checks/wrong_bodies.py --applies           only whether the edits that the gate leaves out fit the text that they change
-    tools/checks/wrong_bodies.py [--all] [CRATE ..]  tries the edits of wrong-bodies/ of these crates, or of all; --all: of must-fail/ too;
-                                                CRATE/FOLDER/EDIT is one edit of a crate
-    tools/checks/wrong_bodies.py --log FILE          reads what `rt ci` or `rt must-fail` said of the edits of must-fail/
+    tools/checks/wrong_bodies.py --applies           only whether the edits fit the text that they change
+    tools/checks/wrong_bodies.py [CRATE ..]          tries all edits of these crates, or of all; CRATE/FOLDER/EDIT is one edit of a crate
+    tools/checks/wrong_bodies.py --first [CRATE ..]  tries one edit for each function, of those that `rt ci` doesn't try
     tools/checks/wrong_bodies.py --counts            what is known so far, and nothing tried
 
-The gate tries each edit of must-fail/: the classic faults of such a server, and one or more for nearly each public function.
-Each costs some 20 seconds, most of which the prover takes to read the libraries, so a function's further wrong bodies
-stand in wrong-bodies/ and are tried by hand where its contract changes. The prover must refuse them just the same.
+`rt ci` tries each edit of must-fail/ by itself, over the whole crate: some 25 seconds each, most of them to read the libraries and
+to look once more for what can't be proved. This script tries those of wrong-bodies/, and of must-fail/ where it is asked to, many
+at a time: an edit changes one function, so the edits of different functions are made at once, and just these functions and those
+that they call are looked at. What the prover says of a function is said of its edit. An edit that isn't refused so, and one that
+changes what stands in no function (a constant, a definition), is tried by itself over the whole crate.
 
 An edit shows something only where it is refused for what a contract says. So the checker's words are read: which goals it left
 open, of which function, or which lines of the proof files it refused. Each edit is of one kind, the best that its words give:
@@ -25,22 +26,26 @@ open, of which function, or which lines of the proof files it refused. Each edit
     unread     the edit doesn't compile, or its check ended otherwise                                            (a fault)
     proved     the crate is proved with it                                                                       (a fault)
 
-What was found is kept in a file (--kept FILE; wrong-bodies.json), edit by edit, so a run that was stopped goes on where it was. An
-edit is tried again where it or its crate has changed since. The log of a gate has just the first of the words: what they don't
-decide is tried by --all. The work is done on a copy of the repository; --rt COMMAND is run in place of `rt`.
+The libraries below a crate are those that `rt ci`, `rt lib` or tools/start.py left in out/. What was found is kept in a file
+(--kept FILE; out/wrong-bodies.json), edit by edit, so a run that was stopped goes on where it was. An edit is tried again where it
+or its crate has changed since. N crates are worked on at a time (--jobs N), each on a copy.
 """
 import argparse
+import concurrent.futures
 import hashlib
 import json
+import os
 import pathlib
 import re
-import shlex
 import shutil
 import subprocess
 import sys
 import tempfile
+import threading
 
 TOP = pathlib.Path(__file__).resolve().parent.parent.parent
+PARTS = ["src", "specs", "proofs"]
+BYTES_A_CHECK = 4 * 1024**3
 COUNTED = ["contract", "loop", "call", "lemma"]
 FAULTS = ["safety", "elsewhere", "other call", "name", "unread", "proved"]
 
@@ -52,7 +57,6 @@ NO_NAME = re.compile(r"has no field|is not in scope|has no `|was not admitted|wh
 ENDED = re.compile(r"^(logic=not-proved|only=(\d+) proved=(?!\2\b)\d+)", re.M)
 PROVED = re.compile(r"^(logic=proved|only=(\d+) proved=\2)\b", re.M)
 UNREAD = re.compile(r"^(?:\./)?(?:src|specs)/\S+:\d+:\d+: error", re.M)
-TOLD = re.compile(r"must-fail (\w+)/(\w[\w.-]*)\.edit: (refused, as it must be|NOT REFUSED|BAD EDIT)(.*)")
 SAFETY = re.compile(r"(index|slice|overflow|division|remainder|cast|shift|unreachable)")
 
 
@@ -71,9 +75,10 @@ def pairs_of(edit):
             yield file, old, line.removeprefix("new:").removeprefix(" ")
 
 
-def applied(edit):
-    """The texts of the files that an edit changes, and each change as the file, its line and both texts; or why it doesn't fit."""
-    crate, texts, changes = edit.parent.parent, {}, []
+def applied(edit, texts=None):
+    """The texts of the files that an edit changes, over those given, and each change as the file, its line and both texts; or why it
+    doesn't fit. No text has more than one line, so the lines stay where they are."""
+    crate, texts, changes = edit.parent.parent, dict(texts or {}), []
     for file, old, new in pairs_of(edit):
         if file not in texts:
             texts[file] = (crate / file).read_text() if (crate / file).is_file() else ""
@@ -93,31 +98,59 @@ def stale(edits):
     return sum(fault is not None for _, fault in faults)
 
 
+def head_of(line):
+    """What the checker calls the block that begins so, and the type: `impl From<A> for B<'_, C>` is `B+CFromA`, of `B`."""
+    head = re.sub(r"\bwhere\b.*|\{.*|\w+::", "", line)
+    own, head = re.match(r"(?:pub )?(?:impl|trait)\b(<(?:[^<>]|<[^<>]*>|->)*>)?(.*)", head).groups()
+    parameters = re.findall(r"(?:^<|, *)(\w+)", own or "")
+    trait, _, of = (head if line.startswith("impl") else head.partition(":")[0]).rpartition(" for ")
+    words = lambda text: [it for it in re.findall(r"'?\w+", text) if it[0] != "'" and it not in parameters]
+    return "+".join(words(of)) + "".join(words(trait)), (words(of) or [""])[0]
+
+
 class Source:
     """The functions of a crate, as `rt fmt` lays them out: each ends with a brace below its first letter."""
 
     def __init__(self, crate):
-        self.functions = []
-        for file in sorted(crate.glob("src/**/*.rt")):
-            self.read(file.relative_to(crate).as_posix(), file.read_text().splitlines())
+        self.functions, self.modules = [], {}
+        texts = {it.relative_to(crate).as_posix(): it.read_text().splitlines() for it in sorted(crate.glob("src/**/*.rt"))}
+        for file, lines in texts.items():
+            module = [it for it in re.sub(r"^src/|(/mod)?\.rt$", "", file).split("/") if it not in ("lib", "main")]
+            for line in lines:
+                if found := re.match(r"(?:pub(?:\(.*?\))? )?(?:struct|enum) (\w+)", line):
+                    self.modules[found[1]] = module
+            self.modules[file] = module
+        for file, lines in texts.items():
+            self.read(file, lines)
 
     def read(self, file, lines):
-        block = ""
+        block = []
         for number, line in enumerate(lines, 1):
-            if found := re.match(r"impl\b(?:<.*?>)? *(.*)", line):
-                block = found[1]
+            if re.match(r"impl\b|(pub )?trait\b", line):
+                # the head may be of several lines
+                end = next((it for it in range(number - 1, len(lines)) if "{" in lines[it]), number - 1)
+                name, of = head_of(" ".join(it.strip() for it in lines[number - 1 : end + 1]))
+                # the functions of a type stand where the type does
+                block = [*self.modules.get(of, self.modules[file]), name]
             elif line.startswith("}"):
-                block = ""
+                block = []
             if found := re.match(r"( *)(?:pub(?:\(.*?\))? )?(?:const )?(?:unsafe )?fn (\w+)", line):
                 stop = next((it for it in range(number, len(lines)) if re.match(found[1] + r"(\}|\S.*;$)", lines[it])), number)
                 text = "\n".join(lines[number - 1 : stop + 1])
                 # its attributes stand above it, and the checker names the first line of them
                 first = next((it + 2 for it in range(number - 2, -1, -1) if re.match(r" *($|\S.*[;{]$|\}|///)", lines[it])), 1)
-                self.functions.append({"file": file, "first": first, "last": stop + 1, "name": found[2], "block": block, "text": text})
+                path = "::".join([*(block or self.modules[file]), found[2]])
+                self.functions.append({"file": file, "first": first, "last": stop + 1, "name": found[2], "text": text, "path": path})
 
     def at(self, file, line):
         """The functions that have this line."""
         return [it for it in self.functions if it["file"] == file and it["first"] <= line <= it["last"]]
+
+    def edited(self, changes):
+        """The one function that these changes are in, or None."""
+        found = [self.at(file, line) for file, line, _, _ in changes]
+        paths = {it[-1]["path"] for it in found if it}
+        return found[0][-1] if all(found) and len(paths) == 1 else None
 
     def callers(self, names):
         """The names of the functions that call one of these, by themselves or through others."""
@@ -137,7 +170,7 @@ def name_of(edit):
 def digest(edit):
     """What a result belongs to: the edit, and the texts of its crate."""
     crate, sum_of = edit.parent.parent, hashlib.sha256(edit.read_bytes())
-    for file in sorted(it for part in ("src", "specs", "proofs") for it in crate.glob(f"{part}/**/*") if it.is_file()):
+    for file in sorted(it for part in PARTS for it in crate.glob(f"{part}/**/*") if it.is_file()):
         sum_of.update(file.relative_to(crate).as_posix().encode() + file.read_bytes())
     return sum_of.hexdigest()[:16]
 
@@ -192,83 +225,118 @@ def judged(words, source, changes):
     return min(found, key=[*COUNTED, *FAULTS].index) if found else "unread"
 
 
+def said_of(words, function):
+    """The lines of what the checker said that are of one function, and the end."""
+    own, folder = [], function["path"].replace("::", "/")
+    for line in words.splitlines():
+        goal, refused = OPEN_GOAL.match(line), REFUSED_LINE.match(line)
+        is_own = goal and f"src/{goal[1]}.rt" == function["file"] and function["first"] <= int(goal[2]) <= function["last"]
+        if is_own or refused and refused[1].rpartition("/")[0] == folder or ENDED.match(line) or UNREAD.match(line):
+            own.append(line)
+    return "\n".join(own)
+
+
 # ---- trying
 
 
-def only(edit, changes, source, proved):
-    """The path of the one function that an edit changes, as the checker names it, or None."""
-    edited = {(it["file"], it["name"], it["block"]) for file, line, _, _ in changes for it in source.at(file, line)}
-    if len(edited) != 1 or any(not source.at(file, line) for file, line, _, _ in changes):
-        return None
-    file, name, block = edited.pop()
-    module = re.sub(r"^src/|\.rt$", "", file).replace("/", "::")
-    start = f"{edit.parent.parent.name}::" + ("" if module in ("lib", "main") else f"{module}::")
-    ends = re.findall(r"\w+", re.sub(r"<.*?>", "", block.split(" for ")[-1].split(" where ")[0]))[:1]
-    paths = [it for it in proved if it.startswith(start) and it.split("::")[-1] == name and "::fn::" not in it]
-    paths = [it for it in paths if it.count("::") - start.count("::") == len(ends) and all(end in it for end in ends)]
-    return paths[0] if len(paths) == 1 else None
+def groups_of(edits, source):
+    """The edits in groups, as the texts that a group makes and its edits with the function of each: no two of a group change one
+    function. Those that change what is in no function come in none."""
+    groups = []
+    for edit in edits:
+        function = source.edited(applied(edit)[0][1])
+        if function is None:
+            continue
+        for group in groups:
+            fits = function["path"] not in group["of"] and applied(edit, group["texts"])[0]
+            if fits:
+                break
+        else:
+            group, fits = {"texts": {}, "of": {}}, applied(edit)[0]
+            groups.append(group)
+        group["texts"] = fits[0]
+        group["of"][function["path"]] = edit, function
+    return groups
+
+
+def listed():
+    """Each crate with the libraries that it stands on."""
+    lines = (TOP / "crates.txt").read_text().splitlines()
+    return {line.split(":")[0].split()[0]: line.partition(":")[2].split() for line in lines if re.match(r"\w", line)}
+
+
+def below(name, needs):
+    """The repository's crates that a crate stands on, by themselves or through others."""
+    found = {}
+    for it in needs[name]:
+        if it in needs:
+            found |= dict.fromkeys([*below(it, needs), it])
+    return list(found)
 
 
 class Copy:
-    """A copy of the repository in which edits are tried."""
+    """A copy of a crate in which edits are tried, by the prover as `rt` calls it, over the libraries that are built."""
 
-    def __init__(self, room, command):
-        self.top, self.command, self.proved = pathlib.Path(room) / "copy", shlex.split(command), {}
-        shutil.copytree(TOP, self.top, ignore=shutil.ignore_patterns(".git", "__pycache__"))
+    def __init__(self, room, name):
+        self.crate, self.folder, self.kept = TOP / "crates" / name, pathlib.Path(room) / name, pathlib.Path(room) / f"{name}-kept"
+        kit, needs = pathlib.Path(os.path.realpath(shutil.which("rt"))).parent.parent, listed()
+        built = {it: TOP / "crates" / it / "out/rlib" / f"{it}.rlib" for it in below(name, needs)}
+        if lacking := [it for it, library in built.items() if not library.is_dir()]:
+            sys.exit(f"{name}: {lacking[0]} isn't built: run rt lib in its folder, or tools/start.py")
+        for part in PARTS:
+            if (self.crate / part).is_dir():
+                shutil.copytree(self.crate / part, self.folder / part)
+        root = "src/main.rt" if (self.crate / "src/main.rt").is_file() else "src/lib.rt"
+        self.words = [f"{kit}/bin/rattle", "check", "--crate-name", name, root, "-L", f"dependency={kit}/rlibs", "--links", f"{name}="]
+        for it in ["std", *needs[name]]:
+            self.words += ["--extern", f"{it}={built[it] if it in built else f'{kit}/rlibs/{it}.rlib'}"]
+        for library in built.values():
+            self.words += ["-L", f"dependency={library.parent}"]
+        self.words += ["--antt-project", f"{kit}/rattle/logic/antt-project.json", "--logic-built", f"{kit}/logic_built"]
+        self.words += ["--jobs", "1", "--incremental", str(self.kept)]
 
-    def check(self, crate, *words):
-        ran = subprocess.run([*self.command, "check", *words], cwd=self.top / "crates" / crate, stdin=subprocess.DEVNULL,
-                             stdout=subprocess.PIPE, stderr=subprocess.STDOUT, check=False)
-        return ran.stdout.decode(errors="replace")
+    def check(self, texts, paths):
+        """What the checker says of the crate with these texts: of these functions, or where there are none, of all."""
+        try:
+            for file, text in texts.items():
+                (self.folder / file).write_text(text)
+            only = [word for path in paths for word in ("--only", path)]
+            ran = subprocess.run([*self.words, *only], cwd=self.folder, stdin=subprocess.DEVNULL, stdout=subprocess.PIPE, stderr=subprocess.STDOUT, check=False)
+            return ran.stdout.decode(errors="replace")
+        finally:
+            for file in texts:
+                shutil.copy(self.crate / file, self.folder / file)
 
-    def functions(self, crate):
-        """The paths of the functions of a crate, all of which must be proved as they stand."""
-        if crate not in self.proved:
-            words = self.check(crate)
-            if not PROVED.search(words):
-                sys.exit(f"{crate} isn't proved as it stands:\n{words[-2000:]}")
-            self.proved[crate] = re.findall(r"^fn (\S+): proved", words, re.M)
-        return self.proved[crate]
-
-    def tried(self, edit):
-        """Of which kind an edit is, and what the checker said: of the edited function alone, and of the whole crate where that is proved."""
-        crate, source = edit.parent.parent, Source(edit.parent.parent)
-        texts, changes = applied(edit)[0]
-        path = only(edit, changes, source, self.functions(crate.name))
-        for words in ([["--only", path]] if path else []) + [[]]:
-            try:
-                for file, text in texts.items():
-                    (self.top / "crates" / crate.name / file).write_text(text)
-                said = self.check(crate.name, *words)
-            finally:
-                for file in texts:
-                    shutil.copy(crate / file, self.top / "crates" / crate.name / file)
-            kind = judged(said, source, changes)
-            if kind in COUNTED:
-                break
-        told = [it[:400] for it in said.splitlines() if OPEN_GOAL.match(it) or ": error" in it or ": no proof" in it]
+    def result(self, edit, words, source):
+        kind = judged(words, source, applied(edit)[0][1])
+        told = [it[:400] for it in words.splitlines() if OPEN_GOAL.match(it) or ": error" in it or ": no proof" in it]
         return {"digest": digest(edit), "kind": kind, "said": told[:12]}
 
+    def tried(self, edits, is_first):
+        """Each edit with what was found of it."""
+        source, left = Source(self.crate), list(edits)
+        groups = groups_of(edits, source)
+        for group in groups[:1] if is_first else groups:
+            words = self.check(group["texts"], group["of"])
+            for edit, function in group["of"].values():
+                found = self.result(edit, said_of(words, function), source)
+                if found["kind"] in COUNTED:
+                    left.remove(edit)
+                    yield edit, found
+                elif is_first:
+                    yield edit, self.alone(edit, source)
+        for edit in [] if is_first else left:
+            yield edit, self.alone(edit, source)
 
-def read_log(log, known):
-    """Takes over what a gate said of the edits of must-fail/, as far as its words decide of which kind they are."""
-    undecided = 0
-    for crate, name, verdict, said in TOLD.findall(log.read_text(errors="replace")):
-        edit = TOP / "crates" / crate / "must-fail" / f"{name}.edit"
-        if not edit.is_file() or applied(edit)[1]:
-            continue
-        if verdict != "refused, as it must be":
-            kind = "proved" if verdict == "NOT REFUSED" else "unread"
-        elif "only because a proof file names what the edit took away" in said:
-            kind = "name"
-        else:
-            kind = judged(f"{said.removeprefix(': ')}\nlogic=not-proved", Source(edit.parent.parent), applied(edit)[0][1])
-        if kind in COUNTED or kind == "name" or verdict != "refused, as it must be":
-            known[name_of(edit)] = {"digest": digest(edit), "kind": kind, "said": [said.strip()[:400]]}
-        else:
-            undecided += 1
-            print(f"{name_of(edit)}: what the log says doesn't decide it")
-    return undecided
+    def alone(self, edit, source):
+        """What is found of an edit by itself: of the edited function alone, and of the whole crate where that is proved."""
+        (texts, changes), _ = applied(edit)
+        function = source.edited(changes)
+        for paths in ([[function["path"]]] if function else []) + [[]]:
+            found = self.result(edit, self.check(texts, paths), source)
+            if found["kind"] in COUNTED:
+                break
+        return found
 
 
 def report(edits, known):
@@ -283,42 +351,50 @@ def report(edits, known):
     return 1 if faults else 0
 
 
+def try_all(edits, known, given):
+    """Tries the edits that aren't known yet, crate by crate, and keeps what is found of each."""
+    keeping = threading.Lock()
+
+    def of_crate(name, room):
+        own = [it for it in edits if it.parent.parent.name == name and known.get(name_of(it), {}).get("digest") != digest(it)]
+        for edit, found in Copy(room, name).tried(own, given.first) if own else []:
+            with keeping:
+                known[name_of(edit)] = found
+                given.kept.parent.mkdir(exist_ok=True)
+                given.kept.write_text(json.dumps(known, indent=1))
+                print(f"{name_of(edit)}: {found['kind']}", flush=True)
+
+    crates = sorted({it.parent.parent.name for it in edits}, key=lambda name: -sum(it.parent.parent.name == name for it in edits))
+    with tempfile.TemporaryDirectory(prefix="wrong-bodies-") as room, concurrent.futures.ThreadPoolExecutor(given.jobs) as pool:
+        for done in concurrent.futures.as_completed([pool.submit(of_crate, name, room) for name in crates]):
+            done.result()
+
+
 def arguments():
     reader = argparse.ArgumentParser(description=__doc__, formatter_class=argparse.RawDescriptionHelpFormatter)
     reader.add_argument("names", nargs="*")
-    for word in ("--applies", "--all", "--counts"):
+    for word in ("--applies", "--first", "--counts"):
         reader.add_argument(word, action="store_true")
-    reader.add_argument("--log", type=pathlib.Path)
-    reader.add_argument("--kept", type=pathlib.Path, default=TOP / "wrong-bodies.json")
-    reader.add_argument("--rt", default="rt")
+    reader.add_argument("--kept", type=pathlib.Path, default=TOP / "out/wrong-bodies.json")
+    memory = os.sysconf("SC_PAGE_SIZE") * os.sysconf("SC_PHYS_PAGES")
+    reader.add_argument("--jobs", type=int, default=max(1, min(len(os.sched_getaffinity(0)), memory // BYTES_A_CHECK)))
     return reader.parse_args()
 
 
 def main():
     given = arguments()
-    named = [it for it in given.names if "/" in it]
-    folders = ["wrong-bodies"] + (["must-fail"] if given.all or given.log or given.counts or named else [])
-    edits = [it for folder in folders for it in sorted(TOP.glob(f"crates/*/{folder}/*.edit"))]
+    edits = sorted(TOP.glob("crates/*/wrong-bodies/*.edit")) + ([] if given.first else sorted(TOP.glob("crates/*/must-fail/*.edit")))
     edits = [it for it in edits if not given.names or it.parent.parent.name in given.names or name_of(it) in given.names]
     if not edits:
         sys.exit("no such edits")
     if stale(edits):
         return 1
-    print(f"{len(edits)} wrong bodies fit the text that they change")
+    print(f"{len(edits)} wrong bodies fit the text that they change", flush=True)
     if given.applies:
         return 0
     known = json.loads(given.kept.read_text()) if given.kept.is_file() else {}
-    if given.log:
-        read_log(given.log, known)
-        given.kept.write_text(json.dumps(known, indent=1))
-    elif not given.counts:
-        with tempfile.TemporaryDirectory(prefix="wrong-bodies-") as room:
-            copy = Copy(room, given.rt)
-            for edit in sorted(edits, key=lambda it: it.parent.parent.name):
-                if known.get(name_of(edit), {}).get("digest") != digest(edit):
-                    known[name_of(edit)] = copy.tried(edit)
-                    given.kept.write_text(json.dumps(known, indent=1))
-                    print(f"{name_of(edit)}: {known[name_of(edit)]['kind']}", flush=True)
+    if not given.counts:
+        try_all(edits, known, given)
     return report(edits, known)
 
 

@@ -1,11 +1,13 @@
 -- What is answered to a request.
 use Rattle.std.specs.Prelude.{ℕ, ◌≡◌, ◌||◌, ◌++◌, Bool, true, List, [], ◌∷◌, bytes_eq, codes, if◌then◌else◌}
 use Rattle.mc_watch.specs.declared.counts.Totals.{Totals}
+use Rattle.mc_watch.specs.declared.shard_counts.ShardTotals.{ShardTotals}
 use Rattle.mc_metrics.specs.declared.pages.Target.{Target}
 use Rattle.mc_metrics.specs.declared.pages.Target.TheVariants.{Metrics, Health, Page, Nothing}
 use Rattle.mc_metrics.specs.declared.reading.Facts.{Facts}
 use Rattle.mc_metrics.specs.Backlog.{AreWaiting}
 use Rattle.mc_metrics.specs.Metrics.{metrics_text}
+use Rattle.mc_metrics.specs.Shards.{shards_text}
 use Rattle.http.specs.declared.request.Request.{Request}
 use Rattle.http.specs.Request.{head_of}
 use Rattle.http_uri.specs.Uri.{uri_path}
@@ -37,9 +39,9 @@ abbrev pub AreMetrics : Facts → ℕ → List ℕ → Type 0
 AreMetrics facts uptime text =
     (totals : Totals) × (waiting : ℕ) × AreWaiting facts.port waiting × (text ≡ metrics_text (record { facts = facts; totals = totals; waiting = waiting; uptime = uptime }))
 
--- the text at the target, of a server with these facts that has run for so many seconds: the metrics, and behind them those of each shard
+-- the text at the target, of a server with these facts that has run for so many seconds: the metrics, and behind them those of each shard as it was at some moment
 abbrev pub IsTextAt : Target → Facts → ℕ → List ℕ → Type 0
-IsTextAt Metrics facts uptime text = (metrics shards : List ℕ) × AreMetrics facts uptime metrics × (text ≡ metrics ++ shards)
+IsTextAt Metrics facts uptime text = (metrics : List ℕ) × (shards : List ShardTotals) × AreMetrics facts uptime metrics × (text ≡ metrics ++ shards_text shards)
 IsTextAt Health facts uptime text = text ≡ codes "ok" ++ (10 ∷ [])
 IsTextAt Page facts uptime text = Unit {0}
 IsTextAt Nothing facts uptime text = text ≡ codes "not found: see /, /metrics and /healthz" ++ (10 ∷ [])

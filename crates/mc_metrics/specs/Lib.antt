@@ -2,3 +2,4 @@ pub mod Address
 pub mod Answers
 pub mod Backlog
 pub mod Metrics
+pub mod Shards

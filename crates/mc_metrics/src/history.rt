@@ -1,8 +1,9 @@
 //! What was counted in the last minutes.
-ghost use Rattle.std.specs.Prelude.{◌≤◌, length};
+ghost use Rattle.std.specs.Prelude.{if◌then◌else◌, ◌≡◌, ◌++◌, ◌∷◌, [], IfOk, length, nat_lt, drop};
 
 use mc_watch::Totals;
 use std::alloc::{AllocError, Global};
+use std::marker::Model;
 
 /// The number of samples that are kept.
 pub(crate) const KEPT: usize = 121;
@@ -13,9 +14,25 @@ pub struct History {
     samples: Vec<Totals>,
 }
 
+impl Model for History {
+    ghost use Rattle.std.specs.Prelude.{List, ◌≤◌, length};
+    ghost use Rattle.std.specs.Vec.{vec_capacity};
+    ghost use Rattle.mc_metrics.specs.declared.history.TheConstants.{KEPT};
+    ghost use Rattle.mc_watch.specs.declared.counts.Totals.{Totals};
+
+    ghost Value = { List Totals };
+
+    ghost view = { λ history. history.samples.items };
+
+    ghost invariant = { λ history. (length history.samples.items ≤ KEPT) ×
+        (KEPT ≤ vec_capacity history.samples) };
+}
+
 impl History {
     /// No sample yet.
-    pub fn new(alloc: Global) -> Result<History, AllocError> {
+    pub fn new(alloc: Global) -> Result<History, AllocError>
+        ensures { IfOk result (λ history. history ≡ []) }
+    {
         Ok(History {
             samples: Vec::with_capacity(alloc, KEPT)?,
         })
@@ -23,7 +40,8 @@ impl History {
 
     /// One sample more; the oldest goes where there are enough.
     pub fn add(&mut self, sample: Totals)
-        ensures { length self.old.samples.items ≤ KEPT → length self.new.samples.items ≤ KEPT }
+        ensures { self.new ≡
+            (if nat_lt (length self.old) KEPT then self.old else drop 1 self.old) ++ (sample ∷ []) }
     {
         if self.samples.len() >= KEPT {
             self.samples.remove(0);
@@ -33,7 +51,9 @@ impl History {
     }
 
     /// The samples, the oldest first.
-    pub fn samples(&self) -> &[Totals] {
+    pub fn samples(&self) -> &[Totals]
+        ensures { result.now ≡ self.now }
+    {
         &self.samples
     }
 }

@@ -1,7 +1,9 @@
 //! What is answered to a request.
-ghost use Rattle.std.specs.Prelude.{◌≡◌, IfOk, string_bytes};
+ghost use Rattle.std.specs.Prelude.{◌≡◌, IfOk, List, string_bytes};
 ghost use Rattle.mc_metrics.specs.Answers.{AreMetrics, IsAnswer, IsTextAt, status_at, target_of};
 ghost use Rattle.mc_metrics.specs.Backlog.{AreWaiting};
+ghost use Rattle.mc_metrics.specs.Shards.{shards_text};
+ghost use Rattle.mc_watch.specs.declared.shard_counts.ShardTotals.{ShardTotals};
 
 use crate::backlog::Tables;
 use crate::by_shard::by_shard;
@@ -130,7 +132,10 @@ impl Pages {
     }
 
     /// The metrics of each shard by itself.
-    fn shard_metrics(&self) -> Result<String, AllocError> {
+    fn shard_metrics(&self) -> Result<String, AllocError>
+        ensures { IfOk result (λ text.
+            (shards : List ShardTotals) × (string_bytes text ≡ shards_text shards)) }
+    {
         let shards = self.counts.shards(self.alloc)?;
         let mut totals = Vec::with_capacity(self.alloc, shards.len())?;
         for shard in &shards {

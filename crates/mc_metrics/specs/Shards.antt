@@ -1,0 +1,48 @@
+-- The text of the metrics of each shard, as Prometheus reads them.
+use Rattle.std.specs.Prelude.{ℕ, List, [], ◌∷◌, ◌++◌, ◌+◌, codes, flat_map}
+use Rattle.std.specs.Fmt.{decimal}
+use Rattle.mc_watch.specs.declared.shard_counts.ShardTotals.{ShardTotals}
+use Rattle.mc_metrics.specs.declared.by_shard.ShardMetric.{ShardMetric}
+use Rattle.mc_metrics.specs.declared.by_shard.ShardMetric.TheVariants.{Items, Bytes, Evicted, OutOfMemory}
+
+-- the two lines that say what a metric tells and of which kind it is
+abbrev pub head_text : (kind name help : List ℕ) → List ℕ
+head_text kind name help =
+    codes "# HELP " ++ (name ++ (codes " " ++ (help ++ ((10 ∷ codes "# TYPE ") ++ (name ++ ((32 ∷ kind) ++ (10 ∷ [])))))))
+
+abbrev pub name_of : ShardMetric → List ℕ
+name_of Items = codes "mcd_shard_items"
+name_of Bytes = codes "mcd_shard_bytes"
+name_of Evicted = codes "mcd_shard_evicted_total"
+name_of OutOfMemory = codes "mcd_shard_out_of_memory_total"
+
+-- what stands before the lines of a metric
+abbrev pub head_of : ShardMetric → List ℕ
+head_of Items = head_text (codes "gauge") (name_of Items) (codes "How many items a shard has.")
+head_of Bytes = head_text (codes "gauge") (name_of Bytes) (codes "What the items of a shard cost together, in bytes.")
+head_of Evicted = head_text (codes "counter") (name_of Evicted) (codes "How many items of a shard went to make room for others.")
+head_of OutOfMemory = head_text (codes "counter") (name_of OutOfMemory) (codes "Commands for which a shard had no memory.")
+
+abbrev pub value_of : ShardMetric → ShardTotals → ℕ
+value_of Items shard = shard.items
+value_of Bytes shard = shard.bytes
+value_of Evicted shard = shard.evicted
+value_of OutOfMemory shard = shard.out_of_memory
+
+-- the line of the shard of this number: 34 is the quotation mark
+abbrev pub shard_line : ShardMetric → (number value : ℕ) → List ℕ
+shard_line metric number value =
+    name_of metric ++ ((codes "{shard=" ++ (34 ∷ [])) ++ (decimal number ++ ((34 ∷ codes "} ") ++ (decimal value ++ (10 ∷ [])))))
+
+-- a line for each of the shards, of which the first has this number
+abbrev pub shard_lines : ShardMetric → ℕ → List ShardTotals → List ℕ
+shard_lines metric number [] = []
+shard_lines metric number (shard ∷ shards) = shard_line metric number (value_of metric shard) ++ shard_lines metric (number + 1) shards
+
+-- what is told of a metric of these shards
+abbrev pub text_of : List ShardTotals → ShardMetric → List ℕ
+text_of shards metric = head_of metric ++ shard_lines metric 0 shards
+
+-- what each shard holds and what it let go
+abbrev pub shards_text : List ShardTotals → List ℕ
+shards_text shards = flat_map (text_of shards) (Items ∷ (Bytes ∷ (Evicted ∷ (OutOfMemory ∷ []))))
