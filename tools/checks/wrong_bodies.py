@@ -51,6 +51,7 @@ FAULTS = ["safety", "elsewhere", "other call", "name", "unread", "proved"]
 
 # The words of the checker: a goal that it left open, a line that it refused, and the end of a check that came to the proofs.
 OPEN_GOAL = re.compile(r"note: (?:\./)?src/(\S+?)\.rt:(\d+):\d+: it is not proved that .*?(?:\(`([^`]+)`\)|$)")
+NOT_FOUND = re.compile(r"fn \w+::(\S+): no proof: [^;]*(?:;[^;]*)?`search` did not prove ([^;]*)")
 REFUSED_LINE = re.compile(r"(?:\./)?proofs/(\S+?)\.antt:\d+:\d+: error: (?:`([^`]*)`)?(.*)")
 NO_NAME = re.compile(r"has no field|is not in scope|has no `|was not admitted|which was rejected")
 # Of the one function that a check is told to look at, closures are counted beside it.
@@ -205,6 +206,9 @@ def reasons(words, source, changes):
             kinds = {"what the function ensures": "returns", "`invariant` of the struct": "invariant_of", "loop": "loop"}
             goal = found[3] or next((kinds[it] for it in kinds if it in line), "")
             yield kind_of_goal(goal, changes, (file, place) in changed), of[-1] if of else ""
+        elif found := NOT_FOUND.match(line):
+            for goal in re.findall(r"`([^`]+)`", found[2]):
+                yield kind_of_goal(goal, changes, False), found[1].split("::")[-1]
         elif found := REFUSED_LINE.match(line):
             of = found[1].split("/")[-2] if re.search(r"/(Answers|Proof|Invariants)$", found[1]) else ""
             if NO_NAME.search(found[3]):
@@ -229,9 +233,10 @@ def said_of(words, function):
     """The lines of what the checker said that are of one function, and the end."""
     own, folder = [], function["path"].replace("::", "/")
     for line in words.splitlines():
-        goal, refused = OPEN_GOAL.match(line), REFUSED_LINE.match(line)
+        goal, found, refused = OPEN_GOAL.match(line), NOT_FOUND.match(line), REFUSED_LINE.match(line)
         is_own = goal and f"src/{goal[1]}.rt" == function["file"] and function["first"] <= int(goal[2]) <= function["last"]
-        if is_own or refused and refused[1].rpartition("/")[0] == folder or ENDED.match(line) or UNREAD.match(line):
+        is_own = is_own or found and found[1] == function["path"] or refused and refused[1].rpartition("/")[0] == folder
+        if is_own or ENDED.match(line) or UNREAD.match(line):
             own.append(line)
     return "\n".join(own)
 
