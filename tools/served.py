@@ -30,7 +30,7 @@ def started(words, **streams):
 
 
 def bounded(seconds):
-    """Ends the whole run by an error after so many seconds, and lets `finally` run where it is told to end."""
+    """Ends the whole run by an error after `seconds` seconds, and lets `finally` run where it is told to end."""
 
     def late(_number, _frame):
         raise SystemExit(f"FAILED: not ended after {seconds} seconds")
@@ -114,7 +114,7 @@ class Line:
         self.socket.sendall(sent)
 
     def read(self, count):
-        """So many bytes, fewer where the stream ends."""
+        """The next `count` bytes, fewer where the stream ends."""
         found = bytearray()
         while len(found) < count:
             got = self.socket.recv(min(count - len(found), 1 << 18))
@@ -183,7 +183,7 @@ class Tally:
 
 def run_checks(what, checks, seconds):
     """Runs those of the checks whose names have a word of the command line in them, or all, in a folder for temporary files, and
-    gives the status to end with. All together take at most so many seconds."""
+    gives the status to end with. All together take at most `seconds` seconds."""
     needs_program()
     bounded(seconds)
     os.chdir(tempfile.gettempdir())

@@ -72,13 +72,13 @@ def work_behind(needs):
 
 
 def room_for(size):
-    """How much there is room for on this machine that takes a core and so many bytes each."""
+    """How many there is room for on this machine that take a core and `size` bytes each."""
     memory = os.sysconf("SC_PAGE_SIZE") * os.sysconf("SC_PHYS_PAGES")
     return max(1, min(len(os.sched_getaffinity(0)), memory // size))
 
 
 def shared_by(crates):
-    """How many processes `rt` takes for each of so many crates that are proved side by side."""
+    """How many processes `rt` takes for each of `crates` crates that are proved side by side."""
     return ["--jobs", str(max(1, math.ceil(room_for(BYTES_A_PROCESS) / crates)))]
 
 

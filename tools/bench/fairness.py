@@ -6,7 +6,7 @@ sends commands without end, and beside some that hardly read their replies.
 
 Both ask the same shard, so that its worker has a full lane beside one with a single piece. In each round the client's 99th
 percentile is taken alone and beside the load; the median of the rounds beside the load is at most ten times the median of those
-alone, and each of its replies comes and is its own. The load must be one: it has at least so many replies a second. Where the
+alone, and each of its replies comes and is its own. The load must be one: it has at least 20,000 replies a second. Where the
 machine is busy with other work, the system's time slices come between: so the rounds are run up to three times, and the first
 time in which the bound holds decides. A wrong or a missing reply fails at once.
 
@@ -35,13 +35,13 @@ MOST_TIMES = 10
 # How often the rounds are run until the bound holds.
 ATTEMPTS = 3
 
-# The load is one only where it has so many replies a second.
+# The fewest replies a second with which the load is one.
 LEAST_RATE = 20_000
 
 # The same beside clients that hardly read.
 MOST_TIMES_UNREAD = 3
 
-# So many clients hardly read.
+# The number of clients that hardly read.
 SLOW = 8
 
 KEY = b"fairness"
@@ -94,7 +94,7 @@ def percentile(times):
 
 
 def asks(line, commands):
-    """Awaits the reply to each of so many commands, and gives how long each took, in nanoseconds."""
+    """Awaits the reply to each of `commands` commands, and gives how long each took, in nanoseconds."""
     times = []
     for _ in range(commands):
         began = time.perf_counter_ns()

@@ -116,7 +116,7 @@ def reply_of(kind, came):
 
 
 def drive(port, first, count, commands, seed):
-    """So many connections of one process, which await each reply, until so many commands are answered."""
+    """The `count` connections of one process, which await each reply, until `commands` commands are answered."""
     chance = random.Random(seed + first)
     clients = {}
     poll = select.epoll()

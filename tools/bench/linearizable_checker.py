@@ -13,7 +13,7 @@ import collections
 # What a call asks of the value before it.
 ANY, IS, OTHER, ABSENT, PRESENT = range(5)
 
-# So many pairs at one time are followed; where there are more the history isn't decided.
+# The most pairs that are followed at one time; where there are more the history isn't decided.
 MOST_PAIRS = 100_000
 
 Call = collections.namedtuple("Call", "begin end client kind given reply")

@@ -1,7 +1,7 @@
 #!/usr/bin/env python3
 """Loads of lines in memory, served by real threads and by a single one: commands a second, and processor time a command.
 
-    tools/bench/lines.py [ROUNDS]         the figures, medians of so many rounds (5 where none is said)
+    tools/bench/lines.py [ROUNDS]         the figures, medians of ROUNDS rounds (5 where none is said)
     tools/bench/lines.py --check [ROUNDS] 8 lines of 125,000 commands each, so often (20 where none is said): each line must take just
                                     its replies, and each round must end; then the trials that the program has, on one core
 

@@ -61,7 +61,7 @@ def event(rng, moment):
 
 
 def schedule(seed, length):
-    """A file of so many events; a second passes after each hundred of them."""
+    """A file of `length` events; a second passes after each hundred of them."""
     rng = random.Random(seed)
     lines = [HEADER] + [f"open {seat}" for seat in range(SEATS)]
     lines += [event(rng, 1_000 + count // 100) for count in range(length - SEATS)]

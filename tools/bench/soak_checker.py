@@ -63,7 +63,7 @@ class Checker:
             raise AssertionError(f"{found!r:.120} in place of {wanted!r:.120}")
 
     def block(self, key, size):
-        """A value of so many bytes, and that it is the key's."""
+        """A value of `size` bytes, and that it is the key's."""
         found = self.replies.read(size + 2)
         held = self.held.get(key)
         if held is None:

@@ -20,7 +20,7 @@ import threading
 
 from stdio import MIXES, TOP, filled, total
 
-# So many commands of the two runs: without waiting for replies, and awaiting each.
+# How many commands the two runs have: without waiting for replies, and awaiting each.
 PIPELINED, AWAITED = (1_000, 21_000), (1_000, 5_000)
 MIX = "half gets, half sets"
 

@@ -29,7 +29,7 @@ LINE_LIMIT = 65_536
 COUNT_AT = {name: 4 for name in (b"set", b"add", b"replace", b"append", b"prepend", b"cas")} | {b"ms": 2}
 META = ([b"mg"], [b"ms"], [b"md"], [b"ma"])
 
-# So many programs run at a time.
+# The most programs that run at a time.
 AT_ONCE = 2
 
 
@@ -54,7 +54,7 @@ def rows(drop_in=False):
 
 
 def spoken(options, given, piece=None):
-    """The output for this input: whole, or in pieces of so many bytes, each of which is one read of the program (a pipe of
+    """The output for this input: whole, or in pieces of `piece` bytes, each of which is one read of the program (a pipe of
     packets). The program must end with status 0 and tell nothing."""
     if piece is None:
         ran = subprocess.run([MCD, *options], input=given, capture_output=True, timeout=60)

@@ -26,7 +26,7 @@ def fnv(data):
 
 
 def keys_of(pairs, step=1):
-    """The keys that have one word of each pair, or each so many-th of them, in batches."""
+    """The keys that have one word of each pair, or each `step`-th of them, in batches."""
     keys = itertools.islice(map(b"".join, itertools.product(*pairs)), 0, KEYS, step)
     while batch := list(itertools.islice(keys, BATCH)):
         yield batch

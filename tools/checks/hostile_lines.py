@@ -54,7 +54,7 @@ def a_slow_reader_holds_little_memory(count=64):
 
 
 def most_of(server, seconds):
-    """The most that is resident at any moment of so many seconds."""
+    """The most that is resident at any moment of the next `seconds` seconds."""
     until, most = time.monotonic() + seconds, 0
     while time.monotonic() < until:
         most = max(most, server.resident())

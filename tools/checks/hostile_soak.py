@@ -12,7 +12,7 @@ sys.path.insert(0, str(TOP / "tools/bench"))
 
 from soak_checker import KEYS, Checker  # noqa: E402
 
-# After so many lines of replies the fault comes, at a line that is longer than so many bytes.
+# After `AT_LINE` lines of replies the fault comes, at a line that is longer than `LENGTH` bytes.
 AT_LINE, LENGTH = 300, 12
 
 # What a proxy makes of that line, of the one before it, and of one long before it.

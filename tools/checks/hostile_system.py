@@ -33,7 +33,7 @@ def is_listening(shared):
 
 
 def idle_seconds(server, seconds=3):
-    """The processor time that the server takes in so many seconds."""
+    """The processor time that the server takes in `seconds` seconds."""
     before = server.cpu_seconds()
     time.sleep(seconds)
     return server.cpu_seconds() - before

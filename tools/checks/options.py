@@ -34,7 +34,7 @@ def over_stdio(options, given):
 
 
 def over_tcp(options, given, length):
-    """The first bytes of the output, so many."""
+    """The first `length` bytes of the output."""
     with Server(*options) as server, Line(server.port) as line:
         line.send(given)
         return line.read(length)
@@ -64,12 +64,12 @@ LINE_TOO_LONG = b"CLIENT_ERROR line too long\r\n"
 
 
 def line_of(length):
-    """A command in a line of so many bytes, its line end among them."""
+    """A command in a line of `length` bytes, its line end among them."""
     return b"mn" + b" " * (length - 3) + b"\n"
 
 
 def longest_line(options, limit):
-    """A line of so many bytes is read, and nothing is read behind one that is a byte longer."""
+    """A line of `limit` bytes is read, and nothing is read behind one that is a byte longer."""
     row(options, line_of(limit) + b"mn\n" + line_of(limit + 1) + b"mn\n", 2 * b"MN\r\n" + LINE_TOO_LONG)
 
 

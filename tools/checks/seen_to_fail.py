@@ -27,7 +27,7 @@ from soak import soak  # noqa: E402
 
 FAULTY = pathlib.Path(__file__).resolve().parent / "faulty.py"
 
-# A reply that doesn't come is waited for so many seconds.
+# The seconds for which a reply that doesn't come is waited for.
 PATIENCE = 5
 
 # What fails with which fault.

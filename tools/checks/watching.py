@@ -103,7 +103,7 @@ def dead_connections_free_their_seats():
 
 
 def told_of(server, wanted):
-    """The next lines on standard error, so many."""
+    """The next `wanted` lines on standard error."""
     found = []
     while len(found) < wanted:
         ready, _, _ = select.select([server.process.stderr], [], [], 30)

@@ -30,7 +30,7 @@ abbrev pub IsDataLawful : ℕ → Line → Type 0
 IsDataLawful limit (Data asked count) = IsTrue (can_give_up asked) × (count ≤ limit)
 IsDataLawful limit line = Unit {0}
 
--- what holds of each line of the table, with so many bytes behind it
+-- what holds of each line of the table, where behind is the number of bytes behind it
 pub record IsLawful (limit behind : ℕ) (line : Line) : Type 0 where
   pub told : is_given_up line ≡ false
   pub block : IsDataLawful limit line

@@ -25,7 +25,7 @@ use Rattle.mc_command.specs.Table.{line_if_named, line_named, line_of}
 use Rattle.mc_command.specs.Rules.{is_drop_in}
 use Rattle.mc_command.specs.declared.rules.Rules.{Rules}
 
--- It gets at most so many keys.
+-- It gets at most the given number of keys.
 abbrev pub AsksFew : ℕ → Command → Type 0
 AsksFew most (command.Get retrieval) = length retrieval.keys ≤ most
 AsksFew most other = Unit {0}
@@ -34,7 +34,7 @@ abbrev pub FewAsked : ℕ → Result Command Refusal → Type 0
 FewAsked most (Ok asked) = AsksFew most asked
 FewAsked most (Err refusal) = Unit {0}
 
--- The command that a line is gets at most so many keys; a refused line gets none.
+-- The command that a line is gets at most the given number of keys; a refused line gets none.
 abbrev pub FewLine : ℕ → Line → Type 0
 FewLine most (Whole asked) = AsksFew most asked
 FewLine most (Data asked count) = AsksFew most asked

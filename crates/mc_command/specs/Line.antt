@@ -11,7 +11,7 @@ CanGiveUpLine (Refused refusal) = IsTrue (refusal_takes_memory refusal)
 CanGiveUpLine (Data command count) = ⊥
 CanGiveUpLine (Skip discarded refusal count) = ⊥
 
--- A line with a block of so many bytes, its two last among them, may be given up.
+-- A line with a block of the given number of bytes, its two last among them, may be given up.
 abbrev pub CanGiveUpBlock : Line → ℕ → Type 0
 CanGiveUpBlock (Data command count) skipped = skipped ≡ count + 2
 CanGiveUpBlock (Skip discarded refusal count) skipped = (skipped ≡ count) × IsTrue (refusal_takes_memory refusal)

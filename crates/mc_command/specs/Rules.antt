@@ -5,11 +5,11 @@ use Rattle.mc_command.specs.declared.rules.Profile.{Profile}
 use Rattle.mc_command.specs.declared.rules.Profile.TheVariants.{Own, DropIn}
 use Rattle.mc_command.specs.declared.rules.Rules.{Rules}
 
--- the server's own rules, for values of at most so many bytes and lines of the default limit
+-- the server's own rules, for values of at most limit bytes and lines of the default limit
 abbrev pub own : ℕ → Rules
 own limit = record { profile = Own; value_limit = limit; line_limit = DEFAULT_LINE_LIMIT }
 
--- memcached's rules, for values of at most so many bytes and lines of their default limit
+-- memcached's rules, for values of at most limit bytes and lines of their default limit
 abbrev pub drop_in : ℕ → Rules
 drop_in limit = record { profile = DropIn; value_limit = limit; line_limit = DROP_IN_LINE_LIMIT }
 

@@ -41,7 +41,7 @@ pub enum Line {
     },
 }
 
-/// Reads a line, without its end, by this server's own rules. A value has at most so many bytes as the limit says.
+/// Reads a line, without its end, by this server's own rules. A value has at most `limit` bytes.
 pub fn read_line(alloc: Global, line: &[u8], limit: usize) -> Line
     ensures says { Says (line_of (own limit) (words_of line.now)) result }
     ensures told { may_take_memory (words_of line.now) ≡ false →

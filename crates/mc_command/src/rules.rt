@@ -21,9 +21,9 @@ pub enum Profile {
 pub struct Rules {
     /// Whose rules they are.
     pub profile: Profile,
-    /// A value has at most so many bytes.
+    /// The most bytes that a value has.
     pub value_limit: usize,
-    /// A line has at most so many bytes, its line feed among them.
+    /// The most bytes that a line has, its line feed among them.
     pub line_limit: usize,
 }
 
@@ -35,7 +35,7 @@ impl Rules {
     ghost use Rattle.mc_command.specs.internal.FlagsAsked.{exptime_in};
     ghost use Rattle.mc_command.specs.Rules.{is_drop_in, own};
 
-    /// This server's own rules, for values of at most so many bytes and lines of the default limit.
+    /// This server's own rules, for values of at most `value_limit` bytes and lines of the default limit.
     pub fn own(value_limit: usize) -> Rules
         ensures { result ≡ own value_limit }
     {

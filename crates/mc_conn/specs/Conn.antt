@@ -66,7 +66,7 @@ TakeSays old moment took.NeedMore new = (told : Told) → IsConn old told → Ne
 TakeSays old moment took.Full new = (told : Told) → IsConn old told → FillsWindow told new
 TakeSays old moment took.Closed new = (told : Told) → IsConn old told → IsOver told × IsConn new told
 
--- The replies to so many commands more were handed out: all whose turn has come.
+-- The replies to count commands more were handed out: all whose turn has come.
 pub record HandsOut (told : Told) (count : ℕ) (new : Conn) (before after : Sight) : Type 0 where
   pub whole : told.broken ≡ false
   pub all : told.handed + count ≡ length (all_texts told)

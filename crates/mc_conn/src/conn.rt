@@ -61,7 +61,7 @@ impl Drop for Conn {
 impl Conn {
     ghost use Rattle.mc_conn.specs.Conn.{IsConn, IsAwaiting, TakeSays, HandsOut, FailsToHand, SkipsBytes, StaysSilent, held_bytes};
 
-    /// A new connection over so many shards by this server's own rules, for values of at most `limit` bytes and with this
+    /// A new connection over `shards` shards by this server's own rules, for values of at most `limit` bytes and with this
     /// window. It takes the room for the longest line and for the open commands. `Memory`: memory ran out.
     pub fn new(alloc: Global, shards: usize, limit: usize, window: usize) -> Result<Conn, Memory>
         requires shards { 0 < shards }
@@ -72,7 +72,7 @@ impl Conn {
         Conn::under(alloc, shards, Rules::own(limit), window)
     }
 
-    /// A new connection over so many shards by these rules and with this window. It takes the room for the longest line and
+    /// A new connection over `shards` shards by these rules and with this window. It takes the room for the longest line and
     /// for the open commands. `Memory`: memory ran out.
     #[tactic(auto, unfolding(crate::specs::Conn::IsConn))]
     pub fn under(alloc: Global, shards: usize, rules: Rules, window: usize) -> Result<Conn, Memory>
@@ -135,7 +135,7 @@ impl Conn {
     #[tactic(auto, unfolding(crate::specs::Conn::IsConn))]
     pub fn is_over(&self) -> bool
         ensures over { (told : Told) → IsConn self.now told → IsTrue result ↔ IsOver told }
-        // A stream has only so many commands.
+        // A stream has at most `most_commands` commands.
         ensures most { (told : Told) → IsConn self.now told → told.broken ≡ false →
             length told.taken ≤ most_commands }
     {

@@ -32,7 +32,7 @@ fn fed(rt: &impl Abort, alloc: Global, window: usize, bytes: &[u8]) -> Result<Co
     Ok(conn)
 }
 
-/// Asserts that so many of the bytes are taken in.
+/// Asserts that the first `count` bytes are taken in.
 fn feeds(rt: &impl Abort, conn: &mut Conn, bytes: &[u8], count: usize) {
     equal(rt, conn.feed(bytes), count);
 }
@@ -47,7 +47,7 @@ fn accepts(rt: &impl Abort, conn: &mut Conn, reply: Reply) {
     holds(rt, conn.accept(reply).is_ok());
 }
 
-/// Asserts that the replies of so many commands go out.
+/// Asserts that the replies of `count` commands go out.
 fn hands(rt: &impl Abort, conn: &mut Conn, out: &mut Memory, count: u64) {
     holds(rt, conn.hand(out) == Ok(count));
 }
@@ -248,7 +248,7 @@ fn a_line_limit_of_2048(rt: HostRuntime) -> Result<(), Fail> {
     Ok(())
 }
 
-/// The outlet of a hand fails after so many bytes.
+/// The outlet of a hand fails after `left` bytes.
 fn fails_after(rt: &impl Abort, alloc: Global, left: usize) -> Result<(), Fail> {
     let text = b"END\r\nMN\r\n".as_slice();
     let mut conn = fed(rt, alloc, 4, b"get a\r\nmn\r\n")?;

@@ -44,7 +44,7 @@ fn get(alloc: Global, ticket: Ticket, keys: &[&[u8]]) -> Result<Form, Fail>
     get_words(alloc, ticket, text.as_slice())
 }
 
-/// The form of a get that names one key so many times.
+/// The form of a get that names one key `count` times.
 fn get_often(alloc: Global, ticket: Ticket, count: usize) -> Result<Form, Fail>
     ensures { IfOk result (λ form. form.ticket ≡ ticket) }
 {
@@ -124,7 +124,7 @@ fn a_get_waits_for_its_first_key(rt: HostRuntime) -> Result<(), Fail> {
     Ok(())
 }
 
-/// Whether the code names each of so many parts once: its digits to the base 4.
+/// Whether each of the first `count` parts is among the digits of the code to the base 4.
 fn names_each(code: usize, count: usize) -> bool {
     let mut seen = [false; 4];
     let mut rest = code;
@@ -300,7 +300,7 @@ fn a_failed_outlet_is_written_to_no_more(rt: HostRuntime) -> Result<(), Fail> {
     Ok(())
 }
 
-/// Opens so many `mn`, one after another.
+/// Opens an `mn` for each ticket of `from..to`, one after another.
 fn open_noops(
     rt: &impl Abort,
     alloc: Global,

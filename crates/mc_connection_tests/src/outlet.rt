@@ -4,7 +4,7 @@ ghost use Rattle.mc_wire.specs.Outlet.{Listed, sight_out};
 use mc_wire::{OutFault, Outlet};
 use std::alloc::Global;
 
-/// Takes so many bytes, counts the writes, and fails after them.
+/// Counts the writes, takes `left` bytes more, and fails after them.
 #[derive(Drop)]
 pub struct Memory {
     pub taken: Vec<u8>,
@@ -34,14 +34,14 @@ impl Outlet for Memory {
 }
 
 impl Memory {
-    /// It goes on after a fault, and takes so many bytes more.
+    /// It goes on after a fault, and takes `left` bytes more.
     pub fn allow(&mut self, left: usize) {
         self.left = left;
         self.failed = false;
     }
 }
 
-/// An outlet that takes so many bytes.
+/// An outlet that takes `left` bytes.
 pub fn outlet(alloc: Global, left: usize) -> Memory {
     outlet_over(Vec::new(alloc), left)
 }

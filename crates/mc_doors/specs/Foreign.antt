@@ -22,7 +22,7 @@ is_http bytes = list_any (λ begin. starts_with nat_eq bytes begin) http_begins
 unfoldable pub is_foreign : List ℕ → Bool
 is_foreign bytes = starts_with nat_eq bytes binary_begin || starts_with nat_eq bytes tls_begin || is_http bytes
 
--- so many bytes at most tell it
+-- the most bytes that it takes to tell it
 abbrev pub first_bytes : ℕ
 first_bytes = 9
 

@@ -167,8 +167,8 @@ impl Drop for Entrance {
 }
 
 impl Entrance {
-    /// The connections come in by the listener, at most so many, or any number. The sleepers are those of the threads of the
-    /// seats.
+    /// The connections come in by the listener, at most `connections` of them, or any number where it is none. The sleepers
+    /// are those of the threads of the seats.
     pub fn new(
         alloc: Global,
         listener: TcpListener,

@@ -11,7 +11,7 @@ use std::time::{Duration, Instant};
 /// After its last write a connection waits at most so long, in milliseconds, for the end of its peer's bytes.
 const LINGER_MILLIS: u64 = 500;
 
-/// At most so many reads of its peer's bytes are dropped.
+/// The most reads of its peer's bytes that are dropped.
 const LINGER_READS: u32 = 1_024;
 
 /// Reads at once, before other seats have their turn.

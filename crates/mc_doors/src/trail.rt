@@ -37,7 +37,7 @@ impl Trail {
         }
     }
 
-    /// And then the first bytes of all the buffers, so many.
+    /// And then the first `count` bytes of all the buffers.
     pub fn add_first(&mut self, bufs: &[IoSlice<'_>], count: usize)
         ensures { self.new ≡ self.old ++ take count (io_slices_bytes bufs.now) }
     {

@@ -3,7 +3,7 @@ use Rattle.std.specs.Prelude.{ℕ, ◌+◌, ◌-◌, Bool, false, ℤ, pos, negs
 use Rattle.mc_item.specs.declared.item.Expiry.{Expiry}
 use Rattle.mc_item.specs.declared.item.Expiry.TheVariants.{Never, At}
 
--- an exptime of at most so many seconds, which are 30 days, counts from now
+-- the longest exptime, in seconds, that counts from now: 30 days
 abbrev pub longest_delay : ℕ
 longest_delay = 2592000
 

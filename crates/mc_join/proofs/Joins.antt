@@ -31,7 +31,7 @@ prefix_same p (suc n) (x ∷ xs) (y ∷ ys) within same there =
     let passes_too : p y ≡ true = cc (first.0) in
     rw passes_too (omega (arith, prefix_same p n xs ys first.1 tails (omega (arith, there))))
 
--- behind the first ones that pass, so many fewer pass
+-- behind the first n elements, which all pass, n fewer pass
 pub prefix_len-drop : {X : Type 0} (p : X → Bool) (n : ℕ) (xs : List X) → n ≤ prefix_len p xs → n + prefix_len p (drop n xs) ≡ prefix_len p xs
 prefix_len-drop p zero xs within = omega arith
 prefix_len-drop p (suc n) [] within = absurd (omega (arith, within))
@@ -125,7 +125,7 @@ join_accept old new reply place awaits fills same_handed numbered opened accepte
       rest = rw (fills.after, j.rest, more) (sym (drop-set-add n forms place filled));
     }
 
--- so many more replies have their turn as held forms have all their answers
+-- as many more replies have their turn as held forms have all their answers
 pub passed_count : (held : Held) (opened : List Form) (accepted : List Shown) (handed : List (List ℕ)) → IsJoiner held opened accepted handed → length handed + prefix_len is_answered held.forms ≡ length (replies opened accepted)
 passed_count held opened accepted handed j =
     let forms = all_answered opened accepted in

@@ -36,7 +36,7 @@ two_replies = (refl, refl, refl, refl, refl)
 abbrev counts_form : Form
 counts_form = record { ticket = record { 0 = 0 }; kind = kind.Stats; shape = shape.Stats; slots = None ∷ None ∷ [] }
 
--- a shard that holds so many items
+-- the counts of a shard that holds the given number of items
 abbrev counts : ℕ → Answer
 counts items = answer.Stats (record { tally = no_counts; evicted = 0; items = items; bytes = 0; budget = 0 })
 

@@ -7,9 +7,9 @@ use Rattle.mc_reply.specs.declared.form.Form.{Form}
 use Rattle.mc_join.specs.Replies.{complete, form_text, is_answered}
 
 pub record Held : Type 0 where
-  -- so many tickets may be open at a time
+  -- the most tickets that may be open at a time
   pub window : ℕ
-  -- so many commands were handed out
+  -- the number of commands that were handed out
   pub handed : ℕ
   -- the forms of the open tickets, in order, with the answers that have come
   pub forms : List Form
@@ -20,7 +20,7 @@ pub record Held : Type 0 where
 abbrev pub nothing_held : ℕ → Held
 nothing_held window = record { window = window; handed = 0; forms = []; gone = false }
 
--- so many forms were opened
+-- the number of forms that were opened
 abbrev pub opened_count : Held → ℕ
 opened_count held = held.handed + length held.forms
 

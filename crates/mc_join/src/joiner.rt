@@ -89,7 +89,7 @@ impl Model for Joiner {
 }
 
 impl Joiner {
-    /// A joiner of which so many tickets may be open at a time. All memory is taken here.
+    /// A joiner of which `window` tickets may be open at a time. All memory is taken here.
     pub fn new(alloc: Global, window: usize) -> Result<Joiner, AllocError>
         requires { 0 < window }
         ensures held { IfOk result (λ joiner. joiner ≡ nothing_held window) }
@@ -224,7 +224,7 @@ impl Joiner {
         Some(Ticket(opened as u64))
     }
 
-    /// How many of the open tickets, from the first on, have all their answers: so many commands `hand` would pass, a
+    /// How many of the open tickets, from the first on, have all their answers: as many commands as `hand` would pass, a
     /// silent one among them, as long as the outlet has not failed.
     pub fn passes(&self) -> usize
         ensures count { result ≡ length (complete self.now.forms) }

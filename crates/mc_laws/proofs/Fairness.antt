@@ -223,7 +223,7 @@ rests_or_lowers sizes w run n within l seated quiet fair =
           inr (record { place = done.place + 1; less = omega (arith, less, same) })
     ]
 
--- From each place of a run on, where no more than so many are left.
+-- Where at most fuel steps are left at place n of a run, it comes to rest.
 rests_in : (fuel : ℕ) (sizes : Sizes) (w : World) (run : EndlessRun sizes w) (n : ℕ) → AreWithin sizes → Law sizes w → AreSeated sizes w → HasNoInput run → IsWeaklyFair run → left sizes (run.worlds n) ≤ fuel → ComesToRest run
 rests_in zero sizes w run n within l seated quiet fair few = elim (rests_or_lowers sizes w run n within l seated quiet fair) [
   | inl rest ↦ rest

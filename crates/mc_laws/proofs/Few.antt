@@ -1,4 +1,4 @@
--- How much the bytes of a connection ask for at most: so many commands, and so many pieces each.
+-- How much the bytes of a connection ask for at most: 2 ^ 63 commands, and 8,388,608 pieces each.
 use Rattle.std.proofs.Common.{◌≡◌, ◌==◌, ◌||◌, ℕ, zero, suc, ◌+◌, ◌-◌, ◌*◌, ◌<◌, ◌≤◌, Bool, true, false, List, [], ◌∷◌, length, map, take, sym, ap, ◌∙◌, subst, arith, inl, inr, length-append, slice_index, Option, Some, None}
 use Rattle.std.specs.List.{slice_split}
 use Rattle.std.proofs.lemmas.Bool.{cases_Bool, cases_lt}
@@ -124,7 +124,7 @@ front_few rules shards before input (entry ∷ commands) rest small short room f
           (omega (arith, pieces, steps), omega (arith, count))
     ]
 
--- The connections have so many steps at most: each has no more than 2 ^ 63 commands, of no more than 8,388,608 pieces.
+-- The connections have at most 2 ^ 88 + 2 ^ 64 + 2 steps each: no more than 2 ^ 63 commands, of no more than 8,388,608 pieces.
 pub all_few : (sizes : Sizes) (links : List Link) → sizes.shards ≤ 16 → sizes.line ≤ 8388608 → steps_of_all sizes.shards (map (spelled_by sizes) links) ≤ length links * 309485028268089142434332674
 all_few sizes [] small short = omega arith
 all_few sizes (link ∷ links) small short =

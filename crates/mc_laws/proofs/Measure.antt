@@ -353,7 +353,7 @@ all_replied sizes w l rest k link here whole = (headline sizes w l).all_of_them_
 at_once : (sizes : Sizes) (w : World) → Law sizes w → AllAtRest sizes w → CanComeToRest sizes w
 at_once sizes w l rest = record { events = []; work = tt; later = w; led = refl; rest = rest; replied = all_replied sizes w l rest }
 
--- Where no more than so many are left, some run of work comes to rest.
+-- Where at most fuel steps are left, some run of work comes to rest.
 settles_in : (fuel : ℕ) (sizes : Sizes) (w : World) → AreWithin sizes → Law sizes w → left sizes w ≤ fuel → CanComeToRest sizes w
 settles_in zero sizes w within l few = elim (rests_or_goes sizes w within l) [
   | inl rest ↦ at_once sizes w l rest

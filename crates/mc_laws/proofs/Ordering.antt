@@ -226,7 +226,7 @@ was_run sizes w k number law handed link x piece here at is =
     let asked = asked_there k w.log on.0.place entry.0 on.0.here in
     record { place = asked.0.place; entry = entry.0; here = asked.0.here; asker = asked.1; shard = on.1; piece_is = entry.2 }
 
--- what leads to the world after so many events, and on from it
+-- what leads from w to a world on the way, mid, and from mid on to w'
 record Parts (sizes : Sizes) (w mid w' : World) : Type 0 where
   first : List Event
   second : List Event

@@ -45,7 +45,7 @@ abbrev pub WasRun : Sizes → World → ℕ → ℕ → Type 0
 WasRun sizes w k number =
     (link : Link) (x : ℕ) (piece : ℕ × Piece) → IsLink w k link → slice_get (pieces sizes.shards link.taken) x ≡ Some piece → piece.1.ticket.0 ≡ number → IsRun w.log k piece
 
--- the world after so many of the events
+-- the world after the first n of the events
 abbrev pub world_at : (sizes : Sizes) (w : World) (events : List Event) (w' : World) → Leads sizes w events w' → ℕ → World
 world_at sizes w [] w' led n = w
 world_at sizes w (event ∷ events) w' led zero = w

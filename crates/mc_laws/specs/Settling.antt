@@ -14,7 +14,7 @@ use Rattle.mc_laws.specs.Progress.{AllAtRest, AllReplied, IsWork}
 abbrev pub lane_round : ℕ → ℕ → List Event
 lane_round seat shard = Pop shard seat ∷ Give shard ∷ Receive seat shard ∷ []
 
--- and a seat and each of so many shards
+-- and a seat and each of a given number of shards
 abbrev pub lanes_round : ℕ → ℕ → List Event
 lanes_round seat zero = []
 lanes_round seat (suc shard) = lanes_round seat shard ++ lane_round seat shard
@@ -23,18 +23,18 @@ lanes_round seat (suc shard) = lanes_round seat shard ++ lane_round seat shard
 abbrev pub seat_round : ℕ → ℕ → ℕ → List Event
 seat_round shards moment seat = (Take seat moment ∷ Send seat ∷ []) ++ lanes_round seat shards ++ Hand seat ∷ []
 
--- all that so many seats and shards can do by themselves, each event once
+-- all that a given number of seats and of shards can do by themselves, each event once
 abbrev pub round : ℕ → ℕ → ℕ → List Event
 round zero shards moment = []
 round (suc seat) shards moment = round seat shards moment ++ seat_round shards moment seat
 
--- the events, so many times over
+-- the events, a given number of times over
 abbrev pub repeated : ℕ → List Event → List Event
 repeated zero events = []
 repeated (suc times) events = repeated times events ++ events
 
--- From whatever world the core stood in, it tried the round so many times. Now all connections are at rest, and each that isn't
--- broken was handed the replies to all its commands.
+-- From whatever world the core stood in, it tried the round a number of times. Now all connections are at rest, and each that
+-- isn't broken was handed the replies to all its commands.
 abbrev pub Settles : Sim → ℕ → Sim → Type 0
 Settles old moment new =
     (sizes : Sizes) (w : World) → Stands sizes old w →

@@ -45,7 +45,7 @@ fn repeat(sim: &mut Sim, alloc: Global, events: &[Event]) -> Result<bool, NoMemo
     Ok(false)
 }
 
-/// All that so many seats and shards can do by themselves, each event once.
+/// All that `seats` seats and `shards` shards can do by themselves, each event once.
 fn round_of(
     alloc: Global,
     seats: usize,

@@ -34,19 +34,19 @@ status_at Nothing = 404
 abbrev pub status_of : List ℕ → List ℕ → ℕ
 status_of method path = if is_read method then status_at (target_of path) else 405
 
--- the metrics of a server with these facts that has run for so many seconds, as they were at some moment; those who wait are counted by tables that were read
+-- the metrics of a server with these facts and this uptime in seconds, at some moment; tables that were read count who waits
 abbrev pub AreMetrics : Facts → ℕ → List ℕ → Type 0
 AreMetrics facts uptime text =
     (totals : Totals) × (waiting : ℕ) × AreWaiting facts.port waiting × (text ≡ metrics_text (record { facts = facts; totals = totals; waiting = waiting; uptime = uptime }))
 
--- the text at the target, of a server with these facts that has run for so many seconds: the metrics, and behind them those of each shard as it was at some moment
+-- the text at the target of a server with these facts and this uptime: the metrics, and behind them each shard's at some moment
 abbrev pub IsTextAt : Target → Facts → ℕ → List ℕ → Type 0
 IsTextAt Metrics facts uptime text = (metrics : List ℕ) × (shards : List ShardTotals) × AreMetrics facts uptime metrics × (text ≡ metrics ++ shards_text shards)
 IsTextAt Health facts uptime text = text ≡ codes "ok" ++ (10 ∷ [])
 IsTextAt Page facts uptime text = Unit {0}
 IsTextAt Nothing facts uptime text = text ≡ codes "not found: see /, /metrics and /healthz" ++ (10 ∷ [])
 
--- the response to a request, of a server with these facts that has run for so many seconds
+-- the response to a request, of a server with these facts that has run for uptime seconds
 pub record IsAnswer (facts : Facts) (uptime : ℕ) (request : Request (List ℕ)) (response : Response) : Type 0 where
   pub status : response.status ≡ status_of (head_of request).method (uri_path (head_of request).uri)
   pub text : is_read (head_of request).method ≡ true → IsTextAt (target_of (uri_path (head_of request).uri)) facts uptime response.body.items

@@ -20,7 +20,7 @@ number_of_digits digits =
 unfoldable pub hexadecimal : List ℕ → Option ℕ
 hexadecimal text = number_of_digits (without_leading_plus text)
 
--- the word of a line that has so many before it, an empty one where there is none
+-- the word of a line that has place words before it, an empty one where there is none
 unfoldable pub word_at : ℕ → List ℕ → List ℕ
 word_at place line = unwrap_or (slice_get (words_of line) place) []
 
@@ -43,6 +43,6 @@ waiting_in port line =
 unfoldable pub waiting_at : ℕ → List ℕ → ℕ
 waiting_at port table = saturated (sum_by (waiting_in port) (lines table))
 
--- so many wait at the port by the two tables that were read, one of IPv4 and one of IPv6
+-- waiting is how many wait at the port, by the two tables that were read, one of IPv4 and one of IPv6
 abbrev pub AreWaiting : ℕ → ℕ → Type 0
 AreWaiting port waiting = (table other : List ℕ) × (waiting ≡ saturated (waiting_at port table + waiting_at port other))

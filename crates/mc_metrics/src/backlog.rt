@@ -93,7 +93,7 @@ fn waiting_in(line: &str, port: u16) -> u64
     }
 }
 
-/// The word of a line that has so many before it, an empty one where there is none.
+/// The word of a line that has `place` words before it, an empty one where there is none.
 fn word_at(line: &str, place: usize) -> &str
     ensures { result.now ≡ word_at place line.now }
 {

@@ -99,7 +99,7 @@ impl Pages {
         })
     }
 
-    /// The server has run for so many seconds.
+    /// The server has run for `uptime` seconds.
     pub(crate) fn set_uptime(&mut self, uptime: u64) {
         self.uptime = uptime;
     }

@@ -16,7 +16,7 @@ use std::{io, net, time};
 /// The most visitors at a time: one more takes the place of the one who came first.
 const MOST_VISITORS: usize = 32;
 
-/// At most so many come in at a turn.
+/// The most visitors that come in at a turn.
 const COMERS: usize = 64;
 
 /// The thread looks around so often, in milliseconds, where nobody asks anything.

@@ -6,7 +6,7 @@ use std::alloc::Global;
 use std::hash::RandomState;
 use std::io::ErrorKind;
 
-/// At most so many reads and writes of a visitor are done in a turn: none keeps the others waiting.
+/// The most reads and writes of a visitor that are done in a turn: none keeps the others waiting.
 const TURNS: usize = 16;
 
 /// A request has no body that is of use.

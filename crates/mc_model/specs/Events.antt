@@ -38,7 +38,7 @@ IsRenewable sizes w seat = (k : ℕ) × (link : Link) × IsAt w seat k link × M
 abbrev pub IsEmptyHand : World → ℕ → Type 0
 IsEmptyHand w shard = (k : ℕ) (link : Link) → IsLink w k link → ran w k shard ≤ link.given shard
 
--- A Feed may take so many bytes, from the front: all of a piece that isn't too long where every byte before it stands in a
+-- A Feed may take count bytes, from the front: all of a piece that isn't too long where every byte before it stands in a
 -- command taken, and some byte where all commands are taken and the window has room.
 pub record MayFeed (sizes : Sizes) (link : Link) (bytes : List ℕ) (count : ℕ) : Type 0 where
   pub within : count ≤ length bytes
@@ -67,7 +67,7 @@ pub record RunsNext (sizes : Sizes) (w : World) (shard k : ℕ) (link : Link) (e
   pub left : Leaves sizes shard w.log before
   pub step : IsStep before entry.piece.op entry.piece.moment entry.answer after
 
--- So many commands, and no more, need no further answer received.
+-- The first count commands, and no more, need no further answer received.
 pub record IsTurn (sizes : Sizes) (link : Link) (count : ℕ) : Type 0 where
   pub within : count ≤ length link.taken
   pub come : HasCome sizes.shards link.taken link.received count

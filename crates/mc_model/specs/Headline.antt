@@ -20,7 +20,7 @@ OfEach w P = (k : ℕ) (link : Link) → IsLink w k link → P k link
 abbrev pub replies_to : Sizes → World → ℕ → Link → List (List ℕ)
 replies_to sizes w k link = replies (forms_of sizes.shards link.taken) (replies_in (of_asker k w.log))
 
--- the bytes handed to a connection: so many texts of its replies as it was handed commands
+-- the bytes handed to a connection: as many texts of its replies as it was handed commands
 abbrev pub handed_bytes : Sizes → World → ℕ → Link → List ℕ
 handed_bytes sizes w k link = concat (take link.handed (replies_to sizes w k link))
 

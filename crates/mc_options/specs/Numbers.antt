@@ -58,7 +58,7 @@ number_given given name least default most = option_map_or (number_in name least
 abbrev pub size_given : (List ℕ → Option (List ℕ)) → List ℕ → ℕ → ℕ → ℕ → Result ℕ Wrong
 size_given given name least default most = option_map_or (size_in name least most) (given name) (Ok default)
 
--- what the items of each of so many shards may cost together: `--bytes`, or an equal part of `--memory`; the other one is of no use beside it
+-- what each shard's items may cost together: `--bytes`, or `--memory` divided by the number of shards; both are refused
 abbrev pub budget_of : ℕ → Option (List ℕ) → Option (List ℕ) → Result ℕ Wrong
 budget_of shards None None = Ok 16777216
 budget_of shards (Some bytes) None = size_in (codes "bytes") 1024 1073741824 bytes
@@ -71,7 +71,7 @@ abbrev pub default_line : Profile → ℕ
 default_line Own = 65536
 default_line DropIn = 1048576
 
--- the sizes of the server with so many seats, whose rings have 20 places, or the first of them that is wrong
+-- the sizes of the server with this number of seats, whose rings have 20 places, or the first of them that is wrong
 abbrev pub sizes_by : (List ℕ → Option (List ℕ)) → ℕ → Result Sizes Wrong
 sizes_by given seats =
     and_then (number_given given (codes "shards") 1 2 16) (λ shards.

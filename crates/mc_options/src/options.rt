@@ -38,9 +38,9 @@ pub enum Options<'a> {
     /// It serves TCP.
     Listen {
         address: &'a str,
-        /// After so many connections the program ends, if it does.
+        /// The number of connections after which the program ends, if it does.
         connections: Option<u64>,
-        /// A connection that moves no byte for so many seconds is given up, if one is.
+        /// The seconds after which a connection that moves no byte is given up, if one is.
         idle_timeout: Option<u64>,
         /// Whether each connection is told on standard error.
         verbose: bool,
@@ -180,7 +180,7 @@ fn listen_in<'a>(matches: &ArgMatches<'a>) -> Result<Options<'a>, OptionFault<'a
     })
 }
 
-/// The sizes that are given, of a server with so many seats, and whose rules it follows.
+/// The sizes that are given, of a server with `seats` seats, and whose rules it follows.
 fn sizes_in<'a>(matches: &ArgMatches<'a>, seats: usize) -> Result<Sizes, OptionFault<'a>>
     requires least { LEAST ≤ seats }
     requires greatest { seats ≤ GREATEST_SEATS }
@@ -245,7 +245,7 @@ fn default_line(profile: Profile) -> usize
     }
 }
 
-/// What the items of each of so many shards may cost together: as `--bytes` says, or an equal part of `--memory`.
+/// What the items of each of `shards` shards may cost together: as `--bytes` says, or an equal part of `--memory`.
 fn budget_in<'a>(
     shards: usize,
     bytes: Option<&'a str>,

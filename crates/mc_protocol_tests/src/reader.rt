@@ -219,7 +219,7 @@ fn a_refused_allocation_gives_up_one_command(rt: HostRuntime) {
     gives(&rt, alloc, &mut reader, &[Came::NeedMore]);
 }
 
-/// Feeds so many bytes of a word, at most so many at a time.
+/// Feeds `count` bytes of a word, at most `size` at a time.
 fn feed_word(rt: &impl Abort, reader: &mut Reader, count: usize, size: usize) {
     let mut left = count;
     for _ in 0..count {

@@ -17,7 +17,7 @@ use std::process::Abort;
 use std::random::RandomSource;
 use std::test::Fail;
 
-/// The first of two shards, whose items may cost so many bytes.
+/// The first of two shards, whose items may cost `budget` bytes.
 fn new_shard(rt: &impl RandomSource, alloc: Global, budget: usize) -> Result<Shard, Fail>
     requires least { 1024 ≤ budget }
     requires most { budget ≤ 1073741824 }
@@ -43,7 +43,7 @@ fn ask_all(rt: &impl Abort, alloc: Global, shard: &mut Shard, rows: &[Row]) -> R
     Ok(())
 }
 
-/// Asks each row of a new shard, whose items may cost so many bytes.
+/// Asks each row of a new shard, whose items may cost `budget` bytes.
 fn ask_new<R: Abort + RandomSource>(
     rt: &R,
     alloc: Global,
@@ -526,7 +526,7 @@ static LIMITS: [(usize, usize, usize, &str); 4] = [
     (GREATEST_VALUE_LIMIT, 1, 8_388_607, "0 3 8388608 bytes"),
 ];
 
-/// The first of two shards, whose values have at most so many bytes.
+/// The first of two shards, whose values have at most `limit` bytes.
 fn limited_shard(rt: &HostRuntime, alloc: Global, limit: usize) -> Result<Shard, Fail> {
     let limit = limit.min(GREATEST_VALUE_LIMIT);
     let hasher = RandomState::new(rt)?;

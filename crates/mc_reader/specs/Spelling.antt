@@ -42,7 +42,7 @@ abbrev pub chunk_refusal : Rules → Command → Refusal
 chunk_refusal rules (command.Store storage) = if is_drop_in rules && storage.noreply then Hidden else BadChunk
 chunk_refusal rules other = BadChunk
 
--- what a command is with the bytes behind its line, so many of a data block and two that end it
+-- what a command is with the bytes behind its line, count of a data block and two that end it
 abbrev pub block_entry : Rules → Command → ℕ → List ℕ → Command
 block_entry rules asked count bytes =
     if is_block_end (drop count bytes) then with_block asked (take count bytes) else command.Refused (chunk_refusal rules asked)
@@ -86,11 +86,11 @@ closes other = false
 abbrev pub most_commands : ℕ
 most_commands = 2 ^ 63
 
--- The command is the last, where so many came before it.
+-- The command is the last, where the given number of commands came before it.
 abbrev pub is_last : ℕ → Command → Bool
 is_last before entry = closes entry || (before + 1 == most_commands)
 
--- Behind so many earlier commands, the input spells these, one after another, and then the rest follows.
+-- Behind the given number of earlier commands, the input spells these, one after another, and then the rest follows.
 -- Nothing but the rest follows a last one.
 abbrev pub SpellsFront : Rules → ℕ → List ℕ → List Command → List ℕ → Type 0
 SpellsFront rules before input [] rest = input ≡ rest
@@ -98,7 +98,7 @@ SpellsFront rules before input (entry ∷ entries) rest =
     (text : List ℕ) × (after : List ℕ) × (input ≡ text ++ after) × Spells rules text entry
     × MatchBool (is_last before entry) ((entries ≡ []) × (after ≡ rest)) (SpellsFront rules (before + 1) after entries rest)
 
--- One of the commands is a last one, where so many came before them.
+-- One of the commands is a last one, where the given number of commands came before them.
 abbrev pub is_closed_after : ℕ → List Command → Bool
 is_closed_after before [] = false
 is_closed_after before (entry ∷ entries) = is_last before entry || is_closed_after (before + 1) entries

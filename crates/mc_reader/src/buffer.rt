@@ -38,7 +38,7 @@ impl Model for Buffer {
 }
 
 impl Buffer {
-    /// An empty buffer for so many bytes, with all its room.
+    /// An empty buffer for `limit` bytes, with all its room.
     pub(crate) fn new(alloc: Global, limit: usize) -> Result<Buffer, AllocError>
         ensures { IfOk result (λ buffer. (buffer.bytes ≡ []) × (buffer.limit ≡ limit)) }
     {
@@ -66,7 +66,7 @@ impl Buffer {
         self.unread().len() == self.limit
     }
 
-    /// Takes so many of the bytes away. Where none is left, all room is free again.
+    /// Takes the first `count` bytes away. Where none is left, all room is free again.
     pub(crate) fn consume(&mut self, count: usize)
         requires { count ≤ length self.old.bytes }
         ensures bytes { self.new.bytes ≡ drop count self.old.bytes }

@@ -28,7 +28,7 @@ connection_lines sizes w number (link ∷ links) =
 abbrev pub log_line : Entry → List ℕ
 log_line entry = entry_line (line_of entry)
 
--- what is told of a world to which so many events led that were done, and so many that were idle
+-- what is told of a world to which events led: done counts those that were done, and idle those that were idle
 abbrev pub report : Sizes → World → ℕ → ℕ → List ℕ
 report sizes w done idle = connection_lines sizes w 0 w.links ++ (flat_map log_line w.log ++ counts_line done idle)
 

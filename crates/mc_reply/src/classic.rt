@@ -190,7 +190,7 @@ fn put_item<O: Outlet>(
     }
 }
 
-/// Writes an item whose line, with a short value, has room in so many bytes.
+/// Writes an item whose line, with a short value, has room in `ROOM` bytes.
 fn put_plain_item<O: Outlet, const ROOM: usize>(
     out: &mut O,
     key: &[u8],

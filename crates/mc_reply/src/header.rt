@@ -11,13 +11,13 @@ pub const HEADER_LIMIT: usize = 512;
 /// Room enough where the key is short. A room is filled with zeros before it is used, so a smaller one is made sooner.
 pub const SHORT_HEADER: usize = 256;
 
-/// At most so many bytes stand beside the key: the rest of the line before a value, and a short value with the end of its block.
+/// The most bytes beside the key: the rest of the line before a value, and a short value with the end of its block.
 pub const BESIDE_KEY: usize = 172;
 
-/// At most so many bytes stand beside the key in the front of that line, up to the size.
+/// The most bytes beside the key in the front of that line, up to the size.
 pub const LINE_BESIDE_KEY: usize = 48;
 
-/// A value of at most so many bytes goes out in one write with the line before it.
+/// The most bytes of a value that is put behind the line before it, so that both go out in one write.
 pub const SHORT_VALUE: usize = 120;
 
 /// Puts a part into the room behind the first `at` bytes, and tells where it ends.

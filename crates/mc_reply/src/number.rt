@@ -4,7 +4,7 @@ ghost use Rattle.std.specs.Prelude.{◌≡◌, ◌+◌, ◌++◌, ◌<◌, ◌�
 use crate::header::place;
 use itoa::Buffer;
 
-/// A number has at most so many digits.
+/// The most digits that a number has.
 pub const DIGIT_LIMIT: usize = 20;
 
 /// Puts a number into the room behind the first `at` bytes, and tells where it ends. Most client flags and sizes have up to

@@ -11,7 +11,7 @@ pub record IsUnused {Out In : Type 0} (end : Side Out In) : Type 0 where
   pub ahead : end.ahead ≡ []
   pub free : end.free ≡ end.past.lane.capacity
 
--- The ends of a seat or of a shard, of so many lanes, on which nothing has passed.
+-- The ends of a seat or of a shard, of count lanes, on which nothing has passed.
 pub record AreNewEnds {Out In : Type 0} (number count capacity : ℕ) (ends : Ends (Side Out In)) : Type 0 where
   pub number_is : ends.number ≡ number
   pub counted : length ends.lanes ≡ count
@@ -24,7 +24,7 @@ pub record IsLane (seat : Ends Near) (shard : Ends Far) : Type 0 where
   pub near : slice_get (lanes_of seat) shard.number ≡ Some lane
   pub far : slice_get (lanes_of shard) seat.number ≡ Some lane
 
--- New ends of so many seats and shards: a lane between each seat and each shard.
+-- New ends of the given numbers of seats and shards: a lane between each seat and each shard.
 pub record AreLanes (seats shards capacity : ℕ) (near : List (Ends Near)) (far : List (Ends Far)) : Type 0 where
   pub seat_count : length near ≡ seats
   pub shard_count : length far ≡ shards
@@ -32,8 +32,8 @@ pub record AreLanes (seats shards capacity : ℕ) (near : List (Ends Near)) (far
   pub each_shard : (number : ℕ) (shard : Ends Far) → slice_get far number ≡ Some shard → AreNewEnds number seats capacity shard
   pub each_lane : (c s : ℕ) (seat : Ends Near) (shard : Ends Far) → slice_get near c ≡ Some seat → slice_get far s ≡ Some shard → IsLane seat shard
 
--- Both ends of a lane were looked at in one thread: so many parcels and so many replies wait, and in each direction what
--- was received, then what waits, is what was sent.
+-- Both ends of a lane were looked at in one thread: parcels and replies are the numbers that wait, and in each direction
+-- what was received, then what waits, is what was sent.
 pub record LooksAtBoth (seat seat' : Ends Near) (shard shard' : Ends Far) (parcels replies : ℕ) : Type 0 where
   pub near : AtLane Looks shard.number seat seat'
   pub far : AtLane Looks seat.number shard shard'

@@ -32,8 +32,8 @@ impl From<AllocError> for RingRefusal {
     }
 }
 
-/// The ends of a lane between each seat and each shard, with rings of so many places. `Size` where the number of seats, of
-/// shards or of places is out of its limits, which is tested first.
+/// The ends of a lane between each seat and each shard, with rings of `sizes.ring` places. `Size` where the number of seats,
+/// of shards or of places is out of its limits, which is tested first.
 pub fn lanes(alloc: Global, sizes: Sizes) -> Result<(Vec<SeatEnds>, Vec<ShardEnds>), RingRefusal>
     ensures made { IfOk result
         (λ ends. AreLanes sizes.seats sizes.shards sizes.ring ends.0.items ends.1.items) }
@@ -46,7 +46,7 @@ pub fn lanes(alloc: Global, sizes: Sizes) -> Result<(Vec<SeatEnds>, Vec<ShardEnd
     Ok(all_lanes(alloc, sizes.seats, sizes.shards, sizes.ring)?)
 }
 
-/// Whether there may be so many seats, shards and places in a ring.
+/// Whether the numbers of seats, of shards and of places in a ring are within their limits.
 fn suit_lanes(sizes: Sizes) -> bool
     ensures { IsTrue result ↔ SuitLanes sizes }
 {
@@ -73,7 +73,7 @@ fn all_lanes(
     Ok((near, far))
 }
 
-/// The ends of so many shards, with no lane yet.
+/// The ends of the shards, `shards` of them, with no lane yet.
 fn shards_without_lanes(alloc: Global, shards: usize) -> Result<Vec<ShardEnds>, AllocError>
     ensures { (capacity : ℕ) → IfOk result (λ ends. AreLanes 0 shards capacity [] ends.items) }
 {

@@ -54,7 +54,7 @@ line text = record { line = text; behind = [] }
 abbrev block : List ℕ → List ℕ → Sent
 block text behind = record { line = text; behind = behind }
 
--- the first of two shards, which has given so many uniques
+-- the first of two shards, which has given this number of uniques
 abbrev shard : ℕ → State
 shard given = record { items = empty; uses = 0; time = 1000; flush = None; given = given; index = 0; shards = 2; budget = 16777216; limit = 1048576; tally = no_counts; evicted = 0 }
 
@@ -243,7 +243,7 @@ record Times : Type 0 where
   -- `R` looks at the seconds left before `T`.
   recache_by_the_time_before : reply_on (shard 1) (line (codes "mg a T100 R30 t\r")) (there (record (item (codes "x")) { expiry = At 1010 }))
       ≡ codes "HD t100 W\r\n"
-  -- So many seconds left are not fewer,
+  -- As many seconds left as `R` names are not fewer,
   recache_of_equal_seconds : reply_on (shard 1) (line (codes "mg a R30\r")) (there (record (item (codes "x")) { expiry = At 1030 }))
       ≡ codes "HD\r\n"
   -- and one less is.

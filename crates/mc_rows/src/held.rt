@@ -17,7 +17,7 @@ const MOMENT: u64 = 1_000;
 /// How a connection is fed.
 #[derive(Clone, Copy)]
 struct Feeding {
-    /// At most so many bytes are fed at once.
+    /// The most bytes that are fed at once.
     piece: usize,
     /// The most commands that may be open. None is answered, so that with a window of 1 the bytes behind the first command
     /// stay unread.
@@ -54,9 +54,9 @@ struct LongBlock {
     text: &'static [u8],
     /// The value limit of the connection.
     limit: usize,
-    /// At some moment at least so many bytes are held.
+    /// At some moment at least `least` bytes are held.
     least: usize,
-    /// At no moment more than so many.
+    /// At no moment more than `most`.
     most: usize,
 }
 
@@ -126,7 +126,7 @@ impl Watched {
         }
     }
 
-    /// Feeds at most so many bytes of the input at once, and takes what can be taken after each; tells how many
+    /// Feeds at most `size` bytes of the input at once, and takes what can be taken after each; tells how many
     /// bytes went in until a piece of which none did.
     fn feed_all(&mut self, alloc: Global, input: &[u8], size: usize) -> usize {
         let mut given = 0usize;

@@ -8,9 +8,9 @@ use std::alloc::Global;
 /// How a line is cut, and where it fails.
 #[derive(Clone, Copy)]
 pub struct Cutting {
-    /// At most so many bytes are read at once.
+    /// The most bytes that are read at once.
     pub piece: usize,
-    /// At most so many bytes are written at once.
+    /// The most bytes that are written at once.
     pub portion: usize,
     /// The place of the read or write that fails, from 0.
     pub fails_at: usize,

@@ -28,7 +28,7 @@ const WHOLE: usize = 65_536;
 /// No read or write fails.
 const NEVER: usize = usize::MAX;
 
-/// At most so many bytes are read, and so many written, at once.
+/// The most bytes that are read at once, and the most that are written at once.
 const CUTTINGS: [(usize, usize); 7] = [
     (WHOLE, WHOLE),
     (1, WHOLE),

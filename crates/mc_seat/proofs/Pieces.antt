@@ -68,7 +68,7 @@ begins front (a ∷ b ∷ c ∷ chunks) tail =
           ∙ ap (λ xs. bytes_of b ++ xs) (append_assoc (bytes_of c) later tail))));
     }
 
--- So many bytes of what was offered are the first of all.
+-- The first count bytes of what was offered are the first of all.
 pub record AreFirst (all offered : List ℕ) (count : ℕ) : Type 0 where
   pub within : count ≤ length all
   pub same : take count offered ≡ take count all

@@ -27,7 +27,7 @@ entry_of asker ran = record { shard = ran.shard; asker = asker; piece = ran.piec
 abbrev pub log_of : ℕ → ℕ → List AnsweredCommand → List Entry
 log_of shards asker history = map (entry_of asker) (due.log_of shards history)
 
--- Each shard's entries are one run of the protocol's step, and each entry was asked by one of so many lines.
+-- Each shard's entries are one run of the protocol's step, and each entry was asked by a line whose number is below lines.
 pub record IsLogOfLines (sizes : Sizes) (lines : ℕ) (log : List Entry) : Type 0 where
   pub lawful : IsLawful sizes log
   pub owned : AllByRecursion (λ entry. (entry.shard < sizes.shards) × (entry.asker < lines)) log

@@ -23,8 +23,8 @@ pub record Exchanges (before after : Ends Near) (told : Told) (received : ℕ �
   pub came : (shard : ℕ) → shard < told.shards → received_on after shard ≡ received_on before shard ++ received shard
   pub answered : (shard : ℕ) → length (received shard) ≡ length (due told.shards shard told.taken)
 
--- The line was served over so many shards and by these rules: between begin and now it was read and written, and so
--- many commands of it were taken.
+-- The line was served over this number of shards and by these rules: between begin and now it was read and written, and
+-- commands is how many commands of it were taken.
 pub record LineServed (shards : ℕ) (rules : Rules) (may_answer : ℕ → Type 0) (begin now : Sight) (before after : Ends Near) (conn : Conn) (commands : ℕ) (broke : Bool) : Type 0 where
   pub told : Told
   pub shards_is : told.shards ≡ shards

@@ -3,7 +3,7 @@ use Rattle.std.specs.Prelude.{ℕ, ◌≡◌, ◌≤◌, List, take, Option, Som
 use Rattle.mc_wire.specs.Outlet.{Sight, asked, broke, gave}
 use Rattle.mc_join.specs.internal.Gathered.{told}
 
--- It was read where it had something to give: so many bytes stand in the room, or it failed and gave none. Else it is as it was.
+-- It was read where it had something to give: the first count bytes of the room, or none where it failed. Else it is as it was.
 abbrev pub ReadsIfReady : {E : Type 0} → List ℕ → Result (Option ℕ) E → Sight → Sight → Type 0
 ReadsIfReady room (Ok (Some count)) old new = new ≡ gave (take count room) (asked old)
 ReadsIfReady room (Ok None) old new = new ≡ old

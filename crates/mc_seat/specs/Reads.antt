@@ -7,8 +7,8 @@ use Rattle.mc_reader.specs.Spelling.{AreCommands}
 use Rattle.mc_wire.specs.Outlet.{Read, Sight, with_reads}
 use Rattle.mc_command.specs.declared.rules.Rules.{Rules}
 
--- At the time of the read (under this value rules) all commands of the bytes that the line had given since its beginning were taken, so many, and the
--- line had taken their replies, whole.
+-- At the time of the read all commands, by these rules, of the bytes that the line had given since its beginning were taken,
+-- count of them, and the line had taken their replies, whole.
 pub record OwesNothing (rules : Rules) (begin : Sight) (commands : List Command) (texts : List (List ℕ)) (read : Read) : Type 0 where
   pub count : ℕ
   pub within : count ≤ length texts

@@ -13,7 +13,7 @@ use std::io::IoSlice;
 use std::mem;
 use std::sync::ArcSlice;
 
-/// Once all is written, a room of text of at most so many bytes is kept for the replies to come; a larger one is given back.
+/// The most bytes of a room of text that is kept, once all is written, for the replies to come; a larger one is given back.
 const KEPT_TEXT: usize = 16_384;
 
 /// The same of the places for what is written later, in chunks.
@@ -98,7 +98,7 @@ impl Unwritten {
         self.later.is_empty() && self.tail.is_empty()
     }
 
-    /// What stands so many places behind the front: a chunk, then the tail, and nothing behind that.
+    /// What stands at `place` behind the front, from 0: a chunk, then the tail, and nothing behind that.
     fn piece(&self, place: usize) -> &[u8]
         ensures { result.now ≡ piece_behind self.now.later.items self.now.tail.items place }
     {
@@ -110,7 +110,7 @@ impl Unwritten {
     }
 
     /// Offers a beginning of what waits to the line, which gives how many bytes it took, without waiting: what lies together by
-    /// a plain write, else the rest of the front and what stands behind it, so many pieces as one write takes.
+    /// a plain write, else the rest of the front and at most three pieces behind it, in one write.
     fn offer<L: Line>(&self, line: &mut L) -> Result<usize, OutFault>
         ensures within { IfOk result (λ count. count ≤ length (text_in self.now)) }
         ensures ok { IfOk result (λ count.
@@ -128,7 +128,7 @@ impl Unwritten {
         ])
     }
 
-    /// The first bytes of what waits, so many, were written.
+    /// The first `count` bytes of what waits were written.
     fn pass(&mut self, count: usize)
         requires { count ≤ length (text_in self.old) }
         ensures { text_in self.new ≡ drop count (text_in self.old) }

@@ -12,8 +12,8 @@ abbrev pub how_many : List (List LineTold) → ℕ
 how_many [] = 0
 how_many (lines ∷ seats) = length lines + how_many seats
 
--- So many connections have ended, each served by one of the seats from its first byte on, and one log explains what was read of
--- them, what was written to them and what the shards did. The count stays at its greatest value.
+-- As many connections have ended as ended says, each served by one of the seats from its first byte on, and one log explains
+-- what was read of them, what was written to them and what the shards did. The count stays at its greatest value.
 pub record ServesConnections (sizes : Sizes) (may_answer : ℕ → Type 0) (ended : ℕ) : Type 0 where
   -- of each seat its connections, one after another
   pub seats : List (List LineTold)

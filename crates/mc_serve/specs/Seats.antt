@@ -100,7 +100,7 @@ pub record SitsServing (shards : ℕ) (rules : Rules) (may_answer : ℕ → Type
   pub width : length ends.lanes ≡ shards
   pub serving : IsServingLine shards rules may_answer begin now ends session
 
--- Lines of the door were served, and then the first so many lanes were closed.
+-- Lines of the door were served, and then the first count lanes were closed.
 pub record SitsClosing (shards : ℕ) (rules : Rules) (may_answer : ℕ → Type 0) (count : ℕ) (sat : SeatAt) (door : DoorTold) (ends : Ends Near) : Type 0 where
   pub served : Ends Near
   pub serves : ServesDoor shards rules may_answer sat (seat_at door served)

@@ -57,7 +57,7 @@ pub fn serve_over<
     gather(back, room)
 }
 
-/// A thread for each of so many seats, and one for each of so many shards.
+/// A thread for each of `seats` seats, and one for each of `shards` shards.
 pub(crate) fn sleepers_for<R: Threads>(
     rt: &R,
     alloc: Global,

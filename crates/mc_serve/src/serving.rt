@@ -298,7 +298,7 @@ impl<D: Door + Drop, G: Gate + Drop> Unassigned<D, G> {
     }
 }
 
-/// The next so many, or all that are left.
+/// The next `count`, or all that are left.
 fn take_some<T: Drop>(
     alloc: Global,
     left: &mut IntoIter<T>,

@@ -38,7 +38,7 @@ pub enum Phase<L> {
     Came(L),
     /// This line is out, and is served.
     Serving(L),
-    /// No line comes any more, and the first so many lanes were closed.
+    /// No line comes any more, and this number of lanes were closed, the first ones.
     Closing(usize),
     /// All lanes were closed.
     Over,
@@ -183,7 +183,7 @@ impl<D: Door + Drop> Sitting<D> {
         }
     }
 
-    /// Closes the next lane, where it has room for End and the first so many are closed.
+    /// Closes the next lane, where it has room for End and the first `count` are closed.
     fn close(&mut self, count: usize) -> Stepped
         ensures closes { (served : Ends Near) →
             EndsFirst count served self.old.session.courier.ends →

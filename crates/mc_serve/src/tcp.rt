@@ -30,7 +30,7 @@ const AT_ONCE: Patience = Patience {
     yields: 0,
 };
 
-/// Serves the connections that come in by the listener, each by one of the seats, until so many have ended, or for good.
+/// Serves the connections that come in by the listener, each by one of the seats, until `connections` have ended, or for good.
 /// There is a thread for each shard, which serves its share of the seats too, and one that accepts; connections beyond the seats
 /// wait to be accepted. It gives how many connections have ended, a count that stays at its greatest value. What is watched of
 /// them is told to the watch; a connection that is idle for longer than it allows breaks. `Bind`: an accept failed for good.
@@ -110,7 +110,7 @@ impl Beside {
     }
 }
 
-/// The sleep of each of so many threads, which have one shard each, and as many of the seats as another or one more.
+/// The sleep of each of `threads` threads, which have one shard each, and as many of the seats as another or one more.
 fn polling_sleepers<R: Net>(
     rt: &R,
     alloc: Global,

@@ -6,7 +6,7 @@ use mc_seat::Clock;
 use std::time::Duration;
 use std::{io, time};
 
-/// A clock that stands still, at so many seconds since 1970.
+/// A clock that stands still, at the given number of seconds since 1970.
 #[derive(Clone, Copy, Debug, PartialEq, Eq)]
 pub struct StillClock(pub u64);
 

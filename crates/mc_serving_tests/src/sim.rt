@@ -23,7 +23,7 @@ const BUDGET: usize = 1_024;
 /// How many bytes a value has at most.
 const VALUE_LIMIT: usize = 1_024;
 
-/// A core of so many seats, and two shards.
+/// A core of `seats` seats, and two shards.
 pub(crate) fn core_of<R: RandomSource>(
     rt: &R,
     alloc: Global,

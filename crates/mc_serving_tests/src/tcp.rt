@@ -74,7 +74,7 @@ fn a_client_is_served(rt: HostRuntime) -> Result<(), Fail> {
     Ok(())
 }
 
-/// Serves three clients by so many seats; whether each had its replies, and how many connections ended.
+/// Serves three clients by `seats` seats; whether each had its replies, and how many connections ended.
 fn serve_three<
     R: Threads
         + Wait

@@ -17,7 +17,7 @@ pub record Refreshed (told : Told) (new : Conn) : Type 0 where
   pub now : IsConn new told
   pub waits : IsOpen told → IsAllTaken told → HasPlace told → IsShut told ⊎ IsAwaiting new
 
--- So many bytes were taken, from the front.
+-- The first count bytes were taken.
 pub record TakesBytes (told : Told) (bytes : List ℕ) (count : ℕ) (new : Conn) : Type 0 where
   pub within : count ≤ length bytes
   pub now : IsConn new (record told { fed = told.fed ++ take count bytes })

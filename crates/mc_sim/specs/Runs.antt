@@ -31,7 +31,7 @@ pub record StandsAfter (sizes : Sizes) (w : World) (events : List Event) (new : 
   pub memory : FoundMemory sizes w events later led
   pub stands : Stands sizes new later
 
--- From whatever world the core stood in, it stands after all of the events, and so many were done.
+-- From whatever world the core stood in, it stands after all of the events, and done counts those that were done.
 abbrev pub Runs : Sim → List Event → ℕ → Sim → Type 0
 Runs old events done new =
     (sizes : Sizes) (w : World) → Stands sizes old w →

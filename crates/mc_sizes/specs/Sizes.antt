@@ -44,7 +44,7 @@ pub record AreWithin (sizes : Sizes) : Type 0 where
   pub line : IsWithin sizes Line
   pub window : IsWithin sizes Window
 
--- There may be lanes between so many seats and shards, with rings of so many places.
+-- There may be lanes between sizes.seats seats and sizes.shards shards, with rings of sizes.ring places.
 pub record SuitLanes (sizes : Sizes) : Type 0 where
   pub seats : IsWithin sizes Seats
   pub shards : IsWithin sizes Shards
@@ -55,7 +55,7 @@ pub record SuitShards (sizes : Sizes) : Type 0 where
   pub bytes : IsWithin sizes Bytes
   pub value : sizes.value ≤ GREATEST_VALUE_LIMIT
 
--- Lines may be served over so many shards, by such limits of values and lines and such a window.
+-- Lines may be served over sizes.shards shards, by such limits of values and lines and such a window.
 pub record SuitLines (sizes : Sizes) : Type 0 where
   pub shards : 0 < sizes.shards
   pub value : sizes.value ≤ GREATEST_VALUE_LIMIT

@@ -83,7 +83,7 @@ parts_numbered part ticket moment (piece ∷ asked) = ap (λ (parts : List ℕ).
 abbrev pub gets_of : ℕ → Option ℤ → List (List ℕ) → List ShardOp
 gets_of shards touch keys = map (λ key. asked_of shards key (op.Fetch key touch)) keys
 
--- what so many shards are asked, from this one on
+-- what count shards are asked, from the one numbered first on
 abbrev pub asks_from : Op → ℕ → ℕ → List ShardOp
 asks_from op first count = map (ask_of op) (range_with_len first count)
 

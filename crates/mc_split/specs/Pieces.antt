@@ -27,7 +27,7 @@ asked_of_all shards op = map (λ shard. record { shard = shard; op = op }) (rang
 abbrev pub vivify_of : Option ℤ → ℕ → Option Vivify
 vivify_of exptime initial = option_map (λ exptime. record { exptime = exptime; initial = initial }) exptime
 
--- The pieces of a command, over so many shards: one for a command with one key, one a key in the order of the
+-- The pieces of a command, over the given number of shards: one for a command with one key, one a key in the order of the
 -- request for a get, one a shard for flush_all and stats, and none for what asks no shard.
 unfoldable pub pieces_of : ℕ → Command → List ShardOp
 pieces_of shards (command.Store storage) =

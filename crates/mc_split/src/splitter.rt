@@ -113,7 +113,7 @@ impl Splitter {
         Ok(())
     }
 
-    /// The form of a reply to so many pieces, all of this kind.
+    /// The form of a reply to `count` pieces, all of this kind.
     pub fn form(self, shape: Shape, kind: Kind, count: usize) -> Result<Form, NoMemory>
         ensures { IfOk result (λ form.
             form ≡

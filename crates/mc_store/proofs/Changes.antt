@@ -21,7 +21,7 @@ none_below n q u h = absurd (let h' = rw (get_nothing q) at h in cc)
 none_fits : (budget : ℕ) → costs nothing ≤ budget
 none_fits budget = omega (arith, costs_nothing)
 
--- A new shard, which is one of so many, shows the empty state.
+-- A new shard, which is one of the given number of shards, shows the empty state.
 pub new_keeps : (index shards budget given limit : ℕ) → index < shards → Keeps (record { entries = []; budget = budget; limit = limit; time = 0; flush = None; given = given; index = index; shards = shards; tally = no_counts; evicted = 0 }) (empty_state index shards budget given limit)
 new_keeps index shards budget given limit place = assumption (none_below 1, none_fits budget)
 

@@ -10,7 +10,7 @@ use Rattle.mc_item.specs.Tally.{asked_of, counted, no_counts, status_of}
 use Rattle.mc_store.specs.State.{Items, State, evicting, fitting}
 use Rattle.mc_store.specs.Step.{noted_in, stats_of, step_of}
 
--- a shard that was asked nothing, with these items, of which so many went to make room for others
+-- a shard that was asked nothing, with these items, where evicted is the number that went to make room for others
 abbrev fresh : Items → ℕ → State
 fresh items evicted = record { items = items; uses = 7; time = 1000; flush = None; given = 1; index = 0; shards = 2; budget = 1024; limit = 1048576; tally = no_counts; evicted = evicted }
 

@@ -17,7 +17,7 @@ use Rattle.mc_store.specs.State.{Used, Items, State, is_dead_at, next_unique}
 use Rattle.mc_store.specs.Rows.{joined_item, stale_item, marks_of, hit_of, vivified_item, made_hit}
 use Rattle.mc_store.specs.Step.{Outcome, mode_of, compare_of, store_step, numbered, counted, coming}
 
--- the first of two shards that has given so many uniques
+-- the first of two shards, where given is the number of uniques that it has given
 abbrev at : Items → ℕ → State
 at items given = record { items = items; uses = 7; time = 1000; flush = None; given = given; index = 0; shards = 2; budget = 1024; limit = 1048576; tally = no_counts; evicted = 0 }
 

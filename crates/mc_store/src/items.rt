@@ -74,7 +74,7 @@ pub fn is_other(compare: Option<u64>, unique: u64) -> bool
     }
 }
 
-/// What an item costs with so many bytes of a key and of a value, in bytes.
+/// What an item costs with a key of `key_length` bytes and a value of `value_length` bytes, in bytes.
 pub fn cost_of(key_length: usize, value_length: usize) -> usize
     requires { key_length + value_length ≤ 2 ^ 32 }
     ensures { result ≡ key_length + value_length + item_overhead }
@@ -82,7 +82,7 @@ pub fn cost_of(key_length: usize, value_length: usize) -> usize
     key_length + value_length + ITEM_OVERHEAD
 }
 
-/// What an item under a key of so many bytes cost, in bytes; nothing where there was none.
+/// What an item under a key of `key_length` bytes cost, in bytes; nothing where there was none.
 fn freed_by(old: &Option<Item>, key_length: usize) -> usize
     requires { key_length ≤ KEY_LIMIT }
     ensures { result ≡ freed_by old.now key_length }
@@ -206,7 +206,7 @@ fn mark_seen(cache: &mut Cache, key: &Key, new: Use)
 }
 
 impl Items {
-    /// No items, which may cost so many bytes together. It takes no room for them before they come. They are hashed under
+    /// No items, which may cost `budget` bytes together. It takes no room for them before they come. They are hashed under
     /// words that are drawn from the random state.
     pub fn new(alloc: Global, hasher: RandomState, budget: usize) -> Result<Items, AllocError>
         requires least { LEAST_BUDGET ≤ budget }

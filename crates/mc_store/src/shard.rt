@@ -88,8 +88,8 @@ impl Shard {
     ghost use Rattle.mc_store.specs.Shard.{IsShard, Steps, held_of};
     ghost use Rattle.mc_store.specs.internal.Parts.{Does, Handles, answered};
 
-    /// An empty shard: the one with this index of so many shards. Its items may cost `budget` bytes together, its
-    /// values have at most `limit` bytes each, and so many uniques were given before. It takes no room for its items
+    /// An empty shard: the one at `index` of `shards` shards. Its items may cost `budget` bytes together, its
+    /// values have at most `limit` bytes each, and `given` uniques were given before. It takes no room for its items
     /// before they come.
     pub fn new(
         alloc: Global,
@@ -302,7 +302,7 @@ impl Shard {
         }
     }
 
-    /// Whether a value of so many bytes is too large: it passes the limit, or its item would cost more than the
+    /// Whether a value of `size` bytes is too large: it passes the limit, or its item would cost more than the
     /// budget alone.
     fn is_too_large(&self, key: &Key, size: usize) -> bool
         requires { size ≤ 2 * GREATEST_VALUE_LIMIT }

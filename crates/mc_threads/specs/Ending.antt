@@ -17,7 +17,7 @@ pub record EndsOne (ended : ℕ) (before after : Ends Near) : Type 0 where
   pub others : (shard : ℕ) → shard ≢ ended → sent_on after shard ≡ sent_on before shard
   pub received : (shard : ℕ) → received_on after shard ≡ received_on before shard
 
--- End was sent on the first so many lanes, and nothing else happened.
+-- End was sent on the first count lanes, and nothing else happened.
 pub record EndsFirst (count : ℕ) (before after : Ends Near) : Type 0 where
   pub same : AreSameEnds before after
   pub sent : (shard : ℕ) → shard < count → sent_on after shard ≡ sent_on before shard ++ parcel.End ∷ []

@@ -12,7 +12,7 @@ use Rattle.mc_threads.specs.Serving.{IsIdle}
 use Rattle.mc_threads.specs.Service.{IsNew, IsServedBy, ServesSomeLine, WasServedBy}
 use Rattle.mc_command.specs.declared.rules.Rules.{Rules}
 
--- The room for a line is as new, or is made for so many shards, for these rules and with this window.
+-- The room for a line is as new, or is made for this number of shards, for these rules and with this window.
 abbrev pub IsReady : ℕ → Rules → ℕ → Session → Option Service → Type 0
 IsReady shards rules window session None = (session.sizes.shards ≡ shards) × (rules_of session.sizes ≡ rules) × (session.sizes.window ≡ window)
 IsReady shards rules window session (Some service) = IsNew shards rules window service

@@ -8,7 +8,7 @@ use Rattle.mc_ring.specs.Lane.{Far}
 use Rattle.mc_ring.specs.Ends.{Ends}
 use Rattle.mc_ring.specs.Made.{IsUnused}
 
--- The ends are those of one of so many shards, and nothing has passed on them.
+-- The ends are those of a shard whose number is below shards, and nothing has passed on them.
 abbrev pub AreFresh : ℕ → Ends Far → Type 0
 AreFresh shards ends = (ends.number < shards) × AllByRecursion IsUnused ends.lanes
 

@@ -15,7 +15,7 @@ pub struct Courier {
     pub(crate) ends: SeatEnds,
     /// How many pieces were sent to each shard whose replies were not received yet.
     under_way: Vec<usize>,
-    /// At most so many pieces are under way on a lane: as many as its ring of replies has places. So a shard never finds that
+    /// The most pieces that are under way on a lane: as many as its ring of replies has places. So a shard never finds that
     /// ring full.
     places: usize,
     /// A piece could not be sent yet.
@@ -32,7 +32,7 @@ impl Courier {
     ghost use Rattle.mc_threads.specs.Serving.{IsIdle};
     ghost use Rattle.mc_threads.specs.internal.Carrying.{AllOutWhere, AnyOut, CanCarry, CourierGoesOn, NoneOut};
 
-    /// Nothing is under way on the ends, whose rings have so many places. The wakers are those of the shards.
+    /// Nothing is under way on the ends, whose rings have `places` places. The wakers are those of the shards.
     pub(crate) fn new(
         alloc: Global,
         ends: SeatEnds,

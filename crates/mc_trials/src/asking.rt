@@ -80,7 +80,7 @@ pub struct Asking {
 }
 
 impl Asking {
-    /// A line that sends so many commands, as they are chosen.
+    /// A line that sends `left` commands, as they are chosen.
     pub fn new(
         alloc: Global,
         chooser: Chooser,

@@ -7,7 +7,7 @@ use std::sync::Arc;
 use std::sync::atomic::{AtomicU64, Ordering};
 use std::thread;
 
-/// A line whose first read waits until so many have come, itself among them.
+/// A line whose first read waits until `all` have come, itself among them.
 #[derive(Drop)]
 pub struct Gathered<L> {
     pub line: L,
@@ -19,7 +19,7 @@ pub struct Gathered<L> {
 }
 
 impl<L: Drop> Gathered<L> {
-    /// A line that waits for so many, itself among them.
+    /// A line that waits until `all` have come, itself among them.
     pub fn new(line: L, come: &Come, all: u64) -> Result<Gathered<L>, AllocError> {
         Ok(Gathered {
             line,
@@ -54,7 +54,7 @@ impl<L: Line> Line for Gathered<L> {
     }
 }
 
-/// Whether so many have come, after as many looks as are made.
+/// Whether `all` have come, after as many looks as are made.
 fn have_come(come: &AtomicU64, all: u64) -> bool {
     for _ in 0..LOOKS {
         if come.load(Ordering::SeqCst) >= all {

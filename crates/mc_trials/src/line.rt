@@ -16,9 +16,9 @@ pub enum Fault {
 /// How a line is cut, and where it fails.
 #[derive(Clone, Copy)]
 pub struct Cutting {
-    /// At most so many bytes are read at once.
+    /// The most bytes that are read at once.
     pub piece: usize,
-    /// At most so many bytes are written at once.
+    /// The most bytes that are written at once.
     pub portion: usize,
     pub fault: Fault,
 }
@@ -72,7 +72,7 @@ pub struct MemoryLine {
 }
 
 impl MemoryLine {
-    /// A line of which nothing was read, with room for so many bytes of output. The first reads end at these places.
+    /// A line of which nothing was read, with room for `room` bytes of output. The first reads end at these places.
     pub fn new(
         alloc: Global,
         input: Vec<u8>,

@@ -3,10 +3,10 @@ use crate::line::{Cutting, MemoryLine};
 use mc_doors::ServedLine;
 use std::alloc::{AllocError, Global};
 
-/// Each line has so many keys of its own.
+/// The number of keys that each line has of its own.
 const KEYS: u64 = 100;
 
-/// Of so many times that a key is named it is stored the first time, and read the others.
+/// Of each `ROUNDS` times that a key is named it is stored the first time, and read the others.
 const ROUNDS: u64 = 10;
 
 /// One line's load.

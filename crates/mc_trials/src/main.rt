@@ -1,11 +1,11 @@
 //! Lines over memory that real threads serve.
 //!
 //!     mc_trials                                       runs all trials, and prints which went wrong
-//!     mc_trials threads LINES SHARDS COMMANDS BATCH   serves a load by threads: each line sends so many commands, of which one
-//!                                                     read gives a batch
+//!     mc_trials threads LINES SHARDS COMMANDS BATCH   serves a load by threads: each line sends COMMANDS commands, of which
+//!                                                     one read gives a batch
 //!     mc_trials alone SHARDS COMMANDS BATCH           serves the load of one line by a single thread, without rings
-//!     mc_trials history LINES SHARDS COMMANDS SEED    lines that await each reply send so many commands each, on few keys, and
-//!                                                     what each asked and was answered is printed, with when
+//!     mc_trials history LINES SHARDS COMMANDS SEED    lines that await each reply send COMMANDS commands each, on few keys,
+//!                                                     and what each asked and was answered is printed, with when
 //!
 //! Of a load it prints how many commands were taken, how many lines went wrong, how long it took, and what the system told of
 //! the processor time before and after (proc_pid_stat(5)). `tools/bench/lines.py` makes figures of that.

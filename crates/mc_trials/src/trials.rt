@@ -116,10 +116,10 @@ const MEETINGS: u64 = 100;
 /// A line that sends behind another one's piece waits until both lines and the piece at the gate have come.
 const BOTH_LINES_AND_A_PIECE: u64 = 3;
 
-/// The longest line has so many keys of one letter.
+/// The number of keys of one letter that the longest line has.
 const MOST_KEYS: usize = 32_766;
 
-/// A server of so many shards, with rings and windows of these sizes.
+/// A server of `shards` shards, with rings and windows of these sizes.
 fn sizes(shards: usize, ring: usize, window: usize) -> Sizes {
     Sizes {
         profile: Profile::Own,
@@ -171,7 +171,7 @@ impl<R: Threads + Wait + RandomSource + Copy + Send + Drop + 'static> Server<R> 
         Ok(is_right)
     }
 
-    /// Whether it is so over so many shards.
+    /// Whether it is so over `shards` shards.
     fn lines_over(&self, shards: usize) -> Result<bool, AllocError> {
         let mut is_right = true;
         for shape in shapes() {
@@ -181,7 +181,7 @@ impl<R: Threads + Wait + RandomSource + Copy + Send + Drop + 'static> Server<R> 
         Ok(is_right)
     }
 
-    /// Whether it is so of so many lines, which are cut so.
+    /// Whether it is so of `count` lines, which are cut so.
     fn converse(&self, count: usize, sizes: Sizes, cutting: Cutting) -> Result<bool, AllocError> {
         let mut lines = Vec::with_capacity(self.alloc, count)?;
         for number in 0..count {
@@ -212,7 +212,7 @@ impl<R: Threads + Wait + RandomSource + Copy + Send + Drop + 'static> Server<R> 
         Ok(is_right)
     }
 
-    /// Whether so many lines are all served at once: each waits at its first read until the others are at theirs.
+    /// Whether 2, 3 and 64 lines are all served at once: each waits at its first read until the others are at theirs.
     fn lines_at_once(&self) -> Result<bool, AllocError> {
         let mut is_right = true;
         for count in [2, 3, 64] {
@@ -254,7 +254,7 @@ impl<R: Threads + Wait + RandomSource + Copy + Send + Drop + 'static> Server<R> 
         Ok(self.meetings(lines, sizes(2, 64, 256), MEETINGS)? == Some(2 * MEETINGS))
     }
 
-    /// Whether a ring holds so many pieces and no more: where a shard is held up, a piece for the other shard is sent behind as
+    /// Whether a ring holds `ring` pieces and no more: where a shard is held up, a piece for the other shard is sent behind as
     /// many as the ring holds, and not behind one more.
     fn rings_hold(&self) -> Result<bool, AllocError> {
         let mut is_right = true;
@@ -268,7 +268,7 @@ impl<R: Threads + Wait + RandomSource + Copy + Send + Drop + 'static> Server<R> 
         Ok(is_right)
     }
 
-    /// Whether so many commands of a line are under way at once and no more: where a shard is held up, a piece for the other
+    /// Whether `window` commands of a line are under way at once and no more: where a shard is held up, a piece for the other
     /// shard is sent where its command is the last that the window has room for, and not where it is the next.
     fn windows_are_wide(&self) -> Result<bool, AllocError> {
         let mut is_right = true;
@@ -310,7 +310,7 @@ impl<R: Threads + Wait + RandomSource + Copy + Send + Drop + 'static> Server<R> 
         Ok(is_right.then_some(met.load(Ordering::SeqCst) > 0))
     }
 
-    /// How often a shard saw the other one at the gate; none where a line hasn't so many replies that nothing is stored.
+    /// How often a shard saw the other one at the gate; none where a line hasn't `replies` replies that nothing is stored.
     fn meetings(
         &self,
         lines: Vec<MemoryLine>,

@@ -52,7 +52,7 @@ impl<T: Task> Model for Crew<T> {
 }
 
 impl<T: Task + Send + 'static> Crew<T> {
-    /// No thread yet, and room for so many.
+    /// No thread yet, and room for `count` threads.
     pub fn new(alloc: Global, count: usize) -> Result<Crew<T>, AllocError>
         ensures { IfOk result (λ crew. crew ≡ []) }
     {

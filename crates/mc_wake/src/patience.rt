@@ -21,7 +21,7 @@ pub struct Patience {
 }
 
 impl Patience {
-    /// The patience where so many threads share the machine.
+    /// The patience where `threads` threads share the machine.
     pub fn among<R: Threads>(rt: &R, threads: usize) -> Patience {
         let cores = match thread::available_parallelism(rt) {
             Ok(cores) => cores.get(),
@@ -33,7 +33,7 @@ impl Patience {
         }
     }
 
-    /// How often a thread looks again at once, where so many threads share so many cores. With fewer cores than threads it
+    /// How often a thread looks again at once, where `threads` threads share `cores` cores. With fewer cores than threads it
     /// never does: it would keep the thread that it waits for from running.
     fn looks_of(cores: usize, threads: usize) -> usize
         ensures own { threads ≤ cores → result ≡ LOOKS }

@@ -18,10 +18,10 @@ use std::{hint, io, thread};
 /// Where seats want to be roused again in a while, the thread sleeps at most so long, in milliseconds.
 const REMINDER_MILLIS: u64 = 50;
 
-/// They are roused at every so many looks at the sockets too, however busy the thread is.
+/// The number of looks at the sockets after which they are roused too, however busy the thread is.
 const REMINDER_LOOKS: u32 = 32;
 
-/// A thread that always finds something to do looks at its sockets every so many turns.
+/// The number of turns after which a thread that always finds something to do looks at its sockets.
 const TURNS: u32 = 4;
 
 /// Where a thread sleeps.
@@ -77,8 +77,8 @@ impl Model for Sleeper {
 }
 
 impl Sleeper {
-    /// The sleep of a thread whose seats have no sockets, in a parker. Any of so many callers, the seats of the server, may call
-    /// its workers; it has so many places, which are its own seats, and so many workers. At first each place is roused.
+    /// The sleep of a thread whose seats have no sockets, in a parker. Any of the `callers` seats of the server may call
+    /// its workers; it has `places` places, which are its own seats, and `workers` workers. At first each place is roused.
     pub fn new(
         alloc: Global,
         patience: Patience,

@@ -12,7 +12,7 @@ use std::time::Duration;
 /// The token of the thread's own alarm. No place has it.
 const ALARM: Token = Token(usize::MAX);
 
-/// At most so many events are taken at once; others come with the next look.
+/// The most events that there is room for at once, beside one for the alarm; others come with the next look.
 const MOST_EVENTS: usize = 1_024;
 
 /// What the poll has told of a socket.
@@ -35,7 +35,7 @@ pub(crate) struct Sockets {
 }
 
 impl Sockets {
-    /// No socket yet, for so many places.
+    /// No socket yet, for `places` places.
     pub(crate) fn new<R: Net>(rt: &R, alloc: Global, places: usize) -> io::Result<Sockets> {
         let room = places.min(MOST_EVENTS).saturating_add(1);
         Ok(Sockets {

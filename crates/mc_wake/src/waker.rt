@@ -37,7 +37,7 @@ pub(crate) struct Waker {
 }
 
 impl Waker {
-    /// By this alarm, of a thread that has so many callers, and so many places, each of which is roused.
+    /// By this alarm, of a thread that has `callers` callers and `places` places, each of which is roused.
     pub(crate) fn new(
         alloc: Global,
         alarm: Alarm,

@@ -52,7 +52,7 @@ pub record SameCounts {C : Type 0} (one other : Counts C) : Type 0 where
   pub shards : shards_of one ≡ shards_of other
 
 module _ {C : Type 0} (added : C → ℕ → Type 0) where
-  -- a connection that took so many commands has ended, and was broken or not
+  -- a connection that took this number of commands has ended, and was broken or not
   pub record CountsEnd (counts : SeatCounts C) (commands : ℕ) (broke : Bool) : Type 0 where
     pub commands_are : added counts.commands commands
     pub broken : added counts.broken (from_bool broke)

@@ -20,7 +20,7 @@ pulse_of None = None
 pulse_of (Some pulse) = Some (clock_of pulse.seconds, pulse.limit)
 
 module _ {C : Type 0} (told : C → ℕ → Type 0) where
-  -- the last byte was moved when the clock told so many seconds, and what is allowed stays
+  -- the last byte was moved when the clock told new.last seconds, and what is allowed stays
   pub record Beats (old new : Pulse C) : Type 0 where
     pub limit : new.limit ≡ old.limit
     pub clock : clock_of new.seconds ≡ clock_of old.seconds

@@ -9,7 +9,7 @@ use Rattle.mc_watch.specs.declared.event.Event.{Event}
 use Rattle.mc_watch.specs.declared.reporter.Report.{Report}
 use Rattle.mc_watch.specs.declared.reporter.Reporter.{Reporter}
 
--- so many events of a reporter may wait
+-- the most events of a reporter that may wait
 abbrev pub room : ℕ
 room = 8
 
@@ -32,7 +32,7 @@ module _ {A P : Type 0} where
   TellsIn (Some old) dropped event (Some new) left =
       SameProducer old new × (Queues old dropped event new left ⊎ Drops old dropped new left)
 
-  -- nothing was told yet to the one who hears it, and so many events may wait
+  -- nothing was told yet to the one who hears it, and as many events may wait as room says
   pub record IsNew (queue : Producer Report A P) (hears : Consumer Report A P) : Type 0 where
     pub pair : IsPair queue hears
     pub nothing_sent : sent queue ≡ []

@@ -8,13 +8,13 @@ use std::sync::atomic::{AtomicU64, Ordering};
 pub trait Count: Drop {
     ghost use Rattle.std.specs.Prelude.{ℕ};
 
-    /// It was handed so many more.
+    /// It was handed this number, to be added.
     ghost was_added: { Self → ℕ → Type 0 };
 
-    /// It was set to so many.
+    /// It was set to this number.
     ghost was_set: { Self → ℕ → Type 0 };
 
-    /// It told that it is at so many.
+    /// It told that it is at this number.
     ghost has_told: { Self → ℕ → Type 0 };
 
     /// Adds `count`. To be called by one thread alone: what another adds meanwhile is lost.

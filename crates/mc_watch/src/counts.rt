@@ -94,7 +94,7 @@ impl Totals {
 }
 
 impl Counts<Counter> {
-    /// Nothing was counted yet, by so many threads that serve, each with a shard, and the one that accepts.
+    /// Nothing was counted yet, by `threads` threads that serve, each with a shard, and the one that accepts.
     pub fn new(alloc: Global, threads: usize) -> Result<Counts, AllocError>
         ensures threads { IfOk result (λ counts. length counts.threads.items ≡ threads) }
         ensures shards { IfOk result (λ counts. shard_count counts ≡ threads) }
@@ -183,7 +183,7 @@ impl<C: Count> Counts<C> {
     }
 }
 
-/// What so many shards show, each of which was asked nothing yet.
+/// What `count` shards show, each of which was asked nothing yet.
 fn new_shards(
     alloc: Global,
     count: usize,

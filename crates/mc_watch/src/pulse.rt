@@ -56,7 +56,7 @@ impl<C: Count> Seconds<C> {
 }
 
 impl<C: Count> Pulse<C> {
-    /// Of a connection that begins now, and that may be idle for so many seconds.
+    /// Of a connection that begins now, and that may be idle for `limit` seconds.
     pub fn begin(seconds: Seconds<C>, limit: u64) -> Pulse<C>
         ensures limit { result.limit ≡ limit }
         ensures clock { clock_of result.seconds ≡ clock_of seconds }

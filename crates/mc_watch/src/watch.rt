@@ -23,7 +23,7 @@ use std::sync::Arc;
 pub struct Patience<C = Counter> {
     /// The seconds since the server began.
     pub seconds: Seconds<C>,
-    /// A connection may move no byte for so many of them.
+    /// The most seconds for which a connection may move no byte.
     pub limit: u64,
 }
 
@@ -194,7 +194,7 @@ impl<C: Count> SeatWatch<C> {
         Meter::begin(self.counts(), self.pulse())
     }
 
-    /// The connection is served no more: it took so many commands, and broke or not.
+    /// The connection is served no more: it took `commands` commands, and broke or not.
     pub fn close(&mut self, meter: &Meter<C>, commands: u64, broke: bool)
         ensures counted { IfSome self.old.counts
             (λ counts. CountsEnd C.was_added (shared_value counts) commands broke) }

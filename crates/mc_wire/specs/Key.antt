@@ -23,6 +23,6 @@ fnv_step hash byte = (bit_xor hash byte * 16777619) % 2 ^ 32
 unfoldable pub fnv_of : List ℕ → ℕ
 fnv_of bytes = fold fnv_step 2166136261 bytes
 
--- the shard of a key, of so many
+-- the shard that a key belongs to, of the given number of shards
 abbrev pub place_of : List ℕ → ℕ → ℕ
 place_of key shards = fnv_of key % shards

@@ -66,7 +66,7 @@ abbrev pub Writes : {X E : Type 0} → List ℕ → Result X E → Sight → Sig
 Writes text (Ok done) old new = new ≡ took text old
 Writes text (Err fault) old new = BreaksOff text old new
 
--- It was read: so many bytes stand in the room, or it failed and gave none.
+-- It was read: the first count bytes of the room are what it gave, or it failed and gave none.
 abbrev pub ReadsIntoRoom : {E : Type 0} → List ℕ → Result ℕ E → Sight → Sight → Type 0
 ReadsIntoRoom room (Ok count) old new = new ≡ gave (take count room) (asked old)
 ReadsIntoRoom room (Err fault) old new = new ≡ broke (asked old)

@@ -207,7 +207,7 @@ impl Key {
         }
     }
 
-    /// The shard that the key belongs to, of so many: its hash FNV-1a of 32 bits modulo their number. Of one or two
+    /// The shard, of `shards` in all, that the key belongs to: its hash FNV-1a of 32 bits modulo `shards`. Of one or two
     /// shards it is told without the hash. Takes no memory.
     pub fn place(&self, shards: usize) -> usize
         requires { 0 < shards }

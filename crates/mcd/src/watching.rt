@@ -18,7 +18,7 @@ use std::{io, thread, time};
 /// What who runs the program wants to be watched.
 #[derive(Clone, Copy)]
 pub struct Wishes<'a> {
-    /// A connection that moves no byte for so many seconds is given up, if one is.
+    /// The seconds after which a connection that moves no byte is given up, if one is.
     pub idle_timeout: Option<u64>,
     /// Whether each connection is told on standard error.
     pub verbose: bool,

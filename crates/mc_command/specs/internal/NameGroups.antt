@@ -5,7 +5,7 @@ use Rattle.std.specs.Str.{bytes_eq}
 use Rattle.mc_command.specs.declared.name.CommandName.{CommandName}
 use Rattle.mc_command.specs.Name.{names}
 
--- the command of that name among the first so many names behind the first so many others
+-- the command of that name among the count names that come after the first passed names
 abbrev pub name_in : ℕ → ℕ → List ℕ → Option CommandName
 name_in passed count word = lookup (bytes_eq word) (take count (drop passed names))
 

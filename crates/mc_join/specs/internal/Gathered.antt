@@ -2,7 +2,7 @@
 use Rattle.std.specs.Prelude.{ℕ, List, [], ◌∷◌, length, Option, Some, None}
 use Rattle.mc_wire.specs.Outlet.{Read, Sight, Trace, Untold, Counted, Listed}
 
--- so many bytes, as far as that is told
+-- the number of bytes, as far as it is told
 abbrev pub told : Trace → ℕ
 told Untold = 0
 told (Counted count) = count

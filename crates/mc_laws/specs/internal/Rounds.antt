@@ -15,7 +15,7 @@ pub record IsQuiet (sizes : Sizes) (w : World) (events : List Event) : Type 0 wh
   pub memory : FoundMemory sizes w events w led
   pub none : done_in sizes w events w led ≡ 0
 
--- The events were tried so many times, and at least so many were done.
+-- The events were tried some number of times, and no fewer than least were done.
 pub record HasRepeated (sizes : Sizes) (w : World) (events : List Event) (least : ℕ) (new : Sim) : Type 0 where
   pub times : ℕ
   pub later : World
@@ -24,7 +24,7 @@ pub record HasRepeated (sizes : Sizes) (w : World) (events : List Event) (least 
   pub enough : least ≤ done_in sizes w (repeated times events) later led
   pub stands : Stands sizes new later
 
--- From whatever world the core stood in, the events were tried, and at least so many were done.
+-- From whatever world the core stood in, the events were tried, and no fewer than least were done.
 abbrev pub Tried : Sim → List Event → ℕ → Sim → Type 0
 Tried old events least new = (sizes : Sizes) (w : World) → Stands sizes old w → HasRepeated sizes w events least new
 

@@ -13,12 +13,12 @@ pub enum Ask {
     SetFor(i64, &'static str),
     /// `set` with the flags 3 and the exptime 30.
     Flagged(&'static str),
-    /// `set` of so many bytes `x`.
+    /// `set` of a given number of bytes `x`.
     Long(usize),
     /// The same with an exptime.
     LongFor(i64, usize),
     Put(StoreMode, &'static str),
-    /// The same of so many bytes `x`.
+    /// The same of a given number of bytes `x`.
     LongPut(StoreMode, usize),
     Get,
     Gat(i64),

@@ -9,7 +9,7 @@ use Rattle.mc_reader.specs.declared.state.State.TheVariants as state
 use Rattle.mc_reader.specs.Spelling.{Given, IsGiven, HasNoEnd, Spells, line_says}
 use Rattle.mc_command.specs.declared.rules.Rules.{Rules}
 
--- so many bytes stand before the first line feed
+-- the given number of bytes stands before the first line feed
 pub record IsFirstLine (bytes : List ℕ) (long : ℕ) : Type 0 where
   pub line : List ℕ
   pub rest : List ℕ
@@ -43,7 +43,7 @@ pub record IsInBlock (rules : Rules) (asked : Command) (count : ℕ) (bytes othe
   pub unread_are : unread ≡ line ++ 10 ∷ (bytes ++ others)
   pub behind : length bytes < count + 2 → others ≡ []
 
--- The unread bytes are a line that is refused, all but so many of the bytes that are skipped, and then the others.
+-- The unread bytes are a line that is refused, all but the last left of the bytes that are skipped, and then the others.
 pub record IsInSkip (rules : Rules) (discarded : Option (List ℕ)) (refusal : Refusal) (left : ℕ) (others unread : List ℕ) : Type 0 where
   pub line : List ℕ
   pub skipped : List ℕ

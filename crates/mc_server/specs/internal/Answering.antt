@@ -46,7 +46,7 @@ pub record CanAnswer (conn : Conn) (shards : List Shard) : Type 0 where
   pub conn_is : IsConn conn told
   pub answers : ShardsAnswered sizes told shards log
 
--- So many pieces are out now, and all of them were run and answered.
+-- The first out pieces have left now, and all of them were run and answered.
 pub record AnswersMore (sizes : Sizes) (told : Told) (conn : Conn) (shards : List Shard) : Type 0 where
   pub out : ℕ
   pub lent : Bool

@@ -1,4 +1,4 @@
-//! Where a connection's replies are kept: a page with room for so many bytes.
+//! Where a connection's replies are kept: a page that holds at most `limit` bytes.
 ghost use Rattle.std.specs.Prelude.{◌≡◌, ◌≤◌, ◌+◌, ◌<◌, ◌^◌, IsTrue, IfOk, IfErr, false, length, vec_capacity};
 
 use mc_wire::{OutFault, Outlet};
@@ -43,7 +43,7 @@ impl Outlet for Page {
 }
 
 impl Page {
-    /// A page of these bytes, with room for so many more and one. `Err`: memory ran out, and these are the bytes.
+    /// A page of these bytes, with room for `more` + 1 bytes behind them. `Err`: memory ran out, and these are the bytes.
     pub(crate) fn with_room(bytes: Vec<u8>, more: u64) -> Result<Page, Vec<u8>>
         ensures bytes { IfOk result (λ page. page.bytes.items ≡ bytes.items) }
         ensures limit { IfOk result (λ page. page.limit ≡ length bytes.items + more + 1) }

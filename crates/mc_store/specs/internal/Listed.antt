@@ -19,7 +19,7 @@ entry_cost entry = cost entry.0 entry.1.value
 abbrev pub listed_cost : List ListedItem → ℕ
 listed_cost entries = sum_by entry_cost entries
 
--- what an item under a key of so many bytes cost; nothing where there was none
+-- what an item under a key of key_length bytes cost; nothing where there was none
 abbrev pub freed_by : Option Item → ℕ → ℕ
 freed_by None key_length = 0
 freed_by (Some item) key_length = key_length + length item.value + item_overhead

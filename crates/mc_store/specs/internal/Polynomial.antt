@@ -21,7 +21,7 @@ last rest =
     (if nat_le 4 n then read_u32 rest 0 + read_u32 rest (n - 4) / 256 * 2 ^ 32
     else (if nat_lt 0 n then slice_index rest 0 + slice_index rest (n / 2) * 256 + slice_index rest (n - 1) * 65536 else 0)) + n * 2 ^ 56
 
--- the value after the first so many coefficients of seven bytes
+-- the value after the first count coefficients of seven bytes
 unfoldable pub after : ℕ → List ℕ → ℕ → ℕ → ℕ
 after point bytes value zero = value
 after point bytes value (suc count) = folded ((after point bytes value count + read_u64 bytes (7 * count) % 2 ^ 56) * point)

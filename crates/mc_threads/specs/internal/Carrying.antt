@@ -17,7 +17,7 @@ abbrev pub sent_to : Told → ℕ → List Piece
 sent_to told shard = lane shard (take told.out (all_pieces told))
 
 -- Since the ends were as before, the pieces that have left the connection were sent, each to its shard, and these replies were
--- received; of the other pieces sent to each shard, so many, the replies are awaited.
+-- received; of the other pieces sent to each shard, as many as under_way says, the replies are awaited.
 pub record Carries (before now : Ends Near) (under_way : List ℕ) (told : Told) (received : ℕ → List Shown) : Type 0 where
   pub width : length now.lanes ≡ told.shards
   pub each : length under_way ≡ told.shards
@@ -27,7 +27,7 @@ pub record Carries (before now : Ends Near) (under_way : List ℕ) (told : Told)
   pub awaited : (shard count : ℕ) → slice_get under_way shard ≡ Some count → length (received shard) + count ≡ length (sent_to told shard)
   pub serves : Serves told.shards told.taken told.accepted received
 
--- what is told once so many pieces have left, and these replies were accepted
+-- what is told once the first out pieces have left, and these replies were accepted
 abbrev pub carried : Told → ℕ → Bool → List Shown → Told
 carried told out lent accepted = record told { out = out; lent = lent; accepted = accepted }
 
