@@ -58,7 +58,7 @@ number_given given name least default most = option_map_or (number_in name least
 abbrev pub size_given : (List ℕ → Option (List ℕ)) → List ℕ → ℕ → ℕ → ℕ → Result ℕ Wrong
 size_given given name least default most = option_map_or (size_in name least most) (given name) (Ok default)
 
--- what each shard's items may cost together: `--bytes`, or `--memory` divided by the number of shards; both are refused
+-- what each shard's items may cost together: `--bytes`, or `--memory` divided by the number of shards; both together are refused
 abbrev pub budget_of : ℕ → Option (List ℕ) → Option (List ℕ) → Result ℕ Wrong
 budget_of shards None None = Ok 16777216
 budget_of shards (Some bytes) None = size_in (codes "bytes") 1024 1073741824 bytes
