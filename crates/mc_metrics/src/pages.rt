@@ -69,7 +69,6 @@ impl Target {
 }
 
 /// Answers requests by what the threads of a server have counted.
-#[derive(Drop)]
 pub struct Pages {
     alloc: Global,
     facts: Facts,
@@ -79,6 +78,20 @@ pub struct Pages {
     /// How long the server has run, in seconds.
     uptime: u64,
     history: History,
+}
+
+impl Drop for Pages {
+    /// By hand, so that to let one go is one call for whoever holds it (docs/DECISIONS.md).
+    fn drop(self) {
+        let Pages {
+            alloc: _alloc,
+            facts: _facts,
+            counts: _counts,
+            tables: _tables,
+            uptime: _uptime,
+            history: _history,
+        } = self;
+    }
 }
 
 impl Pages {

@@ -23,13 +23,24 @@ const COMERS: usize = 64;
 const LOOK_MILLIS: u64 = 200;
 
 /// Where visitors come in, and what tells that one has come or has something to say.
-#[derive(Drop)]
 struct Entry {
     poll: Poll,
     events: Events,
     listener: TcpListener,
     /// Where visitors are registered.
     registry: Registry,
+}
+
+impl Drop for Entry {
+    /// By hand, so that to let one go is one call for whoever holds it (docs/DECISIONS.md).
+    fn drop(self) {
+        let Entry {
+            poll: _poll,
+            events: _events,
+            listener: _listener,
+            registry: _registry,
+        } = self;
+    }
 }
 
 impl Entry {
@@ -66,13 +77,24 @@ impl Entry {
 }
 
 /// A server that tells what another one counts.
-#[derive(Drop)]
 pub struct MetricsServer {
     alloc: Global,
     entry: Entry,
     /// In the order in which they came.
     visitors: Vec<Visitor>,
     pages: Pages,
+}
+
+impl Drop for MetricsServer {
+    /// By hand, so that to let one go is one call for whoever holds it (docs/DECISIONS.md).
+    fn drop(self) {
+        let MetricsServer {
+            alloc: _alloc,
+            entry: _entry,
+            visitors: _visitors,
+            pages: _pages,
+        } = self;
+    }
 }
 
 impl MetricsServer {

@@ -54,11 +54,21 @@ pub struct Totals {
 }
 
 /// What the threads of a server count: each its own, apart from the others in memory.
-#[derive(Drop)]
 pub struct Counts<C = Counter> {
     entrance: Arc<CachePadded<EntranceCounts<C>>, Global>,
     threads: Vec<Arc<CachePadded<SeatCounts<C>>, Global>>,
     shards: Vec<Arc<CachePadded<ShardCounts<C>>, Global>>,
+}
+
+impl<C: Drop> Drop for Counts<C> {
+    /// By hand, so that to let one go is one call for whoever holds it (docs/DECISIONS.md).
+    fn drop(self) {
+        let Counts {
+            entrance: _entrance,
+            threads: _threads,
+            shards: _shards,
+        } = self;
+    }
 }
 
 impl SeatCounts<Counter> {

@@ -28,7 +28,6 @@ pub struct Patience<C = Counter> {
 }
 
 /// What is watched of the connections of a server.
-#[derive(Drop)]
 pub struct Watch<C = Counter> {
     /// How long a connection may be idle; none is given up where nothing is said.
     pub patience: Option<Patience<C>>,
@@ -38,8 +37,18 @@ pub struct Watch<C = Counter> {
     pub reporters: Vec<Reporter>,
 }
 
+impl<C: Drop> Drop for Watch<C> {
+    /// By hand, so that to let one go is one call for whoever holds it (docs/DECISIONS.md).
+    fn drop(self) {
+        let Watch {
+            patience: _patience,
+            counts: _counts,
+            reporters: _reporters,
+        } = self;
+    }
+}
+
 /// What is watched of the connections of one seat.
-#[derive(Drop)]
 pub struct SeatWatch<C = Counter> {
     seat: usize,
     counts: Option<Arc<CachePadded<SeatCounts<C>>, Global>>,
@@ -49,11 +58,33 @@ pub struct SeatWatch<C = Counter> {
     peer: Option<SocketAddr>,
 }
 
+impl<C: Drop> Drop for SeatWatch<C> {
+    /// By hand, so that to let one go is one call for whoever holds it (docs/DECISIONS.md).
+    fn drop(self) {
+        let SeatWatch {
+            seat: _seat,
+            counts: _counts,
+            patience: _patience,
+            reporter: _reporter,
+            peer: _peer,
+        } = self;
+    }
+}
+
 /// What is watched where connections come in.
-#[derive(Drop)]
 pub struct EntranceWatch<C = Counter> {
     counts: Option<Arc<CachePadded<EntranceCounts<C>>, Global>>,
     reporter: Reporter,
+}
+
+impl<C: Drop> Drop for EntranceWatch<C> {
+    /// By hand, so that to let one go is one call for whoever holds it (docs/DECISIONS.md).
+    fn drop(self) {
+        let EntranceWatch {
+            counts: _counts,
+            reporter: _reporter,
+        } = self;
+    }
 }
 
 impl<C: Count> Patience<C> {
