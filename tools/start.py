@@ -15,17 +15,15 @@ import contextlib
 import fcntl
 import math
 import os
-import pathlib
-import re
 import shutil
 import subprocess
 import sys
 import time
 
-TOP = pathlib.Path(__file__).resolve().parent.parent
+from listed_crates import LIST, TOP, below, libraries, lines
+
 CRATES = TOP / "crates"
 ASIDE = TOP / "out"
-LIST = "crates.txt"
 RT = [sys.executable, str(TOP / "tools" / "quick_rt.py")]
 PROGRAM = "mcd"
 BYTES_A_CRATE = 6 * 1024**3
@@ -37,25 +35,6 @@ PROVED = "out/rlib"
 
 # How many of the last lines of a crate that isn't proved are shown.
 SHOWN = 30
-
-
-def listed():
-    """The line of each crate."""
-    lines = (TOP / LIST).read_text(encoding="utf-8").splitlines()
-    return {named[0]: line for line in lines if (named := re.match(r"\w+", line))}
-
-
-def below(program):
-    """The crates that the program stands on, with all that each of them stands on."""
-    needs, found = {name: line.partition(":")[2].split() for name, line in listed().items()}, {}
-
-    def of(name):
-        if name not in found:
-            own = [it for it in needs[name] if it in needs]
-            found[name] = {*own}.union(*map(of, own))
-        return found[name]
-
-    return {it: of(it) for it in of(program)}
 
 
 def work_behind(needs):
@@ -113,7 +92,7 @@ def copied(name, wanted):
             for part in SOURCES if it == name else [*SOURCES, PROVED]:
                 if (CRATES / it / part).is_dir():
                     shutil.copytree(CRATES / it / part, copy / "crates" / it / part, copy_function=link)
-        (copy / LIST).write_text("".join(f"{line}\n" for it, line in listed().items() if it in {name, *wanted}), encoding="utf-8")
+        (copy / LIST).write_text("".join(f"{line}\n" for it, line in lines().items() if it in {name, *wanted}), encoding="utf-8")
         link(TOP / "HANDLES", copy / "HANDLES")
         if (CRATES / name / "out").is_dir():
             (CRATES / name / "out").rename(copy / "crates" / name / "out")
@@ -159,7 +138,8 @@ def main():
     parser.add_argument("--jobs", type=int, default=room_for(BYTES_A_CRATE))
     parser.add_argument("options", nargs="*")
     asked = parser.parse_args()
-    needs = below(PROGRAM)
+    named = libraries()
+    needs = {it: {*below(it, named)} for it in below(PROGRAM, named)}
     print(f"{len(needs)} crates are proved first, {asked.jobs} at a time; a large one takes minutes", flush=True)
     if not prove_all(needs, asked.jobs):
         return 1

@@ -3,7 +3,8 @@
 
     tools/checks/crates.py            prints the picture
     tools/checks/crates.py --write    puts it into docs/ARCHITECTURE.md
-    tools/checks/crates.py --check    fails where that page has another picture, or has no row for a crate
+    tools/checks/crates.py --check    fails where that page has another picture, or has no row for a crate, or where a line of
+                                      crates.txt lists a crate that no file of its crate names
 
 A crate stands on those that an arrow leads to, and on all that these stand on; crates of the kit are left out. Each line is one
 layer higher than what its crates stand on.
@@ -12,29 +13,33 @@ import pathlib
 import re
 import sys
 
-TOP = pathlib.Path(__file__).resolve().parent.parent.parent
+sys.path.insert(0, str(pathlib.Path(__file__).resolve().parent.parent))
+
+from listed_crates import TOP, below, libraries  # noqa: E402
+
 PAGE = TOP / "docs/ARCHITECTURE.md"
 BEGIN, END = "<!-- tools/checks/crates.py -->\n", "<!-- end -->\n"
 
 
 def read():
     """Each crate of the repository with those of the repository that its line names."""
-    lines = [line for line in (TOP / "crates.txt").read_text().splitlines() if line.strip() and not line.startswith("#")]
-    named = {line.split(":")[0].split()[0]: line.split(":")[1].split() for line in lines}
-    return {name: {it for it in below if it in named} for name, below in named.items()}
+    named = libraries()
+    return {name: {it for it in its if it in named} for name, its in named.items()}
 
 
-def all_below(crates, name):
-    """All crates that this one stands on, also by way of others."""
-    found = set()
-    for it in crates[name]:
-        found |= {it} | all_below(crates, it)
+def unnamed():
+    """The crates whose lines list a crate of the repository that no file of theirs names."""
+    found = []
+    for name, its in read().items():
+        files = [it for part in ("src", "specs", "proofs") for it in (TOP / "crates" / name / part).rglob("*.*t*") if it.is_file()]
+        words = {word for it in files for word in re.findall(r"\bmc_\w+", it.read_text(encoding="utf-8"))}
+        found += [f"{name} lists {it}, which it names nowhere: take it out of crates.txt" for it in sorted(its - words)]
     return found
 
 
 def reduced(crates):
     """Each crate with those alone that it doesn't stand on by way of another."""
-    return {name: sorted(it for it in below if not any(it in all_below(crates, other) for other in below)) for name, below in crates.items()}
+    return {name: sorted(it for it in its if not any(it in below(other, crates) for other in its)) for name, its in crates.items()}
 
 
 def height(crates, name):
@@ -43,11 +48,11 @@ def height(crates, name):
 
 def picture():
     crates = read()
-    below = reduced(crates)
+    stands_on = reduced(crates)
     layers = {}
     for name in sorted(crates):
         layers.setdefault(height(crates, name), []).append(name)
-    lines = [f"{name} -> {', '.join(below[name])}" if below[name] else name for layer in sorted(layers, reverse=True) for name in layers[layer]]
+    lines = [f"{name} -> {', '.join(stands_on[name])}" if stands_on[name] else name for layer in sorted(layers, reverse=True) for name in layers[layer]]
     widest = max(len(line.split(" -> ")[0]) for line in lines)
     rows = [f"{line.split(' -> ')[0]:>{widest}}" + (f" ──> {line.split(' -> ')[1]}" if " -> " in line else "") for line in lines]
     return "```\n" + "\n".join(rows) + "\n```\n"
@@ -66,6 +71,9 @@ def main():
     else:
         rows = {name for line in page.splitlines() if line.startswith("| `") for name in re.findall(r"`(\w+)`", line.split("|")[1])}
         missing = sorted(set(read()) - rows)
+        if unused := unnamed():
+            print(*unused, sep="\n")
+            return 1
         if drawn != picture() or missing:
             print("docs/ARCHITECTURE.md shows other crates than crates.txt: run tools/checks/crates.py --write", *[f"and add a row for {name}" for name in missing], sep="\n")
             return 1

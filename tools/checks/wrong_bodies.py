@@ -43,7 +43,10 @@ import sys
 import tempfile
 import threading
 
-TOP = pathlib.Path(__file__).resolve().parent.parent.parent
+sys.path.insert(0, str(pathlib.Path(__file__).resolve().parent.parent))
+
+from listed_crates import TOP, below, libraries  # noqa: E402
+
 PARTS = ["src", "specs", "proofs"]
 BYTES_A_CHECK = 4 * 1024**3
 COUNTED = ["contract", "loop", "call", "lemma"]
@@ -264,27 +267,12 @@ def groups_of(edits, source):
     return groups
 
 
-def listed():
-    """Each crate with the libraries that it stands on."""
-    lines = (TOP / "crates.txt").read_text().splitlines()
-    return {line.split(":")[0].split()[0]: line.partition(":")[2].split() for line in lines if re.match(r"\w", line)}
-
-
-def below(name, needs):
-    """The repository's crates that a crate stands on, by themselves or through others."""
-    found = {}
-    for it in needs[name]:
-        if it in needs:
-            found |= dict.fromkeys([*below(it, needs), it])
-    return list(found)
-
-
 class Copy:
     """A copy of a crate in which edits are tried, by the prover as `rt` calls it, over the libraries that are built."""
 
     def __init__(self, room, name):
         self.crate, self.folder, self.kept = TOP / "crates" / name, pathlib.Path(room) / name, pathlib.Path(room) / f"{name}-kept"
-        kit, needs = pathlib.Path(os.path.realpath(shutil.which("rt"))).parent.parent, listed()
+        kit, needs = pathlib.Path(os.path.realpath(shutil.which("rt"))).parent.parent, libraries()
         built = {it: TOP / "crates" / it / "out/rlib" / f"{it}.rlib" for it in below(name, needs)}
         if lacking := [it for it, library in built.items() if not library.is_dir()]:
             sys.exit(f"{name}: {lacking[0]} isn't built: run rt lib in its folder, or tools/start.py")
