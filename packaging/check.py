@@ -63,14 +63,14 @@ def the_service_calls_the_program_rightly():
 
 
 def the_version_names_the_toolchain():
+    """The logic of its proof, which several kits share: the README's kit and the one that is here need not be the same."""
     version = told([MCD, "--version"])
-    kept = re.search(r"^mcd \d+\.\d+\.\d+ \((.+)\)$", version)
+    kept = re.search(r"^mcd \d+\.\d+\.\d+ \(Rattle, (logic [0-9a-f]+)\)$", version)
     equal(kept is not None, True)
-    toolchain = kept[1]
-    for page in ("README.md",):
-        equal((page, toolchain in (TOP / page).read_text()), (page, True))
+    logic = kept[1]
+    equal(re.search(rf"`rattle-kit-\w+ {logic}`", (TOP / "README.md").read_text()) is not None, True)
     if shutil.which("rt"):
-        equal(toolchain in told(["rt", "version"]), True)
+        equal(told(["rt", "version"]).strip().endswith(logic), True)
     return None if shutil.which("rt") else "no rt here to ask"
 
 

@@ -6,12 +6,12 @@ use std::process::ExitCode;
 /// The program's version.
 pub const VERSION: &str = "1.0.0";
 
-/// The toolchain by which it was proved, as `rt version` names it.
-const TOOLCHAIN: &str = "rattle-kit-13b logic dac8208d650f15bf";
+/// The logic in which it was proved, as the end of `rt version` names it: kits of one logic prove the same.
+const LOGIC: &str = "logic dac8208d650f15bf";
 
-/// Tells name, version and toolchain on standard output; the status with which the program ends.
+/// Tells name, version and the logic of its proof on standard output; the status with which the program ends.
 pub fn tell_version<R: Print + Eprint>(rt: &R) -> ExitCode {
-    match println!(rt; "mcd {VERSION} ({TOOLCHAIN})") {
+    match println!(rt; "mcd {VERSION} (Rattle, {LOGIC})") {
         Ok(()) => ExitCode::SUCCESS,
         Err(_) => refuse(rt, "cannot write"),
     }
