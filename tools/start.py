@@ -4,16 +4,18 @@
     tools/start.py [--jobs N] [-- OPTION ..]   the options are mcd's: -- --listen 127.0.0.1:11211, say
 
 Each crate is told when it is proved, with how many are left. What was proved stays in crates/NAME/out, so a second start takes
-seconds, and one that was stopped goes on where it was. Nothing is built that isn't proved: where a crate isn't, its words are
-shown and nothing starts. N crates are proved at a time: where nothing is said, one for each core and for 6 GiB of memory. There
-is room for a process for each core and for 4 GiB, and those crates that can be proved at a time share it: each process reads all
-crates below, so one crate gets several only where the others leave room.
+seconds, and one that was stopped goes on with the crates that weren't proved yet. Nothing is built that isn't proved: where a crate
+isn't, its words are shown and nothing starts.
+
+Crates that stand on one another are proved one after another, so what takes longest is the longest chain of them up to the program.
+The crate behind which the most is left, the next of that chain, gets a process for each core; it is proved before the others,
+which get one process each and what the first leaves of the cores. N crates are proved at a time: where nothing is said, one for
+each core and for 4 GiB of memory.
 """
 import argparse
 import concurrent.futures
 import contextlib
 import fcntl
-import math
 import os
 import shutil
 import subprocess
@@ -26,12 +28,17 @@ CRATES = TOP / "crates"
 ASIDE = TOP / "out"
 RT = [sys.executable, str(TOP / "tools" / "quick_rt.py")]
 PROGRAM = "mcd"
-BYTES_A_CRATE = 6 * 1024**3
-BYTES_A_PROCESS = 4 * 1024**3
+BYTES_A_CRATE = 4 * 1024**3
+
+# How much less the crates that aren't first weigh with the system where all want the cores (nice(1)).
+NICENESS = 10
 
 # What a proof reads of a crate, and what one above it reads of its proof.
 SOURCES = ["src", "specs", "proofs"]
 PROVED = "out/rlib"
+
+# What earlier checks of a crate left, which later ones begin with.
+KEPT = "out/incremental"
 
 # How many of the last lines of a crate that isn't proved are shown.
 SHOWN = 30
@@ -50,15 +57,20 @@ def work_behind(needs):
     return {it: of(it) for it in needs}
 
 
-def room_for(size):
-    """How many there is room for on this machine that take a core and `size` bytes each."""
+def room():
+    """How many processes there is room for on this machine."""
     memory = os.sysconf("SC_PAGE_SIZE") * os.sysconf("SC_PHYS_PAGES")
-    return max(1, min(len(os.sched_getaffinity(0)), memory // size))
+    return max(1, min(len(os.sched_getaffinity(0)), memory // BYTES_A_CRATE))
 
 
-def shared_by(crates):
-    """How many processes `rt` takes for each of `crates` crates that are proved side by side."""
-    return ["--jobs", str(max(1, math.ceil(room_for(BYTES_A_PROCESS) / crates)))]
+def rt(folder, command, is_first):
+    """The words that run `rt` in a crate's folder: with a process for each core where the crate is the first, else with one that
+    the first goes before. Processes share what they read only where none of their work is kept, so what was kept is for one."""
+    if (folder / KEPT).is_dir():
+        return [*RT, command, "--jobs", "1"]
+    if is_first:
+        return [*RT, "--unkept", command, "--jobs", str(room())]
+    return ["nice", "-n", str(NICENESS), *RT, command, "--jobs", "1"]
 
 
 def minutes(seconds):
@@ -102,11 +114,11 @@ def copied(name, wanted):
         os.close(held)
 
 
-def prove(name, wanted, flags):
+def prove(name, wanted, is_first):
     """Proves a crate, over those below it; its seconds, and what was said where it isn't proved."""
     begun = time.monotonic()
     with copied(name, wanted) as folder:
-        ran = subprocess.run([*RT, "lib", *flags], cwd=folder, stdout=subprocess.PIPE, stderr=subprocess.STDOUT, text=True, errors="replace")
+        ran = subprocess.run(rt(folder, "lib", is_first), cwd=folder, stdout=subprocess.PIPE, stderr=subprocess.STDOUT, text=True, errors="replace")
     return time.monotonic() - begun, ran.stdout if ran.returncode else None
 
 
@@ -117,9 +129,9 @@ def prove_all(needs, jobs):
     with concurrent.futures.ThreadPoolExecutor(jobs) as pool:
         while left or running:
             ready = [it for it in left if proved.issuperset(needs[it])]
-            flags = shared_by(max(1, min(jobs, len(ready) + len(running))))
             for name in ready[: jobs - len(running)]:
-                running[pool.submit(prove, name, needs[name], flags)] = name
+                is_first = all(behind[name] >= behind[it] for it in running.values())
+                running[pool.submit(prove, name, needs[name], is_first)] = name
                 left.remove(name)
             done, _ = concurrent.futures.wait(running, return_when=concurrent.futures.FIRST_COMPLETED)
             for one in done:
@@ -135,7 +147,7 @@ def prove_all(needs, jobs):
 
 def main():
     parser = argparse.ArgumentParser(description=__doc__, formatter_class=argparse.RawDescriptionHelpFormatter)
-    parser.add_argument("--jobs", type=int, default=room_for(BYTES_A_CRATE))
+    parser.add_argument("--jobs", type=int, default=room())
     parser.add_argument("options", nargs="*")
     asked = parser.parse_args()
     named = libraries()
@@ -145,7 +157,7 @@ def main():
         return 1
     print(f"{PROGRAM} itself is proved next, built and started", flush=True)
     os.chdir(CRATES / PROGRAM)
-    os.execv(sys.executable, [*RT, "run", *shared_by(1), "--", *asked.options])
+    os.execvp(sys.executable, [*rt(CRATES / PROGRAM, "run", True), "--", *asked.options])
 
 
 if __name__ == "__main__":

@@ -1,7 +1,7 @@
 #!/usr/bin/env python3
 """Tries wrong bodies, and reads for what the prover refuses each.
 
-    tools/checks/wrong_bodies.py --applies           only whether the edits fit the text that they change
+    tools/checks/wrong_bodies.py --applies           only whether the edits fit the text that they change, and README.md tells how many
     tools/checks/wrong_bodies.py [CRATE ..]          tries all edits of these crates, or of all; CRATE/FOLDER/EDIT is one edit of a crate
     tools/checks/wrong_bodies.py --first [CRATE ..]  tries one edit for each function, of those that `rt ci` doesn't try
     tools/checks/wrong_bodies.py --counts            what is known so far, and nothing tried
@@ -363,6 +363,22 @@ def try_all(edits, known, given):
             done.result()
 
 
+def in_the_gate():
+    """How many wrong bodies the gate tries: all of must-fail/, and of wrong-bodies/ one for each function."""
+    alone = len(list(TOP.glob("crates/*/must-fail/*.edit")))
+    crates = [(it, sorted(it.glob("wrong-bodies/*.edit"))) for it in sorted(TOP.glob("crates/*"))]
+    return alone + sum(len(groups[0]["of"]) for it, edits in crates if (groups := groups_of(edits, Source(it))))
+
+
+def are_counted(edits):
+    """Whether README.md says how many wrong bodies there are, and how many the gate tries."""
+    told = f"tries {in_the_gate()} of {len(edits)} wrong bodies"
+    if told not in (TOP / "README.md").read_text():
+        print(f"README.md doesn't say that .ci/run {told}")
+        return False
+    return True
+
+
 def arguments():
     reader = argparse.ArgumentParser(description=__doc__, formatter_class=argparse.RawDescriptionHelpFormatter)
     reader.add_argument("names", nargs="*")
@@ -384,7 +400,7 @@ def main():
         return 1
     print(f"{len(edits)} wrong bodies fit the text that they change", flush=True)
     if given.applies:
-        return 0
+        return 0 if given.names or are_counted(edits) else 1
     known = json.loads(given.kept.read_text()) if given.kept.is_file() else {}
     if not given.counts:
         try_all(edits, known, given)
