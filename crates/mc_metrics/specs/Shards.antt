@@ -30,7 +30,7 @@ value_of Evicted shard = shard.evicted
 value_of OutOfMemory shard = shard.out_of_memory
 
 -- the line of the shard of this number: 34 is the quotation mark
-abbrev pub shard_line : ShardMetric → (number value : ℕ) → List ℕ
+unfoldable pub shard_line : ShardMetric → (number value : ℕ) → List ℕ
 shard_line metric number value =
     name_of metric ++ ((codes "{shard=" ++ (34 ∷ [])) ++ (decimal number ++ ((34 ∷ codes "} ") ++ (decimal value ++ (10 ∷ [])))))
 

@@ -9,10 +9,8 @@ use std::alloc::{AllocError, Global};
 pub fn address_of(alloc: Global, word: &str) -> Result<String, AllocError>
     ensures { IfOk result (λ address. string_bytes address ≡ address_of word.now) }
 {
-    let mut address = String::new(alloc);
-    address.push_str(host_before(word.as_bytes()))?;
-    address.push_str(word)?;
-    Ok(address)
+    let host = host_before(word.as_bytes());
+    format!(in alloc; "{host}{word}")
 }
 
 /// What stands before the word.

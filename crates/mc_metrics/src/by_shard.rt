@@ -1,13 +1,12 @@
 //! The metrics of each shard by itself.
-ghost use Rattle.std.specs.Prelude.{◌≡◌, ◌++◌, Some, IfOk, IfErr, OnOk, codes, flat_map, string_bytes};
+ghost use Rattle.std.specs.Prelude.{◌≡◌, ◌++◌, OnOk, flat_map, string_bytes};
 ghost use Rattle.mc_metrics.specs.Shards.{head_of, name_of, shard_line, shard_lines, text_of, shards_text, value_of};
 
 use mc_watch::ShardTotals;
-use std::alloc::{AllocError, Global};
-use std::fmt;
+use std::alloc::AllocError;
 
 /// What is told of each shard.
-#[derive(Clone, Copy, Drop)]
+#[derive(Clone, Copy)]
 enum ShardMetric {
     Items,
     Bytes,
@@ -23,26 +22,16 @@ const SHARD_METRICS: [ShardMetric; 4] = [
     ShardMetric::OutOfMemory,
 ];
 
-/// A line of the metric, for the shard of this number.
-#[derive(Drop)]
-struct ShardLine {
-    metric: ShardMetric,
-    number: usize,
-    value: u64,
-}
-
-/// The text of what each shard holds and what it let go, with its number as a label.
-pub fn by_shard(alloc: Global, shards: &[ShardTotals]) -> Result<String, AllocError>
-    ensures { IfOk result (λ text. string_bytes text ≡ shards_text shards.now) }
+/// What each shard holds and what it let go, with its number as a label.
+pub(crate) fn push_shards(text: &mut String, shards: &[ShardTotals]) -> Result<(), AllocError>
+    ensures { OnOk result
+        (string_bytes text.new ≡ string_bytes text.old ++ shards_text shards.now) }
 {
-    let mut text = String::new(alloc);
-    push_metrics(alloc, &mut text, &SHARD_METRICS, shards)?;
-    Ok(text)
+    push_metrics(text, &SHARD_METRICS, shards)
 }
 
 /// The metrics, one after another.
 fn push_metrics(
-    alloc: Global,
     text: &mut String,
     metrics: &[ShardMetric],
     shards: &[ShardTotals],
@@ -51,14 +40,13 @@ fn push_metrics(
         string_bytes text.old ++ flat_map (text_of shards.now) metrics.now) }
 {
     for metric in metrics {
-        push_metric(alloc, text, *metric, shards)?;
+        push_metric(text, *metric, shards)?;
     }
     Ok(())
 }
 
 /// What the metric tells, and its lines.
 fn push_metric(
-    alloc: Global,
     text: &mut String,
     metric: ShardMetric,
     shards: &[ShardTotals],
@@ -67,12 +55,11 @@ fn push_metric(
         (string_bytes text.new ≡ string_bytes text.old ++ text_of shards.now metric) }
 {
     text.push_str(metric.head())?;
-    push_lines(alloc, text, metric, shards)
+    push_lines(text, metric, shards)
 }
 
 /// A line of the metric for each shard.
 fn push_lines(
-    alloc: Global,
     text: &mut String,
     metric: ShardMetric,
     shards: &[ShardTotals],
@@ -81,15 +68,24 @@ fn push_lines(
         (string_bytes text.new ≡ string_bytes text.old ++ shard_lines metric 0 shards.now) }
 {
     for (number, shard) in shards.iter().enumerate() {
-        let value = metric.value(shard);
-        let line = ShardLine {
-            metric,
-            number,
-            value,
-        };
-        text.push_str(&format!(in alloc; "{line}")?)?;
+        push_line(text, metric, number, metric.value(shard))?;
     }
     Ok(())
+}
+
+/// The line of the metric for the shard of this number.
+#[tactic(auto, unfolding(crate::specs::Shards::shard_line))]
+fn push_line(
+    text: &mut String,
+    metric: ShardMetric,
+    number: usize,
+    value: u64,
+) -> Result<(), AllocError>
+    ensures { OnOk result
+        (string_bytes text.new ≡ string_bytes text.old ++ shard_line metric number value) }
+{
+    let name = metric.name();
+    write!(text, "{name}{{shard=\"{number}\"}} {value}\n")
 }
 
 impl ShardMetric {
@@ -132,15 +128,5 @@ impl ShardMetric {
             ShardMetric::Evicted => shard.evicted,
             ShardMetric::OutOfMemory => shard.out_of_memory,
         }
-    }
-}
-
-impl fmt::Display for ShardLine {
-    ghost output = { λ line. Some (shard_line line.metric line.number line.value) };
-
-    fn fmt<W: fmt::Write>(&self, f: &mut fmt::Formatter<W>) -> fmt::Result {
-        let name = self.metric.name();
-        let ShardLine { number, value, .. } = self;
-        write!(f, "{name}{{shard=\"{number}\"}} {value}\n")
     }
 }

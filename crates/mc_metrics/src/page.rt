@@ -10,8 +10,10 @@ use std::fmt;
 /// A sample is taken so often, in seconds.
 pub(crate) const SAMPLE_SECONDS: u64 = 5;
 
-/// So wide is a step of a curve, and so high the whole of it, in units of the drawing.
+/// So wide is a step of a curve, and so wide and high the whole of it, in units of the drawing.
 const STEP: usize = 5;
+
+const WIDTH: usize = STEP * (KEPT - 1);
 
 const HEIGHT: u64 = 100;
 
@@ -34,103 +36,76 @@ polyline { fill: none; stroke: #0a58a6; stroke-width: 2; vector-effect: non-scal
 <body>
 ";
 
-/// A curve of the last minutes.
-#[derive(Drop)]
-struct Curve {
-    title: &'static str,
-    points: Vec<u64>,
+/// A curve of the last minutes: what it shows of each sample.
+#[derive(Clone, Copy)]
+enum Curve {
+    Requests,
+    Hits,
+    Items,
+    Bytes,
+    Evictions,
+    Connections,
+    Read,
+    Written,
 }
 
+/// All curves, in the order in which they are shown.
+const CURVES: [Curve; 8] = [
+    Curve::Requests,
+    Curve::Hits,
+    Curve::Items,
+    Curve::Bytes,
+    Curve::Evictions,
+    Curve::Connections,
+    Curve::Read,
+    Curve::Written,
+];
+
 impl Curve {
-    /// The values of the samples.
-    fn of_values<F: Fn(&Totals) -> u64>(
-        alloc: Global,
-        title: &'static str,
-        samples: &[Totals],
-        value: F,
-    ) -> Result<Curve, AllocError>
-        requires { F.IsAlwaysCallable value }
-    {
+    fn title(self) -> &'static str {
+        match self {
+            Curve::Requests => "Requests a second",
+            Curve::Hits => "Hits of 100 gets",
+            Curve::Items => "Items",
+            Curve::Bytes => "Bytes of items",
+            Curve::Evictions => "Evictions a second",
+            Curve::Connections => "Connections",
+            Curve::Read => "Bytes read a second",
+            Curve::Written => "Bytes written a second",
+        }
+    }
+
+    /// Its point at a sample, by that sample and the one before it.
+    fn point(self, before: &Totals, now: &Totals) -> u64 {
+        match self {
+            Curve::Requests => a_second(requests(&before.shards), requests(&now.shards)),
+            Curve::Hits => hits_of_100(&before.shards.get, &now.shards.get),
+            Curve::Items => now.shards.items,
+            Curve::Bytes => now.shards.bytes,
+            Curve::Evictions => a_second(before.shards.evicted, now.shards.evicted),
+            Curve::Connections => now.open(),
+            Curve::Read => a_second(before.read, now.read),
+            Curve::Written => a_second(before.written, now.written),
+        }
+    }
+
+    /// Its points, one for each sample but the oldest.
+    fn points(self, alloc: Global, samples: &[Totals]) -> Result<Vec<u64>, AllocError> {
         let mut points = Vec::with_capacity(alloc, samples.len())?;
-        for sample in samples {
-            points.push(value(sample))?;
+        for place in 1..samples.len() {
+            points.push(self.point(&samples[place - 1], &samples[place]))?;
         }
-        Ok(Curve { title, points })
+        Ok(points)
     }
+}
 
-    /// How much the values of the samples grew, a second.
-    fn of_growth<F: Fn(&Totals) -> u64>(
-        alloc: Global,
-        title: &'static str,
-        samples: &[Totals],
-        value: F,
-    ) -> Result<Curve, AllocError>
-        requires { F.IsAlwaysCallable value }
-    {
-        let mut points = Vec::with_capacity(alloc, samples.len())?;
-        let mut before = None;
-        for sample in samples {
-            let now = value(sample);
-            if let Some(before) = before {
-                points.push(now.saturating_sub(before) / SAMPLE_SECONDS)?;
-            }
-            before = Some(now);
-        }
-        Ok(Curve { title, points })
+/// The greatest of the points, 0 where there is none.
+fn greatest_of(points: &[u64]) -> u64 {
+    let mut greatest = 0;
+    for point in points {
+        greatest = greatest.max(*point);
     }
-
-    /// How many of a hundred gets hit.
-    fn hit_ratio(alloc: Global, samples: &[Totals]) -> Result<Curve, AllocError> {
-        let mut points = Vec::with_capacity(alloc, samples.len())?;
-        let mut before = CommandTotals::default();
-        for sample in samples {
-            let now = sample.shards.get;
-            points.push(hits_of_100(&before, &now))?;
-            before = now;
-        }
-        Ok(Curve {
-            title: "Hits of 100 gets",
-            points,
-        })
-    }
-
-    fn greatest(&self) -> u64 {
-        let mut greatest = 0;
-        for point in &self.points {
-            greatest = greatest.max(*point);
-        }
-        greatest
-    }
-
-    fn last(&self) -> u64 {
-        match self.points.last() {
-            Some(point) => *point,
-            None => 0,
-        }
-    }
-
-    /// Writes it as a figure. The newest point stands at the right.
-    fn write<W: fmt::Write>(&self, out: &mut W) -> fmt::Result {
-        let greatest = self.greatest();
-        let title = self.title;
-        let last = self.last();
-        let width = STEP * (KEPT - 1);
-        write!(
-            out,
-            "<figure><figcaption>{title}: {last} (at most {greatest})</figcaption>"
-        )?;
-        write!(
-            out,
-            "<svg viewBox=\"0 -2 {width} 104\" preserveAspectRatio=\"none\" role=\"img\" aria-label=\"{title}\"><polyline points=\""
-        )?;
-        let skipped = KEPT.saturating_sub(self.points.len());
-        for (place, point) in self.points.iter().enumerate() {
-            let x = place.saturating_add(skipped).saturating_mul(STEP);
-            let y = HEIGHT - height_of(*point, greatest);
-            write!(out, "{x},{y} ")?;
-        }
-        write!(out, "\"/></svg></figure>\n")
-    }
+    greatest
 }
 
 /// How high a point stands, where the greatest one stands highest.
@@ -150,57 +125,62 @@ pub fn write_page<W: fmt::Write>(
     reading: &Reading,
     samples: &[Totals],
 ) -> fmt::Result {
-    out.write_str(HEAD)?;
-    write_now(out, reading)?;
-    let Ok(curves) = curves_of(alloc, samples) else {
-        return Err(fmt::Error);
-    };
-    write!(out, "<main>\n")?;
-    for curve in &curves {
-        curve.write(out)?;
+    write_head(out, reading)?;
+    for curve in &CURVES {
+        write_curve(alloc, out, *curve, samples)?;
     }
-    write!(out, "</main>\n</body>\n</html>\n")
+    out.write_str("</main>\n</body>\n</html>\n")
 }
 
-/// Writes what is known now.
-fn write_now<W: fmt::Write>(out: &mut W, reading: &Reading) -> fmt::Result {
+/// Writes what comes before the curves: what is known now.
+fn write_head<W: fmt::Write>(out: &mut W, reading: &Reading) -> fmt::Result {
     let version = reading.facts.version;
     let shards = reading.facts.shards;
     let seats = reading.facts.seats;
     let uptime = reading.uptime;
     let open = reading.totals.open();
     let accepted = reading.totals.accepted;
-    write!(out, "<h1>mcd {version}</h1>\n")?;
+    write!(out, "{HEAD}<h1>mcd {version}</h1>\n")?;
     write!(
         out,
-        "<p>{open} of {seats} connections open, {accepted} since the start {uptime} seconds ago; {shards} shards. "
-    )?;
-    write!(
-        out,
-        "The curves show the last ten minutes. <a href=\"/metrics\">All metrics</a></p>\n"
+        "<p>{open} of {seats} connections open, {accepted} since the start {uptime} seconds ago; {shards} shards. The curves show the last ten minutes. <a href=\"/metrics\">All metrics</a></p>\n<main>\n"
     )
 }
 
-/// The curves of the page.
-fn curves_of(alloc: Global, samples: &[Totals]) -> Result<Vec<Curve>, AllocError> {
-    let mut curves = Vec::with_capacity(alloc, 8)?;
-    curves.push(Curve::of_growth(alloc, "Requests a second", samples, |totals| {
-        requests(&totals.shards)
-    })?)?;
-    curves.push(Curve::hit_ratio(alloc, samples)?)?;
-    curves.push(Curve::of_values(alloc, "Items", samples, |totals| { totals.shards.items })?)?;
-    curves.push(Curve::of_values(alloc, "Bytes of items", samples, |totals| {
-        totals.shards.bytes
-    })?)?;
-    curves.push(Curve::of_growth(alloc, "Evictions a second", samples, |totals| {
-        totals.shards.evicted
-    })?)?;
-    curves.push(Curve::of_values(alloc, "Connections", samples, |totals| totals.open())?)?;
-    curves.push(Curve::of_growth(alloc, "Bytes read a second", samples, |totals| totals.read)?)?;
-    curves.push(Curve::of_growth(alloc, "Bytes written a second", samples, |totals| {
-        totals.written
-    })?)?;
-    Ok(curves)
+/// Writes a curve as a figure. The newest point stands at the right.
+fn write_curve<W: fmt::Write>(
+    alloc: Global,
+    out: &mut W,
+    curve: Curve,
+    samples: &[Totals],
+) -> fmt::Result {
+    match curve.points(alloc, samples) {
+        Ok(points) => write_figure(out, curve.title(), &points),
+        Err(_) => Err(fmt::Error),
+    }
+}
+
+/// Writes a figure of these points.
+fn write_figure<W: fmt::Write>(out: &mut W, title: &str, points: &[u64]) -> fmt::Result {
+    let last = points.last().copied().unwrap_or(0);
+    let greatest = greatest_of(points);
+    write!(
+        out,
+        "<figure><figcaption>{title}: {last} (at most {greatest})</figcaption><svg viewBox=\"0 -2 {WIDTH} 104\" preserveAspectRatio=\"none\" role=\"img\" aria-label=\"{title}\"><polyline points=\""
+    )?;
+    write_points(out, points, greatest)?;
+    out.write_str("\"/></svg></figure>\n")
+}
+
+/// Writes where the points of a curve stand.
+fn write_points<W: fmt::Write>(out: &mut W, points: &[u64], greatest: u64) -> fmt::Result {
+    let skipped = KEPT.saturating_sub(points.len());
+    for (place, point) in points.iter().enumerate() {
+        let x = place.saturating_add(skipped).saturating_mul(STEP);
+        let y = HEIGHT - height_of(*point, greatest);
+        write!(out, "{x},{y} ")?;
+    }
+    Ok(())
 }
 
 /// How much was asked of the shards, whatever came of it.
@@ -222,4 +202,9 @@ fn hits_of_100(before: &CommandTotals, now: &CommandTotals) -> u64 {
         return 0;
     }
     hits.saturating_mul(100) / gets
+}
+
+/// How much a count grew a second, between two samples.
+fn a_second(before: u64, now: u64) -> u64 {
+    now.saturating_sub(before) / SAMPLE_SECONDS
 }

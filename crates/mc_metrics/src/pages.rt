@@ -1,26 +1,24 @@
 //! What is answered to a request.
-ghost use Rattle.std.specs.Prelude.{◌≡◌, IfOk, List, string_bytes};
-ghost use Rattle.mc_metrics.specs.Answers.{AreMetrics, IsAnswer, IsTextAt, status_at, target_of};
+ghost use Rattle.std.specs.Prelude.{◌≡◌, IfOk, string_bytes};
+ghost use Rattle.mc_metrics.specs.Answers.{AreMetrics, IsAnswer, IsTextAt, is_read, status_at, target_of};
 ghost use Rattle.mc_metrics.specs.Backlog.{AreWaiting};
-ghost use Rattle.mc_metrics.specs.Shards.{shards_text};
-ghost use Rattle.mc_watch.specs.declared.shard_counts.ShardTotals.{ShardTotals};
 
 use crate::backlog::Tables;
-use crate::by_shard::by_shard;
+use crate::by_shard::push_shards;
 use crate::history::History;
-use crate::page::write_page;
+use crate::page::{SAMPLE_SECONDS, write_page};
 use crate::reading::{Facts, Reading};
 use crate::text::metrics_of;
 use bytes::Bytes;
 use http::{HeaderValue, Request, StatusCode, header};
 use http_server::{Response, Service};
-use mc_watch::Counts;
+use mc_watch::{Counts, ShardTotals};
 use std::alloc::{AllocError, Global};
 use std::fs::File;
 use std::rt::Files;
 
 /// What a path leads to.
-#[derive(Clone, Copy, Debug, PartialEq, Eq)]
+#[derive(Clone, Copy)]
 enum Target {
     /// All metrics.
     Metrics,
@@ -102,19 +100,24 @@ impl Pages {
         facts: Facts,
         counts: Counts,
     ) -> Result<Pages, AllocError> {
+        let history = History::new(alloc)?;
         Ok(Pages {
             alloc,
             facts,
             counts,
             tables: Tables::open(rt, alloc),
             uptime: 0,
-            history: History::new(alloc)?,
+            history,
         })
     }
 
-    /// The server has run for `uptime` seconds.
-    pub(crate) fn set_uptime(&mut self, uptime: u64) {
+    /// The server has run for `uptime` seconds. Where enough have passed for another sample, it is kept.
+    pub(crate) fn pass(&mut self, uptime: u64) {
+        let is_due = uptime / SAMPLE_SECONDS > self.uptime / SAMPLE_SECONDS;
         self.uptime = uptime;
+        if is_due {
+            self.sample();
+        }
     }
 
     /// Keeps what is counted now, for the curves of the page.
@@ -144,27 +147,24 @@ impl Pages {
         metrics_of(self.alloc, &self.reading())
     }
 
-    /// The metrics of each shard by itself.
-    fn shard_metrics(&self) -> Result<String, AllocError>
-        ensures { IfOk result (λ text.
-            (shards : List ShardTotals) × (string_bytes text ≡ shards_text shards)) }
-    {
+    /// What each shard has counted.
+    fn shard_totals(&self) -> Result<Vec<ShardTotals>, AllocError> {
         let shards = self.counts.shards(self.alloc)?;
         let mut totals = Vec::with_capacity(self.alloc, shards.len())?;
         for shard in &shards {
             totals.push(shard.totals())?;
         }
-        by_shard(self.alloc, &totals)
+        Ok(totals)
     }
 
-    /// All metrics.
+    /// All metrics: of all shards together, and then of each shard by itself.
     fn all_metrics(&self) -> Result<String, AllocError>
         ensures { IfOk result (λ text.
             IsTextAt Target.Metrics self.now.facts self.now.uptime (string_bytes text)) }
     {
+        let shards = self.shard_totals()?;
         let mut text = self.metrics()?;
-        let shards = self.shard_metrics()?;
-        text.push_str(&shards)?;
+        push_shards(&mut text, &shards)?;
         Ok(text)
     }
 
@@ -182,8 +182,8 @@ impl Pages {
         ensures { IfOk result (λ body. IsTextAt target self.now.facts self.now.uptime body) }
     {
         match target {
-            Target::Metrics => Ok(Bytes::from_string(self.all_metrics()?)?),
-            Target::Page => Ok(Bytes::from_string(self.page()?)?),
+            Target::Metrics => Bytes::from_string(self.all_metrics()?),
+            Target::Page => Bytes::from_string(self.page()?),
             Target::Health => Ok(Bytes::from_static(b"ok\n")),
             Target::Nothing => Ok(Bytes::from_static(b"not found: see /, /metrics and /healthz\n")),
         }
@@ -199,15 +199,20 @@ impl Service for Pages {
         request: &Request<Bytes>,
         response: &mut Response,
     ) -> Result<(), AllocError> {
-        let method = request.method().as_str();
-        if method != "GET" && method != "HEAD" {
+        if !is_read(request.method().as_str()) {
             response.status = StatusCode::METHOD_NOT_ALLOWED;
             return response.add_header(header::ALLOW, HeaderValue::from_static("GET, HEAD"));
         }
         let target = Target::of(request.uri().path());
         response.status = target.status();
-        let body = self.answer(target)?;
         response.add_header(header::CONTENT_TYPE, target.kind())?;
-        response.body.push(body)
+        response.body.push(self.answer(target)?)
     }
+}
+
+/// Whether a request by this method only reads.
+fn is_read(method: &str) -> bool
+    ensures { result ≡ is_read method.now }
+{
+    method == "GET" || method == "HEAD"
 }

@@ -2,7 +2,7 @@
 use mc_watch::Totals;
 
 /// What a server was started with.
-#[derive(Clone, Copy, Debug, PartialEq, Eq)]
+#[derive(Clone, Copy)]
 pub struct Facts {
     /// The version of the program.
     pub version: &'static str,
@@ -17,7 +17,7 @@ pub struct Facts {
 }
 
 /// What is known of a server at a moment.
-#[derive(Clone, Copy, Debug, PartialEq, Eq)]
+#[derive(Clone, Copy)]
 pub struct Reading {
     /// What it was started with.
     pub facts: Facts,

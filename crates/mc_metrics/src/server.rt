@@ -1,10 +1,9 @@
 //! The thread that tells the metrics.
-use crate::page::SAMPLE_SECONDS;
 use crate::pages::Pages;
 use crate::visitor::Visitor;
 use mc_watch::Dismissal;
 use mio::net::{TcpListener, TcpStream};
-use mio::{Events, Interest, Poll, Registry, Token};
+use mio::{Events, Interest, Poll, Token};
 use std::alloc::Global;
 use std::hash::RandomState;
 use std::net::Net;
@@ -27,8 +26,6 @@ struct Entry {
     poll: Poll,
     events: Events,
     listener: TcpListener,
-    /// Where visitors are registered.
-    registry: Registry,
 }
 
 impl Drop for Entry {
@@ -38,7 +35,6 @@ impl Drop for Entry {
             poll: _poll,
             events: _events,
             listener: _listener,
-            registry: _registry,
         } = self;
     }
 }
@@ -47,16 +43,14 @@ impl Entry {
     /// They come in by this listener.
     fn new<R: Net>(rt: &R, alloc: Global, listener: net::TcpListener) -> io::Result<Entry> {
         listener.set_nonblocking(true)?;
-        let mut listener = TcpListener::from_std(listener);
-        let poll = Poll::new(rt)?;
-        let registry = poll.registry().try_clone()?;
-        registry.register(&mut listener, Token(0), Interest::READABLE)?;
-        Ok(Entry {
-            poll,
+        let mut entry = Entry {
+            poll: Poll::new(rt)?,
             events: Events::with_capacity(alloc, MOST_VISITORS)?,
-            listener,
-            registry,
-        })
+            listener: TcpListener::from_std(listener),
+        };
+        let registry = entry.poll.registry();
+        registry.register(&mut entry.listener, Token(0), Interest::READABLE)?;
+        Ok(entry)
     }
 
     /// Waits a little until somebody asks something. Where it fails the next look comes at once.
@@ -69,9 +63,8 @@ impl Entry {
     fn accept(&mut self) -> Option<TcpStream> {
         let (mut stream, _) = self.listener.accept().ok()?;
         let interests = Interest::READABLE | Interest::WRITABLE;
-        self.registry
-            .register(&mut stream, Token(1), interests)
-            .ok()?;
+        let registry = self.poll.registry();
+        registry.register(&mut stream, Token(1), interests).ok()?;
         Some(stream)
     }
 }
@@ -129,7 +122,6 @@ impl MetricsServer {
         begin: &Instant,
         dismissal: &Dismissal,
     ) {
-        let mut sampled = 0;
         self.pages.sample();
         for _ in rt.forever() {
             self.entry.look();
@@ -139,12 +131,7 @@ impl MetricsServer {
             if dismissal.is_said() {
                 return;
             }
-            let uptime = passed.as_secs();
-            self.pages.set_uptime(uptime);
-            if uptime / SAMPLE_SECONDS > sampled {
-                sampled = uptime / SAMPLE_SECONDS;
-                self.pages.sample();
-            }
+            self.pages.pass(passed.as_secs());
             self.let_in(rt);
             self.serve_visitors();
         }

@@ -1,210 +1,330 @@
 //! The metrics as Prometheus reads them (its text format, version 0.0.4).
-ghost use Rattle.std.specs.Prelude.{◌≡◌, Some, IfOk, string_bytes};
-ghost use Rattle.mc_metrics.specs.Metrics.{command_text, commands_text, connections_text, counter_text, gauge_text, items_text, metrics_text, server_text, status_text};
+ghost use Rattle.std.specs.Prelude.{◌≡◌, ◌++◌, IfOk, OnOk, flat_map, string_bytes};
+ghost use Rattle.mc_metrics.specs.Metrics.{asked_text, command_name, command_text, commands_text, metric_text, metrics_text, number_of, status_text, told_text, totals_of, version_text};
 
 use crate::reading::Reading;
 use mc_watch::{CommandTotals, ShardTotals};
 use std::alloc::{AllocError, Global};
-use std::fmt;
 
-/// A metric that grows and falls: its name, what it tells, and its value.
-#[derive(Drop)]
-struct Gauge(&'static str, &'static str, u64);
-
-/// The same of one that only grows.
-#[derive(Drop)]
-struct Counter(&'static str, &'static str, u64);
-
-/// What is told of the server as a whole.
-#[derive(Drop)]
-struct OfServer<'a>(&'a Reading);
-
-/// What is told of its connections.
-#[derive(Drop)]
-struct OfConnections<'a>(&'a Reading);
-
-/// How often a kind of command came to this: its name, what it came to, and the count.
-#[derive(Drop)]
-struct OfStatus(&'static str, &'static str, u64);
-
-/// How often a kind of command came to what: its name, and its counts.
-#[derive(Drop)]
-struct OfCommand(&'static str, CommandTotals);
-
-/// What is told of what the shards hold.
-#[derive(Drop)]
-struct OfItems<'a>(&'a ShardTotals);
-
-/// What is told of what the shards were asked.
-#[derive(Drop)]
-struct OfCommands<'a>(&'a ShardTotals);
-
-/// All metrics of a reading.
-#[derive(Drop)]
-struct Metrics<'a> {
-    reading: &'a Reading,
+/// A metric of one number: its name, of what kind it is, what it tells, and its number.
+struct Metric {
+    name: &'static str,
+    kind: &'static str,
+    help: &'static str,
+    number: Number,
 }
 
-/// The text of all metrics. Those with names that memcached's exporter has mean the same.
+/// A number of a reading.
+#[derive(Clone, Copy)]
+enum Number {
+    /// 1, since the server runs.
+    Up,
+    Uptime,
+    LimitBytes,
+    Shards,
+    Seats,
+    Open,
+    Waiting,
+    Accepted,
+    Broken,
+    Failed,
+    Commands,
+    Read,
+    Written,
+    Items,
+    Bytes,
+    Evicted,
+    OutOfMemory,
+}
+
+/// A kind of command that shards are asked.
+#[derive(Clone, Copy)]
+enum Command {
+    Get,
+    Set,
+    Cas,
+    Touch,
+    Delete,
+    Incr,
+    Decr,
+    Flush,
+}
+
+/// A gauge grows and falls, a counter only grows.
+const GAUGE: &str = "gauge";
+
+const COUNTER: &str = "counter";
+
+/// All metrics of one number, in the order in which they are told. Those with names that memcached's exporter has mean the same.
+const METRICS: [Metric; 17] = [
+    Metric {
+        name: "memcached_up",
+        kind: GAUGE,
+        help: "Whether the server runs.",
+        number: Number::Up,
+    },
+    Metric {
+        name: "memcached_uptime_seconds",
+        kind: GAUGE,
+        help: "For how many seconds the server has run.",
+        number: Number::Uptime,
+    },
+    Metric {
+        name: "memcached_limit_bytes",
+        kind: GAUGE,
+        help: "What the items of all shards may cost together, in bytes.",
+        number: Number::LimitBytes,
+    },
+    Metric {
+        name: "mcd_shards",
+        kind: GAUGE,
+        help: "How many shards there are, a thread each.",
+        number: Number::Shards,
+    },
+    Metric {
+        name: "memcached_max_connections",
+        kind: GAUGE,
+        help: "How many connections are served at a time.",
+        number: Number::Seats,
+    },
+    Metric {
+        name: "memcached_current_connections",
+        kind: GAUGE,
+        help: "How many connections are open.",
+        number: Number::Open,
+    },
+    Metric {
+        name: "mcd_connections_waiting",
+        kind: GAUGE,
+        help: "How many connections wait to be accepted, in the system's queue.",
+        number: Number::Waiting,
+    },
+    Metric {
+        name: "memcached_connections_total",
+        kind: COUNTER,
+        help: "How many connections were accepted.",
+        number: Number::Accepted,
+    },
+    Metric {
+        name: "mcd_connections_broken_total",
+        kind: COUNTER,
+        help: "How many connections failed, or were idle for too long.",
+        number: Number::Broken,
+    },
+    Metric {
+        name: "mcd_accepts_failed_total",
+        kind: COUNTER,
+        help: "How many accepts failed.",
+        number: Number::Failed,
+    },
+    Metric {
+        name: "mcd_commands_total",
+        kind: COUNTER,
+        help: "Commands of the connections that have ended.",
+        number: Number::Commands,
+    },
+    Metric {
+        name: "memcached_read_bytes_total",
+        kind: COUNTER,
+        help: "Bytes read of all connections.",
+        number: Number::Read,
+    },
+    Metric {
+        name: "memcached_written_bytes_total",
+        kind: COUNTER,
+        help: "Bytes written to all connections.",
+        number: Number::Written,
+    },
+    Metric {
+        name: "memcached_current_items",
+        kind: GAUGE,
+        help: "How many items there are.",
+        number: Number::Items,
+    },
+    Metric {
+        name: "memcached_current_bytes",
+        kind: GAUGE,
+        help: "What the items cost together, in bytes.",
+        number: Number::Bytes,
+    },
+    Metric {
+        name: "memcached_items_evicted_total",
+        kind: COUNTER,
+        help: "How many items went to make room for others.",
+        number: Number::Evicted,
+    },
+    Metric {
+        name: "mcd_out_of_memory_total",
+        kind: COUNTER,
+        help: "Commands for which no memory was left.",
+        number: Number::OutOfMemory,
+    },
+];
+
+/// All kinds of commands, in the order in which they are told.
+const COMMANDS: [Command; 8] = [
+    Command::Get,
+    Command::Set,
+    Command::Cas,
+    Command::Touch,
+    Command::Delete,
+    Command::Incr,
+    Command::Decr,
+    Command::Flush,
+];
+
+/// What comes before the lines of the kinds of commands.
+const BEFORE_COMMANDS: &str =
+    "# HELP memcached_commands_total What was asked of the shards, and what came of it.\n# TYPE memcached_commands_total counter\n";
+
+/// The text of all metrics.
 pub fn metrics_of(alloc: Global, reading: &Reading) -> Result<String, AllocError>
     ensures { IfOk result (λ text. string_bytes text ≡ metrics_text reading.now) }
 {
-    let metrics = Metrics { reading };
-    format!(in alloc; "{metrics}")
+    let mut text = version_of(alloc, reading.facts.version)?;
+    push_metrics(&mut text, &METRICS, reading)?;
+    push_commands(&mut text, &reading.totals.shards)?;
+    Ok(text)
 }
 
-impl fmt::Display for Gauge {
-    ghost output = { λ gauge. Some (gauge_text gauge.0.now gauge.1.now gauge.2) };
+/// The metric that tells the version.
+fn version_of(alloc: Global, version: &str) -> Result<String, AllocError>
+    ensures { IfOk result (λ text. string_bytes text ≡ version_text version.now) }
+{
+    format!(in alloc;
+        "# HELP memcached_version The version of the server.\n# TYPE memcached_version gauge\nmemcached_version{{version=\"{version}\"}} 1\n"
+    )
+}
 
-    fn fmt<W: fmt::Write>(&self, f: &mut fmt::Formatter<W>) -> fmt::Result {
-        let Gauge(name, help, value) = self;
-        write!(
-            f,
-            "# HELP {name} {help}\n# TYPE {name} gauge\n{name} {value}\n"
-        )
+/// The metrics of one number, one after another.
+fn push_metrics(text: &mut String, metrics: &[Metric], reading: &Reading) -> Result<(), AllocError>
+    ensures { OnOk result (string_bytes text.new ≡
+        string_bytes text.old ++ flat_map (told_text reading.now) metrics.now) }
+{
+    for metric in metrics {
+        push_metric(text, metric, metric.number.of(reading))?;
+    }
+    Ok(())
+}
+
+/// The metric at this value.
+#[tactic(auto, unfolding(crate::specs::Metrics::metric_text))]
+fn push_metric(text: &mut String, metric: &Metric, value: u64) -> Result<(), AllocError>
+    ensures { OnOk result (string_bytes text.new ≡ string_bytes text.old
+        ++ metric_text metric.now.kind.now metric.now.name.now metric.now.help.now value) }
+{
+    let Metric {
+        name,
+        kind,
+        help,
+        ..
+    } = metric;
+    write!(
+        text,
+        "# HELP {name} {help}\n# TYPE {name} {kind}\n{name} {value}\n"
+    )
+}
+
+/// What the shards were asked, and what came of it.
+fn push_commands(text: &mut String, shards: &ShardTotals) -> Result<(), AllocError>
+    ensures { OnOk result
+        (string_bytes text.new ≡ string_bytes text.old ++ commands_text shards.now) }
+{
+    text.push_str(BEFORE_COMMANDS)?;
+    push_each_command(text, &COMMANDS, shards)
+}
+
+/// The kinds of commands, one after another.
+fn push_each_command(
+    text: &mut String,
+    commands: &[Command],
+    shards: &ShardTotals,
+) -> Result<(), AllocError>
+    ensures { OnOk result (string_bytes text.new ≡
+        string_bytes text.old ++ flat_map (asked_text shards.now) commands.now) }
+{
+    for command in commands {
+        push_command(text, command.name(), command.totals(shards))?;
+    }
+    Ok(())
+}
+
+/// How often commands of this name came to what.
+fn push_command(text: &mut String, name: &str, totals: &CommandTotals) -> Result<(), AllocError>
+    ensures { OnOk result
+        (string_bytes text.new ≡ string_bytes text.old ++ command_text name.now totals.now) }
+{
+    push_status(text, name, "hit", totals.hits)?;
+    push_status(text, name, "miss", totals.misses)?;
+    push_status(text, name, "badval", totals.bad_values)
+}
+
+/// How often commands of this name came to this.
+#[tactic(auto, unfolding(crate::specs::Metrics::status_text))]
+fn push_status(text: &mut String, name: &str, status: &str, count: u64) -> Result<(), AllocError>
+    ensures { OnOk result
+        (string_bytes text.new ≡ string_bytes text.old ++ status_text name.now status.now count) }
+{
+    write!(
+        text,
+        "memcached_commands_total{{command=\"{name}\",status=\"{status}\"}} {count}\n"
+    )
+}
+
+impl Number {
+    fn of(self, reading: &Reading) -> u64
+        ensures { result ≡ number_of self reading.now }
+    {
+        match self {
+            Number::Up => 1,
+            Number::Uptime => reading.uptime,
+            Number::LimitBytes => reading.facts.limit_bytes,
+            Number::Shards => reading.facts.shards,
+            Number::Seats => reading.facts.seats,
+            Number::Open => reading.totals.open(),
+            Number::Waiting => reading.waiting,
+            Number::Accepted => reading.totals.accepted,
+            Number::Broken => reading.totals.broken,
+            Number::Failed => reading.totals.failed,
+            Number::Commands => reading.totals.commands,
+            Number::Read => reading.totals.read,
+            Number::Written => reading.totals.written,
+            Number::Items => reading.totals.shards.items,
+            Number::Bytes => reading.totals.shards.bytes,
+            Number::Evicted => reading.totals.shards.evicted,
+            Number::OutOfMemory => reading.totals.shards.out_of_memory,
+        }
     }
 }
 
-impl fmt::Display for Counter {
-    ghost output = { λ counter. Some (counter_text counter.0.now counter.1.now counter.2) };
-
-    fn fmt<W: fmt::Write>(&self, f: &mut fmt::Formatter<W>) -> fmt::Result {
-        let Counter(name, help, value) = self;
-        write!(
-            f,
-            "# HELP {name} {help}\n# TYPE {name} counter\n{name} {value}\n"
-        )
+impl Command {
+    fn name(self) -> &'static str
+        ensures { result.now ≡ command_name self }
+    {
+        match self {
+            Command::Get => "get",
+            Command::Set => "set",
+            Command::Cas => "cas",
+            Command::Touch => "touch",
+            Command::Delete => "delete",
+            Command::Incr => "incr",
+            Command::Decr => "decr",
+            Command::Flush => "flush",
+        }
     }
-}
 
-impl fmt::Display for OfServer<'_> {
-    ghost output = { λ told. Some (server_text told.0.now) };
-
-    fn fmt<W: fmt::Write>(&self, f: &mut fmt::Formatter<W>) -> fmt::Result {
-        let OfServer(reading) = self;
-        let facts = &reading.facts;
-        let up = Gauge("memcached_up", "Whether the server runs.", 1);
-        let uptime = "For how many seconds the server has run.";
-        let uptime = Gauge("memcached_uptime_seconds", uptime, reading.uptime);
-        let limit = "What the items of all shards may cost together, in bytes.";
-        let limit = Gauge("memcached_limit_bytes", limit, facts.limit_bytes);
-        let shards = Gauge(
-            "mcd_shards",
-            "How many shards there are, a thread each.",
-            facts.shards,
-        );
-        let seats = "How many connections are served at a time.";
-        let seats = Gauge("memcached_max_connections", seats, facts.seats);
-        write!(f, "{up}{uptime}{limit}{shards}{seats}")
-    }
-}
-
-impl fmt::Display for OfConnections<'_> {
-    ghost output = { λ told. Some (connections_text told.0.now) };
-
-    fn fmt<W: fmt::Write>(&self, f: &mut fmt::Formatter<W>) -> fmt::Result {
-        let OfConnections(reading) = self;
-        let totals = &reading.totals;
-        let open = "How many connections are open.";
-        let open = Gauge("memcached_current_connections", open, totals.open());
-        let waiting = "How many connections wait to be accepted, in the system's queue.";
-        let waiting = Gauge("mcd_connections_waiting", waiting, reading.waiting);
-        let accepted = "How many connections were accepted.";
-        let accepted = Counter("memcached_connections_total", accepted, totals.accepted);
-        let broken = "How many connections failed, or were idle for too long.";
-        let broken = Counter("mcd_connections_broken_total", broken, totals.broken);
-        let failed = Counter(
-            "mcd_accepts_failed_total",
-            "How many accepts failed.",
-            totals.failed,
-        );
-        let commands = "Commands of the connections that have ended.";
-        let commands = Counter("mcd_commands_total", commands, totals.commands);
-        let read = "Bytes read of all connections.";
-        let read = Counter("memcached_read_bytes_total", read, totals.read);
-        let written = "Bytes written to all connections.";
-        let written = Counter("memcached_written_bytes_total", written, totals.written);
-        write!(
-            f,
-            "{open}{waiting}{accepted}{broken}{failed}{commands}{read}{written}"
-        )
-    }
-}
-
-impl fmt::Display for OfStatus {
-    ghost output = { λ told. Some (status_text told.0.now told.1.now told.2) };
-
-    fn fmt<W: fmt::Write>(&self, f: &mut fmt::Formatter<W>) -> fmt::Result {
-        let OfStatus(name, status, count) = self;
-        write!(
-            f,
-            "memcached_commands_total{{command=\"{name}\",status=\"{status}\"}} {count}\n"
-        )
-    }
-}
-
-impl fmt::Display for OfCommand {
-    ghost output = { λ told. Some (command_text told.0.now told.1) };
-
-    fn fmt<W: fmt::Write>(&self, f: &mut fmt::Formatter<W>) -> fmt::Result {
-        let OfCommand(name, totals) = self;
-        let hits = OfStatus(name, "hit", totals.hits);
-        let misses = OfStatus(name, "miss", totals.misses);
-        let bad_values = OfStatus(name, "badval", totals.bad_values);
-        write!(f, "{hits}{misses}{bad_values}")
-    }
-}
-
-impl fmt::Display for OfItems<'_> {
-    ghost output = { λ told. Some (items_text told.0.now) };
-
-    fn fmt<W: fmt::Write>(&self, f: &mut fmt::Formatter<W>) -> fmt::Result {
-        let OfItems(totals) = self;
-        let items = "How many items there are.";
-        let items = Gauge("memcached_current_items", items, totals.items);
-        let bytes = "What the items cost together, in bytes.";
-        let bytes = Gauge("memcached_current_bytes", bytes, totals.bytes);
-        let evicted = "How many items went to make room for others.";
-        let evicted = Counter("memcached_items_evicted_total", evicted, totals.evicted);
-        let refused = "Commands for which no memory was left.";
-        let refused = Counter("mcd_out_of_memory_total", refused, totals.out_of_memory);
-        write!(f, "{items}{bytes}{evicted}{refused}")
-    }
-}
-
-impl fmt::Display for OfCommands<'_> {
-    ghost output = { λ told. Some (commands_text told.0.now) };
-
-    fn fmt<W: fmt::Write>(&self, f: &mut fmt::Formatter<W>) -> fmt::Result {
-        let OfCommands(totals) = self;
-        let get = OfCommand("get", totals.get);
-        let set = OfCommand("set", totals.set);
-        let cas = OfCommand("cas", totals.cas);
-        let touch = OfCommand("touch", totals.touch);
-        let delete = OfCommand("delete", totals.delete);
-        let incr = OfCommand("incr", totals.incr);
-        let decr = OfCommand("decr", totals.decr);
-        let flush = OfCommand("flush", totals.flush);
-        write!(
-            f,
-            "# HELP memcached_commands_total What was asked of the shards, and what came of it.\n# TYPE memcached_commands_total counter\n{get}{set}{cas}{touch}{delete}{incr}{decr}{flush}"
-        )
-    }
-}
-
-impl fmt::Display for Metrics<'_> {
-    ghost output = { λ metrics. Some (metrics_text metrics.reading.now) };
-
-    fn fmt<W: fmt::Write>(&self, f: &mut fmt::Formatter<W>) -> fmt::Result {
-        let reading = self.reading;
-        let version = reading.facts.version;
-        let server = OfServer(reading);
-        let connections = OfConnections(reading);
-        let items = OfItems(&reading.totals.shards);
-        let commands = OfCommands(&reading.totals.shards);
-        write!(
-            f,
-            "# HELP memcached_version The version of the server.\n# TYPE memcached_version gauge\nmemcached_version{{version=\"{version}\"}} 1\n{server}{connections}{items}{commands}"
-        )
+    fn totals(self, shards: &ShardTotals) -> &CommandTotals
+        ensures { result.now ≡ totals_of self shards.now }
+    {
+        match self {
+            Command::Get => &shards.get,
+            Command::Set => &shards.set,
+            Command::Cas => &shards.cas,
+            Command::Touch => &shards.touch,
+            Command::Delete => &shards.delete,
+            Command::Incr => &shards.incr,
+            Command::Decr => &shards.decr,
+            Command::Flush => &shards.flush,
+        }
     }
 }
