@@ -20,13 +20,15 @@ use Rattle.mc_conn.proofs.Gets.{all_at, get_below}
 use Rattle.mc_conn.proofs.Serving.{serves_none, serves_take}
 use Rattle.mc_conn.proofs.Staying.{is_sound}
 use Rattle.mc_seat.specs.declared.service.Service.{Service}
+use Rattle.mc_seat.specs.declared.service.Stepped.{Stepped}
+use Rattle.mc_seat.specs.declared.service.Stepped.TheVariants as stepped
 use Rattle.mc_seat.specs.LineServed.{LineServed}
-use Rattle.mc_seat.specs.Service.{IsNew, ServesOn, TakesFor, WasServed, told_on}
+use Rattle.mc_seat.specs.Service.{IsNew, ServesOn, ServiceSays, TakesFor, WasServed, told_on}
 use Rattle.mc_seat.specs.internal.Stands.{IsComplete}
 use Rattle.mc_seat.proofs.More.{out_more, with_more}
 use Rattle.mc_seat.proofs.Serving.{serving_first, stops_carried}
 use Rattle.mc_threads.specs.declared.courier.Courier.{Courier}
-use Rattle.mc_threads.specs.Service.{IsServedBy}
+use Rattle.mc_threads.specs.Service.{IsServedBy, LineSays}
 use Rattle.mc_threads.specs.Serving.{IsIdle}
 use Rattle.mc_threads.specs.internal.Carrying.{AllOutWhere, Carries, CourierGoesOn, KeepsReceived, carried, sent_to}
 use Rattle.mc_threads.proofs.Carrying.{some_shards}
@@ -71,8 +73,8 @@ carries_on before ends ways told received fed ended handed more within carries =
       serves = with_more (λ taken. Serves told.shards taken told.accepted received) (λ taken one. serves_take told.shards taken one told.accepted received) told.taken more carries.serves;
     }
 
--- Bytes were fed, replies handed out and commands taken: what was carried is the same, and the line is served on over the lanes.
-pub serves_on : (shards : ℕ) (rules : Rules) (may_answer : ℕ → Type 0) (begin now : Sight) (before : Ends Near) (courier : Courier) (told : Told) (received : ℕ → List Shown) (service : Service) → told.shards ≡ shards → told.rules ≡ rules → told.out ≤ length (all_pieces told) →
+-- bytes were fed, replies handed out and commands taken: what was carried is the same, and the line is served on over the lanes
+serves_on : (shards : ℕ) (rules : Rules) (may_answer : ℕ → Type 0) (begin now : Sight) (before : Ends Near) (courier : Courier) (told : Told) (received : ℕ → List Shown) (service : Service) → told.shards ≡ shards → told.rules ≡ rules → told.out ≤ length (all_pieces told) →
     Carries before courier.ends courier.under_way.items told received → ServesOn received may_answer begin now told service → IsServedBy shards rules may_answer begin now before courier service
 serves_on shards rules may_answer begin now before courier told received service shards_is rules_are within carries on =
     let P : List Taken → Type 0 = λ taken. Carries before courier.ends courier.under_way.items (told_on told on.fed on.ended on.handed taken) received in
@@ -167,13 +169,20 @@ settled_complete shards rules may_answer begin now before courier service settle
     let serves = settled.serves in
     complete_all serves.told serves.received service.conn serves.stopped.serves.conn_is serves.carries.serves (settled_all shards rules may_answer begin now before courier service settled)
 
+-- the line is served on
+settled_on : (shards : ℕ) (rules : Rules) (may_answer : ℕ → Type 0) (begin now after : Sight) (before : Ends Near) (courier : Courier) (service last : Service) → (settled : Settled shards rules may_answer begin now before courier service) →
+    ServesOn settled.serves.received may_answer begin after settled.serves.told last → IsServedBy shards rules may_answer begin after before courier last
+settled_on shards rules may_answer begin now after before courier service last settled on =
+    let serves = settled.serves in
+    serves_on shards rules may_answer begin after before courier serves.told serves.received last serves.shards_is serves.rules_are (is_sound service.conn serves.told serves.stopped.serves.conn_is).out serves.carries on
+
 -- nothing is under way once all pieces have left, and every command has its reply
 at_rest : (told : Told) (broke : Bool) (handed : ℕ) → told.out ≡ length (all_pieces told) → (broke ≡ false → IsAllTaken told × (handed ≡ length (all_texts told))) → length (all_texts told) ≡ length told.taken → IsAtRest (record told { broken = broke; handed = handed })
 at_rest told true handed sent rest whole = record { sent = sent; done = whole }
 at_rest told false handed sent rest whole = record { sent = sent; done = ((rest refl).0, (rest refl).1 ∙ whole) }
 
--- The line was served over the lanes.
-pub serves_ended : (shards : ℕ) (rules : Rules) (may_answer : ℕ → Type 0) (begin now after : Sight) (before : Ends Near) (courier : Courier) (service last : Service) (commands : ℕ) (broke : Bool) → (settled : Settled shards rules may_answer begin now before courier service) →
+-- the line was served over the lanes
+serves_ended : (shards : ℕ) (rules : Rules) (may_answer : ℕ → Type 0) (begin now after : Sight) (before : Ends Near) (courier : Courier) (service last : Service) (commands : ℕ) (broke : Bool) → (settled : Settled shards rules may_answer begin now before courier service) →
     WasServed settled.serves.received begin after settled.serves.told broke commands last → LineServed shards rules may_answer begin after before courier.ends last.conn commands broke
 serves_ended shards rules may_answer begin now after before courier service last commands broke settled was =
     let serves = settled.serves in
@@ -203,3 +212,11 @@ serves_ended shards rules may_answer begin now after before courier service last
       complete = complete;
       rest = λ fit. at_rest told broke served.handed settled.all served.rest (complete fit);
     }
+
+-- Where all commands taken are settled, what going on says of the line is so over the lanes.
+pub settled_says : (did : Stepped) (shards : ℕ) (rules : Rules) (may_answer : ℕ → Type 0) (begin now after : Sight) (before : Ends Near) (courier : Courier) (service last : Service) → (settled : Settled shards rules may_answer begin now before courier service) →
+    ServiceSays did settled.serves.received may_answer begin after settled.serves.told last → LineSays did shards rules may_answer begin after before courier last
+settled_says stepped.Did shards rules may_answer begin now after before courier service last settled says = settled_on shards rules may_answer begin now after before courier service last settled says
+settled_says stepped.Waits shards rules may_answer begin now after before courier service last settled says = settled_on shards rules may_answer begin now after before courier service last settled says
+settled_says (stepped.Ended served) shards rules may_answer begin now after before courier service last settled says =
+    record { served = serves_ended shards rules may_answer begin now after before courier service last served.commands served.broke settled says; idle = settled.idle }

@@ -7,14 +7,12 @@ use Rattle.mc_ring.specs.Lane.{Near}
 use Rattle.mc_ring.specs.Ends.{Ends}
 use Rattle.mc_threads.specs.declared.courier.Courier.{Courier}
 use Rattle.mc_threads.specs.declared.session.Session.{Session}
-use Rattle.mc_conn.proofs.Staying.{is_sound}
 use Rattle.mc_seat.specs.declared.service.Service.{Service}
 use Rattle.mc_seat.specs.declared.service.Stepped.{Stepped}
 use Rattle.mc_seat.specs.declared.service.Stepped.TheVariants as stepped
-use Rattle.mc_seat.specs.Service.{IsNew, ServesOn, ServiceSays}
-use Rattle.mc_threads.specs.Service.{IsServedBy, ServesSomeLine, WasServedBy}
-use Rattle.mc_threads.specs.Session.{IsReady, IsServingLine, IsVacant, StepSays}
-use Rattle.mc_threads.proofs.Serving.{Settled, serves_ended, serves_on}
+use Rattle.mc_seat.specs.Service.{IsNew}
+use Rattle.mc_threads.specs.Service.{IsServedBy, LineSays, ServesSomeLine, WasServedBy}
+use Rattle.mc_threads.specs.Session.{IsReady, IsVacant, StepSays}
 use Rattle.mc_command.specs.declared.rules.Rules.{Rules}
 
 -- There is something, of which this holds.
@@ -35,22 +33,12 @@ some_so {A} o x P is holds = let S : Option A → Type 0 = λ it. IsSomeAnd it P
 pub some_is : {A : Type 0} (o : Option A) (x : A) (P : A → Type 0) → o ≡ Some x → IsSomeAnd o P → P x
 some_is {A} o x P is holds = let S : Option A → Type 0 = λ it. IsSomeAnd it P in subst S is holds
 
--- the line is served on
-still_served : (shards : ℕ) (rules : Rules) (may_answer : ℕ → Type 0) (begin old now : Sight) (before : Ends Near) (session : Session) (service new : Service) → session.service ≡ Some new → (settled : Settled shards rules may_answer begin old before session.courier service) →
-    ServesOn settled.serves.received may_answer begin now settled.serves.told new → IsServingLine shards rules may_answer begin now before session
-still_served shards rules may_answer begin old now before session service new is settled on =
-    let serves = settled.serves in
-    some_so session.service new (IsServedBy shards rules may_answer begin now before session.courier) is
-    (serves_on shards rules may_answer begin now before session.courier serves.told serves.received new serves.shards_is serves.rules_are (is_sound service.conn serves.told serves.stopped.serves.conn_is).out serves.carries on)
-
--- Where all commands taken are settled, what going on says of the line is so of the session.
-pub steps_on : (did : Stepped) (shards : ℕ) (rules : Rules) (may_answer : ℕ → Type 0) (begin old now : Sight) (before : Ends Near) (session : Session) (service new : Service) → session.service ≡ Some new → (settled : Settled shards rules may_answer begin old before session.courier service) →
-    ServiceSays did settled.serves.received may_answer begin now settled.serves.told new → StepSays did shards rules may_answer begin now before session
-steps_on stepped.Did shards rules may_answer begin old now before session service new is settled says = still_served shards rules may_answer begin old now before session service new is settled says
-steps_on stepped.Waits shards rules may_answer begin old now before session service new is settled says = still_served shards rules may_answer begin old now before session service new is settled says
-steps_on (stepped.Ended served) shards rules may_answer begin old now before session service new is settled says =
-    some_so session.service new (λ it. WasServedBy shards rules may_answer begin now before session.courier it served.commands served.broke) is
-    (record { served = serves_ended shards rules may_answer begin old now before session.courier service new served.commands served.broke settled says; idle = settled.idle })
+-- What a step says of the line is so of the session.
+pub steps_on : (did : Stepped) (shards : ℕ) (rules : Rules) (may_answer : ℕ → Type 0) (begin now : Sight) (before : Ends Near) (session : Session) (service : Service) → session.service ≡ Some service → LineSays did shards rules may_answer begin now before session.courier service → StepSays did shards rules may_answer begin now before session
+steps_on stepped.Did shards rules may_answer begin now before session service is says = some_so session.service service (IsServedBy shards rules may_answer begin now before session.courier) is says
+steps_on stepped.Waits shards rules may_answer begin now before session service is says = some_so session.service service (IsServedBy shards rules may_answer begin now before session.courier) is says
+steps_on (stepped.Ended served) shards rules may_answer begin now before session service is says =
+    some_so session.service service (λ it. WasServedBy shards rules may_answer begin now before session.courier it served.commands served.broke) is says
 
 -- What is served may be served on.
 pub may_serve : (shards : ℕ) (rules : Rules) (may_answer : ℕ → Type 0) (begin now : Sight) (before : Ends Near) (courier : Courier) (o : Option Service) → IsSomeAnd o (IsServedBy shards rules may_answer begin now before courier) → IsSomeAnd o (ServesSomeLine courier)

@@ -6,6 +6,8 @@ use Rattle.mc_ring.specs.Lane.{Near}
 use Rattle.mc_ring.specs.Ends.{Ends}
 use Rattle.mc_conn.specs.Told.{Told}
 use Rattle.mc_seat.specs.declared.service.Service.{Service}
+use Rattle.mc_seat.specs.declared.service.Stepped.{Stepped}
+use Rattle.mc_seat.specs.declared.service.Stepped.TheVariants as stepped
 use Rattle.mc_seat.specs.LineServed.{LineServed}
 use Rattle.mc_seat.specs.Service.{HasStopped}
 use Rattle.mc_threads.specs.declared.courier.Courier.{Courier}
@@ -26,6 +28,12 @@ pub record IsServedBy (shards : ℕ) (rules : Rules) (may_answer : ℕ → Type 
 pub record WasServedBy (shards : ℕ) (rules : Rules) (may_answer : ℕ → Type 0) (begin now : Sight) (before : Ends Near) (courier : Courier) (service : Service) (commands : ℕ) (broke : Bool) : Type 0 where
   pub served : LineServed shards rules may_answer begin now before courier.ends service.conn commands broke
   pub idle : IsIdle courier.under_way.items
+
+-- What a step says of the line.
+abbrev pub LineSays : Stepped → ℕ → Rules → (ℕ → Type 0) → Sight → Sight → Ends Near → Courier → Service → Type 0
+LineSays stepped.Did shards rules may_answer begin now before courier service = IsServedBy shards rules may_answer begin now before courier service
+LineSays stepped.Waits shards rules may_answer begin now before courier service = IsServedBy shards rules may_answer begin now before courier service
+LineSays (stepped.Ended served) shards rules may_answer begin now before courier service = WasServedBy shards rules may_answer begin now before courier service served.commands served.broke
 
 -- Some line is being served.
 abbrev pub ServesSomeLine : Courier → Service → Type 0

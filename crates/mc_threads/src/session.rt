@@ -98,8 +98,7 @@ impl Session {
         }
     }
 
-    /// Serves the line a step further: sends what there is room for and takes in what has come; and where every reply has come,
-    /// goes on with the line, as [`Service::go_on`] does. No step waits for a shard.
+    /// Serves the line a step further, as [`Courier::step`] does.
     pub fn step<L: Line, K: Clock>(&mut self, line: &mut L, clock: &K, rooms: &mut Rooms) -> Stepped
         requires { MayStep self.old }
         ensures says { (shards : ℕ) (rules : Rules) (begin : Sight) (before : Ends Near) →
@@ -114,13 +113,7 @@ impl Session {
         let Some(service) = &mut self.service else {
             unreachable!()
         };
-        if self.courier.carry(&mut service.conn) {
-            return Stepped::Did;
-        }
-        if !self.courier.is_settled() {
-            return Stepped::Waits;
-        }
-        service.go_on(line, clock, rooms)
+        self.courier.step(service, line, clock, rooms)
     }
 
     /// Makes it ready for the next line, in the same room, where the last one has ended and nothing is under way; tells whether
