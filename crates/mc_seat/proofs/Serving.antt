@@ -24,7 +24,7 @@ use Rattle.mc_seat.specs.Later.{text_in}
 use Rattle.mc_seat.specs.Lines.{HasGrown}
 use Rattle.mc_seat.specs.Service.{HasStopped, IsNew, IsServing, ServesOn}
 use Rattle.mc_seat.specs.internal.Stands.{Serving, handed_texts}
-use Rattle.mc_seat.specs.internal.Steps.{GoesOn, Rests, StopsAt, all_handed}
+use Rattle.mc_seat.specs.internal.Steps.{GoesOn, StopsAt, all_handed}
 use Rattle.mc_seat.proofs.Along.{serving_along, stops_along}
 use Rattle.mc_seat.proofs.Fronts.{begins_length}
 use Rattle.mc_seat.proofs.Later.{grown_since, hands_waiting}

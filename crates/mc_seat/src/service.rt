@@ -30,10 +30,10 @@ pub enum Stepped {
     Ended(Served),
 }
 
-/// What one line is served by, and how far it is with the line. Who has the shards, or lanes to them, takes the pieces of its
-/// connection and has them answered there.
+/// What one line is served by, and how far it is with the line.
 pub struct Service {
     alloc: Global,
+    /// Whoever has the shards, or lanes to them, takes its pieces and has them answered there.
     pub conn: Conn,
     seat: Seat,
     /// Replies that were handed out, and which the line didn't take yet.
