@@ -23,7 +23,7 @@ pub serving_along : (rules : Rules) (received : ℕ → List Shown) (begin now :
 serving_along rules received begin now unread fed ended shards taken texts others same stands =
     let P : List (List ℕ) → Type 0 = λ ts. GaveAndTook rules (KeysFit shards taken received) begin now unread fed ended taken ts in subst P same stands
 
--- why no further command was taken is the same
-pub stops_along : (stop : Took) (told : Told) (out : ℕ) (lent : Bool) (accepted : List Shown) → StopsAt stop told → StopsAt stop (record told { out = out; lent = lent; accepted = accepted })
-stops_along (took.Opened ticket) told out lent accepted stops = stops
-stops_along stop told out lent accepted stops = stops
+-- Why no further command was taken is the same.
+pub stops_along : (stop : Took) (told : Told) (out : ℕ) (lent : Bool) (accepted : List Shown) (handed : ℕ) → StopsAt stop told → StopsAt stop (record told { out = out; lent = lent; accepted = accepted; handed = handed })
+stops_along (took.Opened ticket) told out lent accepted handed stops = stops
+stops_along stop told out lent accepted handed stops = stops

@@ -5,3 +5,5 @@ pub mod Along
 pub mod Later
 pub mod Pieces
 pub mod Buffers
+pub mod Serving
+pub mod More

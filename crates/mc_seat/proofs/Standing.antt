@@ -85,10 +85,6 @@ stands_over weaker read_is ended_is same_taken same_reads stands = record {
   owes_nothing = λ f. stands.owes_nothing (weaker f);
 }
 
--- where the answers are known to fit
-pub stands_fits : (rules : Rules) (fits after : Type 0) (begin now : Sight) (unread fed : List ℕ) (ended : Bool) (taken : List Taken) (texts : List (List ℕ)) → fits → GaveAndTook rules fits begin now unread fed ended taken texts → GaveAndTook rules after begin now unread fed ended taken texts
-stands_fits rules fits after begin now unread fed ended taken texts known stands = stands_over (λ f. known) stands.read_is stands.ended_is refl refl stands
-
 -- every command of the bytes read was taken, and its reply is written out: the line was asked for more
 pub stands_asked : (rules : Rules) (fits : Type 0) (begin before : Sight) (fed : List ℕ) (ended : Bool) (taken : List Taken) (texts : List (List ℕ)) → AreCommands rules fed (commands_of taken) → (fits → length texts ≡ length taken) →
     GaveAndTook rules fits begin before [] fed ended taken texts → GaveAndTook rules fits begin (asked before) [] fed ended taken texts

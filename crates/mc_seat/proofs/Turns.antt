@@ -14,7 +14,7 @@ use Rattle.mc_conn.specs.Fits.{KeysFit}
 use Rattle.mc_conn.specs.Told.{IsAllTaken, IsClosed, IsOver, Told, all_texts, commands_of, waiting_text}
 use Rattle.mc_conn.proofs.Staying.{is_sound}
 use Rattle.mc_seat.specs.internal.Stands.{Serving, handed_texts}
-use Rattle.mc_seat.specs.internal.Steps.{GoesOn, IsServed, Rests, all_handed}
+use Rattle.mc_seat.specs.internal.Steps.{GoesOn, IsServed, all_handed}
 use Rattle.mc_seat.proofs.Fronts.{begins_more, closed_more}
 use Rattle.mc_seat.proofs.Standing.{all_owed_later, commands-length, stands_asked, stands_over}
 
@@ -44,10 +44,6 @@ hands received begin before now unread told conn new count is out serving =
             rw (← all, ← append-nil (commands_of told.taken)) (all_owed_later told.rules begin (commands_of told.taken) [] texts later serving.reads (omega (arith, counted, commands-length told.taken)) (serving.owes_nothing f));
       },
     )
-
--- Where nothing was read it goes on as well.
-pub rests_go : (received : ℕ → List Shown) (begin now : Sight) (told : Told) (conn : Conn) (unread : List ℕ) → Rests received begin now told conn unread → GoesOn received begin now told conn unread
-rests_go received begin now told conn unread rests = record { fed = told.fed; ended = told.ended; conn_is = rests.conn_is; serving = rests.serving }
 
 -- the line has ended, or was closed
 pub ends : (received : ℕ → List Shown) (begin now : Sight) (unread : List ℕ) (told : Told) (conn : Conn) → IsConn conn (all_handed told) → told.broken ≡ false → IsOver told → Serving received begin now unread (all_handed told) → IsServed received begin now told false conn

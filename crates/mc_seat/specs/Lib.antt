@@ -5,4 +5,5 @@ pub mod Reads
 pub mod Story
 pub mod Explains
 pub mod LineServed
+pub mod Service
 pub mod internal

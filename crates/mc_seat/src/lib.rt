@@ -4,10 +4,11 @@
 mod lines;
 mod rooms;
 mod seat;
+mod service;
 mod unread;
 mod unwritten;
 
 pub use lines::{Clock, Line, LineFault, Ready};
 pub use rooms::Rooms;
-pub use seat::{Seat, Served, Turn};
+pub use service::{Served, Service, Stepped};
 pub use unwritten::Unwritten;

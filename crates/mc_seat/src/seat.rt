@@ -1,4 +1,4 @@
-//! The steps of a seat: once the commands taken are answered, it hands out their replies and reads on.
+//! The steps of a seat: once the replies to the commands taken are written, it reads on.
 ghost use Rattle.std.specs.Prelude.{◌≡◌, []};
 
 use crate::lines::Line;
@@ -7,18 +7,9 @@ use crate::unread::{Refilled, Unread};
 use mc_conn::{Conn, Taken};
 use std::alloc::Global;
 
-/// What became of a line.
-#[derive(Clone, Copy, Debug, PartialEq, Eq)]
-pub struct Served {
-    /// How many commands it took.
-    pub commands: u64,
-    /// Whether it has failed.
-    pub broke: bool,
-}
-
 /// What comes after a turn.
 #[derive(Clone, Copy, Debug, PartialEq, Eq)]
-pub enum Turn {
+pub(crate) enum Turn {
     /// Another turn.
     Goes,
     /// Another turn, once the line has more to give.
@@ -31,15 +22,15 @@ pub enum Turn {
 
 /// What a seat keeps of the line that it serves: the bytes that its connection did not take yet.
 #[derive(Drop)]
-pub struct Seat {
+pub(crate) struct Seat {
     unread: Unread,
 }
 
 impl Seat {
-    ghost use Rattle.mc_seat.specs.internal.Steps.{FeedSays, GoOnSays, HandedSays, ReadOnSays};
+    ghost use Rattle.mc_seat.specs.internal.Steps.{FeedSays, HandedSays, ReadOnSays};
 
     /// A seat before its first line.
-    pub fn new(alloc: Global) -> Seat
+    pub(crate) fn new(alloc: Global) -> Seat
         ensures { result.unread ≡ [] }
     {
         Seat {
@@ -48,33 +39,15 @@ impl Seat {
     }
 
     /// The seat before its next line, in the room that it has.
-    pub fn renew(&mut self)
+    pub(crate) fn renew(&mut self)
         ensures { self.new.unread ≡ [] }
     {
         self.unread.clear();
     }
 
-    /// Hands out the replies to the commands taken, all of which are answered; where no further command was taken because more
-    /// bytes are needed, it reads on.
-    pub fn go_on<L: Line>(
-        &mut self,
-        conn: &mut Conn,
-        line: &mut L,
-        stop: Taken,
-        rooms: &mut Rooms,
-    ) -> Turn
-        ensures { GoOnSays result stop conn.old self.old.unread (L.sight line.old) conn.new
-            self.new.unread (L.sight line.new) }
-    {
-        if let Err(_gone) = conn.hand(line) {
-            return Turn::Broke;
-        }
-        self.go_on_reading(conn, line, stop, rooms)
-    }
-
     /// Goes on once the line took the replies to all commands taken: it reads, where no further command was taken because more
     /// bytes are needed.
-    pub fn go_on_reading<L: Line>(
+    pub(crate) fn go_on<L: Line>(
         &mut self,
         conn: &mut Conn,
         line: &mut L,

@@ -9,7 +9,7 @@ use Rattle.mc_conn.specs.Conn.{IsConn}
 use Rattle.mc_conn.specs.Told.{IsAtRest, IsOver, Told}
 use Rattle.mc_seat.specs.LineServed.{LineServed}
 use Rattle.mc_seat.specs.Explains.{LineTold}
-use Rattle.mc_threads.specs.declared.service.Service.{Service}
+use Rattle.mc_seat.specs.declared.service.Service.{Service}
 use Rattle.mc_threads.specs.declared.session.Session.{Session}
 use Rattle.mc_threads.specs.Serving.{EndsAll, IsIdle}
 use Rattle.mc_threads.specs.Ending.{EndsFirst, EndsOne, StandsStill}

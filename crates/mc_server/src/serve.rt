@@ -4,9 +4,9 @@ ghost use Rattle.mc_sizes.specs.Sizes.{SuitLines, SuitShards};
 ghost use Rattle.mc_seat.specs.Explains.{IsExplained};
 ghost use Rattle.mc_server.specs.internal.Answering.{AnswersAll, Backs, CanAnswer};
 
-use mc_conn::{Conn, Taken};
+use mc_conn::Conn;
 use mc_ring::Reply;
-use mc_seat::{Clock, Line, Rooms, Seat, Served, Turn};
+use mc_seat::{Clock, Line, Rooms, Served, Service, Stepped};
 use mc_sizes::Sizes;
 use mc_store::Shard;
 use std::alloc::{AllocError, Global};
@@ -80,33 +80,20 @@ pub fn serve_one<R: Wait + RandomSource, L: Line, K: Clock>(
         })) }
     ensures refused { OnErr result (L.sight line.new ≡ L.sight line.old) }
 {
-    let (Ok(mut shards), Ok(mut conn), Ok(mut rooms)) = (
+    let (Ok(mut shards), Ok(mut service), Ok(mut rooms)) = (
         make_shards(rt, alloc, sizes),
-        Conn::under(alloc, sizes.shards, sizes.rules(), sizes.window),
+        Service::new(alloc, sizes),
         Rooms::new(alloc),
     ) else {
         return Err(ServeRefusal::Memory);
     };
-    let mut seat = Seat::new(alloc);
-    let mut commands = 0;
+    service.take_all(clock);
     for _ in rt.forever() {
-        let stop = conn.take(alloc, clock.now());
-        if let Taken::Opened(ticket) = stop {
-            commands = ticket.0.saturating_add(1);
-            continue;
-        }
-        answer(alloc, &mut conn, &mut shards);
-        match seat.go_on(&mut conn, line, stop, &mut rooms) {
-            Turn::Goes => {}
-            Turn::Waits => thread::yield_now(),
-            Turn::Ends => return Ok(Served {
-                commands,
-                broke: false,
-            }),
-            Turn::Broke => return Ok(Served {
-                commands,
-                broke: true,
-            }),
+        answer(alloc, &mut service.conn, &mut shards);
+        match service.go_on(line, clock, &mut rooms) {
+            Stepped::Did => {}
+            Stepped::Waits => thread::yield_now(),
+            Stepped::Ended(served) => return Ok(served),
         }
     }
     unreachable!()

@@ -4,5 +4,4 @@ pub mod Calling
 pub mod Carrying
 pub mod Ending
 pub mod Serving
-pub mod Writing
 pub mod Sessions

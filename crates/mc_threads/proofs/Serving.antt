@@ -1,38 +1,36 @@
 -- A line that is served over lanes, turn by turn.
-use Rattle.std.proofs.Common.{◌≡◌, ℕ, ◌+◌, ◌-◌, ◌^◌, ◌==◌, ◌&&◌, min, inl, inr, Bool, true, false, List, [], ◌∷◌, ◌++◌, length, map, take, refl, sym, ap, subst, ◌∙◌, arith, append-nil, length-append}
-use Rattle.std.specs.List.{list_all, slice_get}
+use Rattle.std.proofs.Common.{◌≡◌, ℕ, ◌≤◌, ◌==◌, ◌&&◌, inl, inr, Bool, true, false, List, [], ◌∷◌, ◌++◌, length, map, take, refl, sym, ap, subst, ◌∙◌, arith, append-nil}
+use Rattle.std.specs.List.{list_all}
 use Rattle.std.proofs.lemmas.Bool.{cases_lt, eqb-true}
-use Rattle.std.proofs.lemmas.List.{length-map, take-append-le, take_all}
+use Rattle.std.proofs.lemmas.List.{take_all}
 use Rattle.mc_wire.specs.Outlet.{Sight}
 use Rattle.mc_ring.specs.declared.parcel.Parcel.TheVariants as parcel
 use Rattle.mc_ring.specs.Reply.{Shown}
 use Rattle.mc_ring.specs.Lane.{Near}
 use Rattle.mc_ring.specs.Ends.{Ends, received_on, sent_on}
 use Rattle.mc_ring.specs.EndsLaws.{same_ends-refl}
-use Rattle.mc_reply.specs.declared.ticket.Ticket.{Ticket}
 use Rattle.mc_conn.specs.declared.conn.Conn.{Conn}
-use Rattle.mc_conn.specs.declared.conn.Taken.{Taken as Took}
-use Rattle.mc_conn.specs.declared.conn.Taken.TheVariants as took
-use Rattle.mc_conn.specs.Conn.{IsConn, TakeSays, TakesCommand}
-use Rattle.mc_conn.specs.Due.{due, lane, pieces_from}
+use Rattle.mc_conn.specs.Conn.{IsConn}
+use Rattle.mc_conn.specs.Due.{due, lane}
 use Rattle.mc_conn.specs.Fits.{KeysFit, Serves}
 use Rattle.mc_conn.specs.History.{Taken}
-use Rattle.mc_conn.specs.Told.{IsAllTaken, IsAtRest, Told, all_pieces, all_texts, commands_of, told_nothing}
+use Rattle.mc_conn.specs.Told.{IsAllTaken, IsAtRest, Told, all_pieces, all_texts, told_nothing}
 use Rattle.mc_conn.proofs.Counting.{count_from_come, due_beyond}
-use Rattle.mc_conn.proofs.Fitting.{due-append, pieces_from-append}
-use Rattle.mc_conn.proofs.Gets.{all_at, all_push, get_below, get_front}
+use Rattle.mc_conn.proofs.Gets.{all_at, get_below}
 use Rattle.mc_conn.proofs.Serving.{serves_none, serves_take}
-use Rattle.mc_conn.proofs.Staying.{is_sound, keeps_take}
+use Rattle.mc_conn.proofs.Staying.{is_sound}
+use Rattle.mc_seat.specs.declared.service.Service.{Service}
+use Rattle.mc_seat.specs.declared.service.Stepped.{Stepped}
+use Rattle.mc_seat.specs.declared.service.Stepped.TheVariants as stepped
 use Rattle.mc_seat.specs.LineServed.{LineServed}
-use Rattle.mc_seat.specs.declared.seat.Turn.{Turn}
-use Rattle.mc_seat.specs.internal.Stands.{Serving, GaveAndTook, handed_texts}
-use Rattle.mc_seat.specs.internal.Steps.{GoOnSays, GoesOn, IsServed, Rests, StopsAt, TurnSays}
-use Rattle.mc_seat.proofs.Along.{serving_along, stops_along}
-use Rattle.mc_seat.proofs.Fronts.{begins_length}
-use Rattle.mc_seat.proofs.Standing.{stands_first, stands_take}
+use Rattle.mc_seat.specs.Service.{IsNew, ServesOn, ServiceSays, TakesFor, WasServed, told_on}
+use Rattle.mc_seat.specs.internal.Stands.{IsComplete}
+use Rattle.mc_seat.proofs.More.{out_more, with_more}
+use Rattle.mc_seat.proofs.Serving.{serving_first, stops_carried}
+use Rattle.mc_threads.specs.declared.courier.Courier.{Courier}
+use Rattle.mc_threads.specs.Service.{IsServedBy, LineSays}
 use Rattle.mc_threads.specs.Serving.{IsIdle}
-use Rattle.mc_threads.specs.internal.Carrying.{AllOut, Carries, CarriesOn, KeepsReceived, MayCarry, MovesOn, carried, sent_to}
-use Rattle.mc_threads.specs.internal.Turns.{StopsTaking, TurnsOverLanes}
+use Rattle.mc_threads.specs.internal.Carrying.{AllOutWhere, Carries, CourierGoesOn, KeepsReceived, carried, sent_to}
 use Rattle.mc_threads.proofs.Carrying.{some_shards}
 use Rattle.mc_command.specs.declared.rules.Rules.{Rules}
 
@@ -57,52 +55,14 @@ carries_first ends ways rules window each idle = record {
   serves = serves_none (length ends.lanes);
 }
 
--- A new connection, at lanes where nothing is under way, stands before the first turn of a line, with no command taken.
-pub turns_first : (may_answer : ℕ → Type 0) (now : Sight) (ends : Ends Near) (ways unread : List ℕ) (conn : Conn) (rules : Rules) (window : ℕ) → length ways ≡ length ends.lanes → IsIdle ways → unread ≡ [] → IsConn conn (told_nothing (length ends.lanes) rules window) → TurnsOverLanes (length ends.lanes) rules may_answer now now ends ends ways unread conn 0
-turns_first may_answer now ends ways unread conn rules window each idle none is = record {
-  told = told_nothing (length ends.lanes) rules window;
-  received = λ s. [];
-  shards_is = refl;
-  rules_are = refl;
-  conn_is = is;
-  carries = carries_first ends ways rules window each idle;
-  serving =
-      let P : List ℕ → Type 0 = λ bytes. Serving (λ s. []) now now bytes (told_nothing (length ends.lanes) rules window) in
-      subst P (sym none) (stands_first rules (KeysFit (length ends.lanes) [] (λ s. [])) now);
-  moments = tt;
-  unbroken = refl;
-  counted = refl;
-}
-
--- where the keys fit the pieces of more commands, they fit those of the first
-keys_before : (shards : ℕ) (taken : List Taken) (one : Taken) (received : ℕ → List Shown) → KeysFit shards (taken ++ one ∷ []) received → KeysFit shards taken received
-keys_before shards taken one received keys s i p reply asked came =
-    let more = lane s (pieces_from shards (0 + length taken) (one ∷ [])) in
-    keys s i p reply (ap (λ ps. slice_get ps i) (due-append shards s taken (one ∷ [])) ∙ get_front (due shards s taken) more i p asked) came
-
 -- where the keys of more replies fit, those of the first do
 keys_kept : (shards : ℕ) (taken : List Taken) (received later : ℕ → List Shown) → KeepsReceived received later → KeysFit shards taken later → KeysFit shards taken received
 keys_kept shards taken received later kept keys s i p reply asked came = keys s i p reply asked (kept s i reply came)
 
--- the condition under which nothing was owed is a stronger one
-stands_where : (rules : Rules) (fits after : Type 0) (begin now : Sight) (unread fed : List ℕ) (ended : Bool) (taken : List Taken) (texts : List (List ℕ)) → (after → fits) → GaveAndTook rules fits begin now unread fed ended taken texts → GaveAndTook rules after begin now unread fed ended taken texts
-stands_where rules fits after begin now unread fed ended taken texts weaker stands = record {
-  read_is = stands.read_is;
-  ended_is = stands.ended_is;
-  taken_is = stands.taken_is;
-  counted = stands.counted;
-  reads = stands.reads;
-  reads_are = stands.reads_are;
-  owes_nothing = λ f. stands.owes_nothing (weaker f);
-}
-
--- a command was taken: what was carried is the same
-carries_take : (before ends : Ends Near) (ways : List ℕ) (told : Told) (received : ℕ → List Shown) (one : Taken) (conn : Conn) → IsConn conn told → Carries before ends ways told received → Carries before ends ways (record told { taken = told.taken ++ one ∷ [] }) received
-carries_take before ends ways told received one conn is carries =
-    let sound = is_sound conn told is in
-    let later : Told = record told { taken = told.taken ++ one ∷ [] } in
-    let more = pieces_from told.shards (0 + length told.taken) (one ∷ []) in
-    let out : take told.out (all_pieces told) ≡ take told.out (all_pieces later) = sym (ap (take told.out) (pieces_from-append told.shards 0 told.taken (one ∷ [])) ∙ take-append-le told.out (all_pieces told) more sound.out) in
+-- commands were taken: what was carried is the same
+carries_on : (before ends : Ends Near) (ways : List ℕ) (told : Told) (received : ℕ → List Shown) (fed : List ℕ) (ended : Bool) (handed : ℕ) (more : List Taken) → told.out ≤ length (all_pieces told) → Carries before ends ways told received → Carries before ends ways (told_on told fed ended handed (told.taken ++ more)) received
+carries_on before ends ways told received fed ended handed more within carries =
+    let out = out_more told more within in
     record {
       width = carries.width;
       each = carries.each;
@@ -110,118 +70,69 @@ carries_take before ends ways told received one conn is carries =
       sent = λ s below. carries.sent s below ∙ ap (λ ps. sent_on before s ++ map parcel.Piece (lane s ps)) out;
       came = carries.came;
       awaited = λ s count here. carries.awaited s count here ∙ ap (λ ps. length (lane s ps)) out;
-      serves = serves_take told.shards told.taken one told.accepted received carries.serves;
+      serves = with_more (λ taken. Serves told.shards taken told.accepted received) (λ taken one. serves_take told.shards taken one told.accepted received) told.taken more carries.serves;
     }
 
--- What holds between the turns of a line still holds with one command more taken, and that is counted.
-pub turns_take : (shards : ℕ) (rules : Rules) (may_answer : ℕ → Type 0) (begin now : Sight) (before ends : Ends Near) (ways unread : List ℕ) (conn new : Conn) (commands later moment : ℕ) (ticket : Ticket) → may_answer moment → TakeSays conn moment (took.Opened ticket) new → later ≡ min (ticket.0 + 1) (2 ^ 64 - 1) →
-    TurnsOverLanes shards rules may_answer begin now before ends ways unread conn commands → TurnsOverLanes shards rules may_answer begin now before ends ways unread new later
-turns_take shards rules may_answer begin now before ends ways unread conn new commands later moment ticket may says later_is turns =
-    let told = turns.told in
-    let opens : TakesCommand told moment ticket new = says told turns.conn_is in
-    let taken : List Taken = told.taken ++ opens.one ∷ [] in
-    let keeps = keeps_take conn told opens.one turns.conn_is in
-    let short = begins_length told.rules told.fed (commands_of taken) opens.next in
-    let number = opens.number in
+-- bytes were fed, replies handed out and commands taken: what was carried is the same, and the line is served on over the lanes
+serves_on : (shards : ℕ) (rules : Rules) (may_answer : ℕ → Type 0) (begin now : Sight) (before : Ends Near) (courier : Courier) (told : Told) (received : ℕ → List Shown) (service : Service) → told.shards ≡ shards → told.rules ≡ rules → told.out ≤ length (all_pieces told) →
+    Carries before courier.ends courier.under_way.items told received → ServesOn received may_answer begin now told service → IsServedBy shards rules may_answer begin now before courier service
+serves_on shards rules may_answer begin now before courier told received service shards_is rules_are within carries on =
+    let P : List Taken → Type 0 = λ taken. Carries before courier.ends courier.under_way.items (told_on told on.fed on.ended on.handed taken) received in
     record {
-      told = record told { taken = taken };
-      received = turns.received;
-      shards_is = turns.shards_is;
-      rules_are = turns.rules_are;
-      conn_is = opens.now;
-      carries = carries_take before ends ways told turns.received opens.one conn turns.conn_is turns.carries;
-      serving = serving_along told.rules turns.received begin now unread told.fed told.ended told.shards taken (handed_texts told) _ (sym keeps.same)
-          (stands_take told.rules (KeysFit told.shards told.taken turns.received) (KeysFit told.shards taken turns.received) begin now unread told.fed told.ended told.taken (handed_texts told) opens.one (keys_before told.shards told.taken opens.one turns.received) turns.serving);
-      moments = all_push (λ (x : Taken). may_answer x.moment) told.taken opens.one turns.moments (rw opens.moment_is may);
-      unbroken = turns.unbroken;
-      counted = omega (arith, later_is, number, short, length-map taken (λ (x : Taken). x.entry), length-append told.taken (opens.one ∷ []));
+      told = told_on told on.fed on.ended on.handed on.taken;
+      received = received;
+      shards_is = shards_is;
+      rules_are = rules_are;
+      carries = subst P (sym on.taken_is) (carries_on before courier.ends courier.under_way.items told received on.fed on.ended on.handed on.more within carries);
+      stopped = on.stopped;
     }
 
--- the same, of the connection as it is now
-turns_now : (shards : ℕ) (rules : Rules) (may_answer : ℕ → Type 0) (begin now : Sight) (before ends : Ends Near) (ways unread : List ℕ) (conn new : Conn) (commands : ℕ) → (turns : TurnsOverLanes shards rules may_answer begin now before ends ways unread conn commands) → IsConn new turns.told → TurnsOverLanes shards rules may_answer begin now before ends ways unread new commands
-turns_now shards rules may_answer begin now before ends ways unread conn new commands turns is = record {
-  told = turns.told;
-  received = turns.received;
-  shards_is = turns.shards_is;
-  rules_are = turns.rules_are;
-  conn_is = is;
-  carries = turns.carries;
-  serving = turns.serving;
-  moments = turns.moments;
-  unbroken = turns.unbroken;
-  counted = turns.counted;
-}
+-- What is new, at lanes where nothing is under way, serves a line that begins, once commands of it were taken.
+pub serves_first : (may_answer : ℕ → Type 0) (line : Sight) (rules : Rules) (window : ℕ) (courier : Courier) (service after : Service) → IsIdle courier.under_way.items → IsNew (length courier.ends.lanes) rules window service → TakesFor may_answer service after
+    → IsServedBy (length courier.ends.lanes) rules may_answer line line courier.ends courier after
+serves_first may_answer line rules window courier service after idle new takes =
+    let shards = length courier.ends.lanes in
+    let told : Told = told_nothing shards rules window in
+    serves_on shards rules may_answer line line courier.ends courier told (λ s. []) after refl refl (omega arith)
+    (carries_first courier.ends courier.under_way.items rules window courier.each_shard idle) (takes (λ s. []) line line told (serving_first may_answer line shards rules window service new))
 
--- Where no command is taken, what holds between the turns of a line still holds, and the reason is the one told.
-pub stops_take : (shards : ℕ) (rules : Rules) (may_answer : ℕ → Type 0) (begin now : Sight) (before ends : Ends Near) (ways unread : List ℕ) (conn new : Conn) (commands moment : ℕ) (stop : Took) → TakeSays conn moment stop new → ((ticket : Ticket) → stop ≡ took.Opened ticket → ⊥) →
-    TurnsOverLanes shards rules may_answer begin now before ends ways unread conn commands → StopsTaking shards rules may_answer begin now before ends ways unread new commands stop
-unfolding turns_now
-stops_take shards rules may_answer begin now before ends ways unread conn new commands moment (took.Opened ticket) says other turns = absurd (other ticket refl)
-stops_take shards rules may_answer begin now before ends ways unread conn new commands moment took.NeedMore says other turns =
-    let needs = says turns.told turns.conn_is in
-    record { turns = turns_now shards rules may_answer begin now before ends ways unread conn new commands turns needs.now; stops = (needs.all, needs.comes) }
-stops_take shards rules may_answer begin now before ends ways unread conn new commands moment took.Full says other turns =
-    let full = says turns.told turns.conn_is in
-    record { turns = turns_now shards rules may_answer begin now before ends ways unread conn new commands turns full.now; stops = tt }
-stops_take shards rules may_answer begin now before ends ways unread conn new commands moment took.Closed says other turns =
-    let over = says turns.told turns.conn_is in
-    record { turns = turns_now shards rules may_answer begin now before ends ways unread conn new commands turns over.1; stops = over.0 }
-
--- When no further command is taken, pieces and replies may be carried.
-pub can_settle : (shards : ℕ) (rules : Rules) (may_answer : ℕ → Type 0) (begin now : Sight) (before ends : Ends Near) (ways unread : List ℕ) (conn : Conn) (commands : ℕ) (stop : Took) → StopsTaking shards rules may_answer begin now before ends ways unread conn commands stop → MayCarry ends ways conn
-can_settle shards rules may_answer begin now before ends ways unread conn commands stop stops =
-    let turns = stops.turns in
-    record { before = before; told = turns.told; received = turns.received; conn_is = turns.conn_is; carries = turns.carries }
+-- Pieces and replies were carried: the line is served as before.
+pub serves_carried : (says : Told → ℕ → Type 0) (shards : ℕ) (rules : Rules) (may_answer : ℕ → Type 0) (begin now : Sight) (before : Ends Near) (courier courier' : Courier) (service : Service) (conn : Conn) → CourierGoesOn says courier service.conn courier' conn → IsServedBy shards rules may_answer begin now before courier service
+    → IsServedBy shards rules may_answer begin now before courier' (record service { conn = conn })
+serves_carried says shards rules may_answer begin now before courier courier' service conn goes serves =
+    let told = serves.told in
+    let on = (goes.moves before told serves.received serves.stopped.serves.conn_is serves.carries).0 in
+    record {
+      told = carried told on.out on.lent on.accepted;
+      received = on.later;
+      shards_is = serves.shards_is;
+      rules_are = serves.rules_are;
+      carries = on.carries;
+      stopped = stops_carried serves.received on.later may_answer begin now told service conn on.out on.lent on.accepted (keys_kept told.shards told.taken serves.received on.later on.kept) on.conn_is on.handed serves.stopped;
+    }
 
 -- all pieces of the commands taken were sent, and as many replies received
-pub record Settled (shards : ℕ) (rules : Rules) (may_answer : ℕ → Type 0) (begin now : Sight) (before ends : Ends Near) (ways unread : List ℕ) (conn : Conn) (commands : ℕ) (stop : Took) : Type 0 where
-  pub stopped : StopsTaking shards rules may_answer begin now before ends ways unread conn commands stop
-  pub all : stopped.turns.told.out ≡ length (all_pieces stopped.turns.told)
-  pub idle : IsIdle ways
-
--- pieces and replies were carried
-stops_on : (shards : ℕ) (rules : Rules) (may_answer : ℕ → Type 0) (begin now : Sight) (before ends ends' : Ends Near) (ways ways' unread : List ℕ) (conn new : Conn) (commands : ℕ) (stop : Took) → (stops : StopsTaking shards rules may_answer begin now before ends ways unread conn commands stop)
-    → CarriesOn before stops.turns.told stops.turns.received ends' ways' new → StopsTaking shards rules may_answer begin now before ends' ways' unread new commands stop
-stops_on shards rules may_answer begin now before ends ends' ways ways' unread conn new commands stop stops on =
-    let turns = stops.turns in
-    let told = turns.told in
-    let later : Told = carried told on.out on.lent on.accepted in
-    let stands = stands_where told.rules (KeysFit told.shards told.taken turns.received) (KeysFit told.shards told.taken on.later) begin now unread told.fed told.ended told.taken (handed_texts told) (keys_kept told.shards told.taken turns.received on.later on.kept) turns.serving in
-    record {
-      turns = record {
-        told = later;
-        received = on.later;
-        shards_is = turns.shards_is;
-        rules_are = turns.rules_are;
-        conn_is = on.conn_is;
-        carries = on.carries;
-        serving = serving_along told.rules on.later begin now unread told.fed told.ended told.shards told.taken (handed_texts told) (handed_texts later) (sym on.handed.same) stands;
-        moments = turns.moments;
-        unbroken = turns.unbroken;
-        counted = turns.counted;
-      };
-      stops = stops_along stop told on.out on.lent on.accepted stops.stops;
-    }
-
--- the same, of whatever was carried
-pub stops_move : (says : Told → ℕ → Type 0) (shards : ℕ) (rules : Rules) (may_answer : ℕ → Type 0) (begin now : Sight) (before ends ends' : Ends Near) (ways ways' unread : List ℕ) (conn new : Conn) (commands : ℕ) (stop : Took) → MovesOn says ends ways conn ends' ways' new → StopsTaking shards rules may_answer begin now before ends ways unread conn commands stop → StopsTaking shards rules may_answer begin now before ends' ways' unread new commands stop
-stops_move says shards rules may_answer begin now before ends ends' ways ways' unread conn new commands stop moves stops =
-    let said = moves.moves before stops.turns.told stops.turns.received stops.turns.conn_is stops.turns.carries in
-    stops_on shards rules may_answer begin now before ends ends' ways ways' unread conn new commands stop stops said.0
+pub record Settled (shards : ℕ) (rules : Rules) (may_answer : ℕ → Type 0) (begin now : Sight) (before : Ends Near) (courier : Courier) (service : Service) : Type 0 where
+  pub serves : IsServedBy shards rules may_answer begin now before courier service
+  pub all : serves.told.out ≡ length (all_pieces serves.told)
+  pub idle : IsIdle courier.under_way.items
 
 -- Once every piece has left and no reply is awaited, the commands that were taken are settled.
-pub settles : (shards : ℕ) (rules : Rules) (may_answer : ℕ → Type 0) (begin now : Sight) (before ends ends' : Ends Near) (ways ways' unread : List ℕ) (conn new : Conn) (commands : ℕ) (stop : Took) → MovesOn AllOut ends ways conn ends' ways' new → IsIdle ways' → StopsTaking shards rules may_answer begin now before ends ways unread conn commands stop → Settled shards rules may_answer begin now before ends' ways' unread new commands stop
-unfolding stops_on
-settles shards rules may_answer begin now before ends ends' ways ways' unread conn new commands stop moves idle stops =
-    let said = moves.moves before stops.turns.told stops.turns.received stops.turns.conn_is stops.turns.carries in
-    record { stopped = stops_on shards rules may_answer begin now before ends ends' ways ways' unread conn new commands stop stops said.0; all = said.1; idle = idle }
+pub settles : (so : Type 0) (shards : ℕ) (rules : Rules) (may_answer : ℕ → Type 0) (begin now : Sight) (before : Ends Near) (courier courier' : Courier) (service : Service) (conn : Conn) → CourierGoesOn (AllOutWhere so) courier service.conn courier' conn → so → IsIdle courier'.under_way.items →
+    IsServedBy shards rules may_answer begin now before courier service → Settled shards rules may_answer begin now before courier' (record service { conn = conn })
+unfolding serves_carried
+settles so shards rules may_answer begin now before courier courier' service conn goes holds idle serves = record {
+  serves = serves_carried (AllOutWhere so) shards rules may_answer begin now before courier courier' service conn goes serves;
+  all = (goes.moves before serves.told serves.received serves.stopped.serves.conn_is serves.carries).1 holds;
+  idle = idle;
+}
 
 -- where all pieces have left, those sent to a shard are all that is due there
 sent_all : (told : Told) (shard : ℕ) → told.out ≡ length (all_pieces told) → sent_to told shard ≡ due told.shards shard told.taken
 sent_all told shard all = ap (lane shard) (take_all told.out (all_pieces told) (omega (arith, all)))
 
 -- as many replies were received as pieces were due
-pub received_all : (before ends : Ends Near) (ways : List ℕ) (told : Told) (received : ℕ → List Shown) (conn : Conn) → IsConn conn told → Carries before ends ways told received → told.out ≡ length (all_pieces told) → IsIdle ways → (shard : ℕ) → length (received shard) ≡ length (due told.shards shard told.taken)
+received_all : (before ends : Ends Near) (ways : List ℕ) (told : Told) (received : ℕ → List Shown) (conn : Conn) → IsConn conn told → Carries before ends ways told received → told.out ≡ length (all_pieces told) → IsIdle ways → (shard : ℕ) → length (received shard) ≡ length (due told.shards shard told.taken)
 received_all before ends ways told received conn is carries all idle shard = elim (cases_lt shard told.shards) [
   | inl below ↦
       let each = carries.each in
@@ -237,7 +148,7 @@ received_all before ends ways told received conn is carries all idle shard = eli
 ]
 
 -- so where their keys fit, every command has its reply
-pub complete_all : (told : Told) (received : ℕ → List Shown) (conn : Conn) → IsConn conn told → Serves told.shards told.taken told.accepted received → ((shard : ℕ) → length (received shard) ≡ length (due told.shards shard told.taken)) → KeysFit told.shards told.taken received → length (all_texts told) ≡ length told.taken
+complete_all : (told : Told) (received : ℕ → List Shown) (conn : Conn) → IsConn conn told → Serves told.shards told.taken told.accepted received → ((shard : ℕ) → length (received shard) ≡ length (due told.shards shard told.taken)) → KeysFit told.shards told.taken received → length (all_texts told) ≡ length told.taken
 complete_all told received conn is serves many keys =
     let whole = take_all (length told.taken) told.taken (omega arith) in
     let come = count_from_come told.shards (length told.taken) told.taken told.accepted received (omega arith) (serves.fits keys) (λ s.
@@ -247,85 +158,65 @@ complete_all told received conn is serves many keys =
     let most = (is_sound conn told is).complete in
     omega (arith, come, most)
 
--- what handing out and reading on said of a turn whose commands were all answered
-pub turn_said : (shards : ℕ) (rules : Rules) (may_answer : ℕ → Type 0) (begin now after : Sight) (before ends : Ends Near) (ways unread left : List ℕ) (conn new : Conn) (commands : ℕ) (stop : Took) (turn : Turn) → (settled : Settled shards rules may_answer begin now before ends ways unread conn commands stop) → GoOnSays turn stop conn unread now new left after → TurnSays turn settled.stopped.turns.received begin after settled.stopped.turns.told new left
-turn_said shards rules may_answer begin now after before ends ways unread left conn new commands stop turn settled says =
-    let turns = settled.stopped.turns in
-    let many = received_all before ends ways turns.told turns.received conn turns.conn_is turns.carries settled.all settled.idle in
-    says turns.received begin turns.told turns.conn_is turns.serving turns.unbroken settled.stopped.stops (complete_all turns.told turns.received conn turns.conn_is turns.carries.serves many)
+-- as many replies were received as pieces were due
+settled_all : (shards : ℕ) (rules : Rules) (may_answer : ℕ → Type 0) (begin now : Sight) (before : Ends Near) (courier : Courier) (service : Service) → (settled : Settled shards rules may_answer begin now before courier service) → (shard : ℕ) → length (settled.serves.received shard) ≡ length (due settled.serves.told.shards shard settled.serves.told.taken)
+settled_all shards rules may_answer begin now before courier service settled =
+    received_all before courier.ends courier.under_way.items settled.serves.told settled.serves.received service.conn settled.serves.stopped.serves.conn_is settled.serves.carries settled.all settled.idle
 
--- the replies were handed out, and perhaps more was read
-pub turns_go : (shards : ℕ) (rules : Rules) (may_answer : ℕ → Type 0) (begin now after : Sight) (before ends : Ends Near) (ways left unread : List ℕ) (conn new : Conn) (commands : ℕ) (turns : TurnsOverLanes shards rules may_answer begin now before ends ways left conn commands) → GoesOn turns.received begin after turns.told new unread → TurnsOverLanes shards rules may_answer begin after before ends ways unread new commands
-turns_go shards rules may_answer begin now after before ends ways left unread conn new commands turns goes = record {
-  told = record turns.told { fed = goes.fed; ended = goes.ended; handed = length (all_texts turns.told) };
-  received = turns.received;
-  shards_is = turns.shards_is;
-  rules_are = turns.rules_are;
-  conn_is = goes.conn_is;
-  carries = record {
-    width = turns.carries.width;
-    each = turns.carries.each;
-    same = turns.carries.same;
-    sent = turns.carries.sent;
-    came = turns.carries.came;
-    awaited = turns.carries.awaited;
-    serves = turns.carries.serves;
-  };
-  serving = goes.serving;
-  moments = turns.moments;
-  unbroken = turns.unbroken;
-  counted = turns.counted;
-}
+-- So where their keys fit, every command has its reply.
+pub settled_complete : (shards : ℕ) (rules : Rules) (may_answer : ℕ → Type 0) (begin now : Sight) (before : Ends Near) (courier : Courier) (service : Service) → (settled : Settled shards rules may_answer begin now before courier service) → IsComplete settled.serves.received settled.serves.told
+settled_complete shards rules may_answer begin now before courier service settled =
+    let serves = settled.serves in
+    complete_all serves.told serves.received service.conn serves.stopped.serves.conn_is serves.carries.serves (settled_all shards rules may_answer begin now before courier service settled)
 
--- the reason is the same where more replies were handed out
-stops_handed : (stop : Took) (told : Told) (handed : ℕ) → StopsAt stop told → StopsAt stop (record told { handed = handed })
-stops_handed (took.Opened ticket) told handed stops = stops
-stops_handed stop told handed stops = stops
-
--- the replies were handed out, and the line had nothing to give yet
-pub stops_rest : (shards : ℕ) (rules : Rules) (may_answer : ℕ → Type 0) (begin now after : Sight) (before ends : Ends Near) (ways left unread : List ℕ) (conn new : Conn) (commands : ℕ) (stop : Took) → (settled : Settled shards rules may_answer begin now before ends ways left conn commands stop)
-    → Rests settled.stopped.turns.received begin after settled.stopped.turns.told new unread → StopsTaking shards rules may_answer begin after before ends ways unread new commands stop
-unfolding turns_go
-stops_rest shards rules may_answer begin now after before ends ways left unread conn new commands stop settled rests =
-    let turns = settled.stopped.turns in
-    let told = turns.told in
-    let goes : GoesOn turns.received begin after told new unread = record { fed = told.fed; ended = told.ended; conn_is = rests.conn_is; serving = rests.serving } in
-    record {
-      turns = turns_go shards rules may_answer begin now after before ends ways left unread conn new commands turns goes;
-      stops = stops_handed stop told (length (all_texts told)) settled.stopped.stops;
-    }
+-- the line is served on
+settled_on : (shards : ℕ) (rules : Rules) (may_answer : ℕ → Type 0) (begin now after : Sight) (before : Ends Near) (courier : Courier) (service last : Service) → (settled : Settled shards rules may_answer begin now before courier service) →
+    ServesOn settled.serves.received may_answer begin after settled.serves.told last → IsServedBy shards rules may_answer begin after before courier last
+settled_on shards rules may_answer begin now after before courier service last settled on =
+    let serves = settled.serves in
+    serves_on shards rules may_answer begin after before courier serves.told serves.received last serves.shards_is serves.rules_are (is_sound service.conn serves.told serves.stopped.serves.conn_is).out serves.carries on
 
 -- nothing is under way once all pieces have left, and every command has its reply
 at_rest : (told : Told) (broke : Bool) (handed : ℕ) → told.out ≡ length (all_pieces told) → (broke ≡ false → IsAllTaken told × (handed ≡ length (all_texts told))) → length (all_texts told) ≡ length told.taken → IsAtRest (record told { broken = broke; handed = handed })
 at_rest told true handed sent rest whole = record { sent = sent; done = whole }
 at_rest told false handed sent rest whole = record { sent = sent; done = ((rest refl).0, (rest refl).1 ∙ whole) }
 
--- the line was served
-pub turn_ends : (shards : ℕ) (rules : Rules) (may_answer : ℕ → Type 0) (begin now after : Sight) (before ends : Ends Near) (ways unread : List ℕ) (conn last : Conn) (commands : ℕ) (stop : Took) (broke : Bool) → (settled : Settled shards rules may_answer begin now before ends ways unread conn commands stop) → IsServed settled.stopped.turns.received begin after settled.stopped.turns.told broke last → LineServed shards rules may_answer begin after before ends last commands broke
-turn_ends shards rules may_answer begin now after before ends ways unread conn last commands stop broke settled served =
-    let turns = settled.stopped.turns in
-    let told = turns.told in
-    let carries = turns.carries in
-    let many = received_all before ends ways told turns.received conn turns.conn_is carries settled.all settled.idle in
+-- the line was served over the lanes
+serves_ended : (shards : ℕ) (rules : Rules) (may_answer : ℕ → Type 0) (begin now after : Sight) (before : Ends Near) (courier : Courier) (service last : Service) (commands : ℕ) (broke : Bool) → (settled : Settled shards rules may_answer begin now before courier service) →
+    WasServed settled.serves.received begin after settled.serves.told broke commands last → LineServed shards rules may_answer begin after before courier.ends last.conn commands broke
+serves_ended shards rules may_answer begin now after before courier service last commands broke settled was =
+    let serves = settled.serves in
+    let told = serves.told in
+    let carries = serves.carries in
+    let served = was.served in
+    let complete = settled_complete shards rules may_answer begin now before courier service settled in
     record {
       told = record told { broken = broke; handed = served.handed };
-      shards_is = turns.shards_is;
-      rules_are = turns.rules_are;
+      shards_is = serves.shards_is;
+      rules_are = serves.rules_are;
       conn_is = served.conn_is;
       over = served.over;
       out = settled.all;
-      received = turns.received;
+      received = serves.received;
       exchanges = record {
         same = carries.same;
         sent = λ s below. carries.sent s below ∙ ap (λ ps. sent_on before s ++ map parcel.Piece ps) (sent_all told s settled.all);
         came = carries.came;
-        answered = many;
+        answered = settled_all shards rules may_answer begin now before courier service settled;
       };
       serves = carries.serves;
       story = served.story;
-      moments = turns.moments;
-      counted = turns.counted;
+      moments = serves.stopped.serves.moments;
+      counted = was.counted;
       reads = served.reads;
-      complete = complete_all told turns.received conn turns.conn_is carries.serves many;
-      rest = λ fit. at_rest told broke served.handed settled.all served.rest (complete_all told turns.received conn turns.conn_is carries.serves many fit);
+      complete = complete;
+      rest = λ fit. at_rest told broke served.handed settled.all served.rest (complete fit);
     }
+
+-- Where all commands taken are settled, what going on says of the line is so over the lanes.
+pub settled_says : (did : Stepped) (shards : ℕ) (rules : Rules) (may_answer : ℕ → Type 0) (begin now after : Sight) (before : Ends Near) (courier : Courier) (service last : Service) → (settled : Settled shards rules may_answer begin now before courier service) →
+    ServiceSays did settled.serves.received may_answer begin after settled.serves.told last → LineSays did shards rules may_answer begin after before courier last
+settled_says stepped.Did shards rules may_answer begin now after before courier service last settled says = settled_on shards rules may_answer begin now after before courier service last settled says
+settled_says stepped.Waits shards rules may_answer begin now after before courier service last settled says = settled_on shards rules may_answer begin now after before courier service last settled says
+settled_says (stepped.Ended served) shards rules may_answer begin now after before courier service last settled says =
+    record { served = serves_ended shards rules may_answer begin now after before courier service last served.commands served.broke settled says; idle = settled.idle }

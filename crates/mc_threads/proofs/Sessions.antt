@@ -1,22 +1,18 @@
 -- A session and what it serves a line by.
-use Rattle.std.proofs.Common.{◌≡◌, ℕ, ◌∙◌, Option, Some, None, refl, sym, subst, length, arith}
+use Rattle.std.proofs.Common.{◌≡◌, ℕ, Option, Some, None, refl, sym, subst, length}
 use Rattle.std.specs.Prelude.{IsSomeAnd}
 use Rattle.mc_wire.specs.Outlet.{Sight}
 use Rattle.mc_sizes.specs.Sizes.{rules_of}
 use Rattle.mc_ring.specs.Lane.{Near}
 use Rattle.mc_ring.specs.Ends.{Ends}
 use Rattle.mc_threads.specs.declared.courier.Courier.{Courier}
-use Rattle.mc_threads.specs.declared.service.Service.{Service}
 use Rattle.mc_threads.specs.declared.session.Session.{Session}
-use Rattle.mc_threads.specs.declared.session.Stepped.{Stepped}
-use Rattle.mc_threads.specs.declared.session.Stepped.TheVariants as stepped
-use Rattle.mc_seat.specs.Later.{text_in}
-use Rattle.mc_threads.specs.Service.{IsNew, IsServedBy, ServesSomeLine, ServiceSays, TakesFor, WasServedBy}
-use Rattle.mc_threads.specs.Serving.{IsIdle}
+use Rattle.mc_seat.specs.declared.service.Service.{Service}
+use Rattle.mc_seat.specs.declared.service.Stepped.{Stepped}
+use Rattle.mc_seat.specs.declared.service.Stepped.TheVariants as stepped
+use Rattle.mc_seat.specs.Service.{IsNew}
+use Rattle.mc_threads.specs.Service.{IsServedBy, LineSays, ServesSomeLine, WasServedBy}
 use Rattle.mc_threads.specs.Session.{IsReady, IsVacant, StepSays}
-use Rattle.mc_threads.specs.internal.Turns.{TurnsOverLanes}
-use Rattle.mc_threads.proofs.Serving.{can_settle, turns_first}
-use Rattle.mc_threads.proofs.Writing.{stops_none_waits}
 use Rattle.mc_command.specs.declared.rules.Rules.{Rules}
 
 -- There is something, of which this holds.
@@ -38,7 +34,7 @@ pub some_is : {A : Type 0} (o : Option A) (x : A) (P : A → Type 0) → o ≡ S
 some_is {A} o x P is holds = let S : Option A → Type 0 = λ it. IsSomeAnd it P in subst S is holds
 
 -- What a step says of the line is so of the session.
-pub steps_on : (stepped : Stepped) (shards : ℕ) (rules : Rules) (may_answer : ℕ → Type 0) (begin now : Sight) (before : Ends Near) (session : Session) (service : Service) → session.service ≡ Some service → ServiceSays stepped shards rules may_answer begin now before session.courier service → StepSays stepped shards rules may_answer begin now before session
+pub steps_on : (did : Stepped) (shards : ℕ) (rules : Rules) (may_answer : ℕ → Type 0) (begin now : Sight) (before : Ends Near) (session : Session) (service : Service) → session.service ≡ Some service → LineSays did shards rules may_answer begin now before session.courier service → StepSays did shards rules may_answer begin now before session
 steps_on stepped.Did shards rules may_answer begin now before session service is says = some_so session.service service (IsServedBy shards rules may_answer begin now before session.courier) is says
 steps_on stepped.Waits shards rules may_answer begin now before session service is says = some_so session.service service (IsServedBy shards rules may_answer begin now before session.courier) is says
 steps_on (stepped.Ended served) shards rules may_answer begin now before session service is says =
@@ -46,7 +42,8 @@ steps_on (stepped.Ended served) shards rules may_answer begin now before session
 
 -- What is served may be served on.
 pub may_serve : (shards : ℕ) (rules : Rules) (may_answer : ℕ → Type 0) (begin now : Sight) (before : Ends Near) (courier : Courier) (o : Option Service) → IsSomeAnd o (IsServedBy shards rules may_answer begin now before courier) → IsSomeAnd o (ServesSomeLine courier)
-may_serve shards rules may_answer begin now before courier (Some service) served = can_settle shards rules may_answer begin _ before _ _ _ _ _ _ served.stopped
+may_serve shards rules may_answer begin now before courier (Some service) served =
+    record { before = before; told = served.told; received = served.received; conn_is = served.stopped.serves.conn_is; carries = served.carries }
 may_serve shards rules may_answer begin now before courier None served = absurd served
 
 -- Where no room was made yet, one that is made for the session's sizes is as new.
@@ -63,16 +60,3 @@ made_new rules window session service none made vacant =
 -- Where there is a room, it is as new.
 pub kept_new : (rules : Rules) (window : ℕ) (session : Session) (service : Service) → session.service ≡ Some service → IsVacant rules window session → IsNew (length session.courier.ends.lanes) rules window service
 kept_new rules window session service some vacant = let R : Option Service → Type 0 = λ o. IsReady (length session.courier.ends.lanes) rules window session o in subst R some vacant.ready
-
--- Commands were taken of a line that begins.
-pub begins_new : (may_answer : ℕ → Type 0) (line : Sight) (rules : Rules) (window : ℕ) (courier : Courier) (service after : Service) → IsIdle courier.under_way.items → IsNew (length courier.ends.lanes) rules window service
-    → TakesFor may_answer service after → text_in after.unwritten ≡ text_in service.unwritten → IsServedBy (length courier.ends.lanes) rules may_answer line line courier.ends courier after
-begins_new may_answer line rules window courier service after idle new takes same =
-    let ends = courier.ends in
-    let ways = courier.under_way.items in
-    let T : ℕ → Type 0 = λ n. TurnsOverLanes (length ends.lanes) rules may_answer line line ends ends ways service.seat.unread service.conn n in
-    let turns = subst T (sym new.none_taken) (turns_first may_answer line ends ways service.seat.unread service.conn rules window courier.each_shard idle new.none_read new.conn_is) in
-    record {
-      stopped = stops_none_waits _ _ _ _ _ _ _ _ _ _ _ _ _ (same ∙ new.none_waits) (takes (length ends.lanes) rules line line ends ends ways turns);
-      grown = omega arith;
-    }

@@ -4,12 +4,13 @@ use Rattle.mc_wire.specs.Outlet.{Sight}
 use Rattle.mc_sizes.specs.Sizes.{rules_of}
 use Rattle.mc_ring.specs.Lane.{Near}
 use Rattle.mc_ring.specs.Ends.{Ends}
-use Rattle.mc_threads.specs.declared.service.Service.{Service}
+use Rattle.mc_seat.specs.declared.service.Service.{Service}
+use Rattle.mc_seat.specs.declared.service.Stepped.{Stepped}
+use Rattle.mc_seat.specs.declared.service.Stepped.TheVariants as stepped
+use Rattle.mc_seat.specs.Service.{IsNew}
 use Rattle.mc_threads.specs.declared.session.Session.{Session}
-use Rattle.mc_threads.specs.declared.session.Stepped.{Stepped}
-use Rattle.mc_threads.specs.declared.session.Stepped.TheVariants as stepped
 use Rattle.mc_threads.specs.Serving.{IsIdle}
-use Rattle.mc_threads.specs.Service.{IsNew, IsServedBy, ServesSomeLine, WasServedBy}
+use Rattle.mc_threads.specs.Service.{IsServedBy, ServesSomeLine, WasServedBy}
 use Rattle.mc_command.specs.declared.rules.Rules.{Rules}
 
 -- The room for a line is as new, or is made for this number of shards, for these rules and with this window.

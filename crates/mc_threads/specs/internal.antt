@@ -1,3 +1,2 @@
 -- Definitions that only private contracts name.
 pub mod Carrying
-pub mod Turns

@@ -1,11 +1,13 @@
 //! Carries the pieces of a connection to the shards, and their replies back.
-ghost use Rattle.std.specs.Prelude.{◌≡◌, ◌<◌, ◌==◌, [], false, true, IfOk, IsTrue, length};
+ghost use Rattle.mc_command.specs.declared.rules.Rules.{Rules};
+ghost use Rattle.std.specs.Prelude.{◌≡◌, ◌<◌, ◌==◌, ℕ, [], false, true, IfOk, IsTrue, length};
 ghost use Rattle.std.specs.Bool.{OnFalse, OnTrue};
 ghost use Rattle.std.specs.List.{list_all};
 ghost use Rattle.mc_threads.specs.Serving.{AreCalled};
 
 use mc_conn::Conn;
 use mc_ring::{Parcel, SeatEnds};
+use mc_seat::{Clock, Line, Rooms, Service, Stepped};
 use mc_wake::{Caller, Wakers};
 use std::alloc::{AllocError, Global};
 
@@ -28,7 +30,11 @@ pub struct Courier {
 }
 
 impl Courier {
+    ghost use Rattle.mc_wire.specs.Outlet.{Sight};
+    ghost use Rattle.mc_ring.specs.Lane.{Near};
+    ghost use Rattle.mc_ring.specs.Ends.{Ends};
     ghost use Rattle.mc_threads.specs.Ending.{EndsOne, StandsStill};
+    ghost use Rattle.mc_threads.specs.Service.{IsServedBy, LineSays, ServesSomeLine};
     ghost use Rattle.mc_threads.specs.Serving.{IsIdle};
     ghost use Rattle.mc_threads.specs.internal.Carrying.{AllOutWhere, AnyOut, CanCarry, CourierGoesOn, NoneOut};
 
@@ -223,6 +229,34 @@ impl Courier {
         // A reply that nobody awaits never comes.
         let _ = conn.accept(reply);
         true
+    }
+
+    /// Serves the line a step further: sends what there is room for and takes in what has come; and where every reply has come,
+    /// goes on with the line, as [`Service::go_on`] does. No step waits for a shard.
+    pub(crate) fn step<L: Line, K: Clock>(
+        &mut self,
+        service: &mut Service,
+        line: &mut L,
+        clock: &K,
+        rooms: &mut Rooms,
+    ) -> Stepped
+        requires { ServesSomeLine self.old service.old }
+        ensures says { (shards : ℕ) (rules : Rules) (begin : Sight) (before : Ends Near) →
+            IsServedBy shards rules (K.may_answer clock.now) begin (L.sight line.old) before
+            self.old service.old →
+            LineSays result shards rules (K.may_answer clock.now) begin (L.sight line.new) before
+            self.new service.new }
+        // Where it waits, each shard of which replies are awaited was called after the last piece was sent.
+        ensures called { result ≡ Stepped.Waits →
+            AreCalled self.new.shards self.new.under_way.items }
+    {
+        if self.carry(&mut service.conn) {
+            return Stepped::Did;
+        }
+        if !self.is_settled() {
+            return Stepped::Waits;
+        }
+        service.go_on(line, clock, rooms)
     }
 
     /// The seat's ends of its lanes, once it serves no more.

@@ -2,13 +2,11 @@
 #![tactic(auto)]
 
 mod courier;
-mod service;
 mod session;
 mod workers;
 mod working;
 
 pub use courier::Courier;
-pub use service::Service;
-pub use session::{Session, Stepped};
+pub use session::Session;
 pub use workers::make_workers;
 pub use working::Working;

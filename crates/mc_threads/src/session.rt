@@ -5,23 +5,11 @@ ghost use Rattle.std.specs.Bool.{OnFalse, OnTrue};
 ghost use Rattle.mc_sizes.specs.Sizes.{SuitLines, rules_of};
 
 use crate::courier::Courier;
-use crate::service::Service;
 use mc_ring::SeatEnds;
-use mc_seat::{Clock, Line, Rooms, Served};
+use mc_seat::{Clock, Line, Rooms, Service, Stepped};
 use mc_sizes::Sizes;
 use mc_wake::Wakers;
 use std::alloc::{AllocError, Global};
-
-/// What a step did.
-#[derive(Clone, Copy, Debug, PartialEq, Eq)]
-pub enum Stepped {
-    /// Something: the next step may follow at once.
-    Did,
-    /// Nothing: replies of a shard or bytes of the line have to come first, or the line has to take replies that wait.
-    Waits,
-    /// The line was served.
-    Ended(Served),
-}
 
 /// What a seat needs to serve lines, one after another. Until the first line comes it has its ends of the lanes alone; the room
 /// that a line is served in is made then, and kept for the lines that follow.
@@ -53,10 +41,10 @@ impl Session {
     ghost use Rattle.mc_ring.specs.Ends.{Ends};
     ghost use Rattle.mc_conn.specs.Conn.{IsConn};
     ghost use Rattle.mc_conn.specs.Told.{Told, IsAtRest, IsOver};
-    ghost use Rattle.mc_threads.specs.declared.service.Service.{Service};
+    ghost use Rattle.mc_seat.specs.declared.service.Service.{Service};
+    ghost use Rattle.mc_seat.specs.Service.{IsNew};
     ghost use Rattle.mc_threads.specs.Ending.{EndsOne, StandsStill};
     ghost use Rattle.mc_threads.specs.Serving.{AreCalled, IsIdle};
-    ghost use Rattle.mc_threads.specs.Service.{IsNew};
     ghost use Rattle.mc_threads.specs.Session.{IsVacant, IsServingLine, MayStep, StepSays};
 
     /// A seat that serves no line yet, over new ends of its lanes. The wakers are those of the shards.
@@ -110,7 +98,7 @@ impl Session {
         }
     }
 
-    /// Serves the line a step further, as [`Service::step`] does.
+    /// Serves the line a step further, as [`Courier::step`] does.
     pub fn step<L: Line, K: Clock>(&mut self, line: &mut L, clock: &K, rooms: &mut Rooms) -> Stepped
         requires { MayStep self.old }
         ensures says { (shards : ℕ) (rules : Rules) (begin : Sight) (before : Ends Near) →
@@ -125,7 +113,7 @@ impl Session {
         let Some(service) = &mut self.service else {
             unreachable!()
         };
-        service.step(&mut self.courier, line, clock, rooms)
+        self.courier.step(service, line, clock, rooms)
     }
 
     /// Makes it ready for the next line, in the same room, where the last one has ended and nothing is under way; tells whether

@@ -29,3 +29,7 @@ handed_texts told = take told.handed (all_texts told)
 abbrev pub Serving : (ℕ → List Shown) → Sight → Sight → List ℕ → Told → Type 0
 Serving received begin now unread told =
     GaveAndTook told.rules (KeysFit told.shards told.taken received) begin now unread told.fed told.ended told.taken (handed_texts told)
+
+-- Where the keys of the replies are those of the pieces, every command taken has its reply.
+abbrev pub IsComplete : (ℕ → List Shown) → Told → Type 0
+IsComplete received told = KeysFit told.shards told.taken received → length (all_texts told) ≡ length told.taken

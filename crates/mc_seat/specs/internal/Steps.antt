@@ -10,7 +10,7 @@ use Rattle.mc_conn.specs.Told.{Told, IsAllTaken, IsOver, all_texts, commands_of}
 use Rattle.mc_seat.specs.declared.seat.Turn.{Turn}
 use Rattle.mc_seat.specs.declared.seat.Turn.TheVariants.{Goes, Waits, Ends, Broke}
 use Rattle.mc_wire.specs.Outlet.{Sight}
-use Rattle.mc_seat.specs.internal.Stands.{Serving}
+use Rattle.mc_seat.specs.internal.Stands.{IsComplete, Serving}
 use Rattle.mc_seat.specs.Reads.{ReadsOwingNothing}
 use Rattle.mc_seat.specs.Story.{Story}
 
@@ -53,20 +53,12 @@ TurnSays Waits received begin now told conn unread = Rests received begin now to
 TurnSays Ends received begin now told conn unread = IsServed received begin now told false conn
 TurnSays Broke received begin now told conn unread = IsServed received begin now told true conn
 
--- What handing out and reading on does, once all commands taken are answered.
-abbrev pub GoOnSays : Turn → Took → Conn → List ℕ → Sight → Conn → List ℕ → Sight → Type 0
-GoOnSays turn stop old unread before new left now =
-    (received : ℕ → List Shown) (begin : Sight) (told : Told) →
-    IsConn old told → Serving received begin before unread told → told.broken ≡ false → StopsAt stop told →
-    (KeysFit told.shards told.taken received → length (all_texts told) ≡ length told.taken) →
-    TurnSays turn received begin now told new left
-
 -- What going on does, once all replies to the commands taken are handed out.
 abbrev pub HandedSays : Turn → Took → Conn → List ℕ → Sight → Conn → List ℕ → Sight → Type 0
 HandedSays turn stop old unread before new left now =
     (received : ℕ → List Shown) (begin : Sight) (told : Told) →
     IsConn old (all_handed told) → Serving received begin before unread (all_handed told) → told.broken ≡ false → StopsAt stop told →
-    (KeysFit told.shards told.taken received → length (all_texts told) ≡ length told.taken) →
+    IsComplete received told →
     TurnSays turn received begin now told new left
 
 -- What reading on does, once all replies are handed out and more bytes are needed.
@@ -74,7 +66,7 @@ abbrev pub ReadOnSays : Turn → Conn → List ℕ → Sight → Conn → List �
 ReadOnSays turn old unread before new left now =
     (received : ℕ → List Shown) (begin : Sight) (told : Told) →
     IsConn old (all_handed told) → Serving received begin before unread (all_handed told) → IsAllTaken told → told.ended ≡ false →
-    (KeysFit told.shards told.taken received → length (all_texts told) ≡ length told.taken) →
+    IsComplete received told →
     TurnSays turn received begin now told new left
 
 -- What feeding does of what was read, once all replies are handed out.

@@ -5,4 +5,4 @@ use Rattle.mc_server.proofs.serve.serve_one.Given as goal
 abbrev pub invariant-loop : goal.invariant-loop
 invariant-loop g l =
     (goal.iterator-loop g).can_next l.iterator' × (goal.iterator-loop g).is_finite l.iterator'
-    × Turns (record l.fn.sizes { seats = 1 }) (g.K.Clock.may_answer l.fn.clock) (g.L.Outlet.sight l.fn.line) (g.L.Outlet.sight l.line) l.seat.unread l.conn l.shards.items l.commands
+    × Turns (record l.fn.sizes { seats = 1 }) (g.K.Clock.may_answer l.fn.clock) (g.L.Outlet.sight l.fn.line) (g.L.Outlet.sight l.line) l.service l.shards.items

@@ -1,8 +1,8 @@
 -- Nothing was taken of the line yet.
-use Rattle.mc_threads.proofs.Sessions.{begins_new}
+use Rattle.mc_threads.proofs.Serving.{serves_first}
 use Rattle.mc_threads.proofs.session.Session.begin.Goals as goal
 
 pub returns-clause-serving : goal.returns-clause-serving
 returns-clause-serving g c rules window line vacant =
     let made = c.in_ok-service.ensures in
-    rw made.courier (begins_new (g.K.Clock.may_answer c.args.clock.now) line rules window c.args.self.now.courier _ _ vacant.idle (made.new rules window vacant) c.take_all.ensures.takes c.take_all.ensures.unwritten)
+    rw made.courier (serves_first (g.K.Clock.may_answer c.args.clock.now) line rules window c.args.self.now.courier _ _ vacant.idle (made.new rules window vacant) c.take_all.ensures)

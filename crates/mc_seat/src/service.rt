@@ -1,19 +1,40 @@
-//! A seat serves one line step by step. No step waits for a shard.
-ghost use Rattle.mc_command.specs.declared.rules.Rules.{Rules};
+//! Serves one line: once the commands taken are answered, their replies are written, more is read, and more commands are taken.
+ghost use Rattle.std.specs.Prelude.{◌≡◌, ◌↔◌, IfOk, IsTrue};
 ghost use Rattle.mc_sizes.specs.Sizes.{SuitLines, rules_of};
-ghost use Rattle.std.specs.Prelude.{◌≡◌, ◌<◌, ◌≤◌, ◌↔◌, ℕ, IfOk, IsTrue};
 
-use crate::courier::Courier;
-use crate::session::Stepped;
+use crate::lines::{Clock, Line};
+use crate::rooms::Rooms;
+use crate::seat::{Seat, Turn};
+use crate::unwritten::Unwritten;
 use mc_conn::{Conn, Taken};
-use mc_seat::{Clock, Line, Rooms, Seat, Served, Turn, Unwritten};
 use mc_sizes::Sizes;
 use std::alloc::{AllocError, Global};
 
-/// What a seat serves one line by, and how far it is with the line.
+/// What became of a line.
+#[derive(Clone, Copy, Debug, PartialEq, Eq)]
+pub struct Served {
+    /// How many commands it took.
+    pub commands: u64,
+    /// Whether it has failed.
+    pub broke: bool,
+}
+
+/// What a step did.
+#[derive(Clone, Copy, Debug, PartialEq, Eq)]
+pub enum Stepped {
+    /// Something: the next step may follow at once.
+    Did,
+    /// Nothing: replies of a shard or bytes of the line have to come first, or the line has to take replies that wait.
+    Waits,
+    /// The line was served.
+    Ended(Served),
+}
+
+/// What one line is served by, and how far it is with the line.
 pub struct Service {
     alloc: Global,
-    conn: Conn,
+    /// Whoever has the shards, or lanes to them, takes its pieces and has them answered there.
+    pub conn: Conn,
     seat: Seat,
     /// Replies that were handed out, and which the line didn't take yet.
     unwritten: Unwritten,
@@ -38,17 +59,13 @@ impl Drop for Service {
 }
 
 impl Service {
-    ghost use Rattle.mc_wire.specs.Outlet.{Sight};
-    ghost use Rattle.mc_ring.specs.Lane.{Near};
-    ghost use Rattle.mc_ring.specs.Ends.{Ends};
     ghost use Rattle.mc_conn.specs.Conn.{IsConn};
     ghost use Rattle.mc_conn.specs.Told.{Told, IsAtRest, IsOver};
-    ghost use Rattle.mc_seat.specs.Later.{text_in};
-    ghost use Rattle.mc_threads.specs.Serving.{AreCalled};
-    ghost use Rattle.mc_threads.specs.Service.{IsNew, IsServedBy, ServesSomeLine, ServiceSays, TakesFor};
+    ghost use Rattle.mc_seat.specs.Service.{GoOnSays, IsNew, TakesFor};
+    ghost use Rattle.mc_seat.specs.internal.Reading.{ReadingSays};
 
     /// Of a line of which nothing was taken yet.
-    pub(crate) fn new(alloc: Global, sizes: Sizes) -> Result<Service, AllocError>
+    pub fn new(alloc: Global, sizes: Sizes) -> Result<Service, AllocError>
         requires { SuitLines sizes }
         ensures { IfOk result
             (λ service. IsNew sizes.shards (rules_of sizes) sizes.window service) }
@@ -67,9 +84,8 @@ impl Service {
     }
 
     /// Takes commands of the line as long as there are any, and the window has room for them.
-    pub(crate) fn take_all<K: Clock>(&mut self, clock: &K)
-        ensures takes { TakesFor (K.may_answer clock.now) self.old self.new }
-        ensures unwritten { text_in self.new.unwritten ≡ text_in self.old.unwritten }
+    pub fn take_all<K: Clock>(&mut self, clock: &K)
+        ensures { TakesFor (K.may_answer clock.now) self.old self.new }
     {
         for _ in 0..u64::MAX {
             match self.conn.take(self.alloc, clock.now()) {
@@ -83,48 +99,43 @@ impl Service {
         self.stop = Taken::Full;
     }
 
-    /// Serves the line a step further: sends what there is room for and takes in what has come; and where every reply has come,
-    /// hands them out, and reads on once the line took them all. Nothing waits here. Where memory for replies that the line
-    /// doesn't take at once is refused, the line is given up. The rooms are those of the thread, to read into.
-    pub(crate) fn step<L: Line, K: Clock>(
+    /// Goes on once all commands taken are answered: hands their replies out, and once the line took them all, reads on and takes
+    /// commands. Nothing waits here, where the line doesn't. Where memory for replies that the line doesn't take at once is
+    /// refused, the line is given up. The rooms are those of the thread, to read into.
+    pub fn go_on<L: Line, K: Clock>(
         &mut self,
-        courier: &mut Courier,
         line: &mut L,
         clock: &K,
         rooms: &mut Rooms,
     ) -> Stepped
-        requires { ServesSomeLine courier.old self.old }
-        ensures says { (shards : ℕ) (rules : Rules) (begin : Sight) (before : Ends Near) →
-            IsServedBy shards rules (K.may_answer clock.now) begin (L.sight line.old) before
-            courier.old self.old →
-            ServiceSays result shards rules (K.may_answer clock.now) begin (L.sight line.new) before
-            courier.new self.new }
-        // Where it waits, each shard of which replies are awaited was called after the last piece was sent.
-        ensures called { result ≡ Stepped.Waits →
-            AreCalled courier.new.shards courier.new.under_way.items }
+        ensures { GoOnSays result (K.may_answer clock.now) self.old (L.sight line.old) self.new
+            (L.sight line.new) }
     {
-        if courier.carry(&mut self.conn) {
-            return Stepped::Did;
-        }
-        if !courier.is_settled() {
-            return Stepped::Waits;
-        }
         if let Err(_refused) = self.conn.hand(&mut self.unwritten) {
             line.give_up();
             return self.ended(true);
         }
         match self.unwritten.flush(line) {
-            Ok(true) => {}
-            Ok(false) => return Stepped::Waits,
+            Ok(true) => self.go_on_reading(line, clock, rooms),
+            Ok(false) => Stepped::Waits,
             Err(_fault) => {
                 self.conn.broken();
-                return self.ended(true);
+                self.ended(true)
             }
         }
-        match self
-            .seat
-            .go_on_reading(&mut self.conn, line, self.stop, rooms)
-        {
+    }
+
+    /// The same, once the line took all replies.
+    fn go_on_reading<L: Line, K: Clock>(
+        &mut self,
+        line: &mut L,
+        clock: &K,
+        rooms: &mut Rooms,
+    ) -> Stepped
+        ensures { ReadingSays result (K.may_answer clock.now) self.old (L.sight line.old) self.new
+            (L.sight line.new) }
+    {
+        match self.seat.go_on(&mut self.conn, line, self.stop, rooms) {
             Turn::Goes => {
                 self.take_all(clock);
                 Stepped::Did
@@ -147,7 +158,7 @@ impl Service {
 
     /// Makes it ready for the next line, in the same room, where the last one has ended and nothing is under way; tells whether
     /// it did.
-    pub(crate) fn renew(&mut self) -> bool
+    pub fn renew(&mut self) -> bool
         ensures when { (told : Told) → IsConn self.old.conn told →
             IsTrue result ↔ (IsAtRest told × IsOver told) }
         ensures new { IsTrue result → (told : Told) → IsConn self.old.conn told →

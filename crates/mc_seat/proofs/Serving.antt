@@ -1,0 +1,213 @@
+-- A line is served step by step, whatever its shards sent.
+use Rattle.std.proofs.Common.{◌≡◌, ℕ, ◌+◌, ◌-◌, ◌^◌, min, Bool, List, [], ◌∷◌, ◌++◌, length, refl, sym, ap, subst, ◌∙◌, arith, append_assoc, append-nil, length-append}
+use Rattle.std.specs.List.{slice_get}
+use Rattle.std.proofs.lemmas.List.{length-map}
+use Rattle.mc_wire.specs.Outlet.{Listed, Sight, sight_out, took}
+use Rattle.mc_wire.proofs.Outlets.{took-nil}
+use Rattle.mc_reply.specs.declared.ticket.Ticket.{Ticket}
+use Rattle.mc_ring.specs.Reply.{Shown}
+use Rattle.mc_conn.specs.declared.conn.Conn.{Conn}
+use Rattle.mc_conn.specs.declared.conn.Taken.{Taken as Took}
+use Rattle.mc_conn.specs.declared.conn.Taken.TheVariants as took
+use Rattle.mc_conn.specs.Conn.{HandsOut, IsConn, TakeSays, TakesCommand}
+use Rattle.mc_conn.specs.Due.{due, lane, pieces_from}
+use Rattle.mc_conn.specs.Fits.{KeysFit}
+use Rattle.mc_conn.specs.History.{Taken}
+use Rattle.mc_conn.specs.Told.{KeepsHanded, Told, all_texts, commands_of, told_nothing}
+use Rattle.mc_conn.proofs.Fitting.{due-append}
+use Rattle.mc_conn.proofs.Gets.{all_push, get_front}
+use Rattle.mc_conn.proofs.Staying.{keeps_take}
+use Rattle.mc_seat.specs.declared.seat.Seat.{Seat}
+use Rattle.mc_seat.specs.declared.service.Service.{Service}
+use Rattle.mc_seat.specs.declared.unwritten.Unwritten.{Unwritten}
+use Rattle.mc_seat.specs.Later.{text_in}
+use Rattle.mc_seat.specs.Lines.{HasGrown}
+use Rattle.mc_seat.specs.Service.{HasStopped, IsNew, IsServing, ServesOn}
+use Rattle.mc_seat.specs.internal.Stands.{Serving, handed_texts}
+use Rattle.mc_seat.specs.internal.Steps.{GoesOn, StopsAt, all_handed}
+use Rattle.mc_seat.proofs.Along.{serving_along, stops_along}
+use Rattle.mc_seat.proofs.Fronts.{begins_length}
+use Rattle.mc_seat.proofs.Later.{grown_since, hands_waiting}
+use Rattle.mc_seat.proofs.Standing.{stands_first, stands_over, stands_take}
+use Rattle.mc_seat.proofs.Turns.{hands}
+use Rattle.mc_command.specs.declared.rules.Rules.{Rules}
+
+-- A line of which no replies wait is as it will be.
+pub nothing_waits : (waits : List ℕ) (now : Sight) → waits ≡ [] → took waits now ≡ now
+nothing_waits waits now none = ap (λ bytes. took bytes now) none ∙ took-nil now
+
+-- What is new serves a line that begins, of which nothing was taken and for which no reply was received.
+pub serving_first : (may_answer : ℕ → Type 0) (line : Sight) (shards : ℕ) (rules : Rules) (window : ℕ) (service : Service) → IsNew shards rules window service → IsServing (λ s. []) may_answer line line (told_nothing shards rules window) service
+serving_first may_answer line shards rules window service new = record {
+  conn_is = new.conn_is;
+  serving =
+      let P : List ℕ → Type 0 = λ bytes. Serving (λ s. []) line line bytes (told_nothing shards rules window) in
+      let Q : Sight → Type 0 = λ seen. Serving (λ s. []) line seen service.seat.unread (told_nothing shards rules window) in
+      subst Q (sym (nothing_waits (text_in service.unwritten) line new.none_waits)) (subst P (sym new.none_read) (stands_first rules (KeysFit shards [] (λ s. [])) line));
+  grown = omega arith;
+  moments = tt;
+  unbroken = refl;
+  counted = new.none_taken;
+}
+
+-- where the keys fit the pieces of more commands, they fit those of the first
+keys_before : (shards : ℕ) (taken : List Taken) (one : Taken) (received : ℕ → List Shown) → KeysFit shards (taken ++ one ∷ []) received → KeysFit shards taken received
+keys_before shards taken one received keys s i p reply asked came =
+    let more = lane s (pieces_from shards (0 + length taken) (one ∷ [])) in
+    keys s i p reply (ap (λ ps. slice_get ps i) (due-append shards s taken (one ∷ [])) ∙ get_front (due shards s taken) more i p asked) came
+
+-- one more command was taken, at a moment that may be, and it is counted
+serving_take : (received : ℕ → List Shown) (may_answer : ℕ → Type 0) (begin now : Sight) (told : Told) (service : Service) (conn : Conn) (later moment : ℕ) (ticket : Ticket) → may_answer moment → (opens : TakesCommand told moment ticket conn) → later ≡ min (ticket.0 + 1) (2 ^ 64 - 1) →
+    IsServing received may_answer begin now told service → IsServing received may_answer begin now (record told { taken = told.taken ++ opens.one ∷ [] }) (record service { conn = conn; commands = later })
+serving_take received may_answer begin now told service conn later moment ticket may opens later_is serves =
+    let seen = took (text_in service.unwritten) now in
+    let unread = service.seat.unread in
+    let taken : List Taken = told.taken ++ opens.one ∷ [] in
+    let short = begins_length told.rules told.fed (commands_of taken) opens.next in
+    let number = opens.number in
+    record {
+      conn_is = opens.now;
+      serving = serving_along told.rules received begin seen unread told.fed told.ended told.shards taken (handed_texts told) _ (sym (keeps_take service.conn told opens.one serves.conn_is).same)
+          (stands_take told.rules (KeysFit told.shards told.taken received) (KeysFit told.shards taken received) begin seen unread told.fed told.ended told.taken (handed_texts told) opens.one (keys_before told.shards told.taken opens.one received) serves.serving);
+      grown = serves.grown;
+      moments = all_push (λ (x : Taken). may_answer x.moment) told.taken opens.one serves.moments (rw opens.moment_is may);
+      unbroken = serves.unbroken;
+      counted = omega (arith, later_is, number, short, length-map taken (λ (x : Taken). x.entry), length-append told.taken (opens.one ∷ []));
+    }
+
+-- some commands more were taken
+pub record TakesSome (received : ℕ → List Shown) (may_answer : ℕ → Type 0) (begin now : Sight) (told : Told) (service : Service) : Type 0 where
+  pub taken : List Taken
+  pub more : List Taken
+  pub taken_is : taken ≡ told.taken ++ more
+  pub serves : IsServing received may_answer begin now (record told { taken = taken }) service
+
+-- Before any is taken it is served as it was.
+pub takes_none : (received : ℕ → List Shown) (may_answer : ℕ → Type 0) (begin now : Sight) (told : Told) (service : Service) → IsServing received may_answer begin now told service → TakesSome received may_answer begin now told service
+takes_none received may_answer begin now told service serves = record { taken = told.taken; more = []; taken_is = sym (append-nil told.taken); serves = serves }
+
+-- The next command was taken, at a moment that may be.
+pub takes_next : (received : ℕ → List Shown) (may_answer : ℕ → Type 0) (begin now : Sight) (told : Told) (service : Service) (conn : Conn) (later moment : ℕ) (ticket : Ticket) → may_answer moment → TakeSays service.conn moment (took.Opened ticket) conn → later ≡ min (ticket.0 + 1) (2 ^ 64 - 1) →
+    TakesSome received may_answer begin now told service → TakesSome received may_answer begin now told (record service { conn = conn; commands = later })
+takes_next received may_answer begin now told service conn later moment ticket may says later_is some =
+    let opens : TakesCommand (record told { taken = some.taken }) moment ticket conn = says (record told { taken = some.taken }) some.serves.conn_is in
+    record {
+      taken = some.taken ++ opens.one ∷ [];
+      more = some.more ++ opens.one ∷ [];
+      taken_is = ap (λ taken. taken ++ opens.one ∷ []) some.taken_is ∙ append_assoc told.taken some.more (opens.one ∷ []);
+      serves = serving_take received may_answer begin now (record told { taken = some.taken }) service conn later moment ticket may opens later_is some.serves;
+    }
+
+-- the same, of the connection as it is now, for this reason
+stops_now : (received : ℕ → List Shown) (may_answer : ℕ → Type 0) (begin now : Sight) (told : Told) (service : Service) (conn : Conn) (stop : Took) (some : TakesSome received may_answer begin now told service) → IsConn conn (record told { taken = some.taken }) → StopsAt stop (record told { taken = some.taken })
+    → ServesOn received may_answer begin now told (record service { conn = conn; stop = stop })
+stops_now received may_answer begin now told service conn stop some is stops = record {
+  fed = told.fed;
+  ended = told.ended;
+  handed = told.handed;
+  taken = some.taken;
+  more = some.more;
+  taken_is = some.taken_is;
+  stopped = record {
+    serves = record { conn_is = is; serving = some.serves.serving; grown = some.serves.grown; moments = some.serves.moments; unbroken = some.serves.unbroken; counted = some.serves.counted };
+    stops = stops;
+  };
+}
+
+-- No further command was taken, and the call says why.
+pub takes_stop : (received : ℕ → List Shown) (may_answer : ℕ → Type 0) (begin now : Sight) (told : Told) (service : Service) (conn : Conn) (moment : ℕ) (stop : Took) → TakeSays service.conn moment stop conn → ((ticket : Ticket) → stop ≡ took.Opened ticket → ⊥) →
+    TakesSome received may_answer begin now told service → ServesOn received may_answer begin now told (record service { conn = conn; stop = stop })
+takes_stop received may_answer begin now told service conn moment (took.Opened ticket) says other some = absurd (other ticket refl)
+takes_stop received may_answer begin now told service conn moment took.NeedMore says other some =
+    let needs = says (record told { taken = some.taken }) some.serves.conn_is in stops_now _ _ _ _ told _ conn took.NeedMore some needs.now (needs.all, needs.comes)
+takes_stop received may_answer begin now told service conn moment took.Full says other some = stops_now _ _ _ _ told _ conn took.Full some (says (record told { taken = some.taken }) some.serves.conn_is).now tt
+takes_stop received may_answer begin now told service conn moment took.Closed says other some =
+    let over = says (record told { taken = some.taken }) some.serves.conn_is in stops_now _ _ _ _ told _ conn took.Closed some over.1 over.0
+
+-- As many were taken as there may be.
+pub takes_full : (received : ℕ → List Shown) (may_answer : ℕ → Type 0) (begin now : Sight) (told : Told) (service : Service) → TakesSome received may_answer begin now told service → ServesOn received may_answer begin now told (record service { stop = took.Full })
+takes_full received may_answer begin now told service some = stops_now received may_answer begin now told service service.conn took.Full some some.serves.conn_is tt
+
+-- Pieces have left and replies were accepted: the line is served as before, by the replies that were received since.
+pub stops_carried : (received later : ℕ → List Shown) (may_answer : ℕ → Type 0) (begin now : Sight) (told : Told) (service : Service) (conn : Conn) (out : ℕ) (lent : Bool) (accepted : List Shown) → (KeysFit told.shards told.taken later → KeysFit told.shards told.taken received) →
+    IsConn conn (record told { out = out; lent = lent; accepted = accepted }) → KeepsHanded told (record told { out = out; lent = lent; accepted = accepted }) → HasStopped received may_answer begin now told service → HasStopped later may_answer begin now (record told { out = out; lent = lent; accepted = accepted }) (record service { conn = conn })
+stops_carried received later may_answer begin now told service conn out lent accepted weaker is keeps stopped =
+    let serves = stopped.serves in
+    let seen = took (text_in service.unwritten) now in
+    let unread = service.seat.unread in
+    let stands = stands_over {after = KeysFit told.shards told.taken later} weaker serves.serving.read_is serves.serving.ended_is refl refl serves.serving in
+    record {
+      serves = record {
+        conn_is = is;
+        serving = serving_along told.rules later begin seen unread told.fed told.ended told.shards told.taken (handed_texts told) _ (sym keeps.same) stands;
+        grown = serves.grown;
+        moments = serves.moments;
+        unbroken = serves.unbroken;
+        counted = serves.counted;
+      };
+      stops = stops_along service.stop told out lent accepted told.handed stopped.stops;
+    }
+
+-- The replies were handed out: they wait behind those that waited.
+pub handed_out : (received : ℕ → List Shown) (may_answer : ℕ → Type 0) (begin now : Sight) (told : Told) (service : Service) (conn : Conn) (count : ℕ) (waits : List ℕ) (was is : Bool) → HandsOut told count conn (sight_out (Listed (text_in service.unwritten)) was) (sight_out (Listed waits) is) → HasStopped received may_answer begin now told service
+    → IsConn conn (all_handed told) × Serving received begin (took waits now) service.seat.unread (all_handed told)
+handed_out received may_answer begin now told service conn count waits was is out stopped =
+    let waited = text_in service.unwritten in
+    hands received begin (took waited now) (took waits now) service.seat.unread told service.conn conn count stopped.serves.conn_is (hands_waiting told count conn waited waits was is now out) stopped.serves.serving
+
+-- And the line took some of them: it is as if it took the rest.
+pub stops_flushed : (received : ℕ → List Shown) (may_answer : ℕ → Type 0) (begin old now : Sight) (told : Told) (service : Service) (conn : Conn) (waits : List ℕ) (left : Unwritten) → IsConn conn (all_handed told) × Serving received begin (took waits old) service.seat.unread (all_handed told) → took (text_in left) now ≡ took waits old → HasGrown old now
+    → HasStopped received may_answer begin old told service → HasStopped received may_answer begin now (all_handed told) (record service { conn = conn; unwritten = left })
+stops_flushed received may_answer begin old now told service conn waits left handed same more stopped =
+    let serves = stopped.serves in
+    let grown = serves.grown in
+    let P : Sight → Type 0 = λ seen. Serving received begin seen service.seat.unread (all_handed told) in
+    record {
+      serves = record {
+        conn_is = handed.0;
+        serving = subst P (sym same) handed.1;
+        grown = omega (arith, grown, more);
+        moments = serves.moments;
+        unbroken = serves.unbroken;
+        counted = serves.counted;
+      };
+      stops = stops_along service.stop told told.out told.lent told.accepted (length (all_texts told)) stopped.stops;
+    }
+
+-- With the replies handed out and nothing read or taken it is served on.
+pub serves_handed : (received : ℕ → List Shown) (may_answer : ℕ → Type 0) (begin now : Sight) (told : Told) (service : Service) → HasStopped received may_answer begin now (all_handed told) service → ServesOn received may_answer begin now told service
+serves_handed received may_answer begin now told service stopped =
+    record { fed = told.fed; ended = told.ended; handed = length (all_texts told); taken = told.taken; more = []; taken_is = sym (append-nil told.taken); stopped = stopped }
+
+-- what is known of a line that took all replies
+pub record IsWritten (received : ℕ → List Shown) (begin now : Sight) (told : Told) (service : Service) : Type 0 where
+  pub serving : Serving received begin now service.seat.unread (all_handed told)
+  pub stops : StopsAt service.stop told
+
+-- Where none waits the line took all replies.
+pub written : (received : ℕ → List Shown) (may_answer : ℕ → Type 0) (begin now : Sight) (told : Told) (service : Service) → text_in service.unwritten ≡ [] → HasStopped received may_answer begin now (all_handed told) service → IsWritten received begin now told service
+written received may_answer begin now told service none stopped =
+    let P : Sight → Type 0 = λ seen. Serving received begin seen service.seat.unread (all_handed told) in
+    record {
+      serving = subst P (nothing_waits (text_in service.unwritten) now none) stopped.serves.serving;
+      stops = stops_along service.stop (all_handed told) told.out told.lent told.accepted told.handed stopped.stops;
+    }
+
+-- The line was read, or asked in vain: it is served as before, and commands may be taken.
+pub serving_read : (received : ℕ → List Shown) (may_answer : ℕ → Type 0) (begin before now : Sight) (told : Told) (service : Service) (conn : Conn) (seat : Seat) → text_in service.unwritten ≡ [] → HasStopped received may_answer begin before (all_handed told) service →
+    (goes : GoesOn received begin now told conn seat.unread) → IsServing received may_answer begin now (record (all_handed told) { fed = goes.fed; ended = goes.ended }) (record service { conn = conn; seat = seat })
+serving_read received may_answer begin before now told service conn seat none stopped goes =
+    let P : Sight → Type 0 = λ seen. Serving received begin seen seat.unread (record (all_handed told) { fed = goes.fed; ended = goes.ended }) in
+    record {
+      conn_is = goes.conn_is;
+      serving = subst P (sym (nothing_waits (text_in service.unwritten) now none)) goes.serving;
+      grown = grown_since begin now _ goes.serving.taken_is;
+      moments = stopped.serves.moments;
+      unbroken = stopped.serves.unbroken;
+      counted = stopped.serves.counted;
+    }
+
+-- And commands were taken, as far as there are any.
+pub serves_read : (received : ℕ → List Shown) (may_answer : ℕ → Type 0) (begin now : Sight) (told : Told) (fed : List ℕ) (ended : Bool) (service : Service) → ServesOn received may_answer begin now (record (all_handed told) { fed = fed; ended = ended }) service → ServesOn received may_answer begin now told service
+serves_read received may_answer begin now told fed ended service on =
+    record { fed = on.fed; ended = on.ended; handed = on.handed; taken = on.taken; more = on.more; taken_is = on.taken_is; stopped = on.stopped }
