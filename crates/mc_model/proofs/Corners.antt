@@ -14,10 +14,10 @@ use Rattle.mc_model.specs.World.{IsAt, Link, World, empty_world, new_link, ran, 
 use Rattle.mc_model.specs.Rest.{IsAllTaken, IsClosed, IsUsedUp, MayRenew}
 use Rattle.mc_model.specs.Events.{Allows, Event, MayFeed}
 use Rattle.mc_model.specs.Events.Event.{Open, Feed, Take, Send, Pop, Give, Receive, Hand, End, Break}
-use Rattle.mc_model.specs.Schedule.{Happens}
+use Rattle.mc_model.specs.Schedule.{Happens, Spared}
 use Rattle.mc_model.specs.declared.event.StepReply.TheVariants.{Done, Idle, NoMemory}
 use Rattle.mc_model.specs.Headline.{handed_bytes}
-use Rattle.mc_model.proofs.Rows.{alone, at_alone, begins, broken, come, ended, entry, fed, flush, given, handed, line, one, one_each, received, sent, spells_flush, taken}
+use Rattle.mc_model.proofs.Rows.{alone, at_alone, begins, broken, come, ended, entry, fed, flush, given, handed, line, one, one_each, piece, received, sent, spells_flush, taken}
 
 -- What is idle
 
@@ -126,6 +126,35 @@ are_idle = record {
   all_handed = idle_alone one_each (entry ∷ []) handed (Hand 0) (λ k link may. may.0.here) (λ may. let bad : 1 < 1 = may.1 in absurd (omega (arith, bad)));
   ended_twice = idle_alone one_each (entry ∷ []) ended (End 0) (λ k link may. may.0.here) (λ may. let bad : true ≡ false = may.1 in absurd cc);
   broken_twice = idle_alone one_each [] broken (Break 0) (λ k link may. may.0.here) (λ may. let bad : true ≡ false = may.1 in absurd cc);
+}
+
+-- What is never idle
+
+-- An event that is allowed for a connection, and isn't spared, is not idle.
+not_idle : (sizes : Sizes) (w w' : World) (event : Event) (k : ℕ) (link : Link) → Allows sizes w event k link → (Spared sizes w event → ⊥) → ¬ Happens sizes w event Idle w'
+not_idle sizes w w' event k link may unspared idles = elim idles.0 [
+  | inl never ↦ never (k, link, may)
+  | inr spared ↦ unspared spared
+]
+
+record AreNeverIdle : Type 0 where
+  -- What the server does by itself is done where it can be.
+  next_taken : ¬ Happens one_each (alone [] fed) (Take 0 1000) Idle (alone [] fed)
+  piece_sent : ¬ Happens one_each (alone [] taken) (Send 0) Idle (alone [] taken)
+  piece_run : ¬ Happens one_each (alone [] sent) (Pop 0 0) Idle (alone [] sent)
+  answer_given : ¬ Happens one_each (alone (entry ∷ []) sent) (Give 0) Idle (alone (entry ∷ []) sent)
+  answer_received : ¬ Happens one_each (alone (entry ∷ []) given) (Receive 0 0) Idle (alone (entry ∷ []) given)
+  reply_handed : ¬ Happens one_each (alone (entry ∷ []) received) (Hand 0) Idle (alone (entry ∷ []) received)
+
+are_never_idle : AreNeverIdle
+unfolding pieces_of
+are_never_idle = record {
+  next_taken = not_idle one_each (alone [] fed) (alone [] fed) (Take 0 1000) 0 fed (at_alone [] fed refl, (flush, begins), lit< tt, refl) (λ spared. spared);
+  piece_sent = not_idle one_each (alone [] taken) (alone [] taken) (Send 0) 0 taken (at_alone [] taken refl, record { piece = (0, piece); next = refl; room = lit< tt }) (λ spared. spared);
+  piece_run = not_idle one_each (alone [] sent) (alone [] sent) (Pop 0 0) 0 sent (at_alone [] sent refl, λ k link here. omega arith, lit< tt) (λ spared. spared);
+  answer_given = not_idle one_each (alone (entry ∷ []) sent) (alone (entry ∷ []) sent) (Give 0) 0 sent (refl, lit< tt, lit< tt) (λ spared. spared);
+  answer_received = not_idle one_each (alone (entry ∷ []) given) (alone (entry ∷ []) given) (Receive 0 0) 0 given (at_alone (entry ∷ []) given refl, lit< tt) (λ spared. spared);
+  reply_handed = not_idle one_each (alone (entry ∷ []) received) (alone (entry ∷ []) received) (Hand 0) 0 received (at_alone (entry ∷ []) received refl, lit< tt, come, refl) (λ spared. spared);
 }
 
 -- What lacks memory

@@ -53,6 +53,7 @@ flush = command.FlushAll (pos 0) false
 abbrev pub one : Taken
 one = record { entry = flush; moment = 1000; given_up = false }
 
+-- its one piece: the shard is asked to empty itself
 abbrev pub piece : Piece
 piece = record { ticket = ticket_at 0; part = 0; op = op.Flush (pos 0); moment = 1000 }
 

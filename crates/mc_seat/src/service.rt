@@ -70,6 +70,7 @@ impl Service {
         ensures { IfOk result
             (λ service. IsNew sizes.shards (rules_of sizes) sizes.window service) }
     {
+        let unwritten = Unwritten::with_room(alloc)?;
         let Ok(conn) = Conn::under(alloc, sizes.shards, sizes.rules(), sizes.window) else {
             return Err(AllocError);
         };
@@ -77,7 +78,7 @@ impl Service {
             alloc,
             conn,
             seat: Seat::new(alloc),
-            unwritten: Unwritten::new(alloc),
+            unwritten,
             commands: 0,
             stop: Taken::NeedMore,
         })

@@ -19,6 +19,9 @@ const KEPT_TEXT: usize = 16_384;
 /// The same of the places for what is written later, in chunks.
 const KEPT_CHUNKS: usize = 64;
 
+/// The room, in bytes, that is there for a line's replies from the beginning.
+const FIRST_ROOM: usize = 1_024;
+
 /// Bytes that lie together.
 #[derive(Drop)]
 pub enum Chunk {
@@ -71,6 +74,15 @@ impl Unwritten {
             tail: Vec::new(alloc),
             refused: false,
         }
+    }
+
+    /// The same, with room for small replies, so that they want no memory when they come.
+    pub fn with_room(alloc: Global) -> Result<Unwritten, AllocError>
+        ensures { IfOk result (λ unwritten. text_in unwritten ≡ []) }
+    {
+        let mut unwritten = Unwritten::new(alloc);
+        unwritten.tail = Vec::with_capacity(alloc, FIRST_ROOM)?;
+        Ok(unwritten)
     }
 
     /// Lets all replies go, and their memory.
