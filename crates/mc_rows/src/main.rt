@@ -25,6 +25,9 @@ use std::{fs, io};
 /// Bytes a read, enough that nothing of a row's small parts is cut.
 const WHOLE: usize = 65_536;
 
+/// A value of at least this many bytes is shared, not copied, while it waits for its line.
+const SHARED: usize = 1_024;
+
 /// No read or write fails.
 const NEVER: usize = usize::MAX;
 
@@ -124,9 +127,11 @@ fn is_right_whole<R: Wait + RandomSource>(rt: &R, alloc: Global, row: &Row) -> b
     let Some(served) = served(rt, alloc, row, WIDE, &mut line) else {
         return false;
     };
-    // One read of the input, one of its end, and one write.
+    // One read of the input, one of its end, and one write. A value of 1 KiB or more isn't copied to the text before it: it takes
+    // a write of its own, and so does what comes behind it.
     let is_short = row.input.len() <= WHOLE && row.output.len() <= 16_384;
-    let few = !is_short || line.calls() <= 3;
+    let shared = row.output.len() / SHARED;
+    let few = !is_short || line.calls() <= shared.saturating_mul(2).saturating_add(3);
     !served.broke && few && line.output() == row.output.as_slice()
 }
 
