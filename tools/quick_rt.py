@@ -9,27 +9,36 @@ built and kept is as `rt` leaves it; but with --unkept the prover keeps nothing 
 Then several processes share what one of them has read of the crates below. Where it keeps what it does, each reads that again.
 """
 import functools
+import importlib.machinery
 import os
 import runpy
 import shutil
 import sys
 
 RT = os.path.realpath(shutil.which("rt"))
-sys.path.insert(0, os.path.dirname(RT))
-import rtlib  # noqa: E402 (the kit's module lies beside its `rt`)
-
-# A kit without it runs as it is.
-if hasattr(rtlib.Crate, "stamp"):
-    rtlib.Crate.stamp = functools.cache(rtlib.Crate.stamp)
+IS_UNKEPT = sys.argv[1:2] == ["--unkept"]
 
 
-def unkept(call):
+def unkept(call, kept):
     """`rattle` called as `call` does, without a folder for what it has checked."""
-    return lambda crate, *words: call(crate, *[it for it in words if it not in rtlib.KEPT])
+    return lambda crate, *words: call(crate, *[it for it in words if it not in kept])
 
 
-if sys.argv[1:2] == ["--unkept"]:
+class Loader(importlib.machinery.SourceFileLoader):
+    """Loads the kit's modules as they are, but for the crate of `rtlib`. A kit whose crate has no such method runs as it is."""
+
+    def exec_module(self, module):
+        super().exec_module(module)
+        crate = getattr(module, "Crate", None)
+        if hasattr(crate, "stamp"):
+            crate.stamp = functools.cache(crate.stamp)
+        if IS_UNKEPT and hasattr(crate, "call"):
+            crate.call = unkept(crate.call, module.KEPT)
+
+
+# `rt` loads `rtlib`, which lies beside it, by this loader.
+importlib.machinery.SourceFileLoader = Loader
+if IS_UNKEPT:
     del sys.argv[1]
-    rtlib.Crate.call = unkept(rtlib.Crate.call)
 sys.argv[0] = RT
 runpy.run_path(RT, run_name="__main__")

@@ -130,7 +130,7 @@ fn is_right_whole<R: Wait + RandomSource>(rt: &R, alloc: Global, row: &Row) -> b
     // One read of the input, one of its end, and one write. A value of 1 KiB or more isn't copied to the text before it: it takes
     // a write of its own, and so does what comes behind it.
     let is_short = row.input.len() <= WHOLE && row.output.len() <= 16_384;
-    let shared = row.output.len() / SHARED;
+    let shared = row.values_longer_than(SHARED - 1);
     let few = !is_short || line.calls() <= shared.saturating_mul(2).saturating_add(3);
     !served.broke && few && line.output() == row.output.as_slice()
 }

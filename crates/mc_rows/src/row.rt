@@ -53,6 +53,21 @@ impl Row {
             output: unescape(alloc, output)?,
         }))
     }
+
+    /// How many values of more than so many bytes the output shows, where these are more than a reply's own words have: a value
+    /// stands on a line of its own, which ends by two bytes. One that holds such an end itself may not be counted.
+    pub fn values_longer_than(&self, bytes: usize) -> usize {
+        let mut values = 0usize;
+        let mut behind_end = 0usize;
+        for byte in self.output.iter() {
+            behind_end = if *byte == b'\n' { 0 } else { behind_end.saturating_add(1) };
+            // The first of the two bytes stands behind the value.
+            if behind_end == bytes.saturating_add(2) {
+                values = values.saturating_add(1);
+            }
+        }
+        values
+    }
 }
 
 /// What stands before the first tab, and what stands behind it.

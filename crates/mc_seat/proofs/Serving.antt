@@ -155,6 +155,16 @@ handed_out received may_answer begin now told service conn count waits was is ou
     let waited = text_in service.unwritten in
     hands received begin (took waited now) (took waits now) service.seat.unread told service.conn conn count stopped.serves.conn_is (hands_waiting told count conn waited waits was is now out) stopped.serves.serving
 
+-- What waits, waits in another room.
+pub stops_in : (received : ℕ → List Shown) (may_answer : ℕ → Type 0) (begin now : Sight) (told : Told) (service : Service) (other : Unwritten) → text_in other ≡ text_in service.unwritten → HasStopped received may_answer begin now told service → HasStopped received may_answer begin now told (record service { unwritten = other })
+stops_in received may_answer begin now told service other same stopped =
+    let serves = stopped.serves in
+    let P : List ℕ → Type 0 = λ waits. Serving received begin (took waits now) service.seat.unread told in
+    record {
+      serves = record { conn_is = serves.conn_is; serving = subst P (sym same) serves.serving; grown = serves.grown; moments = serves.moments; unbroken = serves.unbroken; counted = serves.counted };
+      stops = stopped.stops;
+    }
+
 -- And the line took some of them: it is as if it took the rest.
 pub stops_flushed : (received : ℕ → List Shown) (may_answer : ℕ → Type 0) (begin old now : Sight) (told : Told) (service : Service) (conn : Conn) (waits : List ℕ) (left : Unwritten) → IsConn conn (all_handed told) × Serving received begin (took waits old) service.seat.unread (all_handed told) → took (text_in left) now ≡ took waits old → HasGrown old now
     → HasStopped received may_answer begin old told service → HasStopped received may_answer begin now (all_handed told) (record service { conn = conn; unwritten = left })

@@ -1,17 +1,21 @@
-//! The rooms into which the lines of one thread are read.
-ghost use Rattle.std.specs.Prelude.{◌<◌, IfOk, length};
+//! The rooms that the lines of one thread are read into, and the one that their replies are gathered in.
+ghost use Rattle.std.specs.Prelude.{◌≡◌, ◌<◌, [], IfOk, length};
 
 use std::alloc::{AllocError, Global};
+use std::mem;
 
 /// At most this many bytes are read at once.
 const ROOM: usize = 65_536;
 
-/// Rooms that bytes are read into. A seat takes one to read, and gives it back once the bytes were fed: so a line that gives
-/// nothing holds none, and a thread needs few.
+/// Rooms that bytes are read into, and one that replies are gathered in. A seat takes one to read, and gives it back once the
+/// bytes were fed; a line has the one for replies until it took them all. So a line that waits for its client holds none, and a
+/// thread needs few.
 #[derive(Drop)]
 pub struct Rooms {
     alloc: Global,
     spare: Vec<Vec<u8>>,
+    replies: Vec<u8>,
+    ghost empty: { replies.items ≡ [] },
 }
 
 impl Rooms {
@@ -20,7 +24,11 @@ impl Rooms {
         let room = vec![in alloc; 0; ROOM]?;
         let mut spare = Vec::with_capacity(alloc, 1)?;
         spare.push(room)?;
-        Ok(Rooms { alloc, spare })
+        Ok(Rooms {
+            alloc,
+            spare,
+            replies: Vec::new(alloc),
+        })
     }
 
     /// A room: a spare one, or a new one.
@@ -36,5 +44,18 @@ impl Rooms {
     /// Keeps a room that isn't used any more. Where memory is refused it is let go.
     pub(crate) fn keep(&mut self, room: Vec<u8>) {
         let _ = self.spare.push(room);
+    }
+
+    /// How many bytes the room for replies has.
+    pub(crate) fn reply_bytes(&self) -> usize {
+        self.replies.capacity()
+    }
+
+    /// Gives the room for replies, and keeps this one in its place.
+    pub(crate) fn exchange(&mut self, room: &mut Vec<u8>)
+        requires { room.old.items ≡ [] }
+        ensures { room.new.items ≡ [] }
+    {
+        mem::swap(&mut self.replies, room);
     }
 }

@@ -112,12 +112,16 @@ impl Service {
         ensures { GoOnSays result (K.may_answer clock.now) self.old (L.sight line.old) self.new
             (L.sight line.new) }
     {
+        self.unwritten.borrow_room(rooms);
         if let Err(_refused) = self.conn.hand(&mut self.unwritten) {
             line.give_up();
             return self.ended(true);
         }
         match self.unwritten.flush(line) {
-            Ok(true) => self.go_on_reading(line, clock, rooms),
+            Ok(true) => {
+                self.unwritten.return_room(rooms);
+                self.go_on_reading(line, clock, rooms)
+            }
             Ok(false) => Stepped::Waits,
             Err(_fault) => {
                 self.conn.broken();

@@ -6,6 +6,7 @@ ghost use Rattle.mc_seat.specs.Lines.{HasGrown};
 ghost use Rattle.mc_seat.specs.Chunks.{bytes_of};
 
 use crate::lines::Line;
+use crate::rooms::Rooms;
 use mc_wire::{OutFault, Outlet};
 use std::alloc::{AllocError, Global};
 use std::collections::VecDeque;
@@ -13,14 +14,15 @@ use std::io::IoSlice;
 use std::mem;
 use std::sync::ArcSlice;
 
-/// The most bytes of a room of text that is kept, once all is written, for the replies to come; a larger one is given back.
-const KEPT_TEXT: usize = 16_384;
+/// The most bytes of a room of text that a thread keeps for the replies to come; a larger one is let go. It holds the replies to a
+/// full window of commands, but for those that are longer than most.
+const KEPT_TEXT: usize = 262_144;
 
 /// The same of the places for what is written later, in chunks.
 const KEPT_CHUNKS: usize = 64;
 
-/// The room, in bytes, that is there for a line's replies from the beginning.
-const FIRST_ROOM: usize = 1_024;
+/// The room, in bytes, that is there for a line's replies from the beginning, and the most that it keeps while nothing waits.
+const OWN_ROOM: usize = 1_024;
 
 /// Bytes that lie together.
 #[derive(Drop)]
@@ -81,7 +83,7 @@ impl Unwritten {
         ensures { IfOk result (λ unwritten. text_in unwritten ≡ []) }
     {
         let mut unwritten = Unwritten::new(alloc);
-        unwritten.tail = Vec::with_capacity(alloc, FIRST_ROOM)?;
+        unwritten.tail = Vec::with_capacity(alloc, OWN_ROOM)?;
         Ok(unwritten)
     }
 
@@ -89,11 +91,31 @@ impl Unwritten {
     pub fn clear(&mut self)
         ensures { text_in self.new ≡ [] }
     {
-        self.front = Chunk::Text(Vec::new(self.alloc));
-        self.sent = 0;
-        self.later = VecDeque::new(self.alloc);
-        self.tail = Vec::new(self.alloc);
-        self.refused = false;
+        *self = Unwritten::new(self.alloc);
+    }
+
+    /// Has the thread's room for the replies to come, where it is larger than its own.
+    pub fn borrow_room(&mut self, rooms: &mut Rooms)
+        ensures { text_in self.new ≡ text_in self.old }
+    {
+        if self.tail.is_empty() && self.tail.capacity() < rooms.reply_bytes() {
+            rooms.exchange(&mut self.tail);
+        }
+    }
+
+    /// Gives the thread its room again, once all is written, or another one that is larger than the thread's: so a line at rest
+    /// has a small one.
+    pub fn return_room(&mut self, rooms: &mut Rooms)
+        ensures { text_in self.new ≡ text_in self.old }
+    {
+        if !self.tail.is_empty() || self.tail.capacity() <= OWN_ROOM {
+            return;
+        }
+        if self.tail.capacity() > rooms.reply_bytes() {
+            rooms.exchange(&mut self.tail);
+        } else {
+            self.tail = Vec::new(self.alloc);
+        }
     }
 
     /// What is left of the front.
@@ -165,8 +187,8 @@ impl Unwritten {
         self.sent = 0;
     }
 
-    /// All is written: the front is let go, so that a line at rest keeps no share of a value and no large text. A small room of
-    /// text becomes the tail's, for the next replies.
+    /// All is written: the front is let go, so that a line at rest keeps no share of a value. Its room of text becomes the tail's,
+    /// for the next replies, where it is the larger one and not too large to be kept.
     fn let_go(&mut self)
         requires { (self.old.later.items ≡ []) × (self.old.tail.items ≡ []) }
         ensures { text_in self.new ≡ [] }
@@ -212,7 +234,7 @@ impl Unwritten {
     }
 
     /// Writes to the line what it takes without waiting, and tells whether that was all. At a fault the rest waits still. Once
-    /// all is written, it keeps no memory but a small room for the next replies.
+    /// all is written, it keeps no memory but a room for the next replies.
     pub fn flush<L: Line>(&mut self, line: &mut L) -> Result<bool, OutFault>
         ensures out { IfOk result (λ out. IsTrue out → text_in self.new ≡ []) }
         ensures ok { IfOk result (λ _.
