@@ -2,6 +2,7 @@
 use Rattle.std.specs.Prelude.{ℕ, ◌≡◌, Bool, false, [], ◌∷◌, Option, Some, None}
 use Rattle.mc_wire.specs.Outlet.{Sight}
 use Rattle.mc_seat.specs.Explains.{LineTold}
+use Rattle.mc_doors.specs.declared.one_door.OneDoor.{OneDoor}
 use Rattle.mc_doors.specs.declared.one_door.Returned.{Returned}
 use Rattle.std.specs.declared.snapshot.Snapshot.{Snapshot}
 use Rattle.mc_doors.specs.Told.{DoorTold, TellsLines}
@@ -20,6 +21,10 @@ told_one sight line out (Some one) over = served (record { begin = sight one.beg
 told_one sight line (Some begin) None over = TellsLines (Some []) (Some (sight begin.value)) [] over
 told_one sight (Some line) None None over = TellsLines (Some (sight line ∷ [])) None [] over
 told_one sight None None None over = TellsLines (Some []) None [] over
+
+-- The same, of the door as it is, whose lines are seen so.
+abbrev pub told_of : {L : Type 0} → (L → Sight) → OneDoor L → DoorTold
+told_of sight door = told_one sight door.waits door.out door.back door.over
 
 -- The line was served and came back like this.
 abbrev pub IsBack : DoorTold → Sight → ℕ → Bool → Type 0

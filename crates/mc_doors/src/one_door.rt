@@ -1,6 +1,6 @@
 //! A door over memory that lets in one line, and keeps it once it was served.
 ghost use Rattle.std.specs.Prelude.{◌≡◌, IfSome};
-ghost use Rattle.mc_doors.specs.One.{IsBack, told_one, waits};
+ghost use Rattle.mc_doors.specs.One.{IsBack, told_of, waits};
 
 use crate::door::{Arrival, Door};
 use mc_seat::Line;
@@ -46,7 +46,7 @@ pub struct OneDoor<L> {
 impl<L: Line + Drop> OneDoor<L> {
     /// The line comes in by it.
     pub fn new(line: L) -> OneDoor<L>
-        ensures { told_one (λ line. L.sight line) result.waits result.out result.back result.over ≡
+        ensures { told_of (λ line. L.sight line) result ≡
             waits (L.sight line) }
     {
         OneDoor {
@@ -60,7 +60,7 @@ impl<L: Line + Drop> OneDoor<L> {
     /// The line, if it was served.
     pub fn served(self) -> Option<ServedLine<L>>
         ensures { IfSome result (λ one.
-            IsBack (told_one (λ line. L.sight line) self.waits self.out self.back self.over)
+            IsBack (told_of (λ line. L.sight line) self)
             (L.sight one.line) one.commands one.broke) }
     {
         let OneDoor { back, .. } = self;
@@ -75,7 +75,7 @@ impl<L: Line + Drop> Door for OneDoor<L> {
     type Line = L;
 
     ghost told = { λ door.
-        told_one (λ line. L.sight line) door.waits door.out door.back door.over };
+        told_of (λ line. L.sight line) door };
 
     fn accept(&mut self) -> Arrival<L> {
         if self.back.is_some() || self.out.is_some() {

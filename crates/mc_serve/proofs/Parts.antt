@@ -24,13 +24,14 @@ use Rattle.mc_serve.proofs.Steps.{can_step, sits_first}
 use Rattle.mc_serve.proofs.Zipped.{met_at, zips_append, zips_each, zips_set}
 use Rattle.mc_serve.proofs.AtDoors.{AreJoined}
 use Rattle.mc_command.specs.declared.rules.Rules.{Rules}
+use Rattle.mc_threads.specs.Session.{seat_ends}
 
 -- A seat stands, and how it is seen: by what is told of its door, its session and its phase.
 abbrev pub Stands : {S L : Type 0} → (L → Sight) → (S → DoorTold) → (S → Session) → (S → Phase L) → ℕ → Rules → (ℕ → Type 0) → SeatAt → S → Type 0
 Stands sight told session now shards rules may_answer sat one = SeatStands sight shards rules may_answer sat (told one) (session one) (now one)
 
 abbrev pub at : {S : Type 0} → (S → DoorTold) → (S → Session) → S → SeatAt
-at told session one = seat_at (told one) (session one).courier.ends
+at told session one = seat_at (told one) (seat_ends (session one))
 
 -- The seats of a thread have sat down, so they stand as they began.
 pub seats_begin : {S L : Type 0} (seats : List S) (sight : L → Sight) (told : S → DoorTold) (session : S → Session) (now : S → Phase L) (shards : ℕ) (rules : Rules) (may_answer : ℕ → Type 0)

@@ -14,7 +14,7 @@ use Rattle.mc_threads.specs.declared.session.Session.{Session}
 use Rattle.mc_threads.specs.Serving.{EndsAll, IsIdle}
 use Rattle.mc_threads.specs.Ending.{EndsFirst, EndsOne, StandsStill}
 use Rattle.mc_threads.specs.Service.{WasServedBy}
-use Rattle.mc_threads.specs.Session.{HasServed, IsServingLine, IsVacant, MayStep}
+use Rattle.mc_threads.specs.Session.{HasServed, IsServingLine, IsVacant, MayStep, seat_ends}
 use Rattle.mc_threads.proofs.Ending.{ends_all, ends_next, ends_none, ends_still}
 use Rattle.mc_threads.proofs.Sessions.{SomeAnd, may_serve, some_and}
 use Rattle.mc_doors.specs.Told.{DoorTold, IsDone, IsFree, IsNext, closed, let_in, took_back}
@@ -26,7 +26,7 @@ use Rattle.mc_command.specs.declared.rules.Rules.{Rules}
 
 module _ (shards : ℕ) (rules : Rules) (may_answer : ℕ → Type 0) where
   -- A seat that has just sat down.
-  pub sits_first : (door : DoorTold) (session : Session) (window : ℕ) → IsFree door → length session.courier.ends.lanes ≡ shards → IsVacant rules window session → SitsFree shards rules may_answer (seat_at door session.courier.ends) door session
+  pub sits_first : (door : DoorTold) (session : Session) (window : ℕ) → IsFree door → length (seat_ends session).lanes ≡ shards → IsVacant rules window session → SitsFree shards rules may_answer (seat_at door (seat_ends session)) door session
   sits_first door session window free width vacant = record { free = free; lines = []; passed = passes_none door; lines_are = refl; width = width; window = window; vacant = vacant }
 
   -- The door had no line.
@@ -39,17 +39,17 @@ module _ (shards : ℕ) (rules : Rules) (may_answer : ℕ → Type 0) where
 
   -- The line that came in begins to be served.
   pub begins : (sat : SeatAt) (door : DoorTold) (begin : Sight) (session session' : Session)
-      → ((rules : Rules) (window : ℕ) (line : Sight) → IsVacant rules window session → IsServingLine (length session.courier.ends.lanes) rules may_answer line line session.courier.ends session')
+      → ((rules : Rules) (window : ℕ) (line : Sight) → IsVacant rules window session → IsServingLine (length (seat_ends session).lanes) rules may_answer line line (seat_ends session) session')
       → SitsBeginning shards rules may_answer sat door begin session → SitsServing shards rules may_answer sat door begin session'
   begins sat door begin session session' serves came =
       let sits = came.sits in
-      let S : ℕ → Type 0 = λ n. IsServingLine n rules may_answer begin begin session.courier.ends session' in
+      let S : ℕ → Type 0 = λ n. IsServingLine n rules may_answer begin begin (seat_ends session) session' in
       record {
         free = sits.free;
         lines = sits.lines;
         before = came.before;
         begin = begin;
-        ends = session.courier.ends;
+        ends = seat_ends session;
         passed = sits.passed;
         next = came.next;
         came = came.came;
@@ -63,11 +63,11 @@ module _ (shards : ℕ) (rules : Rules) (may_answer : ℕ → Type 0) where
   still_begins sat door begin session session' same came = let S : Session → Type 0 = λ s. SitsBeginning shards rules may_answer sat door begin s in subst S (sym same) came
 
   -- No line comes any more.
-  pub comes_none : (sat : SeatAt) (door door' : DoorTold) (session : Session) → door' ≡ closed door → IsDone door → SitsFree shards rules may_answer sat door session → SitsClosing shards rules may_answer 0 sat door' session.courier.ends
+  pub comes_none : (sat : SeatAt) (door door' : DoorTold) (session : Session) → door' ≡ closed door → IsDone door → SitsFree shards rules may_answer sat door session → SitsClosing shards rules may_answer 0 sat door' (seat_ends session)
   comes_none sat door door' session now done sits = record {
-    served = session.courier.ends;
+    served = seat_ends session;
     serves = record { lines = sits.lines; passed = door; door = sits.passed; lines_are = sits.lines_are; over = λ fits. record { done = done; now = now } };
-    closed = ends_none session.courier.ends;
+    closed = ends_none (seat_ends session);
   }
 
   -- The line that is out was served a step further.
@@ -111,8 +111,8 @@ module _ (shards : ℕ) (rules : Rules) (may_answer : ℕ → Type 0) where
   -- what renewing a session does
   pub record Renews (another : Bool) (old new : Session) : Type 0 where
     pub when : (service : Service) (told : Told) → old.service ≡ Some service → IsConn service.conn told → IsTrue another ↔ (IsAtRest told × IsOver told)
-    pub vacant : IsTrue another → (service : Service) (told : Told) → old.service ≡ Some service → IsConn service.conn told → told.shards ≡ length old.courier.ends.lanes → IsIdle old.courier.under_way.items → IsVacant told.rules told.window new
-    pub ends : new.courier.ends ≡ old.courier.ends
+    pub vacant : IsTrue another → (service : Service) (told : Told) → old.service ≡ Some service → IsConn service.conn told → told.shards ≡ length (seat_ends old).lanes → IsIdle old.courier.under_way.items → IsVacant told.rules told.window new
+    pub ends : seat_ends new ≡ seat_ends old
 
   -- The line that was out was served and went back, and the session was renewed, or can't be.
   module _ (sat : SeatAt) (door door' : DoorTold) (now now' : Sight) (commands : ℕ) (broke another : Bool) (session session' last : Session)
@@ -125,14 +125,14 @@ module _ (shards : ℕ) (rules : Rules) (may_answer : ℕ → Type 0) where
     abbrev line : LineTold
     line = record { begin = sits.begin; now = now'; commands = commands; broke = broke }
 
-    abbrev this : ServesDoorLine shards rules may_answer line sits.ends last.courier.ends
-    this = record { conn = by.some.conn; served = renewed sits.begin now' sits.ends session'.courier.ends last.courier.ends by.some.conn commands broke renews.ends by.holds.served }
+    abbrev this : ServesDoorLine shards rules may_answer line sits.ends (seat_ends last)
+    this = record { conn = by.some.conn; served = renewed sits.begin now' sits.ends (seat_ends session') (seat_ends last) by.some.conn commands broke renews.ends by.holds.served }
 
-    abbrev more : OneMore shards rules may_answer sat (seat_at door' last.courier.ends) another
-    more = one_more shards rules may_answer sat (seat_at door' last.courier.ends) sits.lines line sits.before door sits.ends another sits.free sits.passed sits.next sits.came back sits.lines_are this
+    abbrev more : OneMore shards rules may_answer sat (seat_at door' (seat_ends last)) another
+    more = one_more shards rules may_answer sat (seat_at door' (seat_ends last)) sits.lines line sits.before door sits.ends another sits.free sits.passed sits.next sits.came back sits.lines_are this
         (λ stopped fits. (let served = by.holds.served in let again : IsTrue another = (renews.when by.some served.told by.is served.conn_is).1 (served.rest fits, served.over) in absurd (cc)))
 
-    wide : length session'.courier.ends.lanes ≡ shards
+    wide : length (seat_ends session').lanes ≡ shards
     wide = by.holds.served.exchanges.same.count ∙ sits.width
 
     -- Where the door lets in more, the seat is free for its next line.
@@ -151,17 +151,17 @@ module _ (shards : ℕ) (rules : Rules) (may_answer : ℕ → Type 0) where
         }
 
     -- Where the door lets in no more, the seat begins to close its lanes.
-    pub serves_no_more : another ≡ false → SitsClosing shards rules may_answer 0 sat door' last.courier.ends
+    pub serves_no_more : another ≡ false → SitsClosing shards rules may_answer 0 sat door' (seat_ends last)
     serves_no_more is = record {
-      served = last.courier.ends;
+      served = seat_ends last;
       serves = record { lines = more.lines; passed = door'; door = more.door; lines_are = more.lines_are; over = λ fits. absurd (more.stops is fits) };
-      closed = ends_none last.courier.ends;
+      closed = ends_none (seat_ends last);
     }
 
   -- One lane more was closed.
   pub closes_on : {L : Type 0} (sight : L → Sight) (sat : SeatAt) (count : ℕ) (door : DoorTold) (old new : Session) (now : Phase L)
-      → ((served : Ends Near) → EndsFirst count served old.courier.ends → ClosesOn served now new.courier.ends)
-      → SitsClosing shards rules may_answer count sat door old.courier.ends → SeatStands sight shards rules may_answer sat door new now
+      → ((served : Ends Near) → EndsFirst count served (seat_ends old) → ClosesOn served now (seat_ends new))
+      → SitsClosing shards rules may_answer count sat door (seat_ends old) → SeatStands sight shards rules may_answer sat door new now
   closes_on sight sat count door old new phase.Free closes sits = absurd (closes sits.served sits.closed)
   closes_on sight sat count door old new (phase.Came line) closes sits = absurd (closes sits.served sits.closed)
   closes_on sight sat count door old new (phase.Serving line) closes sits = absurd (closes sits.served sits.closed)

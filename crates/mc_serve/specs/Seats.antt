@@ -9,7 +9,7 @@ use Rattle.mc_seat.specs.LineServed.{LineServed}
 use Rattle.mc_seat.specs.Explains.{LineTold}
 use Rattle.mc_threads.specs.Ending.{EndsFirst}
 use Rattle.mc_threads.specs.Serving.{EndsAll}
-use Rattle.mc_threads.specs.Session.{IsServingLine, IsVacant, MayStep}
+use Rattle.mc_threads.specs.Session.{IsServingLine, IsVacant, MayStep, seat_ends}
 use Rattle.mc_threads.specs.declared.session.Session.{Session}
 use Rattle.mc_doors.specs.Told.{DoorTold, IsDone, IsFree, IsNext, Passes, closed, let_in}
 use Rattle.mc_serve.specs.declared.sitting.Phase.{Phase}
@@ -72,8 +72,8 @@ pub record SitsFree (shards : ℕ) (rules : Rules) (may_answer : ℕ → Type 0)
   pub free : IsFree sat.door
   pub lines : List LineTold
   pub passed : Passes sat.door lines door
-  pub lines_are : ServesLines shards rules may_answer lines sat.ends session.courier.ends
-  pub width : length session.courier.ends.lanes ≡ shards
+  pub lines_are : ServesLines shards rules may_answer lines sat.ends (seat_ends session)
+  pub width : length (seat_ends session).lanes ≡ shards
   pub window : ℕ
   pub vacant : IsVacant rules window session
 
@@ -111,14 +111,14 @@ abbrev pub SeatStands : {L : Type 0} → (L → Sight) → ℕ → Rules → (�
 SeatStands sight shards rules may_answer sat door session phase.Free = SitsFree shards rules may_answer sat door session
 SeatStands sight shards rules may_answer sat door session (phase.Came line) = SitsBeginning shards rules may_answer sat door (sight line) session
 SeatStands sight shards rules may_answer sat door session (phase.Serving line) = SitsServing shards rules may_answer sat door (sight line) session
-SeatStands sight shards rules may_answer sat door session (phase.Closing count) = SitsClosing shards rules may_answer count sat door session.courier.ends
-SeatStands sight shards rules may_answer sat door session phase.Over = SeatServes shards rules may_answer sat (seat_at door session.courier.ends)
+SeatStands sight shards rules may_answer sat door session (phase.Closing count) = SitsClosing shards rules may_answer count sat door (seat_ends session)
+SeatStands sight shards rules may_answer sat door session phase.Over = SeatServes shards rules may_answer sat (seat_at door (seat_ends session))
 
 -- A seat before its first step.
 pub record HasSatDown {L : Type 0} (shards : ℕ) (rules : Rules) (door : DoorTold) (session : Session) (now : Phase L) : Type 0 where
   pub none : now ≡ phase.Free
   pub free : IsFree door
-  pub width : length session.courier.ends.lanes ≡ shards
+  pub width : length (seat_ends session).lanes ≡ shards
   pub window : ℕ
   pub vacant : IsVacant rules window session
 

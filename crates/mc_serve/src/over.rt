@@ -4,7 +4,7 @@ ghost use Rattle.mc_sizes.specs.Sizes.{MayServe};
 ghost use Rattle.mc_wake.specs.Zips.{Zips};
 ghost use Rattle.mc_serve.specs.Over.{ServesAll, came_back};
 ghost use Rattle.mc_serve.specs.declared.refusal.ServeRefusal.TheVariants.{Bind};
-ghost use Rattle.mc_doors.specs.One.{IsBack, told_one, waits};
+ghost use Rattle.mc_doors.specs.One.{IsBack, told_of, waits};
 
 use crate::refusal::ServeRefusal;
 use crate::serving::serve;
@@ -79,7 +79,7 @@ pub(crate) fn sleepers_for<R: Threads>(
 /// A door for each line.
 fn doors_for<L: Line + Drop>(alloc: Global, lines: Vec<L>) -> Result<Vec<OneDoor<L>>, AllocError>
     ensures { IfOk result (λ doors.
-        map (λ door. told_one (λ line. L.sight line) door.waits door.out door.back door.over)
+        map (λ door. told_of (λ line. L.sight line) door)
         doors.items ≡ map (λ line. waits (L.sight line)) lines.items) }
 {
     let mut doors = Vec::with_capacity(alloc, lines.len())?;
@@ -97,7 +97,7 @@ fn gather<L: Line + Drop>(
     requires { room.items ≡ [] }
     ensures back { IfOk result (λ report.
         Zips (λ door one.
-        IsBack (told_one (λ line. L.sight line) door.waits door.out door.back door.over)
+        IsBack (told_of (λ line. L.sight line) door)
         (L.sight one.line) one.commands one.broke) doors.items report.lines.items) }
     ensures refused { IfErr result (λ refusal. refusal ≢ Bind) }
 {

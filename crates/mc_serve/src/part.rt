@@ -3,6 +3,7 @@ ghost use Rattle.mc_sizes.specs.Sizes.{rules_of};
 ghost use Rattle.std.specs.Prelude.{◌≡◌, ℕ, List, IfOk, IsTrue, map};
 ghost use Rattle.std.specs.Bool.{OnTrue};
 ghost use Rattle.std.specs.List.{AllByRecursion};
+ghost use Rattle.mc_threads.specs.Session.{seat_ends};
 ghost use Rattle.mc_worker.specs.Desk.{Desk, Goes};
 ghost use Rattle.mc_wake.specs.Zips.{Zips};
 ghost use Rattle.mc_threads.specs.Working.{Finishes};
@@ -112,9 +113,9 @@ impl<D: Door + Drop, G: Gate + Drop, K: Clock + Drop> Part<D, G, K> {
         ensures seats { Zips
             (SeatServes self.old.sizes.shards (rules_of self.old.sizes)
             (K.may_answer self.old.clock))
-            (map (λ one. seat_at (D.told one.door) one.session.courier.ends)
+            (map (λ one. seat_at (D.told one.door) (seat_ends one.session))
             self.old.seats.all.items)
-            (map (λ one. seat_at (D.told one.door) one.session.courier.ends)
+            (map (λ one. seat_at (D.told one.door) (seat_ends one.session))
             self.new.seats.all.items) }
         ensures workers { Zips Finishes (map (λ one. one.worker) self.old.workers.items)
             (map (λ one. one.worker) self.new.workers.items) }
@@ -205,8 +206,8 @@ impl<D: Door + Drop, G: Gate + Drop, K: Clock + Drop> Task for Part<D, G, K> {
 
     ghost does = { λ sat rose.
         Zips (SeatServes sat.sizes.shards (rules_of sat.sizes) (K.may_answer sat.clock))
-        (map (λ one. seat_at (D.told one.door) one.session.courier.ends) sat.seats.all.items)
-        (map (λ one. seat_at (D.told one.door) one.session.courier.ends) rose.seats.all.items) ×
+        (map (λ one. seat_at (D.told one.door) (seat_ends one.session)) sat.seats.all.items)
+        (map (λ one. seat_at (D.told one.door) (seat_ends one.session)) rose.seats.all.items) ×
         Zips Finishes (map (λ one. one.worker) sat.workers.items)
         (map (λ one. one.worker) rose.workers.items) };
 

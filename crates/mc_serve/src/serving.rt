@@ -4,6 +4,7 @@ ghost use Rattle.std.specs.List.{AllByRecursion, flat_map};
 ghost use Rattle.std.specs.Vec.Iter.{into_iter_items};
 ghost use Rattle.mc_sizes.specs.Sizes.{MayServe, SuitLines, rules_of};
 ghost use Rattle.mc_ring.specs.Made.{AreLanes};
+ghost use Rattle.mc_threads.specs.Session.{seat_ends};
 ghost use Rattle.mc_threads.specs.Workers.{IsFresh, ends_of};
 ghost use Rattle.mc_serve.specs.declared.refusal.ServeRefusal.TheVariants.{Bind};
 ghost use Rattle.mc_doors.specs.Told.{IsFree};
@@ -129,7 +130,7 @@ where
     requires free { AllByRecursion (λ door. IsFree (D.told door)) doors.items }
     requires none { crew.old ≡ [] }
     ensures lanes { OnOk result (AreLanes sizes.seats sizes.shards sizes.ring
-        (map (λ one. one.session.courier.ends) (flat_map (λ part. part.seats.all.items) crew.new))
+        (map (λ one. seat_ends one.session) (flat_map (λ part. part.seats.all.items) crew.new))
         (map ends_of (map (λ one. one.worker) (flat_map (λ part. part.workers.items) crew.new)))) }
     ensures fresh { OnOk result
         (AllByRecursion (IsFresh sizes)
@@ -163,7 +164,7 @@ fn sit_down<D: Door + Drop>(
     requires as_many { length doors.items ≡ length ends.items }
     requires free { AllByRecursion (λ door. IsFree (D.told door)) doors.items }
     ensures ends { IfOk result
-        (λ seats. map (λ one. one.session.courier.ends) seats.items ≡ ends.items) }
+        (λ seats. map (λ one. seat_ends one.session) seats.items ≡ ends.items) }
     ensures doors { IfOk result (λ seats. map (λ one. one.door) seats.items ≡ doors.items) }
     ensures begin { IfOk result (λ seats.
         AllByRecursion (λ one.

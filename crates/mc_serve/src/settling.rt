@@ -1,6 +1,7 @@
 //! What is known of all lanes once their threads are joined.
 ghost use Rattle.std.specs.Prelude.{◌≡◌, [], IfOk, map};
 ghost use Rattle.std.specs.List.{AllByRecursion};
+ghost use Rattle.mc_threads.specs.Session.{seat_ends};
 ghost use Rattle.mc_serve.specs.Asking.{AreTied, HasLanes, passed_by};
 
 use crate::sitting::Sitting;
@@ -19,11 +20,11 @@ pub(crate) fn settle<D: Door + Drop, G: Gate + Drop>(
 ) -> Result<Vec<D>, CrewRefusal>
     requires none { room.items ≡ [] }
     requires lanes { AllByRecursion (λ sitting.
-        HasLanes sitting.session.courier.ends (map (λ one. one.worker) workers.old.items))
+        HasLanes (seat_ends sitting.session) (map (λ one. one.worker) workers.old.items))
         seats.items }
     ensures tied { IfOk result (λ _.
         AllByRecursion (λ sitting.
-        AreTied sitting.session.courier.ends (map (λ one. one.worker) workers.old.items))
+        AreTied (seat_ends sitting.session) (map (λ one. one.worker) workers.old.items))
         seats.items) }
     ensures doors { IfOk result (λ doors. doors.items ≡ map (λ sitting. sitting.door) seats.items) }
 {

@@ -5,7 +5,7 @@ ghost use Rattle.std.specs.Prelude.{◌≡◌, ◌<◌, ◌≤◌, ℕ, IfOk, Is
 ghost use Rattle.mc_ring.specs.Ends.{Ends};
 ghost use Rattle.mc_ring.specs.Lane.{Near};
 ghost use Rattle.mc_threads.specs.Ending.{EndsFirst};
-ghost use Rattle.mc_threads.specs.Session.{IsVacant, MayStep};
+ghost use Rattle.mc_threads.specs.Session.{IsVacant, MayStep, seat_ends};
 ghost use Rattle.mc_serve.specs.Seats.{CanStep, ClosesOn, SeatAt, SeatStands, SitsBeginning, SitsFree, SitsServing};
 ghost use Rattle.mc_serve.specs.declared.sitting.Phase.TheVariants as phase;
 
@@ -77,7 +77,7 @@ impl<D: Door + Drop> Sitting<D> {
             (λ sitting. IsVacant (rules_of sizes) sizes.window sitting.session) }
         ensures free { IfOk result (λ sitting. sitting.phase ≡ phase.Free) }
         ensures door { IfOk result (λ sitting. sitting.door ≡ door) }
-        ensures ends { IfOk result (λ sitting. sitting.session.courier.ends ≡ ends) }
+        ensures ends { IfOk result (λ sitting. seat_ends sitting.session ≡ ends) }
     {
         let session = Session::new(alloc, ends, shards, sizes)?;
         Ok(Sitting {
@@ -186,8 +186,8 @@ impl<D: Door + Drop> Sitting<D> {
     /// Closes the next lane, where it has room for End and the first `count` are closed.
     fn close(&mut self, count: usize) -> Stepped
         ensures closes { (served : Ends Near) →
-            EndsFirst count served self.old.session.courier.ends →
-            ClosesOn served self.new.phase self.new.session.courier.ends }
+            EndsFirst count served (seat_ends self.old.session) →
+            ClosesOn served self.new.phase (seat_ends self.new.session) }
         ensures door { self.new.door ≡ self.old.door }
     {
         if count >= self.session.shards() {
@@ -214,7 +214,7 @@ impl<D: Door + Drop> Sitting<D> {
 
     /// The seat's ends and the door, once its lines were served.
     pub(crate) fn rise(self) -> (SeatEnds, D)
-        ensures ends { result.0 ≡ self.session.courier.ends }
+        ensures ends { result.0 ≡ seat_ends self.session }
         ensures door { result.1 ≡ self.door }
     {
         let Sitting {

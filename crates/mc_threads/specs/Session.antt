@@ -13,6 +13,10 @@ use Rattle.mc_threads.specs.Serving.{IsIdle}
 use Rattle.mc_threads.specs.Service.{IsServedBy, ServesSomeLine, WasServedBy}
 use Rattle.mc_command.specs.declared.rules.Rules.{Rules}
 
+-- The seat's ends of its lanes.
+abbrev pub seat_ends : Session → Ends Near
+seat_ends session = session.courier.ends
+
 -- The room for a line is as new, or is made for this number of shards, for these rules and with this window.
 abbrev pub IsReady : ℕ → Rules → ℕ → Session → Option Service → Type 0
 IsReady shards rules window session None = (session.sizes.shards ≡ shards) × (rules_of session.sizes ≡ rules) × (session.sizes.window ≡ window)
@@ -20,7 +24,7 @@ IsReady shards rules window session (Some service) = IsNew shards rules window s
 
 -- It serves no line, and may begin to serve one, for these rules and with this window.
 pub record IsVacant (rules : Rules) (window : ℕ) (session : Session) : Type 0 where
-  pub ready : IsReady (length session.courier.ends.lanes) rules window session session.service
+  pub ready : IsReady (length (seat_ends session).lanes) rules window session session.service
   pub idle : IsIdle session.courier.under_way.items
 
 -- It serves a line, which began so and is so now, since its ends were as before.

@@ -45,7 +45,7 @@ impl Session {
     ghost use Rattle.mc_seat.specs.Service.{IsNew};
     ghost use Rattle.mc_threads.specs.Ending.{EndsOne, StandsStill};
     ghost use Rattle.mc_threads.specs.Serving.{AreCalled, IsIdle};
-    ghost use Rattle.mc_threads.specs.Session.{IsVacant, IsServingLine, MayStep, StepSays};
+    ghost use Rattle.mc_threads.specs.Session.{IsServingLine, IsVacant, MayStep, StepSays, seat_ends};
 
     /// A seat that serves no line yet, over new ends of its lanes. The wakers are those of the shards.
     pub fn new(
@@ -58,7 +58,7 @@ impl Session {
         requires width { length ends.lanes ≡ sizes.shards }
         ensures vacant { IfOk result
             (λ session. IsVacant (rules_of sizes) sizes.window session) }
-        ensures ends { IfOk result (λ session. session.courier.ends ≡ ends) }
+        ensures ends { IfOk result (λ session. seat_ends session ≡ ends) }
     {
         let courier = Courier::new(alloc, ends, shards, sizes.ring)?;
         Ok(Session {
@@ -73,10 +73,10 @@ impl Session {
     pub fn begin<K: Clock>(&mut self, clock: &K) -> Result<(), AllocError>
         ensures serving { OnOk result
             ((rules : Rules) (window : ℕ) (line : Sight) → IsVacant rules window self.old →
-            IsServingLine (length self.old.courier.ends.lanes) rules
-            (K.may_answer clock.now) line line self.old.courier.ends self.new) }
+            IsServingLine (length (seat_ends self.old).lanes) rules
+            (K.may_answer clock.now) line line (seat_ends self.old) self.new) }
         ensures refused { OnErr result (self.new ≡ self.old) }
-        ensures ends { self.new.courier.ends ≡ self.old.courier.ends }
+        ensures ends { seat_ends self.new ≡ seat_ends self.old }
     {
         let mut service = self.take_service()?;
         service.take_all(clock);
@@ -88,7 +88,7 @@ impl Session {
     fn take_service(&mut self) -> Result<Service, AllocError>
         ensures new { IfOk result (λ service.
             (rules : Rules) (window : ℕ) → IsVacant rules window self.old →
-            IsNew (length self.old.courier.ends.lanes) rules window service) }
+            IsNew (length (seat_ends self.old).lanes) rules window service) }
         ensures refused { OnErr result (self.new ≡ self.old) }
         ensures courier { self.new.courier ≡ self.old.courier }
     {
@@ -123,9 +123,9 @@ impl Session {
             IsConn service.conn told → IsTrue result ↔ (IsAtRest told × IsOver told) }
         ensures vacant { IsTrue result → (service : Service) (told : Told) →
             self.old.service ≡ Some service → IsConn service.conn told →
-            told.shards ≡ length self.old.courier.ends.lanes →
+            told.shards ≡ length (seat_ends self.old).lanes →
             IsIdle self.old.courier.under_way.items → IsVacant told.rules told.window self.new }
-        ensures ends { self.new.courier.ends ≡ self.old.courier.ends }
+        ensures ends { seat_ends self.new ≡ seat_ends self.old }
     {
         let Some(service) = &mut self.service else {
             return true;
@@ -135,23 +135,23 @@ impl Session {
 
     /// How many shards there are.
     pub fn shards(&self) -> usize
-        ensures { result ≡ length self.now.courier.ends.lanes }
+        ensures { result ≡ length (seat_ends self.now).lanes }
     {
         self.courier.ends.shards()
     }
 
     /// Sends the shard the End of its lane where there is room, and tells whether it did: nothing more comes there.
     pub fn end_lane(&mut self, shard: usize) -> bool
-        requires { shard < length self.old.courier.ends.lanes }
-        ensures ended { OnTrue result (EndsOne shard self.old.courier.ends self.new.courier.ends) }
-        ensures full { OnFalse result (StandsStill self.old.courier.ends self.new.courier.ends) }
+        requires { shard < length (seat_ends self.old).lanes }
+        ensures ended { OnTrue result (EndsOne shard (seat_ends self.old) (seat_ends self.new)) }
+        ensures full { OnFalse result (StandsStill (seat_ends self.old) (seat_ends self.new)) }
     {
         self.courier.end_lane(shard)
     }
 
     /// The seat's ends of its lanes, once it serves no more.
     pub fn into_ends(self) -> SeatEnds
-        ensures { result ≡ self.courier.ends }
+        ensures { result ≡ seat_ends self }
     {
         let Session {
             courier,

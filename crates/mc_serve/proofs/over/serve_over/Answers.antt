@@ -3,7 +3,7 @@ use Rattle.std.proofs.Common.{◌≡◌, ◌∙◌, ℕ, ap, length, subst, sym}
 use Rattle.std.proofs.lemmas.List.{length-map}
 use Rattle.mc_sizes.specs.Sizes.{MayServe}
 use Rattle.mc_serve.specs.Over.{came_back}
-use Rattle.mc_doors.specs.One.{told_one, waits}
+use Rattle.mc_doors.specs.One.{told_of, waits}
 use Rattle.mc_serve.proofs.One.{all_free, if_ok, over_all}
 use denote.Exit.{no}
 use denote.Param.Send.{arg_send, param_send}
@@ -11,17 +11,17 @@ use Rattle.mc_doors.proofs.Sent.{door_send}
 use Rattle.mc_serve.proofs.over.serve_over.Goals as goal
 
 pub serve-requires-clause-free : goal.serve-requires-clause-free
-serve-requires-clause-free g c κs within = all_free (λ door. told_one (λ line. g.L.Outlet.sight line) door.waits door.out door.back door.over) (λ line. g.L.Outlet.sight line) c.in_ok-doors.doors.items c.args.lines.items c.in_ok-doors.ensures
+serve-requires-clause-free g c κs within = all_free (λ door. told_of (λ line. g.L.Outlet.sight line) door) (λ line. g.L.Outlet.sight line) c.in_ok-doors.doors.items c.args.lines.items c.in_ok-doors.ensures
 
 pub returns-clause-explained : goal.returns-clause-explained
 returns-clause-explained g c =
-    if_ok c.gather.result _ _ (λ report zips. over_all (λ n. record c.args.sizes { seats = n }) (g.K.Clock.may_answer c.args.clock) (λ door. told_one (λ line. g.L.Outlet.sight line) door.waits door.out door.back door.over) (λ one. came_back (g.L.Outlet.sight one.line) one.commands one.broke) (λ line. g.L.Outlet.sight line)
+    if_ok c.gather.result _ _ (λ report zips. over_all (λ n. record c.args.sizes { seats = n }) (g.K.Clock.may_answer c.args.clock) (λ door. told_of (λ line. g.L.Outlet.sight line) door) (λ one. came_back (g.L.Outlet.sight one.line) one.commands one.broke) (λ line. g.L.Outlet.sight line)
     c.args.lines.items c.in_ok-doors.doors.items _ report.lines.items c.in_ok-doors.ensures c.in_ok-back.ensures.explained zips) c.gather.ensures.back
 
 pub serve-requires-clause-sizes : goal.serve-requires-clause-sizes
 serve-requires-clause-sizes g c κs within =
     let same = c.in_ok-doors.ensures in
-    let count : length c.in_ok-doors.doors.items ≡ length c.args.lines.items = sym (length-map c.in_ok-doors.doors.items (λ door. told_one (λ line. g.L.Outlet.sight line) door.waits door.out door.back door.over)) ∙ (ap length same ∙ length-map c.args.lines.items (λ line. waits (g.L.Outlet.sight line))) in
+    let count : length c.in_ok-doors.doors.items ≡ length c.args.lines.items = sym (length-map c.in_ok-doors.doors.items (λ door. told_of (λ line. g.L.Outlet.sight line) door)) ∙ (ap length same ∙ length-map c.args.lines.items (λ line. waits (g.L.Outlet.sight line))) in
     let P : ℕ → Type 0 = λ n. MayServe (record c.args.sizes { seats = n }) in
     subst P (sym count) c.requires
 

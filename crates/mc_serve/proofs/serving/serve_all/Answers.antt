@@ -2,6 +2,7 @@
 use Rattle.std.proofs.Common.{◌≡◌, [], refl}
 use Rattle.std.specs.List.{flat_map}
 use Rattle.mc_threads.proofs.Orders.{both}
+use Rattle.mc_threads.specs.Session.{seat_ends}
 use Rattle.mc_serve.specs.Seats.{seat_at}
 use Rattle.mc_serve.proofs.Zipped.{zips_follow}
 use Rattle.mc_serve.proofs.AtDoors.{all_doors, lanes_are}
@@ -21,9 +22,9 @@ settle-requires g c =
     record {
       none = c.in_ok-room.ensures.items;
       lanes = lanes_are sizes may (flat_map (λ part. part.seats.all.items) crew) seats (flat_map (λ part. part.workers.items) crew) workers c.args.doors.items []
-          (λ one. seat_at (g.D.Door.told one.door) one.session.courier.ends) (λ one. one.door) (λ one. one.worker) (λ door. g.D.Door.told door)
+          (λ one. seat_at (g.D.Door.told one.door) (seat_ends one.session)) (λ one. one.door) (λ one. one.worker) (λ door. g.D.Door.told door)
           (parts_joined crew parts seats workers c.args.doors.items [] (λ part. part.seats.all.items) (λ part. part.workers.items)
-          (λ one. seat_at (g.D.Door.told one.door) one.session.courier.ends) (λ one. one.door) (λ one. one.worker) (λ door. g.D.Door.told door) sizes may
+          (λ one. seat_at (g.D.Door.told one.door) (seat_ends one.session)) (λ one. one.door) (λ one. one.worker) (λ door. g.D.Door.told door) sizes may
           (λ seat. refl) begun.doors begun.lanes begun.fresh
           (zips_follow crew parts (λ part. (part.clock ≡ c.args.clock) × (part.sizes ≡ c.args.sizes)) _ _ (λ x y same did. rw (← same.0, ← same.1) did) begun.same (rw c.begin.ensures at c.in_ok-parts.ensures))
           apart.seats apart.workers);
@@ -40,9 +41,9 @@ returns g c =
     let workers = c.take_apart.new.workers.items in
     let apart = c.in_ok-take_apart.ensures in
     both c.settle.result _ _ _ (λ back tied doors. all_doors sizes may (flat_map (λ part. part.seats.all.items) crew) seats (flat_map (λ part. part.workers.items) crew) workers c.args.doors.items back.items
-    (λ one. seat_at (g.D.Door.told one.door) one.session.courier.ends) (λ one. one.door) (λ one. one.worker) (λ door. g.D.Door.told door)
+    (λ one. seat_at (g.D.Door.told one.door) (seat_ends one.session)) (λ one. one.door) (λ one. one.worker) (λ door. g.D.Door.told door)
     c.requires.sizes.lines.shards (parts_joined crew parts seats workers c.args.doors.items back.items (λ part. part.seats.all.items) (λ part. part.workers.items)
-    (λ one. seat_at (g.D.Door.told one.door) one.session.courier.ends) (λ one. one.door) (λ one. one.worker) (λ door. g.D.Door.told door) sizes may
+    (λ one. seat_at (g.D.Door.told one.door) (seat_ends one.session)) (λ one. one.door) (λ one. one.worker) (λ door. g.D.Door.told door) sizes may
     (λ seat. refl) begun.doors begun.lanes begun.fresh
     (zips_follow crew parts (λ part. (part.clock ≡ c.args.clock) × (part.sizes ≡ c.args.sizes)) _ _ (λ x y same did. rw (← same.0, ← same.1) did) begun.same (rw c.begin.ensures at c.in_ok-parts.ensures))
     apart.seats apart.workers) tied doors)

@@ -5,6 +5,7 @@ use Rattle.mc_sizes.specs.Sizes.{rules_of}
 use Rattle.mc_threads.proofs.Orders.{all_first, all_more, all_rest, order_all, order_more}
 use Rattle.mc_serve.specs.Seats.{HasSatDown}
 use Rattle.mc_doors.specs.Told.{IsFree}
+use Rattle.mc_threads.specs.Session.{seat_ends}
 use Rattle.mc_serve.proofs.serving.sit_down.Goals as goal
 
 pub loop-ends-preserved : goal.loop-ends-preserved
@@ -23,7 +24,7 @@ loop-ends-preserved g c =
       width = all_rest (λ seat. length seat.lanes ≡ c.args.sizes.shards) _ c.in-Some.ends _ step.0 was.width;
       as_many = omega (arith, fewer, fewer', many);
       free = all_rest (λ door. IsFree (g.D.Door.told door)) _ c.in-Some-next.door _ door.0 was.free;
-      ends = order_more (λ one. one.session.courier.ends) c.loop-ends.seats.items _ c.in_ok-sitting.sitting c.in-Some.ends _ _ grown made.ends (rw step.0 at was.ends);
+      ends = order_more (λ one. seat_ends one.session) c.loop-ends.seats.items _ c.in_ok-sitting.sitting c.in-Some.ends _ _ grown made.ends (rw step.0 at was.ends);
       doors = order_more (λ one. one.door) c.loop-ends.seats.items _ c.in_ok-sitting.sitting c.in-Some-next.door _ _ grown made.door (rw door.0 at was.doors);
       begin = all_more (λ one. HasSatDown c.args.sizes.shards (rules_of c.args.sizes) (g.D.Door.told one.door) one.session one.phase) c.loop-ends.seats.items _ c.in_ok-sitting.sitting grown was.begin
           (record { none = made.free; free = rw made.door free; width = rw made.ends wide; window = c.args.sizes.window; vacant = made.vacant });

@@ -5,6 +5,7 @@ use Rattle.std.specs.Vec.Iter.{into_iter_items}
 use Rattle.mc_sizes.specs.Sizes.{rules_of}
 use Rattle.mc_serve.specs.Seats.{HasSatDown}
 use Rattle.mc_doors.specs.Told.{IsFree}
+use Rattle.mc_threads.specs.Session.{seat_ends}
 use Rattle.mc_serve.proofs.serving.sit_down.Given as goal
 
 abbrev pub invariant-loop-ends : goal.invariant-loop-ends
@@ -12,7 +13,7 @@ invariant-loop-ends g l = record {
   width : AllByRecursion (λ seat. length seat.lanes ≡ l.fn.sizes.shards) (into_iter_items l.ends-iterator);
   as_many : length (into_iter_items l.doors) ≡ length (into_iter_items l.ends-iterator);
   free : AllByRecursion (λ door. IsFree (g.D.Door.told door)) (into_iter_items l.doors);
-  ends : map (λ one. one.session.courier.ends) l.seats.items ++ into_iter_items l.ends-iterator ≡ l.fn.ends.items;
+  ends : map (λ one. seat_ends one.session) l.seats.items ++ into_iter_items l.ends-iterator ≡ l.fn.ends.items;
   doors : map (λ one. one.door) l.seats.items ++ into_iter_items l.doors ≡ l.fn.doors.items;
   begin : AllByRecursion (λ one. HasSatDown l.fn.sizes.shards (rules_of l.fn.sizes) (g.D.Door.told one.door) one.session one.phase) l.seats.items;
 }

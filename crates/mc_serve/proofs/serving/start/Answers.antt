@@ -6,6 +6,7 @@ use Rattle.mc_ring.specs.Lane.{Far, Near}
 use Rattle.mc_ring.specs.Made.{AreLanes}
 use Rattle.mc_threads.specs.Workers.{ends_of}
 use Rattle.mc_threads.proofs.Fresh.{all_fresh}
+use Rattle.mc_threads.specs.Session.{seat_ends}
 use Rattle.mc_serve.proofs.Parts.{both_ok, one_ok}
 use Rattle.mc_serve.proofs.serving.start.Goals as goal
 
@@ -36,7 +37,7 @@ returns g c =
     let workers = c.in_ok-workers-2.workers.items in
     let A : List (Ends Near) → List (Ends Far) → Type 0 = λ near far. AreLanes c.args.sizes.seats c.args.sizes.shards c.args.sizes.ring near far in
     let far : map ends_of (map (λ one. one.worker) workers) ≡ c.in-Ok.far.items = ap (map ends_of) set ∙ made.ends in
-    let all : A (map (λ one. one.session.courier.ends) seats) (map ends_of (map (λ one. one.worker) workers)) =
+    let all : A (map (λ one. seat_ends one.session) seats) (map ends_of (map (λ one. one.worker) workers)) =
     subst (λ near. A near (map ends_of (map (λ one. one.worker) workers))) (sym sat.ends) (subst (λ far. A c.in-Ok.near.items far) (sym far) lanes) in
     record {
       lanes = both_ok c.start_parts.result c.start_parts.ensures.seats c.start_parts.ensures.workers (λ mine own. rw (mine, own) all);

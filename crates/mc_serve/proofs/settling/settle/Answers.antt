@@ -6,6 +6,7 @@ use Rattle.mc_worker.specs.Desk.{Desk}
 use Rattle.mc_serve.specs.Asking.{AreTied, HasLanes}
 use Rattle.mc_serve.proofs.Lanes.{all_lanes, all_tied}
 use Rattle.mc_threads.proofs.Orders.{all_first, all_join, all_rest}
+use Rattle.mc_threads.specs.Session.{seat_ends}
 use Rattle.mc_serve.proofs.settling.settle.Goals as goal
 
 -- one more is done
@@ -17,9 +18,9 @@ tie-requires g c =
     let was = c.loop-sitting.invariant in
     let begun : List Desk = map (λ one. one.worker) c.args.workers.now.items in
     let now : List Desk = map (λ one. one.worker) c.loop-sitting.workers.items in
-    let lanes = all_first (λ sitting. HasLanes sitting.session.courier.ends begun) _ c.in-Some.sitting _ c.in-Some.ensures.steps.0 was.lanes in
+    let lanes = all_first (λ sitting. HasLanes (seat_ends sitting.session) begun) _ c.in-Some.sitting _ c.in-Some.ensures.steps.0 was.lanes in
     let P : Ends Near → Type 0 = λ ends. HasLanes ends now in
-    subst P (sym c.rise-ends.ensures.ends) (all_lanes c.in-Some.sitting.session.courier.ends begun now was.same lanes)
+    subst P (sym c.rise-ends.ensures.ends) (all_lanes (seat_ends c.in-Some.sitting.session) begun now was.same lanes)
 
 pub loop-sitting-preserved : goal.loop-sitting-preserved
 loop-sitting-preserved g c =
@@ -28,10 +29,10 @@ loop-sitting-preserved g c =
     let begun : List Desk = map (λ one. one.worker) c.args.workers.now.items in
     let now : List Desk = map (λ one. one.worker) c.loop-sitting.workers.items in
     let P : Ends Near → Type 0 = λ ends. AreTied ends now in
-    let this : AreTied c.in-Some.sitting.session.courier.ends begun = all_tied c.in-Some.sitting.session.courier.ends begun now was.same (subst P c.rise-ends.ensures.ends c.tie.ensures.tied) in
+    let this : AreTied (seat_ends c.in-Some.sitting.session) begun = all_tied (seat_ends c.in-Some.sitting.session) begun now was.same (subst P c.rise-ends.ensures.ends c.tie.ensures.tied) in
     record {
-      lanes = all_rest (λ sitting. HasLanes sitting.session.courier.ends begun) _ c.in-Some.sitting _ step.0 was.lanes;
+      lanes = all_rest (λ sitting. HasLanes (seat_ends sitting.session) begun) _ c.in-Some.sitting _ step.0 was.lanes;
       same = c.tie.ensures.same ∙ was.same;
-      tied = λ others. was.tied (all_join (λ sitting. AreTied sitting.session.courier.ends begun) _ c.in-Some.sitting _ step.0 this others);
+      tied = λ others. was.tied (all_join (λ sitting. AreTied (seat_ends sitting.session) begun) _ c.in-Some.sitting _ step.0 this others);
       doors = one_more c.loop-sitting.doors.items _ c.rise-ends.result.1 c.in-Some.sitting.door _ _ c.in-Ok.ensures.items c.rise-ends.ensures.door (rw step.0 at was.doors);
     }

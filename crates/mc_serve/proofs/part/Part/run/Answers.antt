@@ -1,6 +1,7 @@
 -- Each turn steps seats, and then gives each worker a turn.
 use Rattle.std.proofs.Common.{map, refl}
 use Rattle.mc_sizes.specs.Sizes.{rules_of}
+use Rattle.mc_threads.specs.Session.{seat_ends}
 use Rattle.mc_serve.specs.Seats.{seat_at}
 use Rattle.mc_serve.proofs.Parts.{seats_begin, seats_over, workers_begin, workers_end}
 use Rattle.mc_serve.proofs.part.Part.run.Goals as goal
@@ -18,7 +19,7 @@ loop-init g c =
 pub step-stepped-requires : goal.step-stepped-requires
 step-stepped-requires g c =
     let sizes = c.args.self.now.sizes in
-    (sizes.shards, rules_of sizes, map (λ one. seat_at (g.D.Door.told one.door) one.session.courier.ends) c.args.self.now.seats.all.items, c.loop.invariant.seats)
+    (sizes.shards, rules_of sizes, map (λ one. seat_at (g.D.Door.told one.door) (seat_ends one.session)) c.args.self.now.seats.all.items, c.loop.invariant.seats)
 
 pub loop-preserved-then-served : goal.loop-preserved-then-served
 loop-preserved-then-served g c =
@@ -26,7 +27,7 @@ loop-preserved-then-served g c =
     record {
       next = (tt, tt);
       clock = c.loop.invariant.clock;
-      seats = c.step-stepped.ensures sizes.shards (rules_of sizes) (map (λ one. seat_at (g.D.Door.told one.door) one.session.courier.ends) c.args.self.now.seats.all.items) c.loop.invariant.seats;
+      seats = c.step-stepped.ensures sizes.shards (rules_of sizes) (map (λ one. seat_at (g.D.Door.told one.door) (seat_ends one.session)) c.args.self.now.seats.all.items) c.loop.invariant.seats;
       workers = c.serve_callers-served.ensures (map (λ one. one.worker) c.args.self.now.workers.items) c.loop.invariant.workers;
     }
 
@@ -36,14 +37,14 @@ loop-preserved g c =
     record {
       next = (tt, tt);
       clock = c.loop.invariant.clock;
-      seats = c.step-stepped.ensures sizes.shards (rules_of sizes) (map (λ one. seat_at (g.D.Door.told one.door) one.session.courier.ends) c.args.self.now.seats.all.items) c.loop.invariant.seats;
+      seats = c.step-stepped.ensures sizes.shards (rules_of sizes) (map (λ one. seat_at (g.D.Door.told one.door) (seat_ends one.session)) c.args.self.now.seats.all.items) c.loop.invariant.seats;
       workers = c.serve_callers-served.ensures (map (λ one. one.worker) c.args.self.now.workers.items) c.loop.invariant.workers;
     }
 
 pub returns-then-is_done-clause-seats : goal.returns-then-is_done-clause-seats
 returns-then-is_done-clause-seats g c =
     let sizes = c.args.self.now.sizes in
-    let sats = map (λ one. seat_at (g.D.Door.told one.door) one.session.courier.ends) c.args.self.now.seats.all.items in
+    let sats = map (λ one. seat_at (g.D.Door.told one.door) (seat_ends one.session)) c.args.self.now.seats.all.items in
     rw (← c.loop.invariant.clock)
     (seats_over c.step-stepped.new.self.all.items sats (λ line. g.D.Line.Outlet.sight line) (λ one. g.D.Door.told one.door) (λ one. one.session) (λ one. one.phase) sizes.shards (rules_of sizes) (g.K.Clock.may_answer c.loop.self.clock)
     (c.if-is_done.ensures.over refl) (c.step-stepped.ensures sizes.shards (rules_of sizes) sats c.loop.invariant.seats))

@@ -3,6 +3,7 @@ use Rattle.std.proofs.Common.{◌≡◌, map}
 use Rattle.mc_sizes.specs.Sizes.{rules_of}
 use Rattle.mc_worker.specs.Desk.{Goes}
 use Rattle.mc_wake.specs.Zips.{Zips}
+use Rattle.mc_threads.specs.Session.{seat_ends}
 use Rattle.mc_serve.specs.Seats.{SeatStands, seat_at}
 use Rattle.mc_serve.proofs.part.Part.run.Given as goal
 
@@ -11,6 +12,6 @@ invariant-loop g l = record {
   next : (goal.iterator-loop g).can_next l.iterator' × (goal.iterator-loop g).is_finite l.iterator';
   clock : l.self.clock ≡ l.fn.self.clock;
   seats : Zips (λ sat one. SeatStands (λ line. g.D.Line.Outlet.sight line) l.fn.self.sizes.shards (rules_of l.fn.self.sizes) (g.K.Clock.may_answer l.self.clock) sat (g.D.Door.told one.door) one.session one.phase)
-      (map (λ one. seat_at (g.D.Door.told one.door) one.session.courier.ends) l.fn.self.seats.all.items) l.self.seats.all.items;
+      (map (λ one. seat_at (g.D.Door.told one.door) (seat_ends one.session)) l.fn.self.seats.all.items) l.self.seats.all.items;
   workers : Zips Goes (map (λ one. one.worker) l.fn.self.workers.items) (map (λ one. one.worker) l.self.workers.items);
 }

@@ -1,6 +1,7 @@
 -- One lane more, or none, or all were closed.
 use Rattle.std.proofs.Common.{◌≤◌, length, arith, ◌∙◌, sym}
 use Rattle.mc_threads.proofs.Ending.{ends_all, ends_next, ends_still}
+use Rattle.mc_threads.specs.Session.{seat_ends}
 use Rattle.mc_serve.proofs.sitting.Sitting.close.Goals as goal
 
 pub returns-then-count-shards-clause-closes : goal.returns-then-count-shards-clause-closes
@@ -8,10 +9,10 @@ returns-then-count-shards-clause-closes g c served closed =
     let same = closed.same.count in
     let many = c.shards.ensures in
     let whole : length served.lanes ≤ c.args.count = omega (arith, same, many) in
-    ends_all c.args.count served c.args.self.now.session.courier.ends whole closed
+    ends_all c.args.count served (seat_ends c.args.self.now.session) whole closed
 
 pub returns-then-end_lane-clause-closes : goal.returns-then-end_lane-clause-closes
-returns-then-end_lane-clause-closes g c served closed = ends_next c.args.count served c.args.self.now.session.courier.ends c.end_lane.new.self.courier.ends closed c.if-end_lane.ensures.ended
+returns-then-end_lane-clause-closes g c served closed = ends_next c.args.count served (seat_ends c.args.self.now.session) (seat_ends c.end_lane.new.self) closed c.if-end_lane.ensures.ended
 
 pub returns-clause-closes : goal.returns-clause-closes
-returns-clause-closes g c served closed = ends_still c.args.count served c.args.self.now.session.courier.ends c.end_lane.new.self.courier.ends closed c.if-end_lane.ensures.full
+returns-clause-closes g c served closed = ends_still c.args.count served (seat_ends c.args.self.now.session) (seat_ends c.end_lane.new.self) closed c.if-end_lane.ensures.full
