@@ -113,7 +113,8 @@ impl Unwritten {
         }
         if self.tail.capacity() > rooms.reply_bytes() {
             rooms.exchange(&mut self.tail);
-        } else {
+        }
+        if self.tail.capacity() > OWN_ROOM {
             self.tail = Vec::new(self.alloc);
         }
     }
