@@ -60,7 +60,11 @@ impl Row {
         let mut values = 0usize;
         let mut behind_end = 0usize;
         for byte in self.output.iter() {
-            behind_end = if *byte == b'\n' { 0 } else { behind_end.saturating_add(1) };
+            behind_end = if *byte == b'\n' {
+                0
+            } else {
+                behind_end.saturating_add(1)
+            };
             // The first of the two bytes stands behind the value.
             if behind_end == bytes.saturating_add(2) {
                 values = values.saturating_add(1);
