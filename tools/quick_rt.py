@@ -24,19 +24,29 @@ def unkept(call, kept):
     return lambda crate, *words: call(crate, *[it for it in words if it not in kept])
 
 
+def quicken(module):
+    """Changes the crate of `rtlib`. A kit whose crate has no such method runs as it is."""
+    crate = getattr(module, "Crate", None)
+    if hasattr(crate, "stamp"):
+        crate.stamp = functools.cache(crate.stamp)
+    if IS_UNKEPT and hasattr(crate, "call"):
+        crate.call = unkept(crate.call, module.KEPT)
+
+
 class Loader(importlib.machinery.SourceFileLoader):
-    """Loads the kit's modules as they are, but for the crate of `rtlib`. A kit whose crate has no such method runs as it is."""
+    """Loads a module of the kit as it is, but for that."""
 
     def exec_module(self, module):
         super().exec_module(module)
-        crate = getattr(module, "Crate", None)
-        if hasattr(crate, "stamp"):
-            crate.stamp = functools.cache(crate.stamp)
-        if IS_UNKEPT and hasattr(crate, "call"):
-            crate.call = unkept(crate.call, module.KEPT)
+        quicken(module)
 
 
-# `rt` loads `rtlib`, which lies beside it, by this loader.
+# One kit's `rt` imports `rtlib`, which lies beside it; another's loads it anew by this loader.
+sys.dont_write_bytecode = True
+sys.path.insert(0, os.path.dirname(RT))
+import rtlib  # noqa: E402 (the kit's module)
+
+quicken(rtlib)
 importlib.machinery.SourceFileLoader = Loader
 if IS_UNKEPT:
     del sys.argv[1]
