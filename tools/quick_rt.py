@@ -7,6 +7,7 @@
 crate. There are thousands of ways from the upper crates, so that takes it minutes there before the prover begins. What is proved,
 built and kept is as `rt` leaves it; but with --unkept the prover keeps nothing for a later check, only the library or the program.
 Then several processes share what one of them has read of the crates below. Where it keeps what it does, each reads that again.
+A library holds its statements alone then, as with `rt ci`: the crates above it have less to read, and none needs its proofs.
 """
 import functools
 import importlib.machinery
@@ -20,8 +21,13 @@ IS_UNKEPT = sys.argv[1:2] == ["--unkept"]
 
 
 def unkept(call, kept):
-    """`rattle` called as `call` does, without a folder for what it has checked."""
-    return lambda crate, *words: call(crate, *[it for it in words if it not in kept])
+    """`rattle` called as `call` does, without a folder for what it has checked; a library is written without its proofs."""
+
+    def called(crate, *words):
+        words = [it for it in words if it not in kept]
+        return call(crate, *words, *["--statements"] * (words[-1] == crate.rlib))
+
+    return called
 
 
 def quicken(module):

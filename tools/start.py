@@ -70,7 +70,7 @@ def rt(folder, command, is_first):
         return [*RT, command, "--jobs", "1"]
     if is_first:
         return [*RT, "--unkept", command, "--jobs", str(room())]
-    return ["nice", "-n", str(NICENESS), *RT, command, "--jobs", "1"]
+    return ["nice", "-n", str(NICENESS), *RT, "--unkept", command, "--jobs", "1"]
 
 
 def minutes(seconds):

@@ -120,7 +120,7 @@ pub struct Retrieval {
 }
 
 /// What `stats` asks for (protocol.txt, "Statistics").
-#[derive(Clone, Copy, Debug, PartialEq, Eq)]
+#[derive(Clone, Copy)]
 pub enum StatsRequest {
     /// `stats`: the counts of all shards together.
     General,

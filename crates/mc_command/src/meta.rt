@@ -131,7 +131,7 @@ impl Returned {
 }
 
 /// A meta command that takes a key.
-#[derive(Clone, Copy, Debug, PartialEq, Eq)]
+#[derive(Clone, Copy)]
 pub enum MetaKind {
     /// `mg`.
     Get,

@@ -7,7 +7,7 @@ use crate::command::{Direction, StoreMode};
 use crate::meta::MetaKind;
 
 /// The command that a line's first word names.
-#[derive(Clone, Copy, Debug, PartialEq, Eq)]
+#[derive(Clone, Copy)]
 pub(crate) enum CommandName {
     /// `set`, `add`, `replace`, `append` and `prepend`.
     Store(StoreMode),

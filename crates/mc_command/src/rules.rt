@@ -8,7 +8,7 @@ use crate::refusal::Refusal;
 use mc_wire::DEFAULT_LINE_LIMIT;
 
 /// Whose rules a server follows where the two differ (docs/PROTOCOL.md).
-#[derive(Clone, Copy, Debug, PartialEq, Eq)]
+#[derive(Clone, Copy, PartialEq, Eq)]
 pub enum Profile {
     /// This server's own.
     Own,
@@ -17,7 +17,7 @@ pub enum Profile {
 }
 
 /// The rules by which lines are read. Each rule that differs is one function of them.
-#[derive(Clone, Copy, Debug, PartialEq, Eq)]
+#[derive(Clone, Copy)]
 pub struct Rules {
     /// Whose rules they are.
     pub profile: Profile,

@@ -21,7 +21,7 @@ const READS_AT_ONCE: u32 = 16;
 const LINGER_BYTES: usize = 4_096;
 
 /// How a connection lingers on.
-#[derive(Clone, Copy, Debug, PartialEq, Eq)]
+#[derive(Clone, Copy)]
 pub(crate) enum Lingers {
     /// There is more to drop at once.
     More,

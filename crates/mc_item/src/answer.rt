@@ -69,7 +69,7 @@ pub struct MetaHit {
 }
 
 /// The marks of a hit, shown as `W`, `X`, `Z`.
-#[derive(Clone, Copy, Debug, PartialEq, Eq)]
+#[derive(Clone, Copy)]
 pub struct Marks {
     /// `W`: this client is told to recompute the item.
     pub won: bool,
@@ -80,7 +80,7 @@ pub struct Marks {
 }
 
 /// What `ms` and `ma` may show of the item that they stored or changed.
-#[derive(Clone, Copy, Debug, PartialEq, Eq)]
+#[derive(Clone, Copy)]
 pub struct MetaDone {
     /// The new unique.
     pub unique: u64,

@@ -113,7 +113,7 @@ pub struct MetaCount {
 }
 
 /// The item that `ma` makes of a miss, by its flags `N` and `J`.
-#[derive(Clone, Copy, Debug, PartialEq, Eq)]
+#[derive(Clone, Copy)]
 pub struct Vivify {
     pub exptime: i64,
     pub initial: u64,

@@ -6,7 +6,7 @@ use crate::stats::Stats;
 use crate::tally::{CountedAs, Status};
 
 /// One of the numbers that `stats` shows.
-#[derive(Clone, Copy, Debug, PartialEq, Eq)]
+#[derive(Clone, Copy)]
 pub enum Stat {
     CmdGet,
     CmdSet,

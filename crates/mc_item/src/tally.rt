@@ -7,7 +7,7 @@ use crate::op::{MetaGet, Op};
 use mc_command::{Direction, StoreMode};
 
 /// What a shard is asked, as it is counted: under memcached's names (protocol.txt, "General-purpose statistics").
-#[derive(Clone, Copy, Debug, PartialEq, Eq)]
+#[derive(Clone, Copy)]
 pub enum CountedAs {
     /// `get`, `gets`, and `mg` without `T`.
     Get,
@@ -30,7 +30,7 @@ pub enum CountedAs {
 }
 
 /// What came of it.
-#[derive(Clone, Copy, Debug, PartialEq, Eq)]
+#[derive(Clone, Copy)]
 pub enum Status {
     /// The item was there, or was stored.
     Hit,
@@ -50,7 +50,7 @@ const KINDS: usize = 9;
 const STATUSES: usize = 5;
 
 /// How often a shard was asked for each kind, and what came of it, since it began. A count starts anew after 2^64 - 1.
-#[derive(Clone, Copy, Debug, PartialEq, Eq)]
+#[derive(Clone, Copy)]
 pub struct Tally {
     counts: [u64; KINDS * STATUSES],
 }

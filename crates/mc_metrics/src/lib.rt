@@ -1,5 +1,5 @@
 //! Tells over HTTP what a server has counted: as metrics that Prometheus reads, and as one plain page. A thread of its own does
-//! it, which waits for no thread of the server and has none wait for it.
+//! it, which waits for no thread of the server and has none wait for it. What a server is watched for is started here.
 #![tactic(auto)]
 
 mod address;
@@ -12,6 +12,7 @@ mod reading;
 mod server;
 mod text;
 mod visitor;
+mod watching;
 
 pub use address::address_of;
 pub use history::History;
@@ -20,3 +21,4 @@ pub use pages::Pages;
 pub use reading::{Facts, Reading};
 pub use server::MetricsServer;
 pub use text::metrics_of;
+pub use watching::{NotWatching, Watching, Wishes, start_watching};

@@ -33,7 +33,7 @@ const MOST_IDLE: u64 = 31_536_000;
 const DEFAULT_ADDRESS: &str = "127.0.0.1:11211";
 
 /// How the program is called.
-#[derive(Clone, Copy, Debug, PartialEq, Eq)]
+#[derive(Clone, Copy, PartialEq, Eq)]
 pub enum Options<'a> {
     /// It serves TCP.
     Listen {

@@ -23,7 +23,7 @@ pub struct Schedule {
 }
 
 /// Why a replay file wasn't read.
-#[derive(Clone, Copy, Debug, PartialEq, Eq, Error)]
+#[derive(Clone, Copy, Debug, Error)]
 pub enum ScheduleFault {
     /// The line of this number, counted from 1, is the first that is no header or no event.
     #[error("line {0}: bad event")]

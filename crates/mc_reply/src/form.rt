@@ -42,7 +42,7 @@ pub enum Shape {
 }
 
 /// A reply that no answer changes.
-#[derive(Clone, Copy, Debug, PartialEq, Eq)]
+#[derive(Clone, Copy)]
 pub enum Fixed {
     /// Nothing at all: `quit`, and `verbosity` with `noreply`.
     Nothing,

@@ -10,12 +10,12 @@ use std::io::IoSlice;
 use thiserror::Error;
 
 /// A line gives no more bytes: it has failed.
-#[derive(Clone, Copy, Debug, Error, PartialEq, Eq)]
+#[derive(Clone, Copy, Debug, Error)]
 #[error("the line has failed: it gives no more bytes")]
 pub struct LineFault;
 
 /// What came for a line that had nothing to give, or took nothing.
-#[derive(Clone, Copy, Debug, PartialEq, Eq)]
+#[derive(Clone, Copy)]
 pub enum Ready {
     /// It may give bytes, or take some.
     Open,

@@ -11,7 +11,7 @@ use mc_sizes::Sizes;
 use std::alloc::{AllocError, Global};
 
 /// What became of a line.
-#[derive(Clone, Copy, Debug, PartialEq, Eq)]
+#[derive(Clone, Copy)]
 pub struct Served {
     /// How many commands it took.
     pub commands: u64,
@@ -20,7 +20,7 @@ pub struct Served {
 }
 
 /// What a step did.
-#[derive(Clone, Copy, Debug, PartialEq, Eq)]
+#[derive(Clone, Copy)]
 pub enum Stepped {
     /// Something: the next step may follow at once.
     Did,

@@ -19,7 +19,7 @@ pub(crate) struct Unread {
 }
 
 /// What a line gave.
-#[derive(Clone, Copy, Debug, PartialEq, Eq)]
+#[derive(Clone, Copy)]
 pub(crate) enum Refilled {
     /// Some bytes, or none at the end of its input.
     Bytes,

@@ -5,7 +5,7 @@ use std::alloc::AllocError;
 use thiserror::Error;
 
 /// Why lines were not served. Of `Memory` and `Thread` nothing was read of any line nor written to it.
-#[derive(Clone, Copy, Debug, Error, PartialEq, Eq)]
+#[derive(Clone, Copy, Debug, Error)]
 pub enum ServeRefusal {
     /// There is no memory for the shards, the connections or the rings, or the system gives no random bytes for a hash.
     #[error("out of memory for the shards, the connections or the rings, or no random bytes from the system")]

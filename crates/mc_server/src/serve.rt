@@ -16,7 +16,7 @@ use std::thread;
 use thiserror::Error;
 
 /// Why a line was not served. Nothing was read of it nor written to it.
-#[derive(Clone, Copy, Debug, Error, PartialEq, Eq)]
+#[derive(Clone, Copy, Debug, Error)]
 pub enum ServeRefusal {
     /// There is no memory for the shards or the connection, or the system gives no random bytes for a hash.
     #[error("out of memory for the shards or the connection, or no random bytes from the system")]

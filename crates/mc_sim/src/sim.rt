@@ -26,7 +26,7 @@ use std::random::RandomSource;
 use thiserror::Error;
 
 /// Why there is no simulated core.
-#[derive(Clone, Copy, Debug, PartialEq, Eq, Error)]
+#[derive(Clone, Copy, Debug, Error)]
 pub enum SimRefusal {
     /// A size is out of its limits.
     #[error(transparent)]
@@ -49,7 +49,7 @@ pub struct Connection {
 }
 
 /// A piece that a shard ran.
-#[derive(Clone, Copy, Debug, PartialEq, Eq)]
+#[derive(Clone, Copy, PartialEq, Eq)]
 pub struct LogEntry {
     pub shard: usize,
     /// The number of the connection that it was for.

@@ -12,7 +12,7 @@ use mc_wire::{GREATEST_LINE_LIMIT, GREATEST_VALUE_LIMIT, LEAST_LINE_LIMIT, LEAST
 use thiserror::Error;
 
 /// How large a server is, and whose rules it follows.
-#[derive(Clone, Copy, Debug, PartialEq, Eq)]
+#[derive(Clone, Copy, PartialEq, Eq)]
 pub struct Sizes {
     /// Whose rules it follows.
     pub profile: Profile,

@@ -30,7 +30,7 @@ use std::random::RandomSource;
 use thiserror::Error;
 
 /// Why there is no shard.
-#[derive(Clone, Copy, Debug, PartialEq, Eq, Error)]
+#[derive(Clone, Copy, Debug, Error)]
 pub enum StoreFault {
     #[error("no memory is left for the shard")]
     Memory,

@@ -12,7 +12,7 @@ const LOOKS: usize = 1_000;
 const YIELDS: usize = 2;
 
 /// How often a thread looks in vain before it sleeps: at first at once, then after it let other threads run.
-#[derive(Clone, Copy, Debug, PartialEq, Eq)]
+#[derive(Clone, Copy)]
 pub struct Patience {
     /// So often it looks again at once.
     pub looks: usize,

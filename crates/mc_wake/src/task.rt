@@ -21,7 +21,7 @@ pub trait Task: Drop {
 }
 
 /// What each thread is told once.
-#[derive(Clone, Copy, Debug, PartialEq, Eq)]
+#[derive(Clone, Copy)]
 pub(crate) enum Word {
     /// All threads run: it does its task.
     Begin,

@@ -3,7 +3,7 @@ use std::net::SocketAddr;
 use std::{fmt, io};
 
 /// How a connection ended.
-#[derive(Clone, Copy, Debug, PartialEq, Eq)]
+#[derive(Clone, Copy)]
 pub enum Manner {
     /// Its client ended it, by `quit` or by closing its side.
     Ended,
@@ -14,7 +14,7 @@ pub enum Manner {
 }
 
 /// What happened.
-#[derive(Clone, Copy, Debug, PartialEq, Eq)]
+#[derive(Clone, Copy)]
 pub enum Event {
     /// A connection is served from now on.
     Opened {

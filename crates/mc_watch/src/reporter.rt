@@ -17,7 +17,7 @@ const ROOM: usize = 8;
 const LOOK_MILLIS: u64 = 20;
 
 /// What is told at a time.
-#[derive(Clone, Copy, Debug, PartialEq, Eq)]
+#[derive(Clone, Copy)]
 struct Report {
     event: Event,
     /// Events before it that found no room.

@@ -3,8 +3,9 @@ ghost use Rattle.mc_sizes.specs.Sizes.{AreWithin};
 
 use crate::files::tell_files;
 use crate::refuse;
-use crate::watching::{NotWatching, Wishes, start_watching};
+use crate::version::VERSION;
 use libc::net::listen as listen_again;
+use mc_metrics::{NotWatching, Wishes, start_watching};
 use mc_serve::{ServeRefusal, serve_tcp};
 use mc_server::MachineClock;
 use mc_sizes::Sizes;
@@ -53,7 +54,7 @@ pub fn listen<
     let _ = listen_again(listener.as_raw_fd(), QUEUE);
     let _ = eprintln!(rt; "listening {local}");
     tell_files(rt, sizes.seats, sizes.shards);
-    let (watch, watching) = match start_watching(rt, local.port(), sizes, wishes) {
+    let (watch, watching) = match start_watching(rt, VERSION, local.port(), sizes, wishes) {
         Ok(begun) => begun,
         Err(NotWatching::Memory) => return refuse(rt, "out of memory"),
         Err(NotWatching::Thread) => return refuse_threads(rt, sizes.shards),

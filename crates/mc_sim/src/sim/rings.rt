@@ -22,7 +22,7 @@ use std::marker::Model;
 use std::random::RandomSource;
 
 /// What a shard ran.
-#[derive(Clone, Copy, Debug)]
+#[derive(Clone, Copy)]
 pub(crate) struct Ran {
     pub(crate) ticket: Ticket,
     pub(crate) part: usize,

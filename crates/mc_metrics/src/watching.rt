@@ -1,8 +1,10 @@
-//! What is watched while the program serves TCP, as the command line says, and the threads that tell it.
+//! What is watched of a server, as who runs it wishes, and the threads that tell it.
 ghost use Rattle.std.specs.Prelude.{◌≡◌, ◌*◌, ◌-◌, ◌^◌, min};
 
-use crate::version::VERSION;
-use mc_metrics::{Facts, MetricsServer, Pages, address_of};
+use crate::address::address_of;
+use crate::pages::Pages;
+use crate::reading::Facts;
+use crate::server::MetricsServer;
 use mc_sizes::Sizes;
 use mc_watch::{Counts, Dismissal, Patience, Reports, Seconds, Watch, reporters};
 use std::alloc::{AllocError, Global};
@@ -15,7 +17,7 @@ use std::sync::{Arc, Wait};
 use std::thread::{JoinHandle, Threads};
 use std::{io, thread, time};
 
-/// What who runs the program wants to be watched.
+/// What who runs a server wants to be watched.
 #[derive(Clone, Copy)]
 pub struct Wishes<'a> {
     /// The seconds after which a connection that moves no byte is given up, if one is.
@@ -27,7 +29,7 @@ pub struct Wishes<'a> {
 }
 
 /// Why nothing is watched.
-#[derive(Debug, Drop)]
+#[derive(Drop)]
 pub enum NotWatching {
     /// Memory ran out.
     Memory,
@@ -38,7 +40,7 @@ pub enum NotWatching {
 }
 
 impl From<AllocError> for NotWatching {
-    ghost use Rattle.mcd.specs.declared.watching.NotWatching.TheVariants.{Memory};
+    ghost use Rattle.mc_metrics.specs.declared.watching.NotWatching.TheVariants.{Memory};
 
     ghost from_gives = { λ _ fault. fault ≡ Memory };
 
@@ -60,7 +62,7 @@ pub struct Watching {
     tellers: Vec<Teller>,
 }
 
-/// Starts to watch what is wished of a server at this port, of these sizes: what the server has to tell, and
+/// Starts to watch what is wished of a server of this version at this port, of these sizes: what the server has to tell, and
 /// the threads that tell it on.
 pub fn start_watching<
     R: Threads
@@ -75,11 +77,17 @@ pub fn start_watching<
         + Send
         + Drop
         + 'static,
->(rt: &R, port: u16, sizes: Sizes, wishes: Wishes<'_>) -> Result<(Watch, Watching), NotWatching> {
+>(
+    rt: &R,
+    version: &'static str,
+    port: u16,
+    sizes: Sizes,
+    wishes: Wishes<'_>,
+) -> Result<(Watch, Watching), NotWatching> {
     let mut watching = Watching {
         tellers: Vec::new(rt.alloc()),
     };
-    match watching.begin(rt, port, sizes, wishes) {
+    match watching.begin(rt, version, port, sizes, wishes) {
         Ok(watch) => Ok((watch, watching)),
         Err(fault) => {
             watching.end(rt);
@@ -105,6 +113,7 @@ impl Watching {
     >(
         &mut self,
         rt: &R,
+        version: &'static str,
         port: u16,
         sizes: Sizes,
         wishes: Wishes<'_>,
@@ -124,7 +133,7 @@ impl Watching {
         if let Some(word) = wishes.metrics {
             let counts = Counts::new(alloc, sizes.shards)?;
             watch.counts = Some(counts.share(alloc)?);
-            let pages = Pages::new(rt, alloc, facts_of(port, sizes), counts)?;
+            let pages = Pages::new(rt, alloc, facts_of(version, port, sizes), counts)?;
             self.tell_metrics(rt, word, pages)?;
         }
         Ok(watch)
@@ -198,7 +207,7 @@ impl Watching {
 }
 
 /// What is told of the server beside what it counts.
-fn facts_of(port: u16, sizes: Sizes) -> Facts
+fn facts_of(version: &'static str, port: u16, sizes: Sizes) -> Facts
     ensures port { result.port ≡ port }
     ensures shards { result.shards ≡ sizes.shards }
     ensures seats { result.seats ≡ sizes.seats }
@@ -206,7 +215,7 @@ fn facts_of(port: u16, sizes: Sizes) -> Facts
 {
     let shards = sizes.shards as u64;
     Facts {
-        version: VERSION,
+        version,
         port,
         shards,
         seats: sizes.seats as u64,
