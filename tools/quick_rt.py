@@ -1,13 +1,11 @@
 #!/usr/bin/env python3
 """Runs the kit's `rt`, and has it sum up the files of each crate once.
 
-    ../../tools/quick_rt.py [--unkept] check|lib|run|test ..   in a crate's folder, as `rt check` and so on
+    ../../tools/quick_rt.py check|lib|run|test ..   in a crate's folder, as `rt check` and so on
 
 `rt` sums up the files of all crates below one to see whether they have changed, and does so anew for each way that leads down to a
 crate. There are thousands of ways from the upper crates, so that takes it minutes there before the prover begins. What is proved,
-built and kept is as `rt` leaves it; but with --unkept the prover keeps nothing for a later check, only the library or the program.
-Then several processes share what one of them has read of the crates below. Where it keeps what it does, each reads that again.
-A library holds its statements alone then, as with `rt ci`: the crates above it have less to read, and none needs its proofs.
+built and kept is as `rt` leaves it.
 """
 import functools
 import importlib.machinery
@@ -17,17 +15,6 @@ import shutil
 import sys
 
 RT = os.path.realpath(shutil.which("rt"))
-IS_UNKEPT = sys.argv[1:2] == ["--unkept"]
-
-
-def unkept(call, kept):
-    """`rattle` called as `call` does, without a folder for what it has checked; a library is written without its proofs."""
-
-    def called(crate, *words):
-        words = [it for it in words if it not in kept]
-        return call(crate, *words, *["--statements"] * (words[-1] == crate.rlib))
-
-    return called
 
 
 def quicken(module):
@@ -35,8 +22,6 @@ def quicken(module):
     crate = getattr(module, "Crate", None)
     if hasattr(crate, "stamp"):
         crate.stamp = functools.cache(crate.stamp)
-    if IS_UNKEPT and hasattr(crate, "call"):
-        crate.call = unkept(crate.call, module.KEPT)
 
 
 class Loader(importlib.machinery.SourceFileLoader):
@@ -54,7 +39,5 @@ import rtlib  # noqa: E402 (the kit's module)
 
 quicken(rtlib)
 importlib.machinery.SourceFileLoader = Loader
-if IS_UNKEPT:
-    del sys.argv[1]
 sys.argv[0] = RT
 runpy.run_path(RT, run_name="__main__")

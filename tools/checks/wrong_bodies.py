@@ -26,7 +26,7 @@ open, of which function, or which lines of the proof files it refused. Each edit
     unread     the edit doesn't compile, or its check ended otherwise                                            (a fault)
     proved     the crate is proved with it                                                                       (a fault)
 
-The libraries below a crate are those that `rt ci`, `rt lib` or tools/start.py left in out/. What was found is kept in a file
+The libraries below a crate are those that `rt ci`, `rt check` or `rt lib` left in out/. What was found is kept in a file
 (--kept FILE; out/wrong-bodies.json), edit by edit, so a run that was stopped goes on where it was. An edit is tried again where it
 or its crate has changed since. N crates are worked on at a time (--jobs N), each on a copy.
 """
@@ -275,7 +275,7 @@ class Copy:
         kit, needs = pathlib.Path(os.path.realpath(shutil.which("rt"))).parent.parent, libraries()
         built = {it: TOP / "crates" / it / "out/rlib" / f"{it}.rlib" for it in below(name, needs)}
         if lacking := [it for it, library in built.items() if not library.is_dir()]:
-            sys.exit(f"{name}: {lacking[0]} isn't built: run rt lib in its folder, or tools/start.py")
+            sys.exit(f"{name}: {lacking[0]} isn't built: run rt lib in its folder")
         for part in PARTS:
             if (self.crate / part).is_dir():
                 shutil.copytree(self.crate / part, self.folder / part)
