@@ -33,7 +33,8 @@ class OneCrate:
     def code(self, text, crate):
         """A source file of a crate."""
         if crate != self.program:
-            text = text.replace(TACTIC, "")
+            # What a crate passes on of a module of its own is named by its place there, so all modules can be seen.
+            text = re.sub(r"^mod ", "pub mod ", text.replace(TACTIC, ""), flags=re.M)
             text = re.sub(r"\bcrate::(?!specs::|proofs::)", f"crate::{crate}::", text)
             text = re.sub(r"\bcrate::(specs|proofs)::", rf"crate::\1::{crate}::", text)
         text = re.sub(rf"(?<![\w:.])({self.any})::(specs|proofs)::", r"crate::\2::\1::", text)

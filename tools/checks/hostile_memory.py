@@ -120,6 +120,23 @@ def unread_replies_hold_what_they_show():
         return told
 
 
+def written_replies_leave_their_lines():
+    """Each of 63 connections takes windows of replies, each longer than the last: the room in which they waited doesn't stay with it.
+    A window of short replies comes first, since what is kept of each open command stays resident."""
+    reply = b"VALUE k 0 500\r\n" + b"x" * 500 + b"\r\nEND\r\n"
+    with served() as server, Line(server.port) as stores:
+        stores.ask(set_of(b"k", b"x" * 500), b"STORED\r\n")
+        lines = [Line(server.port) for _ in range(SEATS - 1)]
+        for line in lines:
+            line.ask(b"get m\r\n" * 250, b"END\r\n" * 250)
+        before = server.resident()
+        for count in (16, 32, 64, 128, 250):
+            for line in lines:
+                line.ask(b"get k\r\n" * count, reply * count)
+        wait_until_still(server)
+        return within(server.resident() - before, 2 * MIB)
+
+
 def the_sum_holds_for_all_together():
     """Each seat but one holds a line of as many keys as there may be, whose reply shows items that were replaced since and isn't
     read. Then the smallest items fill the shards."""
@@ -143,5 +160,5 @@ def bound_of(seats, budgets):
 CHECKS = [
     an_idle_server_is_small, lines_without_end_are_bounded, announced_gigabytes_are_not_held, values_but_for_a_byte_are_bounded,
     lines_of_32766_keys_are_bounded, small_items_take_few_times_their_cost,
-    unread_replies_hold_what_they_show, the_sum_holds_for_all_together,
+    unread_replies_hold_what_they_show, written_replies_leave_their_lines, the_sum_holds_for_all_together,
 ]
