@@ -8,7 +8,6 @@ pub mod Halves
 pub mod Hidings
 pub mod KeyLists
 pub mod Lines
-pub mod Names
 pub mod MetaCounts
 pub mod MetaLaws
 pub mod MetaLookups

@@ -2,4 +2,4 @@
 pub mod CasCounts
 pub mod FlagReading
 pub mod FlagsAsked
-pub mod NameGroups
+pub mod WordTable

@@ -10,6 +10,7 @@ use crate::field::{read_exptime, read_key, read_last_word, read_noreply, read_u6
 use crate::keys::Keys;
 use crate::refusal::Refusal;
 use crate::rules::Rules;
+use crate::table::find_word;
 use mc_wire::WordWalk;
 use std::alloc::Global;
 
@@ -173,19 +174,18 @@ pub(crate) fn read_stats(rules: Rules, mut walk: WordWalk<'_>) -> Result<Command
     let Some(word) = walk.next() else {
         return Ok(Command::Stats(StatsRequest::General));
     };
-    match request_named(word) {
+    match find_word(&REQUESTS, word) {
         Some(request) => Ok(Command::Stats(request)),
         None => Err(Refusal::Unknown),
     }
 }
 
-/// What `stats` asks for by the word behind it.
-fn request_named(word: &[u8]) -> Option<StatsRequest>
-    ensures { result ≡ spec.request_named word.now }
-{
-    match word {
-        b"reset" => Some(StatsRequest::Reset),
-        b"settings" | b"items" | b"slabs" | b"sizes" | b"conns" => Some(StatsRequest::Empty),
-        _ => None,
-    }
-}
+/// What `stats` asks for by each word behind it.
+const REQUESTS: [(&[u8], StatsRequest); 6] = [
+    (b"reset", StatsRequest::Reset),
+    (b"settings", StatsRequest::Empty),
+    (b"items", StatsRequest::Empty),
+    (b"slabs", StatsRequest::Empty),
+    (b"sizes", StatsRequest::Empty),
+    (b"conns", StatsRequest::Empty),
+];

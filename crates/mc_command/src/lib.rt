@@ -17,6 +17,7 @@ mod name;
 mod refusal;
 mod rules;
 mod storage;
+mod table;
 
 pub use announced::{announced_bytes, announced_bytes_under, read_block_count};
 pub use block::Block;

@@ -127,7 +127,10 @@ pub(crate) fn block_line(rules: Rules, count: Option<u32>, read: Result<Command,
             refusal,
             count: u64::from(count) + 2,
         },
-        (None, Ok(_)) => Line::Refused(Refusal::BadFormat),
+        (None, Ok(command)) => {
+            let_go(command);
+            Line::Refused(Refusal::BadFormat)
+        }
         (None, Err(refusal)) => Line::Refused(refusal),
     }
 }
@@ -138,11 +141,8 @@ pub(crate) fn block_line(rules: Rules, count: Option<u32>, read: Result<Command,
 fn too_large(rules: Rules, command: Command, count: u32) -> Line
     ensures { result ≡ Skip (discarded_by rules command) TooLarge (count + 2) }
 {
-    let discarded = if rules.is_drop_in() {
-        key_set(command)
-    } else {
-        None
-    };
+    let key = key_set(command);
+    let discarded = if rules.is_drop_in() { key } else { None };
     let skipped = u64::from(count) + 2;
     Line::Skip {
         discarded,
@@ -164,6 +164,12 @@ fn key_set(command: Command) -> Option<Key>
             },
         ) => Some(key),
         Command::MetaSet(set) => Some(set.key),
-        _ => None,
+        other => {
+            let_go(other);
+            None
+        }
     }
 }
+
+/// Lets a command go. That is a function, since to drop a command is to look at each of its kinds.
+fn let_go(_command: Command) {}

@@ -1,10 +1,10 @@
 //! The names of the commands.
 ghost use Rattle.std.specs.Prelude.{◌≡◌};
 ghost use Rattle.mc_command.specs.Name.{name_of};
-ghost use Rattle.mc_command.specs.internal.NameGroups as spec;
 
 use crate::command::{Direction, StoreMode};
 use crate::meta::MetaKind;
+use crate::table::find_word;
 
 /// The command that a line's first word names.
 #[derive(Clone, Copy)]
@@ -39,78 +39,38 @@ pub(crate) enum CommandName {
     Meta(MetaKind),
 }
 
-/// The command of that name. Names are lower case.
-#[tactic(auto, using(crate::proofs::Names::name_in_parts))]
+/// Each name with its command. Names are lower case.
+const NAMES: [(&[u8], CommandName); 24] = [
+    (b"get", CommandName::Get { with_unique: false }),
+    (b"gets", CommandName::Get { with_unique: true }),
+    (b"gat", CommandName::GetAndTouch { with_unique: false }),
+    (b"gats", CommandName::GetAndTouch { with_unique: true }),
+    (b"set", CommandName::Store(StoreMode::Set)),
+    (b"add", CommandName::Store(StoreMode::Add)),
+    (b"replace", CommandName::Store(StoreMode::Replace)),
+    (b"append", CommandName::Store(StoreMode::Append)),
+    (b"prepend", CommandName::Store(StoreMode::Prepend)),
+    (b"cas", CommandName::CompareAndSwap),
+    (b"mg", CommandName::Meta(MetaKind::Get)),
+    (b"ms", CommandName::Meta(MetaKind::Set)),
+    (b"md", CommandName::Meta(MetaKind::Delete)),
+    (b"ma", CommandName::Meta(MetaKind::Arithmetic)),
+    (b"mn", CommandName::MetaNoop),
+    (b"delete", CommandName::Delete),
+    (b"incr", CommandName::Count(Direction::Increment)),
+    (b"decr", CommandName::Count(Direction::Decrement)),
+    (b"touch", CommandName::Touch),
+    (b"flush_all", CommandName::FlushAll),
+    (b"version", CommandName::Version),
+    (b"verbosity", CommandName::Verbosity),
+    (b"quit", CommandName::Quit),
+    (b"stats", CommandName::Stats),
+];
+
+/// The command of that name.
+#[tactic(auto, unfolding(crate::specs::Name::name_of))]
 pub(crate) fn read_name(word: &[u8]) -> Option<CommandName>
     ensures { result ≡ name_of word.now }
 {
-    retrieval_name(word)
-        .or_else(|| storage_name(word))
-        .or_else(|| meta_name(word))
-        .or_else(|| change_name(word))
-        .or_else(|| other_name(word))
-}
-
-fn retrieval_name(word: &[u8]) -> Option<CommandName>
-    ensures { result ≡ spec.retrieval_name word.now }
-{
-    match word {
-        b"get" => Some(CommandName::Get { with_unique: false }),
-        b"gets" => Some(CommandName::Get { with_unique: true }),
-        b"gat" => Some(CommandName::GetAndTouch { with_unique: false }),
-        b"gats" => Some(CommandName::GetAndTouch { with_unique: true }),
-        _ => None,
-    }
-}
-
-fn storage_name(word: &[u8]) -> Option<CommandName>
-    ensures { result ≡ spec.storage_name word.now }
-{
-    match word {
-        b"set" => Some(CommandName::Store(StoreMode::Set)),
-        b"add" => Some(CommandName::Store(StoreMode::Add)),
-        b"replace" => Some(CommandName::Store(StoreMode::Replace)),
-        b"append" => Some(CommandName::Store(StoreMode::Append)),
-        b"prepend" => Some(CommandName::Store(StoreMode::Prepend)),
-        b"cas" => Some(CommandName::CompareAndSwap),
-        _ => None,
-    }
-}
-
-fn meta_name(word: &[u8]) -> Option<CommandName>
-    ensures { result ≡ spec.meta_name word.now }
-{
-    match word {
-        b"mg" => Some(CommandName::Meta(MetaKind::Get)),
-        b"ms" => Some(CommandName::Meta(MetaKind::Set)),
-        b"md" => Some(CommandName::Meta(MetaKind::Delete)),
-        b"ma" => Some(CommandName::Meta(MetaKind::Arithmetic)),
-        b"mn" => Some(CommandName::MetaNoop),
-        _ => None,
-    }
-}
-
-fn change_name(word: &[u8]) -> Option<CommandName>
-    ensures { result ≡ spec.change_name word.now }
-{
-    match word {
-        b"delete" => Some(CommandName::Delete),
-        b"incr" => Some(CommandName::Count(Direction::Increment)),
-        b"decr" => Some(CommandName::Count(Direction::Decrement)),
-        b"touch" => Some(CommandName::Touch),
-        b"flush_all" => Some(CommandName::FlushAll),
-        _ => None,
-    }
-}
-
-fn other_name(word: &[u8]) -> Option<CommandName>
-    ensures { result ≡ spec.other_name word.now }
-{
-    match word {
-        b"version" => Some(CommandName::Version),
-        b"verbosity" => Some(CommandName::Verbosity),
-        b"quit" => Some(CommandName::Quit),
-        b"stats" => Some(CommandName::Stats),
-        _ => None,
-    }
+    find_word(&NAMES, word)
 }

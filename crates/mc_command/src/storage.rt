@@ -1,5 +1,5 @@
 //! The classic storage lines, each with the count of the block behind it.
-ghost use Rattle.std.specs.Prelude.{◌≡◌, ◌^◌, Ok};
+ghost use Rattle.std.specs.Prelude.{◌≡◌, ◌^◌};
 ghost use Rattle.std.specs.Option.{option_copied, option_and_then};
 ghost use Rattle.mc_wire.specs.Words.{words_left};
 ghost use Rattle.mc_wire.specs.Number.{number_of};
@@ -35,7 +35,7 @@ pub(crate) fn read_storage(
             block_line(
                 rules,
                 block,
-                storage(alloc, rules, mode, key, flags, exptime, noreply),
+                storage(alloc, rules, Ok(mode), key, flags, exptime, noreply),
             )
         }
         _ => miscounted(rules, block),
@@ -54,7 +54,7 @@ pub(crate) fn read_cas(alloc: Global, mut walk: WordWalk<'_>, rules: Rules) -> L
             block_line(
                 rules,
                 block,
-                guarded(alloc, rules, key, flags, exptime, unique, noreply),
+                storage(alloc, rules, cas_mode(unique), key, flags, exptime, noreply),
             )
         }
         _ => miscounted(rules, block),
@@ -69,23 +69,24 @@ fn miscounted(rules: Rules, block: Option<u32>) -> Line
     block_line(rules, block, Err(rules.word_count_refusal()))
 }
 
-/// A storage command, by its words.
+/// A storage command, by its words. A fault of its mode is told where no word before it has one.
 fn storage(
     alloc: Global,
     rules: Rules,
-    mode: StoreMode,
+    mode: Result<StoreMode, Refusal>,
     key: &[u8],
     flags: &[u8],
     exptime: &[u8],
     noreply: Option<&[u8]>,
 ) -> Result<Command, Refusal>
     ensures { Reads
-        (spec.storage_of rules (Ok mode) key.now flags.now exptime.now
+        (spec.storage_of rules mode key.now flags.now exptime.now
         (option_copied noreply.entry)) result }
 {
     let key = read_key(alloc, key)?;
     let flags = read_u32(flags)?;
     let exptime = read_exptime(rules, exptime)?;
+    let mode = mode?;
     let noreply = read_last_word(rules, noreply)?;
     Ok(Command::Store(Storage {
         key,
@@ -98,32 +99,9 @@ fn storage(
     }))
 }
 
-/// The storage command that a unique guards, by its words.
-fn guarded(
-    alloc: Global,
-    rules: Rules,
-    key: &[u8],
-    flags: &[u8],
-    exptime: &[u8],
-    unique: &[u8],
-    noreply: Option<&[u8]>,
-) -> Result<Command, Refusal>
-    ensures { Reads
-        (spec.storage_of rules (spec.cas_mode unique.now) key.now flags.now exptime.now
-        (option_copied noreply.entry)) result }
+/// The mode of `cas`, by the word of its unique.
+fn cas_mode(unique: &[u8]) -> Result<StoreMode, Refusal>
+    ensures { result ≡ spec.cas_mode unique.now }
 {
-    let key = read_key(alloc, key)?;
-    let flags = read_u32(flags)?;
-    let exptime = read_exptime(rules, exptime)?;
-    let mode = StoreMode::Cas(read_u64(unique)?);
-    let noreply = read_last_word(rules, noreply)?;
-    Ok(Command::Store(Storage {
-        key,
-        mode,
-        flags,
-        exptime,
-        noreply,
-        lenient: false,
-        block: Block::empty(alloc),
-    }))
+    Ok(StoreMode::Cas(read_u64(unique)?))
 }
