@@ -7,6 +7,7 @@ ghost use Rattle.mc_command.specs.Classic as spec;
 
 use crate::command::{Command, Direction, Retrieval, StatsRequest};
 use crate::field::{read_exptime, read_key, read_last_word, read_noreply, read_u64};
+use crate::hiding::is_noreply;
 use crate::keys::Keys;
 use crate::refusal::Refusal;
 use crate::rules::Rules;
@@ -141,7 +142,7 @@ pub(crate) fn read_flush_all(rules: Rules, mut walk: WordWalk<'_>) -> Result<Com
             delay: 0,
             noreply: false,
         }),
-        (Some(b"noreply"), None) => return Ok(Command::FlushAll {
+        (Some(word), None) if is_noreply(word) => return Ok(Command::FlushAll {
             delay: 0,
             noreply: true,
         }),

@@ -84,5 +84,5 @@ fn ends_in_noreply(words: WordWalk<'_>) -> bool
 pub(crate) fn is_noreply(word: &[u8]) -> bool
     ensures { result ≡ is_noreply word.now }
 {
-    matches!(word, b"noreply")
+    word == b"noreply".as_slice()
 }
