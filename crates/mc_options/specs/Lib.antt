@@ -4,3 +4,4 @@ pub mod Flags
 pub mod Numbers
 pub mod Calls
 pub mod Faults
+pub mod internal
