@@ -92,17 +92,8 @@ impl Sleeper {
         let parker = Parker::new(alloc)?;
         let alarm = Alarm::Memory(parker.unparker().clone()?);
         let waker = Waker::new(alloc, alarm, callers, places)?;
-        Ok(Sleeper {
-            bed: Bed::Memory(parker),
-            waker: Arc::new(alloc, waker)?,
-            patience,
-            vain: 0,
-            turns: 0,
-            looks: 0,
-            callers,
-            places,
-            workers,
-        })
+        let bed = Bed::Memory(parker);
+        Ok(Sleeper::asleep_in(bed, waker, patience, callers, places, workers))
     }
 
     /// The same of a thread whose seats have sockets: it sleeps in a poll of them.
@@ -118,14 +109,27 @@ impl Sleeper {
             sleeper ≡ record { callers = callers; places = places; workers = workers }) }
     {
         let sockets = Sockets::new(rt, alloc, places)?;
-        let alarm = Alarm::Sockets {
-            waker: sockets.alarm()?,
-            registry: sockets.registry()?,
-        };
-        let waker = Waker::new(alloc, alarm, callers, places)?;
-        Ok(Sleeper {
-            bed: Bed::Sockets(sockets),
-            waker: Arc::new(alloc, waker)?,
+        let waker = Waker::new(alloc, sockets.alarm()?, callers, places)?;
+        let bed = Bed::Sockets(sockets);
+        Ok(Sleeper::asleep_in(bed, waker, patience, callers, places, workers))
+    }
+
+    /// It sleeps in the bed, until that waker wakes it.
+    fn asleep_in(
+        bed: Bed,
+        waker: Arc<Waker, Global>,
+        patience: Patience,
+        callers: usize,
+        places: usize,
+        workers: usize,
+    ) -> Sleeper
+        requires callers { (arc_value waker).callers ≡ div_ceil callers 64 }
+        requires places { (arc_value waker).roused ≡ div_ceil places 64 }
+        ensures { result ≡ record { callers = callers; places = places; workers = workers } }
+    {
+        Sleeper {
+            bed,
+            waker,
             patience,
             vain: 0,
             turns: 0,
@@ -133,7 +137,7 @@ impl Sleeper {
             callers,
             places,
             workers,
-        })
+        }
     }
 
     /// How many seats the thread serves.

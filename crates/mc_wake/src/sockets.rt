@@ -2,8 +2,9 @@
 ghost use Rattle.std.specs.Prelude.{◌≡◌, IfOk, length};
 
 use crate::board::Board;
+use crate::waker::Alarm;
 use mio::event::Event;
-use mio::{Events, Poll, Registry, Token, Waker};
+use mio::{Events, Poll, Token, Waker};
 use std::alloc::Global;
 use std::io;
 use std::net::Net;
@@ -26,12 +27,22 @@ pub enum Readiness {
 }
 
 /// The poll, and what it has told since it was last asked.
-#[derive(Drop)]
 pub(crate) struct Sockets {
     poll: Poll,
     events: Events,
     /// Of each place.
     ready: Vec<Option<Readiness>>,
+}
+
+impl Drop for Sockets {
+    /// By hand, so that to let one go is one call for whoever holds it (docs/DECISIONS.md).
+    fn drop(self) {
+        let Sockets {
+            poll: _poll,
+            events: _events,
+            ready: _ready,
+        } = self;
+    }
 }
 
 impl Sockets {
@@ -45,14 +56,11 @@ impl Sockets {
         })
     }
 
-    /// What wakes the thread while it sleeps here.
-    pub(crate) fn alarm(&self) -> io::Result<Waker> {
-        Waker::new(self.poll.registry(), ALARM)
-    }
-
-    /// Where the sockets of the places are registered.
-    pub(crate) fn registry(&self) -> io::Result<Registry> {
-        self.poll.registry().try_clone()
+    /// What wakes the thread while it sleeps here, and where the sockets of the places are registered.
+    pub(crate) fn alarm(&self) -> io::Result<Alarm> {
+        let waker = Waker::new(self.poll.registry(), ALARM)?;
+        let registry = self.poll.registry().try_clone()?;
+        Ok(Alarm::Sockets { waker, registry })
     }
 
     /// Waits at most so long, or for good, until a socket has something or the thread is woken. The places that it is told of are

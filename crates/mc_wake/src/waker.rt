@@ -1,5 +1,6 @@
 //! What wakes one thread.
 ghost use Rattle.std.specs.Prelude.{◌≡◌, IfOk};
+ghost use Rattle.std.specs.Arc.{arc_value};
 ghost use Rattle.std.specs.Int.{div_ceil};
 
 use crate::board::Board;
@@ -8,10 +9,10 @@ use mio::event::Source;
 use mio::{Interest, Registry, Token};
 use std::alloc::{AllocError, Global};
 use std::io;
+use std::sync::Arc;
 use std::sync::atomic::{AtomicBool, Ordering};
 
 /// What ends the sleep of a thread.
-#[derive(Drop)]
 pub(crate) enum Alarm {
     /// It sleeps in a parker.
     Memory(Unparker),
@@ -20,6 +21,19 @@ pub(crate) enum Alarm {
         waker: mio::Waker,
         registry: Registry,
     },
+}
+
+impl Drop for Alarm {
+    /// By hand, so that to let one go is one call for whoever holds it (docs/DECISIONS.md).
+    fn drop(self) {
+        match self {
+            Alarm::Memory(_unparker) => {}
+            Alarm::Sockets {
+                waker: _waker,
+                registry: _registry,
+            } => {}
+        }
+    }
 }
 
 /// Wakes one thread, and tells it why.
@@ -43,21 +57,22 @@ impl Waker {
         alarm: Alarm,
         callers: usize,
         places: usize,
-    ) -> Result<Waker, AllocError>
-        ensures callers { IfOk result (λ waker. waker.callers ≡ div_ceil callers 64) }
-        ensures places { IfOk result (λ waker. waker.roused ≡ div_ceil places 64) }
+    ) -> Result<Arc<Waker, Global>, AllocError>
+        ensures callers { IfOk result
+            (λ waker. (arc_value waker).callers ≡ div_ceil callers 64) }
+        ensures places { IfOk result (λ waker. (arc_value waker).roused ≡ div_ceil places 64) }
     {
-        let roused = Board::new(alloc, places)?;
-        for place in 0..places {
-            roused.mark(place);
-        }
-        Ok(Waker {
+        let waker = Waker {
             alarm,
             asleep: AtomicBool::new(false),
             callers: Board::new(alloc, callers)?,
-            roused,
+            roused: Board::new(alloc, places)?,
             reminders: Board::new(alloc, places)?,
-        })
+        };
+        for place in 0..places {
+            waker.roused.mark(place);
+        }
+        Ok(Arc::new(alloc, waker)?)
     }
 
     /// Tells the thread that the seat has pushed something for a worker of it, and wakes it where it sleeps or is about to.
