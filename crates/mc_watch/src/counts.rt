@@ -131,13 +131,9 @@ impl<C: Count> Counts<C> {
     pub fn share(&self, alloc: Global) -> Result<Counts<C>, AllocError>
         ensures { IfOk result (λ shared. SameCounts shared self.now) }
     {
-        let mut threads = Vec::with_capacity(alloc, self.threads.len())?;
-        for thread in &self.threads {
-            threads.push(Arc::try_clone(thread)?)?;
-        }
         Ok(Counts {
-            entrance: Arc::try_clone(&self.entrance)?,
-            threads,
+            entrance: self.entrance()?,
+            threads: share_each(alloc, &self.threads)?,
             shards: self.shards(alloc)?,
         })
     }
@@ -170,11 +166,7 @@ impl<C: Count> Counts<C> {
     ) -> Result<Vec<Arc<CachePadded<ShardCounts<C>>, Global>>, AllocError>
         ensures { IfOk result (λ shards. shared_values shards.items ≡ shards_of self.now) }
     {
-        let mut shards = Vec::with_capacity(alloc, self.shards.len())?;
-        for shard in &self.shards {
-            shards.push(Arc::try_clone(shard)?)?;
-        }
-        Ok(shards)
+        share_each(alloc, &self.shards)
     }
 
     /// What all threads have counted so far. The connections that ended are read first, so that no more have ended than were
@@ -191,6 +183,20 @@ impl<C: Count> Counts<C> {
         totals.shards = ShardTotals::default().and_each(&self.shards);
         totals
     }
+}
+
+/// What these counts share, each for one more.
+fn share_each<T: Drop>(
+    alloc: Global,
+    all: &[Arc<CachePadded<T>, Global>],
+) -> Result<Vec<Arc<CachePadded<T>, Global>>, AllocError>
+    ensures { IfOk result (λ shared. shared_values shared.items ≡ shared_values all.now) }
+{
+    let mut shared = Vec::with_capacity(alloc, all.len())?;
+    for one in all {
+        shared.push(Arc::try_clone(one)?)?;
+    }
+    Ok(shared)
 }
 
 /// What `count` shards show, each of which was asked nothing yet.
