@@ -1,12 +1,11 @@
 -- The seats and the workers of one thread, and of all threads.
-use Rattle.std.proofs.Common.{◌≡◌, ◌≤◌, ◌+◌, ℕ, List, [], ◌∷◌, ◌++◌, length, map, take, Some, refl, sym, ap, subst, ◌∙◌, append_assoc, append-nil, slice_set, Result, Ok, Err}
+use Rattle.std.proofs.Common.{◌≡◌, ◌≤◌, ◌+◌, ℕ, List, [], ◌∷◌, ◌++◌, length, map, take, Some, refl, sym, ap, subst, ◌∙◌, append_assoc, append-nil, slice_set}
 use Rattle.std.specs.List.{AllByRecursion, flat_map, slice_get}
 use Rattle.std.proofs.lemmas.List.{take_all}
 use Rattle.mc_sizes.specs.Sizes.{rules_of}
 use Rattle.mc_sizes.specs.declared.sizes.Sizes.{Sizes}
 use Rattle.mc_model.proofs.Lists.{take_next}
 use Rattle.mc_wire.specs.Outlet.{Sight}
-use Rattle.std.specs.Prelude.{OnOk}
 use Rattle.mc_ring.specs.Made.{AreLanes}
 use Rattle.mc_worker.specs.Desk.{Desk, Goes}
 use Rattle.mc_worker.specs.DeskLaws.{goes_refl, goes_trans}
@@ -141,16 +140,6 @@ zips_flat {P} {A} {B} (part ∷ parts) (part' ∷ parts') own f R zips =
     subst (λ ys. Z (map f (flat_map own (part ∷ parts))) ys) (sym (map_append f (own part') (flat_map own parts')))
     (subst (λ xs. Z xs (map f (own part') ++ map f (flat_map own parts'))) (sym (map_append f (own part) (flat_map own parts)))
     (zips_append R (map f (own part)) (map f (own part')) (map f (flat_map own parts)) (map f (flat_map own parts')) zips.0 (zips_flat parts parts' own f R zips.1)))
-
--- Two facts, where all went well.
-pub both_ok : {T E A B C : Type 0} (r : Result T E) → OnOk r A → OnOk r B → (A → B → C) → OnOk r C
-both_ok (Ok x) a b follows = follows a b
-both_ok (Err e) a b follows = tt
-
--- What follows from a fact where a call went well.
-pub one_ok : {T E A B : Type 0} (r : Result T E) → OnOk r A → (A → B) → OnOk r B
-one_ok (Ok x) a follows = follows a
-one_ok (Err e) a follows = tt
 
 -- The parts of all threads are joined, and what they serve was taken apart.
 pub parts_joined : {P S W D : Type 0} (crew parts : List P) (seats : List S) (workers : List W) (doors back : List D) (own : P → List S) (working : P → List W) (at : S → SeatAt) (door_of : S → D) (desk_of : W → Desk) (told : D → DoorTold) (sizes : Sizes) (may_answer : ℕ → Type 0)

@@ -67,11 +67,13 @@ pub(crate) fn sleepers_for<R: Threads>(
     let threads = seats.saturating_add(shards);
     let patience = Patience::among(rt, threads);
     let mut sleepers = Vec::with_capacity(alloc, threads)?;
-    for _ in 0..seats {
-        sleepers.push(Sleeper::new(alloc, patience, 0, 1, 0)?)?;
-    }
-    for _ in 0..shards {
-        sleepers.push(Sleeper::new(alloc, patience, seats, 0, 1)?)?;
+    for thread in 0..threads {
+        let (callers, places, workers) = if thread < seats {
+            (0, 1, 0)
+        } else {
+            (seats, 0, 1)
+        };
+        sleepers.push(Sleeper::new(alloc, patience, callers, places, workers)?)?;
     }
     Ok(sleepers)
 }

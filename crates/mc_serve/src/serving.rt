@@ -1,5 +1,5 @@
 //! Serves the lines of doors, over shards, in threads that each serve some of the seats and some of the shards.
-ghost use Rattle.std.specs.Prelude.{◌≡◌, ◌≢◌, [], ◌++◌, IfErr, IfOk, OnOk, length, map};
+ghost use Rattle.std.specs.Prelude.{◌≡◌, ◌≢◌, [], ◌++◌, IfErr, IfOk, IsTrue, OnOk, length, map};
 ghost use Rattle.std.specs.List.{AllByRecursion, flat_map};
 ghost use Rattle.std.specs.Vec.Iter.{into_iter_items};
 ghost use Rattle.mc_sizes.specs.Sizes.{MayServe, SuitLines, rules_of};
@@ -107,7 +107,8 @@ where
     settle(seats, &mut workers, room)
 }
 
-/// Starts the threads of the parts, as far as they can be started.
+/// Starts a thread for each sleeper, with as many of the seats and of the workers as it has places and workers for, as far as
+/// they can be started. Any seat of the server may call a worker. `Thread`: some are left.
 fn start<
     R: Threads + Wait + RandomSource + Copy + Send + 'static,
     D: Door + Send + Drop + 'static,
@@ -140,15 +141,15 @@ where
     ensures same { OnOk result
         (AllByRecursion (λ part. (part.clock ≡ clock) × (part.sizes ≡ sizes)) crew.new) }
 {
-    let Ok((near, far)) = lanes(alloc, sizes) else {
-        // The sizes are within the limits.
-        return Err(CrewRefusal::Memory);
-    };
-    let wakers = Wakers::of(alloc, &sleepers)?;
-    let workers = make_workers(rt, alloc, far, sizes)?;
-    let workers = set_working(alloc, workers, gate, &wakers)?;
-    let seats = sit_down(alloc, doors, near, &wakers, sizes)?;
-    start_parts(rt, alloc, crew, seats, workers, sleepers, sizes, clock)
+    let mut left = Unassigned::new(rt, alloc, doors, &sleepers, sizes, gate)?;
+    for sleeper in sleepers {
+        let part = left.next_part(alloc, sleeper, sizes, clock)?;
+        crew.start(rt, alloc, part)?;
+    }
+    if left.is_empty() {
+        return Ok(());
+    }
+    Err(CrewRefusal::Thread)
 }
 
 /// A seat for each door, over the ends in the same place. The wakers are those of the shards.
@@ -202,47 +203,6 @@ fn set_working<G: Gate + Drop>(
     Ok(all)
 }
 
-/// Starts a thread for each sleeper, with as many of the seats and of the workers as it has places and workers for. Any seat of
-/// the server may call a worker. `Thread`: some are left.
-fn start_parts<
-    R: Threads + Wait + Copy + Send + 'static,
-    D: Door + Send + Drop + 'static,
-    G: Gate + Send + Sync + Drop + 'static,
-    K: Clock + Copy + Send + Drop + 'static,
->(
-    rt: &R,
-    alloc: Global,
-    crew: &mut Crew<Part<D, G, K>>,
-    seats: Vec<Sitting<D>>,
-    workers: Vec<Working<G>>,
-    sleepers: Vec<Sleeper>,
-    sizes: Sizes,
-    clock: K,
-) -> Result<(), CrewRefusal>
-where
-    D::Line: Send + 'static,
-    requires none { crew.old ≡ [] }
-    requires begin { AllByRecursion (λ one.
-        HasSatDown sizes.shards (rules_of sizes) (D.told one.door) one.session one.phase)
-        seats.items }
-    // Each seat and each worker stands in just one part, in their order.
-    ensures seats { OnOk result (flat_map (λ part. part.seats.all.items) crew.new ≡ seats.items) }
-    ensures workers { OnOk result (flat_map (λ part. part.workers.items) crew.new ≡ workers.items) }
-    ensures same { OnOk result
-        (AllByRecursion (λ part. (part.clock ≡ clock) × (part.sizes ≡ sizes)) crew.new) }
-{
-    let mut left = Unassigned {
-        seats: seats.into_iter(),
-        workers: workers.into_iter(),
-    };
-    for sleeper in sleepers {
-        let part = left.next_part(alloc, sleeper, sizes, clock)?;
-        crew.start(rt, alloc, part)?;
-    }
-    left.none()?;
-    Ok(())
-}
-
 /// The seats and the workers that no thread serves yet.
 #[derive(Drop)]
 struct Unassigned<D: Door, G> {
@@ -251,6 +211,45 @@ struct Unassigned<D: Door, G> {
 }
 
 impl<D: Door + Drop, G: Gate + Drop> Unassigned<D, G> {
+    /// A seat for each door and a worker for each shard, over new lanes. The sleepers are those of their threads.
+    fn new<R: RandomSource>(
+        rt: &R,
+        alloc: Global,
+        doors: Vec<D>,
+        sleepers: &[Sleeper],
+        sizes: Sizes,
+        gate: &Arc<G, Global>,
+    ) -> Result<Unassigned<D, G>, AllocError>
+        requires sizes { MayServe sizes }
+        requires seats { length doors.items ≡ sizes.seats }
+        requires free { AllByRecursion (λ door. IsFree (D.told door)) doors.items }
+        ensures lanes { IfOk result (λ left. AreLanes sizes.seats sizes.shards sizes.ring
+            (map (λ one. seat_ends one.session) (into_iter_items left.seats))
+            (map ends_of (map (λ one. one.worker) (into_iter_items left.workers)))) }
+        ensures fresh { IfOk result (λ left.
+            AllByRecursion (IsFresh sizes)
+            (map (λ one. one.worker) (into_iter_items left.workers))) }
+        ensures doors { IfOk result (λ left.
+            map (λ one. one.door) (into_iter_items left.seats) ≡ doors.items) }
+        ensures begin { IfOk result (λ left.
+            AllByRecursion (λ one.
+            HasSatDown sizes.shards (rules_of sizes) (D.told one.door) one.session one.phase)
+            (into_iter_items left.seats)) }
+    {
+        let Ok((near, far)) = lanes(alloc, sizes) else {
+            // The sizes are within the limits.
+            return Err(AllocError);
+        };
+        let wakers = Wakers::of(alloc, sleepers)?;
+        let workers = make_workers(rt, alloc, far, sizes)?;
+        let workers = set_working(alloc, workers, gate, &wakers)?;
+        let seats = sit_down(alloc, doors, near, &wakers, sizes)?;
+        Ok(Unassigned {
+            seats: seats.into_iter(),
+            workers: workers.into_iter(),
+        })
+    }
+
     /// The part of the thread that has this sleeper: the next of them, as many as it has places and workers for.
     fn next_part<K: Clock + Drop>(
         &mut self,
@@ -280,22 +279,12 @@ impl<D: Door + Drop, G: Gate + Drop> Unassigned<D, G> {
         Part::new(alloc, seats, workers, sleeper, sizes, clock)
     }
 
-    /// That there are none. `Thread`: some are left.
-    fn none(self) -> Result<(), CrewRefusal>
-        ensures seats { OnOk result (length (into_iter_items self.seats) ≡ 0) }
-        ensures workers { OnOk result (length (into_iter_items self.workers) ≡ 0) }
+    /// Whether there are none.
+    fn is_empty(&self) -> bool
+        ensures seats { IsTrue result → length (into_iter_items self.now.seats) ≡ 0 }
+        ensures workers { IsTrue result → length (into_iter_items self.now.workers) ≡ 0 }
     {
-        let Unassigned {
-            mut seats,
-            mut workers,
-        } = self;
-        let None = seats.next() else {
-            return Err(CrewRefusal::Thread);
-        };
-        let None = workers.next() else {
-            return Err(CrewRefusal::Thread);
-        };
-        Ok(())
+        self.seats.len() == 0 && self.workers.len() == 0
     }
 }
 

@@ -1,47 +1,43 @@
--- The threads start over new lanes.
-use Rattle.std.proofs.Common.{◌≡◌, List, length, map, ap, sym, subst, ◌∙◌}
-use Rattle.mc_model.proofs.Lists.{all_from}
-use Rattle.mc_ring.specs.Ends.{Ends}
-use Rattle.mc_ring.specs.Lane.{Far, Near}
-use Rattle.mc_ring.specs.Made.{AreLanes}
-use Rattle.mc_threads.specs.Workers.{ends_of}
-use Rattle.mc_threads.proofs.Fresh.{all_fresh}
-use Rattle.mc_threads.specs.Session.{seat_ends}
-use Rattle.mc_serve.proofs.Parts.{both_ok, one_ok}
+-- One part more takes the first of what is left.
+use Rattle.std.proofs.Common.{◌≡◌, refl}
+use Rattle.std.specs.List.{flat_map}
+use Rattle.std.specs.Vec.Iter.{into_iter_items}
+use Rattle.mc_sizes.specs.Sizes.{rules_of}
+use Rattle.mc_threads.proofs.Orders.{all_more, order_all}
+use Rattle.mc_serve.specs.Seats.{HasSatDown}
+use Rattle.mc_serve.proofs.Parts.{all_parted, flat_more}
 use Rattle.mc_serve.proofs.serving.start.Goals as goal
 
-pub make_workers-requires-clause-sizes : goal.make_workers-requires-clause-sizes
-make_workers-requires-clause-sizes g c = c.requires.sizes.shards
+pub loop-sleeper-init : goal.loop-sleeper-init
+loop-sleeper-init g c =
+    let made = c.in_ok-left.ensures in
+    rw c.requires.none (record { lanes = made.lanes; fresh = made.fresh; doors = made.doors; same = tt; begin = made.begin })
 
-pub sit_down-requires-clause-sizes : goal.sit_down-requires-clause-sizes
-sit_down-requires-clause-sizes g c = c.requires.sizes.lines
-
-pub make_workers-requires-clause-fresh : goal.make_workers-requires-clause-fresh
-make_workers-requires-clause-fresh g c = all_fresh _ _ _ c.in-Ok.near.items c.in-Ok.far.items c.in-Ok.ensures.made
-
-pub sit_down-requires-clause-width : goal.sit_down-requires-clause-width
-sit_down-requires-clause-width g c =
-    let lanes = c.in-Ok.ensures.made in
-    all_from (λ seat. length seat.lanes ≡ c.args.sizes.shards) c.in-Ok.near.items (λ i seat here. (lanes.each_seat i seat here).counted)
-
-pub start_parts-requires-clause-begin : goal.start_parts-requires-clause-begin
-start_parts-requires-clause-begin g c κs within = c.in_ok-seats.ensures.begin
-
-pub returns : goal.returns
-returns g c =
-    let lanes = c.in-Ok.ensures.made in
-    let made = c.in_ok-workers.ensures in
-    let set = c.in_ok-workers-2.ensures in
-    let sat = c.in_ok-seats.ensures in
-    let seats = c.in_ok-seats.seats.items in
-    let workers = c.in_ok-workers-2.workers.items in
-    let A : List (Ends Near) → List (Ends Far) → Type 0 = λ near far. AreLanes c.args.sizes.seats c.args.sizes.shards c.args.sizes.ring near far in
-    let far : map ends_of (map (λ one. one.worker) workers) ≡ c.in-Ok.far.items = ap (map ends_of) set ∙ made.ends in
-    let all : A (map (λ one. seat_ends one.session) seats) (map ends_of (map (λ one. one.worker) workers)) =
-    subst (λ near. A near (map ends_of (map (λ one. one.worker) workers))) (sym sat.ends) (subst (λ far. A c.in-Ok.near.items far) (sym far) lanes) in
+pub loop-sleeper-preserved : goal.loop-sleeper-preserved
+loop-sleeper-preserved g c =
+    let was = c.loop-sleeper.invariant in
+    let made = c.in_ok-part.ensures in
+    let part = c.in_ok-part.part in
+    let grown = c.in_ok-start.ensures.ok in
+    let seats = flat_more c.loop-sleeper.crew _ (λ part. part.seats.all.items) part part.seats.all.items _ _ _ grown refl made.seats refl in
+    let workers = flat_more c.loop-sleeper.crew _ (λ part. part.workers.items) part part.workers.items _ _ _ grown refl made.workers refl in
     record {
-      lanes = both_ok c.start_parts.result c.start_parts.ensures.seats c.start_parts.ensures.workers (λ mine own. rw (mine, own) all);
-      fresh = one_ok c.start_parts.result c.start_parts.ensures.workers (λ own. rw (own, set) made.fresh);
-      doors = one_ok c.start_parts.result c.start_parts.ensures.seats (λ mine. rw mine sat.doors);
-      same = c.start_parts.ensures.same;
+      lanes = rw (seats, workers) was.lanes;
+      fresh = rw workers was.fresh;
+      doors = rw seats was.doors;
+      same = all_more (λ part. (part.clock ≡ c.args.clock) × (part.sizes ≡ c.args.sizes)) c.loop-sleeper.crew _ part grown was.same (made.clock, made.sizes);
+      begin = (all_parted part.seats.all.items (into_iter_items c.next_part.new.self.seats) (into_iter_items c.loop-sleeper.left.seats) (λ one. HasSatDown c.args.sizes.shards (rules_of c.args.sizes) (g.D.Door.told one.door) one.session one.phase) made.seats was.begin).1;
+    }
+
+pub returns-then-is_empty : goal.returns-then-is_empty
+returns-then-is_empty g c =
+    let was = c.loop-sleeper.invariant in
+    let none = c.if-is_empty.ensures in
+    let seats = order_all (flat_map (λ part. part.seats.all.items) c.loop-sleeper.crew) (into_iter_items c.loop-sleeper.left.seats) _ (none.seats refl) refl in
+    let workers = order_all (flat_map (λ part. part.workers.items) c.loop-sleeper.crew) (into_iter_items c.loop-sleeper.left.workers) _ (none.workers refl) refl in
+    record {
+      lanes = rw (seats, workers) was.lanes;
+      fresh = rw workers was.fresh;
+      doors = rw seats was.doors;
+      same = was.same;
     }
