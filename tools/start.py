@@ -12,8 +12,10 @@ starts. The program then lies at crates/mcd/out/mcd, and while no file changes a
 import argparse
 import hashlib
 import os
+import shutil
 import subprocess
 import sys
+import time
 
 from listed_crates import TOP
 from one_crate import OneCrate
@@ -23,6 +25,10 @@ OUT = TOP / "crates" / PROGRAM / "out"
 ASIDE = OUT / "one"
 MADE = ASIDE / "made"
 BYTES_A_PROCESS = 4 * 1024**3
+
+# How a line of `rt` begins and ends that tells how far it is, and how many of its last lines are shown where it fails.
+SO_FAR, CHECKED = "so far: ", "functions checked"
+SHOWN = 40
 
 
 def room():
@@ -39,14 +45,25 @@ def sum_of(crate):
     return total.hexdigest()
 
 
+def minutes(seconds):
+    return f"{int(seconds) // 60}:{int(seconds) % 60:02}"
+
+
 def build(crate, jobs):
     """Proves and builds the program; whether it is built."""
-    folder = crate.write(ASIDE)
-    print(f"the {len(crate.crates)} crates and {PROGRAM} itself are proved as one, by {jobs} processes", flush=True)
-    if subprocess.run(["rt", "run", "--jobs", str(jobs), "--", "--version"], cwd=folder).returncode:
-        print(f"{PROGRAM} is not proved, so nothing starts")
+    folder, begun, said = crate.write(ASIDE), time.monotonic(), []
+    print(f"{PROGRAM} and the {len(crate.crates)} crates below it are proved as one, by {jobs} processes", flush=True)
+    words = ["rt", "run", "--jobs", str(jobs), "--", "--version"]
+    with subprocess.Popen(words, cwd=folder, stdout=subprocess.PIPE, stderr=subprocess.STDOUT, text=True, errors="replace") as rt:
+        for line in map(str.rstrip, rt.stdout):
+            said.append(line)
+            if line.startswith(SO_FAR) and line.endswith(CHECKED):
+                print(f"{minutes(time.monotonic() - begun)} {line.removeprefix(SO_FAR)}", flush=True)
+    if rt.returncode:
+        print(*said[-SHOWN:], f"{PROGRAM} is not proved and built, so nothing starts", sep="\n")
         return False
     (folder / "out" / PROGRAM).replace(OUT / PROGRAM)
+    print(f"{minutes(time.monotonic() - begun)} all is proved, and {PROGRAM} is built", flush=True)
     return True
 
 
@@ -56,6 +73,8 @@ def main():
     parser.add_argument("--try", action="store_true", dest="tries")
     parser.add_argument("options", nargs="*")
     asked = parser.parse_args()
+    if not shutil.which("rt"):
+        sys.exit("there is no `rt` here, the command of the Rattle toolchain")
     crate = OneCrate(PROGRAM)
     if asked.tries:
         return subprocess.run(["rt", "try", "--", "--version"], cwd=crate.write(ASIDE)).returncode

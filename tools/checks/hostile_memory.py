@@ -1,8 +1,9 @@
 """How much memory clients can make the server take. The bounds are those of the table in docs/SECURITY.md.
 
-Beside the faults of tools/checks/seen_to_fail.py two were built into the program itself. A form that takes 768 bytes more for each key
-let `lines_of_32766_keys_are_bounded` find 2,266 MiB and `the_sum_holds_for_all_together` 658; a shard that keeps the items that
-were replaced let `unread_replies_hold_what_they_show` find 50 MiB where all replies had been read.
+Beside the faults of tools/checks/seen_to_fail.py three were built into the program itself. A form that takes 768 bytes more for each
+key let `lines_of_32766_keys_are_bounded` find 2,266 MiB and `the_sum_holds_for_all_together` 658; a shard that keeps the items that
+were replaced let `unread_replies_hold_what_they_show` find 50 MiB where all replies had been read; a line that keeps the room in
+which its replies waited let `written_replies_leave_their_lines` find 9.
 """
 import re
 import time
