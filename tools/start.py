@@ -12,6 +12,7 @@ starts. The program then lies at crates/mcd/out/mcd, and while no file changes a
 import argparse
 import hashlib
 import os
+import re
 import shutil
 import subprocess
 import sys
@@ -26,8 +27,9 @@ ASIDE = OUT / "one"
 MADE = ASIDE / "made"
 BYTES_A_PROCESS = 4 * 1024**3
 
-# How a line of `rt` begins and ends that tells how far it is, and how many of its last lines are shown where it fails.
+# How a line of `rt` begins and ends that tells how far it is; which of its lines, and how many, are shown where it fails.
 SO_FAR, CHECKED = "so far: ", "functions checked"
+FAULT = re.compile(r"error|not proved|killed|No space")
 SHOWN = 40
 
 
@@ -60,7 +62,8 @@ def build(crate, jobs):
             if line.startswith(SO_FAR) and line.endswith(CHECKED):
                 print(f"{minutes(time.monotonic() - begun)} {line.removeprefix(SO_FAR)}", flush=True)
     if rt.returncode:
-        print(*said[-SHOWN:], f"{PROGRAM} is not proved and built, so nothing starts", sep="\n")
+        faults = [it for it in said if FAULT.search(it)] or said
+        print(*faults[-SHOWN:], f"{PROGRAM} is not proved and built, so nothing starts", sep="\n")
         return False
     (folder / "out" / PROGRAM).replace(OUT / PROGRAM)
     print(f"{minutes(time.monotonic() - begun)} all is proved, and {PROGRAM} is built", flush=True)
