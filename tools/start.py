@@ -10,6 +10,7 @@ stopped goes on where it was. Nothing is built that isn't proved: where somethin
 starts. The program then lies at crates/mcd/out/mcd, and while no file changes a later start begins at once.
 """
 import argparse
+import contextlib
 import hashlib
 import os
 import re
@@ -18,7 +19,7 @@ import subprocess
 import sys
 import time
 
-from listed_crates import TOP
+from listed_crates import LIST, TOP
 from one_crate import OneCrate
 
 PROGRAM = "mcd"
@@ -51,9 +52,18 @@ def minutes(seconds):
     return f"{int(seconds) // 60}:{int(seconds) % 60:02}"
 
 
-def build(crate, jobs):
+@contextlib.contextmanager
+def written(crate):
+    """The folder of the crate, written aside. Its list of crates goes again: `rt ci` wants no second one in the repository."""
+    try:
+        yield crate.write(ASIDE)
+    finally:
+        (ASIDE / LIST).unlink(missing_ok=True)
+
+
+def build(crate, folder, jobs):
     """Proves and builds the program; whether it is built."""
-    folder, begun, said = crate.write(ASIDE), time.monotonic(), []
+    begun, said = time.monotonic(), []
     print(f"{PROGRAM} and the {len(crate.crates)} crates below it are proved as one, by {jobs} processes", flush=True)
     words = ["rt", "run", "--jobs", str(jobs), "--", "--version"]
     with subprocess.Popen(words, cwd=folder, stdout=subprocess.PIPE, stderr=subprocess.STDOUT, text=True, errors="replace") as rt:
@@ -80,11 +90,13 @@ def main():
         sys.exit("there is no `rt` here, the command of the Rattle toolchain")
     crate = OneCrate(PROGRAM)
     if asked.tries:
-        return subprocess.run(["rt", "try", "--", "--version"], cwd=crate.write(ASIDE)).returncode
+        with written(crate) as folder:
+            return subprocess.run(["rt", "try", "--", "--version"], cwd=folder).returncode
     made = sum_of(crate)
     if not (OUT / PROGRAM).exists() or not MADE.exists() or MADE.read_text(encoding="utf-8") != made:
-        if not build(crate, asked.jobs):
-            return 1
+        with written(crate) as folder:
+            if not build(crate, folder, asked.jobs):
+                return 1
         MADE.write_text(made, encoding="utf-8")
     os.execv(OUT / PROGRAM, [PROGRAM, *asked.options])
 
