@@ -1,7 +1,8 @@
 """Writes the program and the crates that it stands on as one crate, whose modules they are.
 
 Crate by crate the prover reads anew what lies below each, and a crate waits for all that it stands on. As one crate they are read
-once, and functions of all of them are proved side by side. Nothing changes but paths, and the names of definitions and lemmas:
+once, and functions of all of them are proved side by side. Nothing changes but paths, the names of definitions and lemmas, and
+that all modules can be seen:
 
     crate::key::Key              becomes    crate::mc_wire::key::Key
     mc_wire::Key                            crate::mc_wire::Key
