@@ -3,14 +3,16 @@
 
     tools/checks/wrong_bodies.py --applies           only whether the edits fit the text that they change, and README.md tells how many
     tools/checks/wrong_bodies.py [CRATE ..]          tries all edits of these crates, or of all; CRATE/FOLDER/EDIT is one edit of a crate
-    tools/checks/wrong_bodies.py --first [CRATE ..]  tries one edit for each function, of those that `rt ci` doesn't try
+    tools/checks/wrong_bodies.py --gate [CRATE ..]   tries what .ci/run tries beside `rt ci`: the classic faults, and one other edit
+                                                     for each function
     tools/checks/wrong_bodies.py --counts            what is known so far, and nothing tried
 
-`rt ci` tries each edit of must-fail/ by itself, over the whole crate: some 25 seconds each, most of them to read the libraries and
-to look once more for what can't be proved. This script tries those of wrong-bodies/, and of must-fail/ where it is asked to, many
-at a time: an edit changes one function, so the edits of different functions are made at once, and just these functions and those
-that they call are looked at. What the prover says of a function is said of its edit. An edit that isn't refused so, and one that
-changes what stands in no function (a constant, a definition), is tried by itself over the whole crate.
+`rt ci` tries each edit of must-fail/ by itself, over the whole crate, which it proves once more for them. That costs some 60
+processor seconds an edit, so must-fail/ has what no function has to itself: wrong constants, definitions and laws. This script
+tries those of classic-faults/ and wrong-bodies/, and of must-fail/ where it is asked to, many at a time: an edit changes one
+function, so the edits of different functions are made at once, and just these functions and those that they call are looked at.
+What the prover says of a function is said of its edit. An edit that isn't refused so, and one that changes more than one function
+or what stands in none, is tried by itself over the whole crate.
 
 An edit shows something only where it is refused for what a contract says. So the checker's words are read: which goals it left
 open, of which function, or which lines of the proof files it refused. Each edit is of one kind, the best that its words give:
@@ -48,6 +50,7 @@ sys.path.insert(0, str(pathlib.Path(__file__).resolve().parent.parent))
 from listed_crates import TOP, below, libraries  # noqa: E402
 
 PARTS = ["src", "specs", "proofs"]
+CLASSIC, OTHER, ALONE = "classic-faults", "wrong-bodies", "must-fail"
 BYTES_A_CHECK = 4 * 1024**3
 COUNTED = ["contract", "loop", "call", "lemma"]
 FAULTS = ["safety", "elsewhere", "other call", "name", "unread", "proved"]
@@ -65,6 +68,14 @@ SAFETY = re.compile(r"(index|slice|overflow|division|remainder|cast|shift|unreac
 
 
 # ---- edits and the functions that they change
+
+
+def crates():
+    return sorted(it for it in TOP.glob("crates/*") if it.is_dir())
+
+
+def edits_in(crate, *folders):
+    return [edit for folder in folders for edit in sorted(crate.glob(f"{folder}/*.edit"))]
 
 
 def pairs_of(edit):
@@ -305,20 +316,17 @@ class Copy:
         told = [it[:400] for it in words.splitlines() if OPEN_GOAL.match(it) or ": error" in it or ": no proof" in it]
         return {"digest": digest(edit), "kind": kind, "said": told[:12]}
 
-    def tried(self, edits, is_first):
+    def tried(self, edits):
         """Each edit with what was found of it."""
         source, left = Source(self.crate), list(edits)
-        groups = groups_of(edits, source)
-        for group in groups[:1] if is_first else groups:
+        for group in groups_of(edits, source):
             words = self.check(group["texts"], group["of"])
             for edit, function in group["of"].values():
                 found = self.result(edit, said_of(words, function), source)
                 if found["kind"] in COUNTED:
                     left.remove(edit)
                     yield edit, found
-                elif is_first:
-                    yield edit, self.alone(edit, source)
-        for edit in [] if is_first else left:
+        for edit in left:
             yield edit, self.alone(edit, source)
 
     def alone(self, edit, source):
@@ -350,24 +358,28 @@ def try_all(edits, known, given):
 
     def of_crate(name, room):
         own = [it for it in edits if it.parent.parent.name == name and known.get(name_of(it), {}).get("digest") != digest(it)]
-        for edit, found in Copy(room, name).tried(own, given.first) if own else []:
+        for edit, found in Copy(room, name).tried(own) if own else []:
             with keeping:
                 known[name_of(edit)] = found
                 given.kept.parent.mkdir(exist_ok=True)
                 given.kept.write_text(json.dumps(known, indent=1))
                 print(f"{name_of(edit)}: {found['kind']}", flush=True)
 
-    crates = sorted({it.parent.parent.name for it in edits}, key=lambda name: -sum(it.parent.parent.name == name for it in edits))
+    names = sorted({it.parent.parent.name for it in edits}, key=lambda name: -sum(it.parent.parent.name == name for it in edits))
     with tempfile.TemporaryDirectory(prefix="wrong-bodies-") as room, concurrent.futures.ThreadPoolExecutor(given.jobs) as pool:
-        for done in concurrent.futures.as_completed([pool.submit(of_crate, name, room) for name in crates]):
+        for done in concurrent.futures.as_completed([pool.submit(of_crate, name, room) for name in names]):
             done.result()
 
 
+def of_the_gate(crate):
+    """What this script tries of a crate in the gate: the classic faults, and one of the other edits for each function."""
+    groups = groups_of(edits_in(crate, OTHER), Source(crate))
+    return edits_in(crate, CLASSIC) + [edit for group in groups[:1] for edit, _ in group["of"].values()]
+
+
 def in_the_gate():
-    """How many wrong bodies the gate tries: all of must-fail/, and of wrong-bodies/ one for each function."""
-    alone = len(list(TOP.glob("crates/*/must-fail/*.edit")))
-    crates = [(it, sorted(it.glob("wrong-bodies/*.edit"))) for it in sorted(TOP.glob("crates/*"))]
-    return alone + sum(len(groups[0]["of"]) for it, edits in crates if (groups := groups_of(edits, Source(it))))
+    """How many wrong bodies the gate tries: what `rt ci` tries alone, and what this script does."""
+    return sum(len([*edits_in(it, ALONE), *of_the_gate(it)]) for it in crates())
 
 
 def are_counted(edits):
@@ -382,7 +394,7 @@ def are_counted(edits):
 def arguments():
     reader = argparse.ArgumentParser(description=__doc__, formatter_class=argparse.RawDescriptionHelpFormatter)
     reader.add_argument("names", nargs="*")
-    for word in ("--applies", "--first", "--counts"):
+    for word in ("--applies", "--gate", "--counts"):
         reader.add_argument(word, action="store_true")
     reader.add_argument("--kept", type=pathlib.Path, default=TOP / "out/wrong-bodies.json")
     memory = os.sysconf("SC_PAGE_SIZE") * os.sysconf("SC_PHYS_PAGES")
@@ -392,12 +404,14 @@ def arguments():
 
 def main():
     given = arguments()
-    edits = sorted(TOP.glob("crates/*/wrong-bodies/*.edit")) + ([] if given.first else sorted(TOP.glob("crates/*/must-fail/*.edit")))
-    edits = [it for it in edits if not given.names or it.parent.parent.name in given.names or name_of(it) in given.names]
+    is_named = lambda edit: not given.names or edit.parent.parent.name in given.names or name_of(edit) in given.names
+    edits = [edit for it in crates() for edit in edits_in(it, CLASSIC, OTHER, ALONE) if is_named(edit)]
     if not edits:
         sys.exit("no such edits")
     if stale(edits):
         return 1
+    if given.gate:
+        edits = [edit for it in crates() for edit in of_the_gate(it) if is_named(edit)]
     print(f"{len(edits)} wrong bodies fit the text that they change", flush=True)
     if given.applies:
         return 0 if given.names or are_counted(edits) else 1
