@@ -8,8 +8,8 @@ use Rattle.std.proofs.lemmas.Bool.Decides.{nat_tests}
 use Rattle.std.proofs.lemmas.List.{at_drop_more}
 use Rattle.std.proofs.lemmas.Option.{get_or_from_slice_get, slice_get_within}
 use Rattle.mc_command.specs.declared.command.Command.{Command}
-use Rattle.mc_reader.specs.Reader.{IsAmidSkipped, IsClosedLine, IsReader, entries_of}
-use Rattle.mc_reader.specs.Spelling.{Given, SpellsFront, is_closed}
+use Rattle.mc_reader.specs.Reader.{IfReader, IsAmidSkipped, IsClosedLine, IsReader, entries_of}
+use Rattle.mc_reader.specs.Spelling.{SpellsFront, is_closed}
 use Rattle.mc_ring.specs.Reply.{Shown}
 use Rattle.mc_reply.specs.declared.form.Form.{Form}
 use Rattle.mc_split.specs.declared.plan.Piece.{Piece}
@@ -22,7 +22,6 @@ use Rattle.mc_conn.specs.internal.Inside.{HasBeenTold, put_first}
 use Rattle.mc_join.specs.Expects.{Expects}
 use Rattle.mc_conn.specs.Told.{Told, IsAllTaken, IsAtRest, IsOver, IsShut, EndsAmidSkipped, LeavesUnread, all_forms, all_pieces, all_texts}
 use Rattle.mc_conn.proofs.Forms.{length-forms}
-use Rattle.mc_command.specs.declared.rules.Rules.{Rules}
 
 -- A call took no command and handed out nothing: what it made of the reader, of the answers and of the pieces is all that is new.
 pub stays_told : (old new : Conn) (told : Told) (out : ℕ) (lent : Bool) (accepted : List Shown) (h : HasBeenTold old told) → new.dispatcher.shards ≡ old.dispatcher.shards → new.broken ≡ old.broken →
@@ -201,7 +200,7 @@ empty_is len n e same =
     omega (arith, none, same)
 
 -- what the reader's test tells of the last command taken
-pub shut_is : (conn : Conn) (closed : Bool) → ((rules : Rules) (fed : List ℕ) (ended : Bool) (given : List Given) → IsReader conn.reader rules fed ended given → IsTrue closed ↔ IsClosedLine given) →
+pub shut_is : (conn : Conn) (closed : Bool) → IfReader conn.reader (λ rules fed ended given. IsTrue closed ↔ IsClosedLine given) →
     (told : Told) → HasBeenTold conn told → IsTrue closed ↔ IsShut told
 shut_is conn closed says told h =
     let P : List Command → Type 0 = λ entries. IsTrue closed ↔ IsTrue (is_closed entries) in

@@ -21,7 +21,7 @@ use Rattle.mc_join.specs.Held.{Held, opened_count}
 use Rattle.mc_join.specs.Joined.{IsJoiner}
 use Rattle.mc_join.proofs.Joins.{opened_length}
 use Rattle.mc_conn.specs.declared.conn.Conn.{Conn}
-use Rattle.mc_conn.specs.Conn.{FillsWindow, IsAwaiting, IsConn, NeedsMore, TakesCommand}
+use Rattle.mc_conn.specs.Conn.{FillsWindow, IfConn, IsAwaiting, IsConn, NeedsMore, TakesCommand}
 use Rattle.mc_conn.specs.internal.Inside.{put_first}
 use Rattle.mc_conn.specs.Due.{forms_of, pieces_from, ticket_at}
 use Rattle.mc_conn.specs.History.{Taken, MayBeTaken, planned}
@@ -34,10 +34,10 @@ use Rattle.mc_conn.proofs.Gets.{all_push}
 
 -- The connection is neither closed nor broken.
 abbrev pub GoesOn : Conn → Type 0
-GoesOn conn = (told : Told) → IsConn conn told → ¬ IsOver told
+GoesOn conn = IfConn conn (λ told. ¬ IsOver told)
 
 -- A connection that is tested not to be over is neither closed nor broken.
-pub goes_on : (conn : Conn) (over : Bool) → over ≡ false → ((told : Told) → IsConn conn told → IsTrue over ↔ IsOver told) → GoesOn conn
+pub goes_on : (conn : Conn) (over : Bool) → over ≡ false → IfConn conn (λ told. IsTrue over ↔ IsOver told) → GoesOn conn
 goes_on conn over none says told h o = false≢true (sym none ∙ (says told h).1 o)
 
 unbroken : (told : Told) → ¬ IsOver told → told.broken ≡ false
@@ -47,7 +47,7 @@ unbroken told not_over = elim told.broken as (λ b. told.broken ≡ b → b ≡ 
 ] refl
 
 -- A connection that goes on and holds as many forms as its window has room for has as many commands open as may be.
-pub fills_window : (conn : Conn) → GoesOn conn → length conn.dispatcher.joiner.forms ≡ conn.dispatcher.joiner.window → (told : Told) → IsConn conn told → FillsWindow told conn
+pub fills_window : (conn : Conn) → GoesOn conn → length conn.dispatcher.joiner.forms ≡ conn.dispatcher.joiner.window → IfConn conn (λ told. FillsWindow told conn)
 unfolding IsConn
 fills_window conn on full told h =
     let forms = waiting_is conn told h in
@@ -55,7 +55,7 @@ fills_window conn on full told h =
     record { full = omega (arith, forms, window, full); whole = unbroken told (on told h); goes_on = λ closed. on told h (inr closed); now = h }
 
 -- There are always numbers left.
-pub numbers_left : (conn : Conn) → GoesOn conn → opened_count conn.dispatcher.joiner ≡ 2 ^ 64 → ((told : Told) → IsConn conn told → told.broken ≡ false → length told.taken ≤ most_commands) → (told : Told) → IsConn conn told → FillsWindow told conn
+pub numbers_left : (conn : Conn) → GoesOn conn → opened_count conn.dispatcher.joiner ≡ 2 ^ 64 → IfConn conn (λ told. told.broken ≡ false → length told.taken ≤ most_commands) → IfConn conn (λ told. FillsWindow told conn)
 unfolding IsConn
 numbers_left conn on none most told h =
     let few = most told h (unbroken told (on told h)) in
@@ -65,7 +65,7 @@ numbers_left conn on none most told h =
 -- A connection that goes on, and whose window has room, needs more bytes where its reader does.
 pub needs_more : (old new : Conn) → GoesOn old → length old.dispatcher.joiner.forms < old.dispatcher.joiner.window → NextSays old.reader next.NeedMore new.reader →
     new.dispatcher.joiner ≡ old.dispatcher.joiner → new.dispatcher.unsent ≡ old.dispatcher.unsent → new.put_back ≡ old.put_back → new.dispatcher.shards ≡ old.dispatcher.shards → new.broken ≡ old.broken →
-    (told : Told) → IsConn old told → NeedsMore told new
+    IfConn old (λ told. NeedsMore told new)
 unfolding IsConn IsAwaiting
 needs_more old new on room says joiner unsent put_back shards broken told h =
     let said = says told.rules told.fed told.ended h.given h.read in
@@ -106,7 +106,7 @@ pub opens : (old new : Conn) (shown : Command) (ticket : Ticket) (moment : ℕ) 
     new.dispatcher.joiner ≡ record old.dispatcher.joiner { forms = old.dispatcher.joiner.forms ++ form ∷ [] } →
     ((opened : List Form) (accepted : List Shown) (handed : List (List ℕ)) → IsJoiner old.dispatcher.joiner opened accepted handed → IsJoiner new.dispatcher.joiner (opened ++ form ∷ []) accepted handed) →
     new.put_back ≡ old.put_back → new.dispatcher.shards ≡ old.dispatcher.shards → new.broken ≡ old.broken →
-    (told : Told) → IsConn old told → TakesCommand told moment ticket new
+    IfConn old (λ told. TakesCommand told moment ticket new)
 unfolding IsConn
 opens old new shown ticket moment form on room number says plan joiner joins put_back shards broken told h =
     let said = says told.rules told.fed told.ended h.given h.read in

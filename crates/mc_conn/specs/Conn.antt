@@ -17,6 +17,10 @@ use Rattle.mc_conn.specs.internal.Inside.{HasBeenTold}
 unfoldable pub IsConn : Conn → Told → Type 0
 IsConn conn told = HasBeenTold conn told
 
+-- This is so of what the connection was told and what it told, whatever that is.
+abbrev pub IfConn : Conn → (Told → Type 0) → Type 0
+IfConn conn is_so = (told : Told) → IsConn conn told → is_so told
+
 -- The connection has just found that it needs more bytes for the next command, and has room for some.
 unfoldable pub IsAwaiting : Conn → Type 0
 IsAwaiting conn = IsWaiting conn.reader
@@ -61,10 +65,10 @@ pub record FillsWindow (told : Told) (new : Conn) : Type 0 where
 
 -- What taking a command answers, and what the connection is then.
 abbrev pub TakeSays : Conn → ℕ → Took → Conn → Type 0
-TakeSays old moment (took.Opened ticket) new = (told : Told) → IsConn old told → TakesCommand told moment ticket new
-TakeSays old moment took.NeedMore new = (told : Told) → IsConn old told → NeedsMore told new
-TakeSays old moment took.Full new = (told : Told) → IsConn old told → FillsWindow told new
-TakeSays old moment took.Closed new = (told : Told) → IsConn old told → IsOver told × IsConn new told
+TakeSays old moment (took.Opened ticket) new = IfConn old (λ told. TakesCommand told moment ticket new)
+TakeSays old moment took.NeedMore new = IfConn old (λ told. NeedsMore told new)
+TakeSays old moment took.Full new = IfConn old (λ told. FillsWindow told new)
+TakeSays old moment took.Closed new = IfConn old (λ told. IsOver told × IsConn new told)
 
 -- The replies to count commands more were handed out: all whose turn has come.
 pub record HandsOut (told : Told) (count : ℕ) (new : Conn) (before after : Sight) : Type 0 where

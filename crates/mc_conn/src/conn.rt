@@ -59,7 +59,7 @@ impl Drop for Conn {
 }
 
 impl Conn {
-    ghost use Rattle.mc_conn.specs.Conn.{IsConn, IsAwaiting, TakeSays, HandsOut, FailsToHand, SkipsBytes, StaysSilent, held_bytes};
+    ghost use Rattle.mc_conn.specs.Conn.{IsConn, IfConn, IsAwaiting, TakeSays, HandsOut, FailsToHand, SkipsBytes, StaysSilent, held_bytes};
 
     /// A new connection over `shards` shards by this server's own rules, for values of at most `limit` bytes and with this
     /// window. It takes the room for the longest line and for the open commands. `Memory`: memory ran out.
@@ -102,19 +102,19 @@ impl Conn {
     #[tactic(auto, unfolding(crate::specs::Conn::IsConn, crate::specs::Conn::IsAwaiting))]
     pub fn feed(&mut self, piece: &[u8]) -> usize
         ensures within { result ≤ length piece.now }
-        ensures fed { (told : Told) → IsConn self.old told →
-            IsConn self.new (record told { fed = told.fed ++ take result piece.now }) }
+        ensures fed { IfConn self.old (λ told.
+            IsConn self.new (record told { fed = told.fed ++ take result piece.now })) }
         // Some byte is taken right after `take` answered `NeedMore`.
-        ensures progress { (told : Told) → IsConn self.old told → IsOpen told → IsAllTaken told →
-            IsAwaiting self.old → 0 < length piece.now → 0 < result }
+        ensures progress { IfConn self.old (λ told. IsOpen told → IsAllTaken told →
+            IsAwaiting self.old → 0 < length piece.now → 0 < result) }
         // The whole of a piece that isn't too long is taken where every byte before it is part of a command taken.
-        ensures whole { (told : Told) → IsConn self.old told → IsOpen told → IsUsedUp told →
-            length piece.now ≤ told.rules.line_limit → result ≡ length piece.now }
+        ensures whole { IfConn self.old (λ told. IsOpen told → IsUsedUp told →
+            length piece.now ≤ told.rules.line_limit → result ≡ length piece.now) }
         // After the last command everything is taken, and dropped.
-        ensures shut { (told : Told) → IsConn self.old told → IsOpen told → IsShut told →
-            result ≡ length piece.now }
-        ensures ended { (told : Told) → IsConn self.old told → IsTrue told.ended → result ≡ 0 }
-        ensures broken { (told : Told) → IsConn self.old told → IsTrue told.broken → result ≡ 0 }
+        ensures shut { IfConn self.old (λ told. IsOpen told → IsShut told →
+            result ≡ length piece.now) }
+        ensures ended { IfConn self.old (λ told. IsTrue told.ended → result ≡ 0) }
+        ensures broken { IfConn self.old (λ told. IsTrue told.broken → result ≡ 0) }
     {
         if self.broken {
             return 0;
@@ -125,8 +125,7 @@ impl Conn {
     /// Tells that no more bytes come. It takes no memory.
     #[tactic(auto, unfolding(crate::specs::Conn::IsConn))]
     pub fn end(&mut self)
-        ensures { (told : Told) → IsConn self.old told →
-            IsConn self.new (record told { ended = true }) }
+        ensures { IfConn self.old (λ told. IsConn self.new (record told { ended = true })) }
     {
         self.reader.end();
     }
@@ -134,10 +133,10 @@ impl Conn {
     /// Whether the connection is closed or broken. It takes no memory.
     #[tactic(auto, unfolding(crate::specs::Conn::IsConn))]
     pub fn is_over(&self) -> bool
-        ensures over { (told : Told) → IsConn self.now told → IsTrue result ↔ IsOver told }
+        ensures over { IfConn self.now (λ told. IsTrue result ↔ IsOver told) }
         // A stream has at most `most_commands` commands.
-        ensures most { (told : Told) → IsConn self.now told → told.broken ≡ false →
-            length told.taken ≤ most_commands }
+        ensures most { IfConn self.now (λ told. told.broken ≡ false →
+            length told.taken ≤ most_commands) }
     {
         if self.broken {
             return true;
@@ -150,7 +149,7 @@ impl Conn {
     #[tactic(auto, unfolding(crate::specs::Conn::IsConn, crate::specs::Conn::IsAwaiting))]
     pub fn take(&mut self, alloc: Global, moment: u64) -> Taken
         ensures says { TakeSays self.old moment result self.new }
-        ensures over { (told : Told) → IsConn self.old told → IsOver told → result ≡ Taken.Closed }
+        ensures over { IfConn self.old (λ told. IsOver told → result ≡ Taken.Closed) }
     {
         if self.is_over() {
             return Taken::Closed;
@@ -174,12 +173,11 @@ impl Conn {
     /// Takes out the oldest piece that has not left, with its shard. It takes no memory.
     #[tactic(auto, unfolding(crate::specs::Conn::IsConn))]
     pub fn next_piece(&mut self) -> Option<(usize, Piece)>
-        ensures some { IfSome result (λ piece.
-            (told : Told) → IsConn self.old told →
+        ensures some { IfSome result (λ piece. IfConn self.old (λ told.
             (slice_get (all_pieces told) told.out ≡ Some piece) ×
-            IsConn self.new (record told { out = told.out + 1; lent = true })) }
-        ensures none { IfNone result ((told : Told) → IsConn self.old told →
-            (told.out ≡ length (all_pieces told)) × IsConn self.new told) }
+            IsConn self.new (record told { out = told.out + 1; lent = true }))) }
+        ensures none { IfNone result (IfConn self.old (λ told.
+            (told.out ≡ length (all_pieces told)) × IsConn self.new told)) }
     {
         if self.put_back.is_some() {
             return self.put_back.take();
@@ -201,13 +199,12 @@ impl Conn {
     /// `Stranger`: no such answer is awaited, and the reply is handed back unchanged. It takes no memory.
     #[tactic(auto, unfolding(crate::specs::Conn::IsConn))]
     pub fn accept(&mut self, reply: Reply) -> Result<(), Stranger>
-        ensures ok { OnOk result
-            ((told : Told) → IsConn self.old told →
+        ensures ok { OnOk result (IfConn self.old (λ told.
             Expects (all_forms told) told.accepted (shown reply) ×
-            IsConn self.new (record told { accepted = told.accepted ++ shown reply ∷ [] })) }
+            IsConn self.new (record told { accepted = told.accepted ++ shown reply ∷ [] }))) }
         ensures stranger { IfErr result (λ stranger. shown stranger.reply ≡ shown reply) }
-        ensures err { OnErr result ((told : Told) → IsConn self.old told →
-            (¬ Expects (all_forms told) told.accepted (shown reply)) × IsConn self.new told) }
+        ensures err { OnErr result (IfConn self.old (λ told.
+            (¬ Expects (all_forms told) told.accepted (shown reply)) × IsConn self.new told)) }
     {
         self.dispatcher.joiner.accept(reply)
     }
@@ -215,9 +212,9 @@ impl Conn {
     /// How many bytes `hand` would write, `u64::MAX` where they are more; of a broken connection 0. It takes no memory.
     #[tactic(auto, unfolding(crate::specs::Conn::IsConn))]
     pub fn ready(&self) -> u64
-        ensures whole { (told : Told) → IsConn self.now told → told.broken ≡ false →
-            result ≡ capped (length (waiting_text told)) }
-        ensures broken { (told : Told) → IsConn self.now told → IsTrue told.broken → result ≡ 0 }
+        ensures whole { IfConn self.now (λ told. told.broken ≡ false →
+            result ≡ capped (length (waiting_text told))) }
+        ensures broken { IfConn self.now (λ told. IsTrue told.broken → result ≡ 0) }
     {
         if self.broken {
             return 0;
@@ -229,9 +226,9 @@ impl Conn {
     /// no memory.
     #[tactic(auto, unfolding(crate::specs::Conn::IsConn))]
     pub fn passes(&self) -> usize
-        ensures whole { (told : Told) → IsConn self.now told → told.broken ≡ false →
-            told.handed + result ≡ length (all_texts told) }
-        ensures broken { (told : Told) → IsConn self.now told → IsTrue told.broken → result ≡ 0 }
+        ensures whole { IfConn self.now (λ told. told.broken ≡ false →
+            told.handed + result ≡ length (all_texts told)) }
+        ensures broken { IfConn self.now (λ told. IsTrue told.broken → result ≡ 0) }
     {
         if self.broken {
             return 0;
@@ -244,14 +241,12 @@ impl Conn {
     /// connection is broken.
     #[tactic(auto, using(crate::proofs::Handing::none_waits, crate::proofs::Handing::all_together), unfolding(crate::specs::Conn::IsConn))]
     pub fn hand<O: Outlet>(&mut self, out: &mut O) -> Result<u64, Gone>
-        ensures ok { IfOk result (λ count.
-            (told : Told) → IsConn self.old told → told.broken ≡ false →
-            HandsOut told count self.new (O.sight out.old) (O.sight out.new)) }
-        ensures gone { OnErr result ((told : Told) → IsConn self.old told →
-            FailsToHand told self.new (O.sight out.old) (O.sight out.new)) }
-        ensures silent { IfOk result (λ count.
-            (told : Told) → IsConn self.old told → IsTrue told.broken →
-            StaysSilent told count self.new (O.sight out.old) (O.sight out.new)) }
+        ensures ok { IfOk result (λ count. IfConn self.old (λ told. told.broken ≡ false →
+            HandsOut told count self.new (O.sight out.old) (O.sight out.new))) }
+        ensures gone { OnErr result (IfConn self.old (λ told.
+            FailsToHand told self.new (O.sight out.old) (O.sight out.new))) }
+        ensures silent { IfOk result (λ count. IfConn self.old (λ told. IsTrue told.broken →
+            StaysSilent told count self.new (O.sight out.old) (O.sight out.new))) }
     {
         if self.broken {
             return Ok(0);
@@ -265,8 +260,7 @@ impl Conn {
     /// their answers are accepted. It takes no memory.
     #[tactic(auto, unfolding(crate::specs::Conn::IsConn))]
     pub fn broken(&mut self)
-        ensures { (told : Told) → IsConn self.old told →
-            IsConn self.new (record told { broken = true }) }
+        ensures { IfConn self.old (λ told. IsConn self.new (record told { broken = true })) }
     {
         self.broken = true;
     }
@@ -274,8 +268,8 @@ impl Conn {
     /// Whether a command that the bytes fed spell is not taken yet. It takes no memory.
     #[tactic(auto, unfolding(crate::specs::Conn::IsConn))]
     pub fn whole(&self) -> bool
-        ensures whole { (told : Told) → IsConn self.now told → IsTrue result ↔ IsNotAllTaken told }
-        ensures all { (told : Told) → IsConn self.now told → (result ≡ false) ↔ IsAllTaken told }
+        ensures whole { IfConn self.now (λ told. IsTrue result ↔ IsNotAllTaken told) }
+        ensures all { IfConn self.now (λ told. (result ≡ false) ↔ IsAllTaken told) }
     {
         self.reader.whole()
     }
@@ -285,17 +279,17 @@ impl Conn {
     #[tactic(auto, unfolding(crate::specs::Conn::IsConn, crate::specs::Conn::held_bytes, crate::specs::Conn::SkipsBytes))]
     pub fn held(&self) -> usize
         ensures value { result ≡ held_bytes self.now }
-        ensures most { (told : Told) → IsConn self.now told →
-            result ≤ told.rules.line_limit + told.rules.value_limit + 2 }
+        ensures most { IfConn self.now (λ told.
+            result ≤ told.rules.line_limit + told.rules.value_limit + 2) }
         // No more than the bytes fed that are not part of a command taken, until the last command is taken.
-        ensures unread { (told : Told) (unread : List ℕ) → IsConn self.now told →
-            LeavesUnread told unread → result ≤ length unread }
+        ensures unread { IfConn self.now (λ told. (unread : List ℕ) →
+            LeavesUnread told unread → result ≤ length unread) }
         // A line whose end has not come is held whole.
-        ensures line { (told : Told) (unread : List ℕ) → IsConn self.now told →
-            LeavesUnread told unread → HasNoEnd unread → result ≡ length unread }
+        ensures line { IfConn self.now (λ told. (unread : List ℕ) →
+            LeavesUnread told unread → HasNoEnd unread → result ≡ length unread) }
         // A block that is skipped is not held.
-        ensures skipping { (told : Told) → IsConn self.now told → EndsAmidSkipped told →
-            result ≤ told.rules.line_limit }
+        ensures skipping { IfConn self.now (λ told. EndsAmidSkipped told →
+            result ≤ told.rules.line_limit) }
         // Nor is one that memory ran out for.
         ensures skipped { SkipsBytes self.now → result ≤ self.now.reader.rules.line_limit }
     {
@@ -306,7 +300,7 @@ impl Conn {
     /// unsent and none unanswered. It takes no memory.
     #[tactic(auto, unfolding(crate::specs::Conn::IsConn))]
     pub fn is_at_rest(&self) -> bool
-        ensures { (told : Told) → IsConn self.now told → IsTrue result ↔ IsAtRest told }
+        ensures { IfConn self.now (λ told. IsTrue result ↔ IsAtRest told) }
     {
         if self.put_back.is_some() || !self.dispatcher.unsent.is_empty() {
             return false;
@@ -321,10 +315,9 @@ impl Conn {
     /// else nothing changes. It takes no memory.
     #[tactic(auto, unfolding(crate::specs::Conn::IsConn))]
     pub fn renew(&mut self) -> bool
-        ensures when { (told : Told) → IsConn self.old told →
-            IsTrue result ↔ (IsAtRest told × IsOver told) }
-        ensures new { IsTrue result → (told : Told) → IsConn self.old told →
-            IsConn self.new (told_nothing told.shards told.rules told.window) }
+        ensures when { IfConn self.old (λ told. IsTrue result ↔ (IsAtRest told × IsOver told)) }
+        ensures new { IsTrue result → IfConn self.old (λ told.
+            IsConn self.new (told_nothing told.shards told.rules told.window)) }
         ensures same { result ≡ false → self.new ≡ self.old }
     {
         if !self.is_at_rest() || !self.is_over() {

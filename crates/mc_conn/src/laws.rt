@@ -9,13 +9,13 @@ ghost use Rattle.mc_conn.specs.History.{Taken, MayBeTaken};
 ghost use Rattle.mc_conn.specs.Due.{Ran, due, forms_of, ran_on};
 ghost use Rattle.mc_join.specs.Expects.{Expects};
 ghost use Rattle.mc_conn.specs.declared.conn.Conn.{Conn};
-ghost use Rattle.mc_conn.specs.Conn.{IsConn};
+ghost use Rattle.mc_conn.specs.Conn.{IfConn, IsConn};
 ghost use Rattle.mc_conn.specs.Told.{Told, IsSound, KeepsHanded, all_forms};
 ghost use Rattle.mc_conn.specs.Fits.{CameFrom, Fits, HasCome, IsReplyTo, KeysFit, ReceivesFromShard, Serves, Tells, counts, reply_of};
 
 /// What holds of every connection, whatever it was told.
 pub fn connections_are_sound()
-    ensures { (conn : Conn) (told : Told) → IsConn conn told → IsSound told }
+    ensures { (conn : Conn) → IfConn conn IsSound }
 {}
 
 /// The replies that were handed out begin all replies, and still do when a reply is accepted and when a command is taken. So

@@ -1,9 +1,9 @@
 //! Laws of what texts spell and of the commands of a stream, over every input and all rules.
-ghost use Rattle.std.specs.Prelude.{◌≡◌, ◌++◌, ℕ, Bool, List, [], IsTrue};
+ghost use Rattle.std.specs.Prelude.{◌≡◌, ◌++◌, ℕ, List, [], IsTrue};
 ghost use Rattle.std.specs.List.{AllByRecursion};
 ghost use Rattle.mc_command.specs.declared.command.Command.{Command};
 ghost use Rattle.mc_command.specs.declared.rules.Rules.{Rules};
-ghost use Rattle.mc_reader.specs.Reader.{IsReader};
+ghost use Rattle.mc_reader.specs.Reader.{IfReader};
 ghost use Rattle.mc_reader.specs.Spelling.{AreCommands, BeginCommands, Begins, Given, MayBeGiven, Spells, entries_of, is_closed};
 ghost use Rattle.mc_reader.specs.declared.reader.Reader.{Reader};
 
@@ -42,10 +42,8 @@ pub fn every_input_has_commands()
 /// The commands that a reader gave begin those of the bytes that it was fed, and each was given up only
 /// where it may be.
 pub fn readers_give_commands()
-    ensures begin { (reader : Reader) (rules : Rules) (fed : List ℕ) (ended : Bool)
-        (given : List Given) → IsReader reader rules fed ended given →
-        BeginCommands rules fed (entries_of given) }
-    ensures may { (reader : Reader) (rules : Rules) (fed : List ℕ) (ended : Bool)
-        (given : List Given) → IsReader reader rules fed ended given →
-        AllByRecursion MayBeGiven given }
+    ensures begin { (reader : Reader) → IfReader reader (λ rules fed ended given.
+        BeginCommands rules fed (entries_of given)) }
+    ensures may { (reader : Reader) → IfReader reader (λ rules fed ended given.
+        AllByRecursion MayBeGiven given) }
 {}

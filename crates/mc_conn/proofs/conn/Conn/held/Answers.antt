@@ -8,12 +8,12 @@ returns-clause-skipping c told h skips = c.held.ensures.skipped told.rules told.
 
 pub returns-clause-unread : goal.returns-clause-unread
 unfolding IsConn
-returns-clause-unread c told unread h leaves =
+returns-clause-unread c told h unread leaves =
     let behind = unread_behind c.args.self.now told h unread leaves in
-    c.held.ensures.unread told.rules told.fed told.ended h.given unread h.read behind.1 behind.0
+    c.held.ensures.unread told.rules told.fed told.ended h.given h.read unread behind.1 behind.0
 
 pub returns-clause-line : goal.returns-clause-line
 unfolding IsConn
-returns-clause-line c told unread h leaves none =
+returns-clause-line c told h unread leaves none =
     let behind = unread_behind c.args.self.now told h unread leaves in
-    c.held.ensures.line told.rules told.fed told.ended h.given unread h.read behind.1 behind.0 none
+    c.held.ensures.line told.rules told.fed told.ended h.given h.read unread behind.1 behind.0 none

@@ -9,8 +9,8 @@ returns-clause-fed c rules fed ended given h = fed_more rules c.args.self.now _ 
 
 pub returns-clause-progress : goal.returns-clause-progress
 unfolding IsWaiting
-returns-clause-progress c rules fed given h all waits some = c.feed.ensures.waits (rw c.args.self.now.limited waits) some
+returns-clause-progress c rules fed ended given h on all waits some = c.feed.ensures.waits (rw c.args.self.now.limited waits) some
 
 pub returns-clause-whole : goal.returns-clause-whole
 unfolding IsReader
-returns-clause-whole c rules fed given h used short = c.feed.ensures.whole rules (nothing_unread rules c.args.self.now fed _ given h used) (rw (limit_is c.args.self.now rules h.rules_are) short)
+returns-clause-whole c rules fed ended given h on used short = c.feed.ensures.whole rules (nothing_unread rules c.args.self.now fed ended given h used) (rw (limit_is c.args.self.now rules h.rules_are) short)

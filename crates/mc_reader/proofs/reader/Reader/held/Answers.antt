@@ -17,12 +17,12 @@ returns-clause-most c rules fed ended given h =
 
 pub returns-clause-unread : goal.returns-clause-unread
 unfolding IsReader
-returns-clause-unread c rules fed ended given rest h goes_on front =
+returns-clause-unread c rules fed ended given h rest goes_on front =
     let within = held_unread rules c.args.self.now fed ended given rest h goes_on front in
     omega (arith, within, c.held.ensures.value, ap length c.unread.ensures.bytes)
 
 pub returns-clause-line : goal.returns-clause-line
 unfolding IsReader
-returns-clause-line c rules fed ended given rest h goes_on front none =
+returns-clause-line c rules fed ended given h rest goes_on front none =
     let whole = held_line rules c.args.self.now fed ended given rest h goes_on front none in
     omega (arith, whole, c.held.ensures.value, ap length c.unread.ensures.bytes)
