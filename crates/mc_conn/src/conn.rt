@@ -37,7 +37,8 @@ pub enum Taken {
 /// at a time.
 ///
 /// The contracts speak of a connection by the lists of what it was told and what it told, `Told`: `IsConn conn told` says
-/// that the connection is what these make of it, and each call says how they grow.
+/// that the connection is what these make of it, `IfConn conn (λ told. ..)` says something of them, whatever they are, and
+/// each call says how they grow.
 pub struct Conn {
     reader: Reader,
     dispatcher: Dispatcher,
