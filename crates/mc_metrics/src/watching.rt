@@ -208,6 +208,7 @@ impl Watching {
 
 /// What is told of the server beside what it counts.
 fn facts_of(version: &'static str, port: u16, sizes: Sizes) -> Facts
+    ensures version { result.version.now ≡ version.now }
     ensures port { result.port ≡ port }
     ensures shards { result.shards ≡ sizes.shards }
     ensures seats { result.seats ≡ sizes.seats }
