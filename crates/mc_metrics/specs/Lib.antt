@@ -3,3 +3,4 @@ pub mod Answers
 pub mod Backlog
 pub mod Metrics
 pub mod Shards
+pub mod Wishes

@@ -1,12 +1,14 @@
 //! What is watched of a server, as who runs it wishes, and the threads that tell it.
-ghost use Rattle.std.specs.Prelude.{◌≡◌, ◌*◌, ◌-◌, ◌^◌, min};
+ghost use Rattle.std.specs.Prelude.{◌≡◌, ◌*◌, ◌-◌, ◌^◌, IfOk, length, min, option_map};
+ghost use Rattle.mc_watch.specs.Counts.{threads_of};
+ghost use Rattle.mc_metrics.specs.Wishes.{AreFollowed, reporter_count};
 
 use crate::address::address_of;
 use crate::pages::Pages;
 use crate::reading::Facts;
 use crate::server::MetricsServer;
 use mc_sizes::Sizes;
-use mc_watch::{Counts, Dismissal, Patience, Reports, Seconds, Watch, reporters};
+use mc_watch::{Counts, Dismissal, Patience, Reporter, Reports, Seconds, Watch, reporters};
 use std::alloc::{AllocError, Global};
 use std::fs::File;
 use std::io::Eprint;
@@ -83,7 +85,9 @@ pub fn start_watching<
     port: u16,
     sizes: Sizes,
     wishes: Wishes<'_>,
-) -> Result<(Watch, Watching), NotWatching> {
+) -> Result<(Watch, Watching), NotWatching>
+    ensures { IfOk result (λ begun. AreFollowed wishes.entry sizes begun.0) }
+{
     let mut watching = Watching {
         tellers: Vec::new(rt.alloc()),
     };
@@ -117,26 +121,66 @@ impl Watching {
         port: u16,
         sizes: Sizes,
         wishes: Wishes<'_>,
-    ) -> Result<Watch, NotWatching> {
-        let alloc = rt.alloc();
-        let mut watch = Watch::nothing(alloc);
-        if let Some(limit) = wishes.idle_timeout {
-            let seconds = Seconds::new(alloc)?;
-            watch.patience = Some(Patience { seconds, limit });
+    ) -> Result<Watch, NotWatching>
+        ensures { IfOk result (λ watch. AreFollowed wishes.entry sizes watch) }
+    {
+        let facts = facts_of(version, port, sizes);
+        Ok(Watch {
+            patience: patience_of(rt.alloc(), wishes.idle_timeout)?,
+            reporters: self.reporters(rt, wishes.verbose, sizes.seats)?,
+            counts: self.counts(rt, wishes.metrics, facts, sizes.shards)?,
+        })
+    }
+
+    /// A reporter for each seat and one for what accepts, and a thread that tells what they report, where that is wished.
+    fn reporters<R: Threads + Wait + Eprint + Alloc<A = Global> + Copy + Send + Drop + 'static>(
+        &mut self,
+        rt: &R,
+        verbose: bool,
+        seats: usize,
+    ) -> Result<Vec<Reporter>, NotWatching>
+        ensures { IfOk result (λ all. length all.items ≡ reporter_count verbose seats) }
+    {
+        if !verbose {
+            return Ok(Vec::new(rt.alloc()));
         }
-        if wishes.verbose {
-            // One for each seat, and one for the thread that accepts.
-            let (all, reports) = reporters(alloc, sizes.seats.saturating_add(1))?;
-            watch.reporters = all;
-            self.tell_reports(rt, reports)?;
-        }
-        if let Some(word) = wishes.metrics {
-            let counts = Counts::new(alloc, sizes.shards)?;
-            watch.counts = Some(counts.share(alloc)?);
-            let pages = Pages::new(rt, alloc, facts_of(version, port, sizes), counts)?;
-            self.tell_metrics(rt, word, pages)?;
-        }
-        Ok(watch)
+        let (all, reports) = reporters(rt.alloc(), seats.saturating_add(1))?;
+        self.tell_reports(rt, reports)?;
+        Ok(all)
+    }
+
+    /// What the threads of this many shards count, and a thread that tells it at the address of the word, where there is one.
+    fn counts<
+        R: Threads
+            + Wait
+            + RandomSource
+            + time::Clock
+            + Files<File = File>
+            + Net<Listener = TcpListener, Stream = TcpStream>
+            + Eprint
+            + Alloc<A = Global>
+            + Copy
+            + Send
+            + Drop
+            + 'static,
+    >(
+        &mut self,
+        rt: &R,
+        word: Option<&str>,
+        facts: Facts,
+        shards: usize,
+    ) -> Result<Option<Counts>, NotWatching>
+        ensures { IfOk result (λ counts. option_map (λ all. length (threads_of all)) counts ≡
+            option_map (λ _. shards) word.entry) }
+    {
+        let Some(word) = word else {
+            return Ok(None);
+        };
+        let counts = Counts::new(rt.alloc(), shards)?;
+        let shared = counts.share(rt.alloc())?;
+        let pages = Pages::new(rt, rt.alloc(), facts, counts)?;
+        self.tell_metrics(rt, word, pages)?;
+        Ok(Some(shared))
     }
 
     /// Starts a thread that writes the reports to standard error.
@@ -204,6 +248,18 @@ impl Watching {
             teller.telling.join(rt);
         }
     }
+}
+
+/// How long a connection may be idle, where that is limited.
+fn patience_of(alloc: Global, limit: Option<u64>) -> Result<Option<Patience>, AllocError>
+    ensures { IfOk result
+        (λ patience. option_map (λ one. one.limit) patience ≡ limit) }
+{
+    let Some(limit) = limit else {
+        return Ok(None);
+    };
+    let seconds = Seconds::new(alloc)?;
+    Ok(Some(Patience { seconds, limit }))
 }
 
 /// What is told of the server beside what it counts.
