@@ -24,7 +24,7 @@ use Rattle.mc_conn.specs.Told.{Told, IsAllTaken, IsAtRest, IsOver, IsShut, EndsA
 use Rattle.mc_conn.proofs.Forms.{length-forms}
 
 -- A call took no command and handed out nothing: what it made of the reader, of the answers and of the pieces is all that is new.
-pub stays_told : (old new : Conn) (told : Told) (out : ℕ) (lent : Bool) (accepted : List Shown) (h : HasBeenTold old told) → new.dispatcher.shards ≡ old.dispatcher.shards → new.broken ≡ old.broken →
+pub stays_told : (old new : Conn) (told : Told) (out : ℕ) (lent : Bool) (accepted : List Shown) (h : HasBeenTold old told) → new.dispatcher.splitter.shards ≡ old.dispatcher.splitter.shards → new.broken ≡ old.broken →
     IsReader new.reader told.rules told.fed told.ended h.given → new.dispatcher.joiner.window ≡ old.dispatcher.joiner.window → new.dispatcher.joiner.gone ≡ old.dispatcher.joiner.gone → IsJoiner new.dispatcher.joiner (all_forms told) accepted h.texts →
     out ≤ length (all_pieces told) → put_first new.put_back new.dispatcher.unsent.items ≡ drop out (all_pieces told) → (IsTrue lent → (new.put_back ≡ None) × (0 < out)) →
     HasBeenTold new (record told { out = out; lent = lent; accepted = accepted })
@@ -47,7 +47,7 @@ stays_told old new told out lent accepted h shards broken read window gone joine
 }
 
 -- And the joiner is the same.
-pub joiner_stays : (old new : Conn) (told : Told) (out : ℕ) (lent : Bool) (h : HasBeenTold old told) → new.dispatcher.shards ≡ old.dispatcher.shards → new.broken ≡ old.broken →
+pub joiner_stays : (old new : Conn) (told : Told) (out : ℕ) (lent : Bool) (h : HasBeenTold old told) → new.dispatcher.splitter.shards ≡ old.dispatcher.splitter.shards → new.broken ≡ old.broken →
     IsReader new.reader told.rules told.fed told.ended h.given → new.dispatcher.joiner ≡ old.dispatcher.joiner →
     out ≤ length (all_pieces told) → put_first new.put_back new.dispatcher.unsent.items ≡ drop out (all_pieces told) → (IsTrue lent → (new.put_back ≡ None) × (0 < out)) →
     HasBeenTold new (record told { out = out; lent = lent })
@@ -56,7 +56,7 @@ joiner_stays old new told out lent h shards broken read joiner =
 
 -- A reply is accepted.
 pub accepts : {A B : Type 0} (result : Result A B) (old new : Conn) (reply : Shown) →
-    new.reader ≡ old.reader → new.dispatcher.unsent ≡ old.dispatcher.unsent → new.put_back ≡ old.put_back → new.dispatcher.shards ≡ old.dispatcher.shards → new.broken ≡ old.broken →
+    new.reader ≡ old.reader → new.dispatcher.unsent ≡ old.dispatcher.unsent → new.put_back ≡ old.put_back → new.dispatcher.splitter.shards ≡ old.dispatcher.splitter.shards → new.broken ≡ old.broken →
     OnOk result ((opened : List Form) (accepted : List Shown) (handed : List (List ℕ)) → IsJoiner old.dispatcher.joiner opened accepted handed → Expects opened accepted reply) → OnOk result (TakesIn old.dispatcher.joiner new.dispatcher.joiner reply) →
     OnOk result ((opened : List Form) (accepted : List Shown) (handed : List (List ℕ)) → IsJoiner old.dispatcher.joiner opened accepted handed → IsJoiner new.dispatcher.joiner opened (accepted ++ reply ∷ []) handed) →
     OnOk result ((told : Told) → HasBeenTold old told → Expects (all_forms told) told.accepted reply × HasBeenTold new (record told { accepted = told.accepted ++ reply ∷ [] }))
@@ -69,7 +69,7 @@ accepts (Err fault) old new reply reader unsent put_back shards broken expected 
 
 -- A stranger changes nothing.
 pub refuses : {A B : Type 0} (result : Result A B) (old new : Conn) (reply : Shown) →
-    new.reader ≡ old.reader → new.dispatcher.unsent ≡ old.dispatcher.unsent → new.put_back ≡ old.put_back → new.dispatcher.shards ≡ old.dispatcher.shards → new.broken ≡ old.broken →
+    new.reader ≡ old.reader → new.dispatcher.unsent ≡ old.dispatcher.unsent → new.put_back ≡ old.put_back → new.dispatcher.splitter.shards ≡ old.dispatcher.splitter.shards → new.broken ≡ old.broken →
     OnErr result ((opened : List Form) (accepted : List Shown) (handed : List (List ℕ)) → IsJoiner old.dispatcher.joiner opened accepted handed → ¬ Expects opened accepted reply) → OnErr result (new.dispatcher.joiner ≡ old.dispatcher.joiner) →
     OnErr result ((told : Told) → HasBeenTold old told → (¬ Expects (all_forms told) told.accepted reply) × HasBeenTold new told)
 refuses (Ok done) old new reply reader unsent put_back shards broken unexpected same = tt
@@ -90,7 +90,7 @@ get_drop n xs x rest here =
 
 -- The oldest piece is taken out.
 pub gives : (old new : Conn) (piece : ℕ × Piece) →
-    new.reader ≡ old.reader → new.dispatcher.joiner ≡ old.dispatcher.joiner → new.dispatcher.shards ≡ old.dispatcher.shards → new.broken ≡ old.broken → new.put_back ≡ None →
+    new.reader ≡ old.reader → new.dispatcher.joiner ≡ old.dispatcher.joiner → new.dispatcher.splitter.shards ≡ old.dispatcher.splitter.shards → new.broken ≡ old.broken → new.put_back ≡ None →
     put_first old.put_back old.dispatcher.unsent.items ≡ piece ∷ new.dispatcher.unsent.items →
     (told : Told) → HasBeenTold old told → (slice_get (all_pieces told) told.out ≡ Some piece) × HasBeenTold new (record told { out = told.out + 1; lent = true })
 gives old new piece reader joiner shards broken none left told h =
@@ -102,7 +102,7 @@ gives old new piece reader joiner shards broken none left told h =
 
 -- The same where none was put back.
 pub gives_front : (result : Option (ℕ × Piece)) (old new : Conn) →
-    new.reader ≡ old.reader → new.dispatcher.joiner ≡ old.dispatcher.joiner → new.dispatcher.shards ≡ old.dispatcher.shards → new.broken ≡ old.broken → new.put_back ≡ None → old.put_back ≡ None →
+    new.reader ≡ old.reader → new.dispatcher.joiner ≡ old.dispatcher.joiner → new.dispatcher.splitter.shards ≡ old.dispatcher.splitter.shards → new.broken ≡ old.broken → new.put_back ≡ None → old.put_back ≡ None →
     old.dispatcher.unsent.items ≡ option_to_list result ++ new.dispatcher.unsent.items →
     IfSome result (λ piece. (told : Told) → HasBeenTold old told → (slice_get (all_pieces told) told.out ≡ Some piece) × HasBeenTold new (record told { out = told.out + 1; lent = true }))
 gives_front None old new reader joiner shards broken none before left = tt
@@ -111,7 +111,7 @@ gives_front (Some piece) old new reader joiner shards broken none before left =
 
 -- The same where one may have been put back.
 pub gives_back : (result : Option (ℕ × Piece)) (old new : Conn) →
-    new.reader ≡ old.reader → new.dispatcher.joiner ≡ old.dispatcher.joiner → new.dispatcher.shards ≡ old.dispatcher.shards → new.broken ≡ old.broken → new.put_back ≡ None → result ≡ old.put_back → new.dispatcher.unsent ≡ old.dispatcher.unsent →
+    new.reader ≡ old.reader → new.dispatcher.joiner ≡ old.dispatcher.joiner → new.dispatcher.splitter.shards ≡ old.dispatcher.splitter.shards → new.broken ≡ old.broken → new.put_back ≡ None → result ≡ old.put_back → new.dispatcher.unsent ≡ old.dispatcher.unsent →
     IfSome result (λ piece. (told : Told) → HasBeenTold old told → (slice_get (all_pieces told) told.out ≡ Some piece) × HasBeenTold new (record told { out = told.out + 1; lent = true }))
 gives_back None old new reader joiner shards broken none taken unsent = tt
 gives_back (Some piece) old new reader joiner shards broken none taken unsent =
@@ -124,7 +124,7 @@ none_back (Some piece) found is not_found = absurd (false≢true (sym not_found 
 
 -- The piece that was taken out last is put back.
 pub takes_back : (old new : Conn) (piece : ℕ × Piece) →
-    new.reader ≡ old.reader → new.dispatcher.joiner ≡ old.dispatcher.joiner → new.dispatcher.shards ≡ old.dispatcher.shards → new.broken ≡ old.broken → new.put_back ≡ Some piece → new.dispatcher.unsent ≡ old.dispatcher.unsent →
+    new.reader ≡ old.reader → new.dispatcher.joiner ≡ old.dispatcher.joiner → new.dispatcher.splitter.shards ≡ old.dispatcher.splitter.shards → new.broken ≡ old.broken → new.put_back ≡ Some piece → new.dispatcher.unsent ≡ old.dispatcher.unsent →
     (told : Told) (before : ℕ) → HasBeenTold old told → IsTrue told.lent → told.out ≡ before + 1 → slice_get (all_pieces told) before ≡ Some piece →
     HasBeenTold new (record told { out = before; lent = false })
 takes_back old new piece reader joiner shards broken back unsent told before h lent out here =

@@ -64,7 +64,7 @@ numbers_left conn on none most told h =
 
 -- A connection that goes on, and whose window has room, needs more bytes where its reader does.
 pub needs_more : (old new : Conn) → GoesOn old → length old.dispatcher.joiner.forms < old.dispatcher.joiner.window → NextSays old.reader next.NeedMore new.reader →
-    new.dispatcher.joiner ≡ old.dispatcher.joiner → new.dispatcher.unsent ≡ old.dispatcher.unsent → new.put_back ≡ old.put_back → new.dispatcher.shards ≡ old.dispatcher.shards → new.broken ≡ old.broken →
+    new.dispatcher.joiner ≡ old.dispatcher.joiner → new.dispatcher.unsent ≡ old.dispatcher.unsent → new.put_back ≡ old.put_back → new.dispatcher.splitter.shards ≡ old.dispatcher.splitter.shards → new.broken ≡ old.broken →
     IfConn old (λ told. NeedsMore told new)
 unfolding IsConn IsAwaiting
 needs_more old new on room says joiner unsent put_back shards broken told h =
@@ -102,10 +102,10 @@ put_first-append (Some piece) others more = refl
 -- The command that the reader gives is taken, where the connection goes on, its window has room, and the form and the
 -- pieces were put behind the others.
 pub opens : (old new : Conn) (shown : Command) (ticket : Ticket) (moment : ℕ) (form : Form) → GoesOn old → length old.dispatcher.joiner.forms < old.dispatcher.joiner.window → ticket.0 ≡ opened_count old.dispatcher.joiner →
-    NextSays old.reader (next.Command shown) new.reader → Plans old.dispatcher.shards ticket moment shown form old.dispatcher.unsent.items new.dispatcher.unsent.items →
+    NextSays old.reader (next.Command shown) new.reader → Plans old.dispatcher.splitter.shards ticket moment shown form old.dispatcher.unsent.items new.dispatcher.unsent.items →
     new.dispatcher.joiner ≡ record old.dispatcher.joiner { forms = old.dispatcher.joiner.forms ++ form ∷ [] } →
     ((opened : List Form) (accepted : List Shown) (handed : List (List ℕ)) → IsJoiner old.dispatcher.joiner opened accepted handed → IsJoiner new.dispatcher.joiner (opened ++ form ∷ []) accepted handed) →
-    new.put_back ≡ old.put_back → new.dispatcher.shards ≡ old.dispatcher.shards → new.broken ≡ old.broken →
+    new.put_back ≡ old.put_back → new.dispatcher.splitter.shards ≡ old.dispatcher.splitter.shards → new.broken ≡ old.broken →
     IfConn old (λ told. TakesCommand told moment ticket new)
 unfolding IsConn
 opens old new shown ticket moment form on room number says plan joiner joins put_back shards broken told h =
@@ -130,7 +130,7 @@ opens old new shown ticket moment form on room number says plan joiner joins put
     let Joined : List Form → Type 0 = λ fs. IsJoiner new.dispatcher.joiner fs told.accepted h.texts in
     let all_is : all_forms told ++ form ∷ [] ≡ forms_of told.shards (told.taken ++ one ∷ []) = ap (λ f. all_forms told ++ f ∷ []) form_is ∙ sym (forms-push told.shards 0 told.taken one) in
     let more : List (ℕ × Piece) = pieces_from told.shards (0 + length told.taken) (one ∷ []) in
-    let added : parts_from 0 ticket moment (pieces_of old.dispatcher.shards (unless_given_up plan.given_up shown)) ≡ more =
+    let added : parts_from 0 ticket moment (pieces_of old.dispatcher.splitter.shards (unless_given_up plan.given_up shown)) ≡ more =
     ap (λ k. parts_from 0 ticket moment (pieces_of k (unless_given_up plan.given_up shown))) h.shards
     ∙ (ap (λ command. parts_from 0 ticket moment (pieces_of told.shards command)) same
     ∙ (ap (λ k. parts_from 0 (ticket_at k) moment (pieces_of told.shards (planned one))) behind

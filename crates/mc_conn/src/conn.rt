@@ -15,7 +15,7 @@ use mc_join::{Gone, Joiner, Stranger};
 use mc_reader::{Memory, Reader, Step};
 use mc_reply::Ticket;
 use mc_ring::Reply;
-use mc_split::Piece;
+use mc_split::{Piece, Splitter};
 use mc_wire::{GREATEST_LINE_LIMIT, GREATEST_VALUE_LIMIT, Outlet};
 use std::alloc::Global;
 use std::collections::VecDeque;
@@ -88,10 +88,12 @@ impl Conn {
             dispatcher: Dispatcher {
                 joiner: Joiner::new(alloc, window)?,
                 unsent: VecDeque::new(alloc),
-                shards,
-                alloc,
-                ticket: Ticket(0),
-                moment: 0,
+                splitter: Splitter {
+                    alloc,
+                    ticket: Ticket(0),
+                    moment: 0,
+                    shards,
+                },
             },
             put_back: None,
             broken: false,
@@ -162,8 +164,8 @@ impl Conn {
             // The reader gives no more commands than there are tickets, so this is never reached.
             return Taken::Full;
         };
-        self.dispatcher.ticket = ticket;
-        self.dispatcher.moment = moment;
+        self.dispatcher.splitter.ticket = ticket;
+        self.dispatcher.splitter.moment = moment;
         match self.reader.next_into(alloc, &mut self.dispatcher) {
             Step::Gave => Taken::Opened(ticket),
             Step::NeedMore => Taken::NeedMore,

@@ -5,7 +5,6 @@
 mod conn;
 mod dispatcher;
 mod laws;
-mod planning;
 
 pub use conn::{Conn, Taken};
 pub use laws::{

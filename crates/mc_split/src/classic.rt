@@ -1,8 +1,6 @@
 //! The pieces of the classic commands.
 ghost use Rattle.std.specs.Prelude.{◌≡◌, ◌<◌, ◌∷◌, [], IfOk, OnErr, false, length, map};
-ghost use Rattle.mc_split.specs.Pieces.{pieces_of, asked_of};
-ghost use Rattle.mc_reply.specs.Shape.{shape_of};
-ghost use Rattle.mc_split.specs.internal.Splits.{Splits};
+ghost use Rattle.mc_split.specs.internal.Splits.{SplitsAs};
 
 use crate::plan::Piece;
 use crate::splitter::Splitter;
@@ -34,14 +32,13 @@ pub(crate) fn plain_line(noreply: bool) -> Shape
 impl Splitter {
     /// `set`, `add`, `replace`, `append`, `prepend`, `cas`.
     #[tactic(auto, unfolding(crate::specs::Pieces::pieces_of, mc_reply::specs::Shape::shape_of))]
-    pub fn store(
+    pub(crate) fn store(
         self,
         queue: &mut VecDeque<(usize, Piece)>,
         storage: Storage,
     ) -> Result<Form, NoMemory>
         requires { 0 < self.shards }
-        ensures { Splits result self.ticket self.moment (shape_of (Command.Store storage))
-            (pieces_of self.shards (Command.Store storage)) queue.old.items queue.new.items }
+        ensures { SplitsAs self (Command.Store storage) result queue.old.items queue.new.items }
     {
         let shape = Shape::Line {
             noreply: storage.noreply,
@@ -60,14 +57,13 @@ impl Splitter {
 
     /// `get`, `gets`, `gat`, `gats`: one piece a key, in the order of the request.
     #[tactic(auto, unfolding(crate::specs::Pieces::pieces_of, mc_reply::specs::Shape::shape_of))]
-    pub fn get(
+    pub(crate) fn get(
         self,
         queue: &mut VecDeque<(usize, Piece)>,
         retrieval: Retrieval,
     ) -> Result<Form, NoMemory>
         requires { 0 < self.shards }
-        ensures { Splits result self.ticket self.moment (shape_of (Command.Get retrieval))
-            (pieces_of self.shards (Command.Get retrieval)) queue.old.items queue.new.items }
+        ensures { SplitsAs self (Command.Get retrieval) result queue.old.items queue.new.items }
     {
         let before = queue.len();
         let touch = retrieval.touch;
@@ -91,15 +87,15 @@ impl Splitter {
 
     /// `delete`.
     #[tactic(auto, unfolding(crate::specs::Pieces::pieces_of, mc_reply::specs::Shape::shape_of))]
-    pub fn delete(
+    pub(crate) fn delete(
         self,
         queue: &mut VecDeque<(usize, Piece)>,
         key: Key,
         noreply: bool,
     ) -> Result<Form, NoMemory>
         requires { 0 < self.shards }
-        ensures { Splits result self.ticket self.moment (shape_of (Command.Delete key noreply))
-            (pieces_of self.shards (Command.Delete key noreply)) queue.old.items queue.new.items }
+        ensures { SplitsAs self (Command.Delete key noreply) result
+            queue.old.items queue.new.items }
     {
         let shard = key.place(self.shards);
         self.one(queue, plain_line(noreply), shard, Op::Delete { key })
@@ -107,15 +103,15 @@ impl Splitter {
 
     /// A set whose value is too large, by memcached's rules: the item goes, whatever the shard answers, and the line is refused.
     #[tactic(auto, unfolding(crate::specs::Pieces::pieces_of, mc_reply::specs::Shape::shape_of))]
-    pub fn discard(
+    pub(crate) fn discard(
         self,
         queue: &mut VecDeque<(usize, Piece)>,
         key: Key,
         refusal: Refusal,
     ) -> Result<Form, NoMemory>
         requires { 0 < self.shards }
-        ensures { Splits result self.ticket self.moment (shape_of (Command.Discard key refusal))
-            (pieces_of self.shards (Command.Discard key refusal)) queue.old.items queue.new.items }
+        ensures { SplitsAs self (Command.Discard key refusal) result
+            queue.old.items queue.new.items }
     {
         let shard = key.place(self.shards);
         let shape = Shape::Fixed(Fixed::Refused(refusal));
@@ -124,7 +120,7 @@ impl Splitter {
 
     /// `incr`, `decr`.
     #[tactic(auto, unfolding(crate::specs::Pieces::pieces_of, mc_reply::specs::Shape::shape_of))]
-    pub fn count(
+    pub(crate) fn count(
         self,
         queue: &mut VecDeque<(usize, Piece)>,
         key: Key,
@@ -133,10 +129,8 @@ impl Splitter {
         noreply: bool,
     ) -> Result<Form, NoMemory>
         requires { 0 < self.shards }
-        ensures { Splits result self.ticket self.moment
-            (shape_of (Command.Count key direction amount noreply))
-            (pieces_of self.shards (Command.Count key direction amount noreply)) queue.old.items
-            queue.new.items }
+        ensures { SplitsAs self (Command.Count key direction amount noreply) result
+            queue.old.items queue.new.items }
     {
         let shard = key.place(self.shards);
         let op = Op::Count {
@@ -149,7 +143,7 @@ impl Splitter {
 
     /// `touch`.
     #[tactic(auto, unfolding(crate::specs::Pieces::pieces_of, mc_reply::specs::Shape::shape_of))]
-    pub fn touch(
+    pub(crate) fn touch(
         self,
         queue: &mut VecDeque<(usize, Piece)>,
         key: Key,
@@ -157,10 +151,8 @@ impl Splitter {
         noreply: bool,
     ) -> Result<Form, NoMemory>
         requires { 0 < self.shards }
-        ensures { Splits result self.ticket self.moment
-            (shape_of (Command.Touch key exptime noreply))
-            (pieces_of self.shards (Command.Touch key exptime noreply)) queue.old.items
-            queue.new.items }
+        ensures { SplitsAs self (Command.Touch key exptime noreply) result
+            queue.old.items queue.new.items }
     {
         let shard = key.place(self.shards);
         self.one(
@@ -173,16 +165,15 @@ impl Splitter {
 
     /// `flush_all`: one piece a shard, rising.
     #[tactic(auto, unfolding(crate::specs::Pieces::pieces_of, mc_reply::specs::Shape::shape_of))]
-    pub fn flush_all(
+    pub(crate) fn flush_all(
         self,
         queue: &mut VecDeque<(usize, Piece)>,
         delay: i64,
         noreply: bool,
     ) -> Result<Form, NoMemory>
         requires { 0 < self.shards }
-        ensures { Splits result self.ticket self.moment (shape_of (Command.FlushAll delay noreply))
-            (pieces_of self.shards (Command.FlushAll delay noreply)) queue.old.items
-            queue.new.items }
+        ensures { SplitsAs self (Command.FlushAll delay noreply) result
+            queue.old.items queue.new.items }
     {
         self.all(queue, plain_line(noreply), ToAll::Flush { delay })
     }

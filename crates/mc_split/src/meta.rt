@@ -1,9 +1,8 @@
 //! The pieces of the meta commands.
 ghost use Rattle.std.specs.Prelude.{◌≡◌, ◌<◌, IfOk};
 ghost use Rattle.std.specs.List.{list_any};
-ghost use Rattle.mc_split.specs.Pieces.{pieces_of};
-ghost use Rattle.mc_reply.specs.Shape.{is_key_flag, is_lenient_in, shape_of, shown_key};
-ghost use Rattle.mc_split.specs.internal.Splits.{Splits};
+ghost use Rattle.mc_reply.specs.Shape.{is_key_flag, is_lenient_in, shown_key};
+ghost use Rattle.mc_split.specs.internal.Splits.{SplitsAs};
 
 use crate::classic::value_of;
 use crate::plan::Piece;
@@ -53,14 +52,13 @@ fn is_lenient_in(profile: Profile, mode: MetaMode) -> bool
 impl Splitter {
     /// `mg`.
     #[tactic(auto, unfolding(crate::specs::Pieces::pieces_of, mc_reply::specs::Shape::shape_of))]
-    pub fn meta_get(
+    pub(crate) fn meta_get(
         self,
         queue: &mut VecDeque<(usize, Piece)>,
         get: MetaGet,
     ) -> Result<Form, NoMemory>
         requires { 0 < self.shards }
-        ensures { Splits result self.ticket self.moment (shape_of (Command.MetaGet get))
-            (pieces_of self.shards (Command.MetaGet get)) queue.old.items queue.new.items }
+        ensures { SplitsAs self (Command.MetaGet get) result queue.old.items queue.new.items }
     {
         let shape = Shape::Meta {
             kind: MetaKind::Get,
@@ -82,14 +80,13 @@ impl Splitter {
 
     /// `ms`.
     #[tactic(auto, unfolding(crate::specs::Pieces::pieces_of, mc_reply::specs::Shape::shape_of))]
-    pub fn meta_set(
+    pub(crate) fn meta_set(
         self,
         queue: &mut VecDeque<(usize, Piece)>,
         set: MetaSet,
     ) -> Result<Form, NoMemory>
         requires { 0 < self.shards }
-        ensures { Splits result self.ticket self.moment (shape_of (Command.MetaSet set))
-            (pieces_of self.shards (Command.MetaSet set)) queue.old.items queue.new.items }
+        ensures { SplitsAs self (Command.MetaSet set) result queue.old.items queue.new.items }
     {
         let shape = Shape::Meta {
             kind: MetaKind::Set,
@@ -113,14 +110,13 @@ impl Splitter {
 
     /// `md`.
     #[tactic(auto, unfolding(crate::specs::Pieces::pieces_of, mc_reply::specs::Shape::shape_of))]
-    pub fn meta_delete(
+    pub(crate) fn meta_delete(
         self,
         queue: &mut VecDeque<(usize, Piece)>,
         delete: MetaDelete,
     ) -> Result<Form, NoMemory>
         requires { 0 < self.shards }
-        ensures { Splits result self.ticket self.moment (shape_of (Command.MetaDelete delete))
-            (pieces_of self.shards (Command.MetaDelete delete)) queue.old.items queue.new.items }
+        ensures { SplitsAs self (Command.MetaDelete delete) result queue.old.items queue.new.items }
     {
         let shape = Shape::Meta {
             kind: MetaKind::Delete,
@@ -142,16 +138,14 @@ impl Splitter {
 
     /// `ma`. The item that it makes of a miss has the exptime of `N` and the number of `J`.
     #[tactic(auto, unfolding(crate::specs::Pieces::pieces_of, mc_reply::specs::Shape::shape_of))]
-    pub fn meta_arithmetic(
+    pub(crate) fn meta_arithmetic(
         self,
         queue: &mut VecDeque<(usize, Piece)>,
         arithmetic: MetaArithmetic,
     ) -> Result<Form, NoMemory>
         requires { 0 < self.shards }
-        ensures { Splits result self.ticket self.moment
-            (shape_of (Command.MetaArithmetic arithmetic))
-            (pieces_of self.shards (Command.MetaArithmetic arithmetic)) queue.old.items
-            queue.new.items }
+        ensures { SplitsAs self (Command.MetaArithmetic arithmetic) result
+            queue.old.items queue.new.items }
     {
         let shape = Shape::Meta {
             kind: MetaKind::Arithmetic,

@@ -1,6 +1,5 @@
 //! The commands that are split without a value of a command: from their words to their piece and the form of their reply.
 ghost use Rattle.std.specs.Prelude.{◌≡◌, ◌<◌, ◌≤◌, ◌∷◌, [], Bool, IfOk, List, None, ℕ, ℤ, length};
-ghost use Rattle.mc_command.specs.declared.command.Command.{Command};
 ghost use Rattle.mc_command.specs.Command.{with_block};
 ghost use Rattle.mc_command.specs.Field.{AreKeys};
 ghost use Rattle.mc_command.specs.declared.command.Command.TheVariants as command;
@@ -9,298 +8,229 @@ ghost use Rattle.mc_wire.specs.Key.{key_fault};
 ghost use Rattle.mc_wire.specs.Words.{words_of};
 ghost use Rattle.mc_wire.specs.declared.TheConstants.{GREATEST_VALUE_LIMIT};
 ghost use Rattle.mc_plain.specs.Plain.{get_of, meta_get_of, set_of};
-ghost use Rattle.mc_split.specs.Pieces.{pieces_of};
 ghost use Rattle.mc_split.specs.Plan.{form_of, Queues, SplitsInto};
-ghost use Rattle.mc_reply.specs.Shape.{shape_of};
-ghost use Rattle.mc_split.specs.internal.Splits.{Splits};
+ghost use Rattle.mc_split.specs.internal.Splits.{SplitsAs};
 
 use crate::classic::plain_line;
 use crate::plan::Piece;
 use crate::splitter::Splitter;
 use mc_command::{
-    Block, Keys, MetaFlags, MetaGet, MetaKind, MetaSet, Opaque, Profile, Retrieval, Returned,
-    StoreMode,
+    Block, Keys, MetaFlags, MetaGet, MetaKind, MetaSet, Opaque, Profile, Refusal, Retrieval,
+    Returned, StoreMode,
 };
 use mc_item::{Kind, NoMemory, Op, Value};
-use mc_reply::{Fixed, Form, Shape, Slots, Ticket};
+use mc_reply::{Fixed, Form, Shape};
 use mc_wire::Key;
-use std::alloc::Global;
 use std::collections::VecDeque;
 
-/// The form of the reply to `mn`.
-#[inline(always)]
-#[tactic(auto, unfolding(crate::specs::Pieces::pieces_of, mc_reply::specs::Shape::shape_of))]
-pub fn split_no_op(alloc: Global, ticket: Ticket, moment: u64, shards: usize) -> Form
-    ensures { result ≡ form_of shards ticket command.MetaNoop }
-{
-    let splitter = Splitter {
-        alloc,
-        ticket,
-        moment,
-        shards,
-    };
-    splitter.fixed(Fixed::MetaNoop)
-}
-
-/// Puts the piece of `get KEY`, or `gets KEY`, behind those of the queue, and gives the key that the reply shows. Where memory
-/// runs out, the queue holds what it held.
-#[inline(always)]
-#[tactic(auto, unfolding(crate::specs::Pieces::pieces_of))]
-pub fn queue_get_one(
-    alloc: Global,
-    key: &[u8],
-    ticket: Ticket,
-    moment: u64,
-    shards: usize,
-    queue: &mut VecDeque<(usize, Piece)>,
-) -> Result<Key, NoMemory>
-    requires shards { 0 < shards }
-    requires key { key_fault key.now ≡ None }
-    ensures shown { IfOk result (λ shown. shown ≡ key.now) }
-    ensures queues { (with_unique : Bool) →
-        Queues shards ticket moment (get_of (key.now ∷ []) with_unique) result queue.old.items
-        queue.new.items }
-{
-    let splitter = Splitter {
-        alloc,
-        ticket,
-        moment,
-        shards,
-    };
-    let shown = Key::from_key_word(alloc, key)?;
-    let key = Key::from_key_word(alloc, key)?;
-    let shard = key.place(shards);
-    splitter.push(queue, shard, 0, Op::Fetch { key, touch: None })?;
-    Ok(shown)
-}
-
-/// The form of the reply to `get KEY`, or to `gets KEY`, which shows the unique. It takes no memory.
-#[inline(always)]
-#[tactic(auto, unfolding(crate::specs::Pieces::pieces_of, mc_reply::specs::Shape::shape_of))]
-pub fn form_of_get_one(alloc: Global, key: Key, with_unique: bool, ticket: Ticket) -> Form
-    ensures { (shards : ℕ) → result ≡ form_of shards ticket (get_of (key ∷ []) with_unique) }
-{
-    let shape = Shape::Values {
-        keys: Keys::one(alloc, key),
-        with_unique,
-    };
-    form_of_one(shape, Kind::Fetch, ticket)
-}
-
-/// Splits `get KEY ..`, or `gets KEY ..`, by the first key and the text of the others: puts its pieces behind those of the
-/// queue, one a key, in the order of the request, and gives the form of its reply. Where memory runs out, the queue holds
-/// what it held.
-pub fn split_get(
-    alloc: Global,
-    first: &[u8],
-    others: &[u8],
-    with_unique: bool,
-    ticket: Ticket,
-    moment: u64,
-    shards: usize,
-    queue: &mut VecDeque<(usize, Piece)>,
-) -> Result<Form, NoMemory>
-    requires shards { 0 < shards }
-    requires first { key_fault first.now ≡ None }
-    requires others { AreKeys (words_of others.now) }
-    ensures { SplitsInto shards ticket moment (get_of (first.now ∷ words_of others.now) with_unique)
-        result queue.old.items queue.new.items }
-{
-    let before = queue.len();
-    let splitter = Splitter {
-        alloc,
-        ticket,
-        moment,
-        shards,
-    };
-    let form = splitter.get_keys(queue, first, others, with_unique);
-    if form.is_err() {
-        queue.truncate(before);
-    }
-    form
-}
-
-/// Puts the piece of `mg KEY v` behind those of the queue. Where memory runs out, the queue holds what it held.
-#[inline(always)]
-#[tactic(auto, unfolding(crate::specs::Pieces::pieces_of))]
-pub fn queue_meta_get_value(
-    alloc: Global,
-    key: &[u8],
-    ticket: Ticket,
-    moment: u64,
-    shards: usize,
-    queue: &mut VecDeque<(usize, Piece)>,
-) -> Result<(), NoMemory>
-    requires shards { 0 < shards }
-    requires key { key_fault key.now ≡ None }
-    ensures { (profile : Profile) →
-        Queues shards ticket moment (meta_get_of profile key.now) result queue.old.items
-        queue.new.items }
-{
-    let splitter = Splitter {
-        alloc,
-        ticket,
-        moment,
-        shards,
-    };
-    let key = Key::from_key_word(alloc, key)?;
-    let shard = key.place(shards);
-    let op = Op::MetaGet(mc_item::MetaGet {
-        key,
-        touch: None,
-        vivify: None,
-        recache: None,
-        unnoted: false,
-    });
-    splitter.push(queue, shard, 0, op)?;
-    Ok(())
-}
-
-/// The form of the reply to `mg KEY v`, which follows these rules. It takes no memory.
-#[inline(always)]
-#[tactic(auto, unfolding(crate::specs::Pieces::pieces_of, mc_reply::specs::Shape::shape_of))]
-pub fn form_of_meta_get_value(ticket: Ticket, profile: Profile) -> Form
-    ensures { (shards : ℕ) (key : List ℕ) →
-        result ≡ form_of shards ticket (meta_get_of profile key) }
-{
-    let shape = Shape::Meta {
-        kind: MetaKind::Get,
-        flags: MetaFlags {
-            base64: false,
-            quiet: false,
-            profile,
-            returned: Returned::new(),
-            opaque: Opaque::empty(),
-        },
-        value: true,
-        key: None,
-        lenient: false,
-    };
-    form_of_one(shape, Kind::MetaGet, ticket)
-}
-
-/// Splits `mg` with any flags, as `split_get` does.
-pub fn split_meta_get(
-    alloc: Global,
-    get: MetaGet,
-    ticket: Ticket,
-    moment: u64,
-    shards: usize,
-    queue: &mut VecDeque<(usize, Piece)>,
-) -> Result<Form, NoMemory>
-    requires { 0 < shards }
-    ensures { SplitsInto shards ticket moment (command.MetaGet get) result queue.old.items
-        queue.new.items }
-{
-    let before = queue.len();
-    let splitter = Splitter {
-        alloc,
-        ticket,
-        moment,
-        shards,
-    };
-    let form = splitter.meta_get(queue, get);
-    if form.is_err() {
-        queue.truncate(before);
-    }
-    form
-}
-
-/// Splits `ms` with this block in place of its own, as `split_get` does.
-pub fn split_meta_set(
-    alloc: Global,
-    set: MetaSet,
-    block: &[u8],
-    ticket: Ticket,
-    moment: u64,
-    shards: usize,
-    queue: &mut VecDeque<(usize, Piece)>,
-) -> Result<Form, NoMemory>
-    requires shards { 0 < shards }
-    requires small { length block.now ≤ GREATEST_VALUE_LIMIT }
-    ensures { SplitsInto shards ticket moment (with_block (command.MetaSet set) block.now) result
-        queue.old.items queue.new.items }
-{
-    let before = queue.len();
-    let splitter = Splitter {
-        alloc,
-        ticket,
-        moment,
-        shards,
-    };
-    let form = splitter.meta_set_with(queue, set, block);
-    if form.is_err() {
-        queue.truncate(before);
-    }
-    form
-}
-
-/// Puts the piece of `set KEY FLAGS E N [noreply]` with its block behind those of the queue. Where memory runs out, the queue
-/// holds what it held.
-#[inline(always)]
-#[tactic(auto, unfolding(crate::specs::Pieces::pieces_of))]
-pub fn queue_set(
-    alloc: Global,
-    key: &[u8],
-    flags: u32,
-    exptime: i64,
-    block: &[u8],
-    ticket: Ticket,
-    moment: u64,
-    shards: usize,
-    queue: &mut VecDeque<(usize, Piece)>,
-) -> Result<(), NoMemory>
-    requires shards { 0 < shards }
-    requires key { key_fault key.now ≡ None }
-    requires small { length block.now ≤ GREATEST_VALUE_LIMIT }
-    ensures { (noreply : Bool) →
-        Queues shards ticket moment (set_of key.now flags exptime noreply block.now) result
-        queue.old.items queue.new.items }
-{
-    let splitter = Splitter {
-        alloc,
-        ticket,
-        moment,
-        shards,
-    };
-    let key = Key::from_key_word(alloc, key)?;
-    let block = Vec::from_slice(alloc, block)?;
-    let shard = key.place(shards);
-    let op = Op::Store {
-        key,
-        mode: StoreMode::Set,
-        flags,
-        exptime,
-        value: Value::new(block)?,
-    };
-    splitter.push(queue, shard, 0, op)?;
-    Ok(())
-}
-
-/// The form of the reply to `set`, which `noreply` hides. It takes no memory.
-#[inline(always)]
-#[tactic(auto, unfolding(crate::specs::Pieces::pieces_of, mc_reply::specs::Shape::shape_of))]
-pub fn form_of_set(ticket: Ticket, noreply: bool) -> Form
-    ensures { (shards : ℕ) (key : List ℕ) (flags : ℕ) (exptime : ℤ) (block : List ℕ) →
-        result ≡ form_of shards ticket (set_of key flags exptime noreply block) }
-{
-    form_of_one(plain_line(noreply), Kind::Store, ticket)
-}
-
-/// The form of a reply to one piece of this kind. It takes no memory.
-#[inline(always)]
-fn form_of_one(shape: Shape, kind: Kind, ticket: Ticket) -> Form
-    ensures { result ≡ record { ticket = ticket; kind = kind; shape = shape; slots = None ∷ [] } }
-{
-    Form {
-        ticket,
-        kind,
-        shape,
-        slots: Slots::one(),
-    }
-}
-
 impl Splitter {
+    /// The form of the reply to `mn`.
+    #[inline(always)]
+    #[tactic(auto, unfolding(crate::specs::Pieces::pieces_of, mc_reply::specs::Shape::shape_of))]
+    pub fn split_no_op(self) -> Form
+        ensures { result ≡ form_of self.shards self.ticket command.MetaNoop }
+    {
+        self.fixed(Fixed::MetaNoop)
+    }
+
+    /// The form of the reply to a command that is refused. It takes no memory.
+    #[tactic(auto, unfolding(crate::specs::Pieces::pieces_of, mc_reply::specs::Shape::shape_of))]
+    pub fn form_of_refusal(self, refusal: Refusal) -> Form
+        ensures { result ≡ form_of self.shards self.ticket (command.Refused refusal) }
+    {
+        self.fixed(Fixed::Refused(refusal))
+    }
+
+    /// Puts the piece of `get KEY`, or `gets KEY`, behind those of the queue, and gives the key that the reply shows. Where
+    /// memory runs out, the queue holds what it held.
+    #[inline(always)]
+    #[tactic(auto, unfolding(crate::specs::Pieces::pieces_of))]
+    pub fn queue_get_one(
+        self,
+        queue: &mut VecDeque<(usize, Piece)>,
+        key: &[u8],
+    ) -> Result<Key, NoMemory>
+        requires shards { 0 < self.shards }
+        requires key { key_fault key.now ≡ None }
+        ensures shown { IfOk result (λ shown. shown ≡ key.now) }
+        ensures queues { (with_unique : Bool) →
+            Queues self (get_of (key.now ∷ []) with_unique) result
+            queue.old.items queue.new.items }
+    {
+        let shown = Key::from_key_word(self.alloc, key)?;
+        let key = Key::from_key_word(self.alloc, key)?;
+        let shard = key.place(self.shards);
+        self.push(queue, shard, 0, Op::Fetch { key, touch: None })?;
+        Ok(shown)
+    }
+
+    /// The form of the reply to `get KEY`, or to `gets KEY`, which shows the unique. It takes no memory.
+    #[inline(always)]
+    #[tactic(auto, unfolding(crate::specs::Pieces::pieces_of, mc_reply::specs::Shape::shape_of))]
+    pub fn form_of_get_one(self, key: Key, with_unique: bool) -> Form
+        ensures { (shards : ℕ) →
+            result ≡ form_of shards self.ticket (get_of (key ∷ []) with_unique) }
+    {
+        let shape = Shape::Values {
+            keys: Keys::one(self.alloc, key),
+            with_unique,
+        };
+        self.form_of_one(shape, Kind::Fetch)
+    }
+
+    /// Splits `get KEY ..`, or `gets KEY ..`, by the first key and the text of the others: puts its pieces behind those of the
+    /// queue, one a key, in the order of the request, and gives the form of its reply. Where memory runs out, the queue holds
+    /// what it held.
+    pub fn split_get(
+        self,
+        queue: &mut VecDeque<(usize, Piece)>,
+        first: &[u8],
+        others: &[u8],
+        with_unique: bool,
+    ) -> Result<Form, NoMemory>
+        requires shards { 0 < self.shards }
+        requires first { key_fault first.now ≡ None }
+        requires others { AreKeys (words_of others.now) }
+        ensures { SplitsInto self (get_of (first.now ∷ words_of others.now) with_unique) result
+            queue.old.items queue.new.items }
+    {
+        let before = queue.len();
+        let form = self.get_keys(queue, first, others, with_unique);
+        if form.is_err() {
+            queue.truncate(before);
+        }
+        form
+    }
+
+    /// Puts the piece of `mg KEY v` behind those of the queue. Where memory runs out, the queue holds what it held.
+    #[inline(always)]
+    #[tactic(auto, unfolding(crate::specs::Pieces::pieces_of))]
+    pub fn queue_meta_get_value(
+        self,
+        queue: &mut VecDeque<(usize, Piece)>,
+        key: &[u8],
+    ) -> Result<(), NoMemory>
+        requires shards { 0 < self.shards }
+        requires key { key_fault key.now ≡ None }
+        ensures { (profile : Profile) →
+            Queues self (meta_get_of profile key.now) result queue.old.items queue.new.items }
+    {
+        let key = Key::from_key_word(self.alloc, key)?;
+        let shard = key.place(self.shards);
+        let op = Op::MetaGet(mc_item::MetaGet {
+            key,
+            touch: None,
+            vivify: None,
+            recache: None,
+            unnoted: false,
+        });
+        self.push(queue, shard, 0, op)?;
+        Ok(())
+    }
+
+    /// The form of the reply to `mg KEY v`, which follows these rules. It takes no memory.
+    #[inline(always)]
+    #[tactic(auto, unfolding(crate::specs::Pieces::pieces_of, mc_reply::specs::Shape::shape_of))]
+    pub fn form_of_meta_get_value(self, profile: Profile) -> Form
+        ensures { (shards : ℕ) (key : List ℕ) →
+            result ≡ form_of shards self.ticket (meta_get_of profile key) }
+    {
+        let shape = Shape::Meta {
+            kind: MetaKind::Get,
+            flags: MetaFlags {
+                base64: false,
+                quiet: false,
+                profile,
+                returned: Returned::new(),
+                opaque: Opaque::empty(),
+            },
+            value: true,
+            key: None,
+            lenient: false,
+        };
+        self.form_of_one(shape, Kind::MetaGet)
+    }
+
+    /// Splits `mg` with any flags, as `split_get` does.
+    pub fn split_meta_get(
+        self,
+        queue: &mut VecDeque<(usize, Piece)>,
+        get: MetaGet,
+    ) -> Result<Form, NoMemory>
+        requires { 0 < self.shards }
+        ensures { SplitsInto self (command.MetaGet get) result queue.old.items queue.new.items }
+    {
+        let before = queue.len();
+        let form = self.meta_get(queue, get);
+        if form.is_err() {
+            queue.truncate(before);
+        }
+        form
+    }
+
+    /// Splits `ms` with this block in place of its own, as `split_get` does.
+    pub fn split_meta_set(
+        self,
+        queue: &mut VecDeque<(usize, Piece)>,
+        set: MetaSet,
+        block: &[u8],
+    ) -> Result<Form, NoMemory>
+        requires shards { 0 < self.shards }
+        requires small { length block.now ≤ GREATEST_VALUE_LIMIT }
+        ensures { SplitsInto self (with_block (command.MetaSet set) block.now) result
+            queue.old.items queue.new.items }
+    {
+        let before = queue.len();
+        let form = self.meta_set_with(queue, set, block);
+        if form.is_err() {
+            queue.truncate(before);
+        }
+        form
+    }
+
+    /// Puts the piece of `set KEY FLAGS E N [noreply]` with its block behind those of the queue. Where memory runs out, the
+    /// queue holds what it held.
+    #[inline(always)]
+    #[tactic(auto, unfolding(crate::specs::Pieces::pieces_of))]
+    pub fn queue_set(
+        self,
+        queue: &mut VecDeque<(usize, Piece)>,
+        key: &[u8],
+        flags: u32,
+        exptime: i64,
+        block: &[u8],
+    ) -> Result<(), NoMemory>
+        requires shards { 0 < self.shards }
+        requires key { key_fault key.now ≡ None }
+        requires small { length block.now ≤ GREATEST_VALUE_LIMIT }
+        ensures { (noreply : Bool) →
+            Queues self (set_of key.now flags exptime noreply block.now) result
+            queue.old.items queue.new.items }
+    {
+        let key = Key::from_key_word(self.alloc, key)?;
+        let block = Vec::from_slice(self.alloc, block)?;
+        let shard = key.place(self.shards);
+        let op = Op::Store {
+            key,
+            mode: StoreMode::Set,
+            flags,
+            exptime,
+            value: Value::new(block)?,
+        };
+        self.push(queue, shard, 0, op)?;
+        Ok(())
+    }
+
+    /// The form of the reply to `set`, which `noreply` hides. It takes no memory.
+    #[inline(always)]
+    #[tactic(auto, unfolding(crate::specs::Pieces::pieces_of, mc_reply::specs::Shape::shape_of))]
+    pub fn form_of_set(self, noreply: bool) -> Form
+        ensures { (shards : ℕ) (key : List ℕ) (flags : ℕ) (exptime : ℤ) (block : List ℕ) →
+            result ≡ form_of shards self.ticket (set_of key flags exptime noreply block) }
+    {
+        self.form_of_one(plain_line(noreply), Kind::Store)
+    }
+
     /// `get KEY ..` and `gets KEY ..`.
     #[tactic(auto, unfolding(crate::specs::Pieces::pieces_of, mc_reply::specs::Shape::shape_of))]
     fn get_keys(
@@ -313,8 +243,7 @@ impl Splitter {
         requires shards { 0 < self.shards }
         requires first { key_fault first.now ≡ None }
         requires others { AreKeys (words_of others.now) }
-        ensures { let asked : Command = get_of (first.now ∷ words_of others.now) with_unique in
-            Splits result self.ticket self.moment (shape_of asked) (pieces_of self.shards asked)
+        ensures { SplitsAs self (get_of (first.now ∷ words_of others.now) with_unique) result
             queue.old.items queue.new.items }
     {
         let keys = Keys::from_key_words(self.alloc, first, others)?;
@@ -338,8 +267,7 @@ impl Splitter {
     ) -> Result<Form, NoMemory>
         requires shards { 0 < self.shards }
         requires small { length block.now ≤ GREATEST_VALUE_LIMIT }
-        ensures { let asked : Command = with_block (command.MetaSet set) block.now in Splits result
-            self.ticket self.moment (shape_of asked) (pieces_of self.shards asked)
+        ensures { SplitsAs self (with_block (command.MetaSet set) block.now) result
             queue.old.items queue.new.items }
     {
         let block = Vec::from_slice(self.alloc, block)?;

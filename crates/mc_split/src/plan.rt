@@ -2,9 +2,8 @@
 ghost use Rattle.std.specs.Prelude.{◌≡◌, ◌<◌, ◌++◌, IfOk, IsTrue, OnOk, OnErr, length};
 ghost use Rattle.mc_command.specs.Command.{can_give_up};
 ghost use Rattle.mc_split.specs.Pieces.{pieces_of};
-ghost use Rattle.mc_reply.specs.Shape.{shape_of};
-ghost use Rattle.mc_split.specs.Plan.{form_of, parts_from};
-ghost use Rattle.mc_split.specs.internal.Splits.{Splits};
+ghost use Rattle.mc_split.specs.Plan.{SplitsInto, form_of, parts_from};
+ghost use Rattle.mc_split.specs.internal.Splits.{SplitsAs};
 
 use crate::splitter::Splitter;
 use mc_command::Command;
@@ -31,40 +30,6 @@ pub struct Plan {
     pub pieces: VecDeque<(usize, Piece)>,
 }
 
-/// Splits a command: puts its pieces behind those of the queue, and gives the form of its reply. All growth happens
-/// here, before the first piece goes out. Where memory runs out, the queue holds what it held.
-pub fn split_into(
-    alloc: Global,
-    command: Command,
-    ticket: Ticket,
-    moment: u64,
-    shards: usize,
-    queue: &mut VecDeque<(usize, Piece)>,
-) -> Result<Form, NoMemory>
-    requires { 0 < shards }
-    ensures form { IfOk result (λ form. form ≡ form_of shards ticket command) }
-    ensures pieces { OnOk result
-        (queue.new.items ≡
-        queue.old.items ++ parts_from 0 ticket moment (pieces_of shards command)) }
-    ensures unchanged { OnErr result (queue.new.items ≡ queue.old.items) }
-    // Only a command that asks a shard can find no memory.
-    ensures asks { OnErr result (0 < length (pieces_of shards command)) }
-    ensures gives_up { OnErr result (IsTrue (can_give_up command)) }
-{
-    let before = queue.len();
-    let splitter = Splitter {
-        alloc,
-        ticket,
-        moment,
-        shards,
-    };
-    let form = splitter.split(queue, command);
-    if form.is_err() {
-        queue.truncate(before);
-    }
-    form
-}
-
 /// Splits a command into a queue of its own.
 pub fn split(
     alloc: Global,
@@ -81,17 +46,41 @@ pub fn split(
     ensures gives_up { OnErr result (IsTrue (can_give_up command)) }
 {
     let mut pieces = VecDeque::new(alloc);
-    let form = split_into(alloc, command, ticket, moment, shards, &mut pieces)?;
+    let splitter = Splitter {
+        alloc,
+        ticket,
+        moment,
+        shards,
+    };
+    let form = splitter.split_into(&mut pieces, command)?;
     Ok(Plan { form, pieces })
 }
 
 impl Splitter {
+    /// Splits a command: puts its pieces behind those of the queue, and gives the form of its reply. All growth happens
+    /// here, before the first piece goes out. Where memory runs out, the queue holds what it held.
+    pub fn split_into(
+        self,
+        queue: &mut VecDeque<(usize, Piece)>,
+        command: Command,
+    ) -> Result<Form, NoMemory>
+        requires { 0 < self.shards }
+        ensures splits { SplitsInto self command result queue.old.items queue.new.items }
+        ensures asks { OnErr result (0 < length (pieces_of self.shards command)) }
+    {
+        let before = queue.len();
+        let form = self.split(queue, command);
+        if form.is_err() {
+            queue.truncate(before);
+        }
+        form
+    }
+
     /// Splits a command.
     #[tactic(auto, unfolding(crate::specs::Pieces::pieces_of, mc_reply::specs::Shape::shape_of))]
     fn split(self, queue: &mut VecDeque<(usize, Piece)>, command: Command) -> Result<Form, NoMemory>
         requires { 0 < self.shards }
-        ensures splits { Splits result self.ticket self.moment (shape_of command)
-            (pieces_of self.shards command) queue.old.items queue.new.items }
+        ensures splits { SplitsAs self command result queue.old.items queue.new.items }
         ensures gives_up { OnErr result (IsTrue (can_give_up command)) }
     {
         match command {

@@ -16,6 +16,7 @@ use std::collections::VecDeque;
 pub struct Splitter {
     pub alloc: Global,
     pub ticket: Ticket,
+    /// The moment at which the command was taken, in seconds since 1970.
     pub moment: u64,
     pub shards: usize,
 }
@@ -50,7 +51,7 @@ fn let_go(_op: Op) {}
 
 impl Splitter {
     /// The form of a reply that asks no shard, so that its kind is of no meaning.
-    pub fn fixed(self, fixed: Fixed) -> Form
+    pub(crate) fn fixed(self, fixed: Fixed) -> Form
         ensures { result ≡ form_with self.ticket (Shape.Fixed fixed) [] }
     {
         Form {
@@ -63,7 +64,7 @@ impl Splitter {
 
     /// Asks one shard: puts the piece behind those of the queue.
     #[inline(always)]
-    pub fn one(
+    pub(crate) fn one(
         self,
         queue: &mut VecDeque<(usize, Piece)>,
         shape: Shape,
@@ -75,17 +76,26 @@ impl Splitter {
     {
         let kind = op.kind();
         self.push(queue, shard, 0, op)?;
-        Ok(Form {
+        Ok(self.form_of_one(shape, kind))
+    }
+
+    /// The form of a reply to one piece of this kind. It takes no memory.
+    #[inline(always)]
+    pub(crate) fn form_of_one(self, shape: Shape, kind: Kind) -> Form
+        ensures { result ≡
+            record { ticket = self.ticket; kind = kind; shape = shape; slots = None ∷ [] } }
+    {
+        Form {
             ticket: self.ticket,
             kind,
             shape,
             slots: Slots::one(),
-        })
+        }
     }
 
     /// Puts a piece, which is this part of the command, behind those of the queue.
     #[inline(always)]
-    pub fn push(
+    pub(crate) fn push(
         self,
         queue: &mut VecDeque<(usize, Piece)>,
         shard: usize,
@@ -114,7 +124,7 @@ impl Splitter {
     }
 
     /// The form of a reply to `count` pieces, all of this kind.
-    pub fn form(self, shape: Shape, kind: Kind, count: usize) -> Result<Form, NoMemory>
+    pub(crate) fn form(self, shape: Shape, kind: Kind, count: usize) -> Result<Form, NoMemory>
         ensures { IfOk result (λ form.
             form ≡
             record {

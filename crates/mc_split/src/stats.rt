@@ -1,8 +1,7 @@
 //! The pieces of what every shard is asked, and of `stats`.
 ghost use Rattle.std.specs.Prelude.{◌≡◌, ◌<◌};
-ghost use Rattle.mc_split.specs.Pieces.{asked_of_all, pieces_of};
-ghost use Rattle.mc_reply.specs.Shape.{shape_of};
-ghost use Rattle.mc_split.specs.internal.Splits.{Splits};
+ghost use Rattle.mc_split.specs.Pieces.{asked_of_all};
+ghost use Rattle.mc_split.specs.internal.Splits.{Splits, SplitsAs};
 ghost use Rattle.mc_split.specs.internal.ToAll.{op_of};
 
 use crate::classic::plain_line;
@@ -15,7 +14,7 @@ use std::collections::VecDeque;
 
 /// What every shard is asked.
 #[derive(Clone, Copy)]
-pub enum ToAll {
+pub(crate) enum ToAll {
     /// `flush_all`.
     Flush { delay: i64 },
     /// `stats`.
@@ -40,14 +39,13 @@ impl ToAll {
 impl Splitter {
     /// `stats`, and `stats reset`. Other counts are none, and ask no shard.
     #[tactic(auto, unfolding(crate::specs::Pieces::pieces_of, mc_reply::specs::Shape::shape_of))]
-    pub fn stats(
+    pub(crate) fn stats(
         self,
         queue: &mut VecDeque<(usize, Piece)>,
         asked: StatsRequest,
     ) -> Result<Form, NoMemory>
         requires { 0 < self.shards }
-        ensures { Splits result self.ticket self.moment (shape_of (Command.Stats asked))
-            (pieces_of self.shards (Command.Stats asked)) queue.old.items queue.new.items }
+        ensures { SplitsAs self (Command.Stats asked) result queue.old.items queue.new.items }
     {
         match asked {
             StatsRequest::General => self.all(queue, Shape::Stats, ToAll::Stats),
@@ -57,7 +55,7 @@ impl Splitter {
     }
 
     /// Asks every shard: one piece a shard, rising.
-    pub fn all(
+    pub(crate) fn all(
         self,
         queue: &mut VecDeque<(usize, Piece)>,
         shape: Shape,

@@ -15,25 +15,29 @@ use Rattle.mc_conn.specs.internal.Plans.{Plans}
 -- There is room for one command more, and its number is written.
 pub record CanOpen (dispatcher : Dispatcher) : Type 0 where
   pub room : length dispatcher.joiner.forms < dispatcher.joiner.window
-  pub number : dispatcher.ticket.0 ≡ opened_count dispatcher.joiner
+  pub number : dispatcher.splitter.ticket.0 ≡ opened_count dispatcher.joiner
 
 -- The command was planned, whole or as given up, and the form of its reply is the last of those that are open.
 pub record OpensForm (old : Dispatcher) (command : Command) (new : Dispatcher) : Type 0 where
   pub form : Form
-  pub plan : Plans old.shards old.ticket old.moment command form old.unsent.items new.unsent.items
+  pub plan : Plans old.splitter.shards old.splitter.ticket old.splitter.moment command form old.unsent.items new.unsent.items
   pub joiner : new.joiner ≡ record old.joiner { forms = old.joiner.forms ++ form ∷ [] }
   pub joins : (opened : List Form) (accepted : List Shown) (handed : List (List ℕ)) → IsJoiner old.joiner opened accepted handed → IsJoiner new.joiner (opened ++ form ∷ []) accepted handed
-  pub shards : new.shards ≡ old.shards
+  pub shards : new.splitter.shards ≡ old.splitter.shards
 
 -- the form of the refusal "out of memory", at the number of the next command
 abbrev pub refusal_of : Dispatcher → Form
-refusal_of dispatcher = form_of dispatcher.shards dispatcher.ticket (Refused Memory)
+refusal_of dispatcher = form_of dispatcher.splitter.shards dispatcher.splitter.ticket (Refused Memory)
+
+-- This form is the last of those that are open.
+pub record Opens (old : Dispatcher) (form : Form) (new : Dispatcher) : Type 0 where
+  pub joiner : new.joiner ≡ record old.joiner { forms = old.joiner.forms ++ form ∷ [] }
+  pub joins : (opened : List Form) (accepted : List Shown) (handed : List (List ℕ)) → IsJoiner old.joiner opened accepted handed → IsJoiner new.joiner (opened ++ form ∷ []) accepted handed
+  pub unsent : new.unsent ≡ old.unsent
+  pub shards : new.splitter.shards ≡ old.splitter.shards
 
 -- The form of a command that was split, or of the refusal where memory ran out, is the last of those that are open.
 pub record OpensSplit (old : Dispatcher) (split : Result Form NoMemory) (new : Dispatcher) : Type 0 where
   pub form : Form
   pub form_is : MatchResult split (λ f. form ≡ f) (λ _. form ≡ refusal_of old)
-  pub joiner : new.joiner ≡ record old.joiner { forms = old.joiner.forms ++ form ∷ [] }
-  pub joins : (opened : List Form) (accepted : List Shown) (handed : List (List ℕ)) → IsJoiner old.joiner opened accepted handed → IsJoiner new.joiner (opened ++ form ∷ []) accepted handed
-  pub unsent : new.unsent ≡ old.unsent
-  pub shards : new.shards ≡ old.shards
+  pub opens : Opens old form new

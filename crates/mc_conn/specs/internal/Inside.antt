@@ -18,7 +18,7 @@ pub record HasBeenTold (conn : Conn) (told : Told) : Type 0 where
   -- what the reader gave, and the texts that the joiner handed out
   pub given : List Given
   pub texts : List (List ℕ)
-  pub shards : conn.dispatcher.shards ≡ told.shards
+  pub shards : conn.dispatcher.splitter.shards ≡ told.shards
   pub window : conn.dispatcher.joiner.window ≡ told.window
   pub broken : conn.broken ≡ told.broken
   pub read : IsReader conn.reader told.rules told.fed told.ended given

@@ -3,9 +3,12 @@ use Rattle.std.specs.Prelude.{ℕ, ◌≡◌, ◌<◌, List, ◌++◌, Result, I
 use Rattle.mc_item.specs.declared.memory.NoMemory.{NoMemory}
 use Rattle.mc_reply.specs.declared.form.Form.{Form}
 use Rattle.mc_reply.specs.declared.form.Shape.{Shape}
+use Rattle.mc_command.specs.declared.command.Command.{Command}
+use Rattle.mc_reply.specs.Shape.{shape_of}
 use Rattle.mc_split.specs.declared.plan.Piece.{Piece}
+use Rattle.mc_split.specs.declared.splitter.Splitter.{Splitter}
 use Rattle.mc_reply.specs.declared.ticket.Ticket.{Ticket}
-use Rattle.mc_split.specs.Pieces.{ShardOp}
+use Rattle.mc_split.specs.Pieces.{ShardOp, pieces_of}
 use Rattle.mc_split.specs.Plan.{form_with, parts_from}
 
 -- These pieces stand behind the others, and the form awaits an answer to each. Where memory runs out, which it does for a
@@ -15,3 +18,8 @@ pub record Splits (result : Result Form NoMemory) (ticket : Ticket) (moment : �
   pub pieces : OnOk result (new ≡ old ++ parts_from 0 ticket moment asked)
   pub front : OnErr result (take (length old) new ≡ old)
   pub asks : OnErr result (0 < length asked)
+
+-- A command was split by this splitter.
+abbrev pub SplitsAs : Splitter → Command → Result Form NoMemory → List (ℕ × Piece) → List (ℕ × Piece) → Type 0
+SplitsAs splitter command result old new =
+    Splits result splitter.ticket splitter.moment (shape_of command) (pieces_of splitter.shards command) old new

@@ -7,11 +7,11 @@ use Rattle.mc_conn.proofs.dispatcher.DispatcherCommands.get.Goals as goal
 pub returns : goal.returns
 returns c =
     let dispatcher = c.args.self.now in
-    let opens = c.open_split.ensures in
+    let split = c.open_split.ensures in
     record {
-      form = opens.form;
-      plan = rw opens.unsent (plans_split dispatcher.shards dispatcher.ticket dispatcher.moment (get_of (c.args.first.now ∷ words_of c.args.others.now) c.args.with_unique) c.split_get-split.result opens.form dispatcher.unsent.items c.split_get-split.new.queue.items c.split_get-split.ensures opens.form_is);
-      joiner = opens.joiner;
-      joins = opens.joins;
-      shards = opens.shards;
+      form = split.form;
+      plan = rw split.opens.unsent (plans_split dispatcher.splitter (get_of (c.args.first.now ∷ words_of c.args.others.now) c.args.with_unique) c.split_get-split.result split.form dispatcher.unsent.items c.split_get-split.new.queue.items c.split_get-split.ensures split.form_is);
+      joiner = split.opens.joiner;
+      joins = split.opens.joins;
+      shards = split.opens.shards;
     }

@@ -6,11 +6,11 @@ use Rattle.mc_conn.proofs.dispatcher.DispatcherCommands.meta_set.Goals as goal
 pub returns : goal.returns
 returns c =
     let dispatcher = c.args.self.now in
-    let opens = c.open_split.ensures in
+    let split = c.open_split.ensures in
     record {
-      form = opens.form;
-      plan = rw opens.unsent (plans_split dispatcher.shards dispatcher.ticket dispatcher.moment (with_block (command.MetaSet c.args.set) c.args.block.now) c.split_meta_set-split.result opens.form dispatcher.unsent.items c.split_meta_set-split.new.queue.items c.split_meta_set-split.ensures opens.form_is);
-      joiner = opens.joiner;
-      joins = opens.joins;
-      shards = opens.shards;
+      form = split.form;
+      plan = rw split.opens.unsent (plans_split dispatcher.splitter (with_block (command.MetaSet c.args.set) c.args.block.now) c.split_meta_set-split.result split.form dispatcher.unsent.items c.split_meta_set-split.new.queue.items c.split_meta_set-split.ensures split.form_is);
+      joiner = split.opens.joiner;
+      joins = split.opens.joins;
+      shards = split.opens.shards;
     }

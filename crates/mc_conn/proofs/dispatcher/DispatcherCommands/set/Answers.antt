@@ -16,7 +16,7 @@ returns-in-Ok c =
     let fits : SFits w64 c.args.exptime = search rules in
     record {
       form = c.form_of_set.result;
-      plan = rw c.open.ensures.unsent (plans_queued dispatcher.shards dispatcher.ticket dispatcher.moment asked c.form_of_set.result dispatcher.unsent.items _ (c.form_of_set.ensures dispatcher.shards c.args.key.now c.args.flags c.args.exptime c.args.block.now) (rw (to_z-of_z w64 c.args.exptime fits) at (c.in-Ok.ensures c.args.noreply)).pieces);
+      plan = rw c.open.ensures.unsent (plans_queued dispatcher.splitter.shards dispatcher.splitter.ticket dispatcher.splitter.moment asked c.form_of_set.result dispatcher.unsent.items _ (c.form_of_set.ensures dispatcher.splitter.shards c.args.key.now c.args.flags c.args.exptime c.args.block.now) (rw (to_z-of_z w64 c.args.exptime fits) at (c.in-Ok.ensures c.args.noreply)).pieces);
       joiner = c.open.ensures.joiner;
       joins = c.open.ensures.joins;
       shards = c.open.ensures.shards;
@@ -29,7 +29,7 @@ returns-in-Err c =
     let fits : SFits w64 c.args.exptime = search rules in
     record {
       form = refusal_of dispatcher;
-      plan = rw c.open_refusal.ensures.unsent (plans_refusal dispatcher.shards dispatcher.ticket dispatcher.moment asked (refusal_of dispatcher) dispatcher.unsent.items _ (rw (to_z-of_z w64 c.args.exptime fits) at (c.in-Err.ensures c.args.noreply)).gives_up refl (rw (to_z-of_z w64 c.args.exptime fits) at (c.in-Err.ensures c.args.noreply)).unchanged);
+      plan = rw c.open_refusal.ensures.unsent (plans_refusal dispatcher.splitter.shards dispatcher.splitter.ticket dispatcher.splitter.moment asked (refusal_of dispatcher) dispatcher.unsent.items _ (rw (to_z-of_z w64 c.args.exptime fits) at (c.in-Err.ensures c.args.noreply)).gives_up refl (rw (to_z-of_z w64 c.args.exptime fits) at (c.in-Err.ensures c.args.noreply)).unchanged);
       joiner = c.open_refusal.ensures.joiner;
       joins = c.open_refusal.ensures.joins;
       shards = c.open_refusal.ensures.shards;
@@ -37,4 +37,4 @@ returns-in-Err c =
 
 pub open-requires-clause-number : goal.open-requires-clause-number
 open-requires-clause-number c =
-    ap (λ (form : Form). form.ticket.0) (c.form_of_set.ensures c.args.self.now.shards c.args.key.now c.args.flags c.args.exptime c.args.block.now) ∙ c.requires.can.number
+    ap (λ (form : Form). form.ticket.0) (c.form_of_set.ensures c.args.self.now.splitter.shards c.args.key.now c.args.flags c.args.exptime c.args.block.now) ∙ c.requires.can.number
