@@ -3,23 +3,42 @@
 //! `a_line_without_memory_is_given_up` passes at every N.
 use crate::asserting::{equal, holds};
 use mc_command::{
-    Block, Command, Direction, Keys, Line, Refusal, Retrieval, StoreMode, announced_bytes,
+    Block, Command, Direction, Keys, Line, Refusal, StoreMode, announced_bytes,
     data_can_be_given_up, flags_in_any_order, read_line, table_is_never_out_of_memory,
 };
-use mc_wire::{DEFAULT_VALUE_LIMIT, WireFault, words};
+use mc_wire::{DEFAULT_VALUE_LIMIT, Key, WireFault, words};
 use std::alloc::{AllocError, Global};
 use std::test::Fail;
 
+/// A line as it was read.
+pub struct ReadLine {
+    pub line: Line,
+}
+
+impl Drop for ReadLine {
+    /// By hand, so that to let one go is one call for whoever holds it.
+    fn drop(self) {
+        let ReadLine { line: _line } = self;
+    }
+}
+
 /// The line as it is read.
-fn read(alloc: Global, line: &[u8]) -> Line {
-    read_line(alloc, line, DEFAULT_VALUE_LIMIT)
+pub fn read(alloc: Global, line: &[u8]) -> ReadLine {
+    ReadLine {
+        line: read_line(alloc, line, DEFAULT_VALUE_LIMIT),
+    }
+}
+
+/// Whether it is the key `a`.
+pub fn is_a(key: &Key) -> bool {
+    key.bytes() == b"a".as_slice()
 }
 
 /// Whether it is a storage command of this mode under the key `a`, with the flags 5, dead at once, without reply.
-fn is_storage(command: &Command, mode: StoreMode) -> bool {
-    match command {
-        Command::Store(stored) => {
-            stored.key.bytes() == b"a".as_slice()
+fn is_storage(line: &Line, mode: StoreMode) -> bool {
+    match line {
+        Line::Data(Command::Store(stored), 3) => {
+            is_a(&stored.key)
                 && (stored.mode, stored.flags) == (mode, 5)
                 && (stored.exptime, stored.noreply) == (-1, true)
                 && stored.block.bytes() == b"xyz".as_slice()
@@ -28,40 +47,55 @@ fn is_storage(command: &Command, mode: StoreMode) -> bool {
     }
 }
 
-/// Whether the line and the block `xyz` are such a command.
-fn stores(alloc: Global, line: &[u8], mode: StoreMode) -> Result<bool, AllocError> {
-    let block = Block::new(Vec::from_slice(alloc, b"xyz")?);
-    match read(alloc, line) {
-        Line::Data(command, 3) => Ok(is_storage(&command.with_block(block), mode)),
-        _ => Ok(false),
+/// The line, whose command has this block where it announces one.
+fn with_block(line: Line, block: Block) -> ReadLine {
+    match line {
+        Line::Data(command, count) => ReadLine {
+            line: Line::Data(command.with_block(block), count),
+        },
+        other => ReadLine { line: other },
     }
 }
 
+/// Whether the line and the block `xyz` are such a command.
+fn stores(alloc: Global, line: &[u8], mode: StoreMode) -> Result<bool, AllocError> {
+    let block = Block::new(Vec::from_slice(alloc, b"xyz")?);
+    let read = with_block(read_line(alloc, line, DEFAULT_VALUE_LIMIT), block);
+    Ok(is_storage(&read.line, mode))
+}
+
+static STORAGE_LINES: [(&[u8], StoreMode); 6] = [
+    (b"set a 5 -1 3 noreply", StoreMode::Set),
+    (b"add a 5 -1 3 noreply", StoreMode::Add),
+    (b"replace a 5 -1 3 noreply", StoreMode::Replace),
+    (b"append a 5 -1 3 noreply", StoreMode::Append),
+    (b"prepend a 5 -1 3 noreply", StoreMode::Prepend),
+    (b"cas a 5 -1 3 9 noreply", StoreMode::Cas(9)),
+];
+
 #[test]
 fn a_storage_line_takes_its_block(rt: HostRuntime) -> Result<(), Fail> {
-    let lines = [
-        (b"set a 5 -1 3 noreply".as_slice(), StoreMode::Set),
-        (b"add a 5 -1 3 noreply", StoreMode::Add),
-        (b"replace a 5 -1 3 noreply", StoreMode::Replace),
-        (b"append a 5 -1 3 noreply", StoreMode::Append),
-        (b"prepend a 5 -1 3 noreply", StoreMode::Prepend),
-        (b"cas a 5 -1 3 9 noreply", StoreMode::Cas(9)),
-    ];
-    for (line, mode) in lines {
-        equal(&rt, announced_bytes(line), 5);
-        assert!(rt; stores(rt.alloc(), line, mode)?, "{mode:?}");
+    for (line, mode) in &STORAGE_LINES {
+        equal(&rt, announced_bytes(*line), 5);
+        let stored = stores(rt.alloc(), *line, *mode)?;
+        equal(&rt, (*mode, stored), (*mode, true));
     }
+    Ok(())
+}
+
+#[test]
+fn a_block_keeps_its_bytes(rt: HostRuntime) -> Result<(), Fail> {
     equal(&rt, Block::empty(rt.alloc()).bytes().len(), 0);
     let block = Block::new(Vec::from_slice(rt.alloc(), b"xyz")?);
     equal(&rt, block.into_bytes().as_slice(), b"xyz".as_slice());
     Ok(())
 }
 
-/// The command of a line that asks for items.
-fn asked(alloc: Global, line: &[u8]) -> Option<Retrieval> {
-    match read(alloc, line) {
-        Line::Whole(Command::Get(get)) => Some(get),
-        _ => None,
+/// Whether it is the name that comes next.
+fn is_next(found: &[u8], name: Option<&&[u8]>) -> bool {
+    match name {
+        Some(name) => found == *name,
+        None => false,
     }
 }
 
@@ -69,31 +103,45 @@ fn asked(alloc: Global, line: &[u8]) -> Option<Retrieval> {
 fn are_named(keys: &Keys, names: &[&[u8]]) -> bool {
     let (first, others) = keys.parts();
     let mut left = names.iter();
-    if !left.next().is_some_and(|name| first.bytes() == *name) {
+    if !is_next(first.bytes(), left.next()) {
         return false;
     }
     for key in others {
-        if !left.next().is_some_and(|name| key == *name) {
+        if !is_next(key, left.next()) {
             return false;
         }
     }
     left.next().is_none()
 }
 
+/// Of a line that asks for items under such names: the exptime that it gives, and whether it asks for uniques.
+fn retrieved(line: &Line, names: &[&[u8]]) -> Option<(Option<i64>, bool)> {
+    match line {
+        Line::Whole(Command::Get(get)) if are_named(&get.keys, names) => {
+            Some((get.touch, get.with_unique))
+        }
+        _ => None,
+    }
+}
+
+/// Whether keys that are read from two texts have such names.
+fn reads(alloc: Global, first: &[u8], others: &[u8], names: &[&[u8]]) -> Result<bool, Refusal> {
+    let keys = Keys::read(alloc, first, words(others))?;
+    Ok(are_named(&keys, names))
+}
+
 #[test]
 fn keys_stand_in_the_order_of_the_request(rt: HostRuntime) -> Result<(), Fail> {
     let alloc = rt.alloc();
-    let Some(get) = asked(alloc, b"gats 10 a b c") else {
-        assert!(rt; false, "no get");
-        return Ok(());
-    };
-    equal(&rt, (get.touch, get.with_unique), (Some(10), true));
-    holds(&rt, are_named(&get.keys, &[b"a", b"b", b"c"]));
-    let keys = Keys::read(alloc, b"d", words(b"  e d "))?;
-    holds(&rt, are_named(&keys, &[b"d", b"e", b"d"]));
-    let keys = Keys::read(alloc, b"d", words(b""))?;
-    holds(&rt, are_named(&keys, &[b"d"]));
-    let refused = Keys::read(alloc, b"d", words(b"e \x01")).err();
+    let read = read(alloc, b"gats 10 a b c");
+    equal(
+        &rt,
+        retrieved(&read.line, &[b"a", b"b", b"c"]),
+        Some((Some(10), true)),
+    );
+    holds(&rt, reads(alloc, b"d", b"  e d ", &[b"d", b"e", b"d"])?);
+    holds(&rt, reads(alloc, b"d", b"", &[b"d"])?);
+    let refused = reads(alloc, b"d", b"e \x01", &[b"d", b"e"]).err();
     equal(&rt, refused, Some(Refusal::BadKey));
     Ok(())
 }
@@ -102,10 +150,7 @@ fn keys_stand_in_the_order_of_the_request(rt: HostRuntime) -> Result<(), Fail> {
 fn asked_of(line: &Line) -> (&'static str, i64) {
     match line {
         Line::Whole(Command::Delete { key, noreply }) => {
-            (
-                "delete",
-                i64::from(*noreply && key.bytes() == b"a".as_slice()),
-            )
+            ("delete", i64::from(*noreply && is_a(key)))
         }
         Line::Whole(
             Command::Count {
@@ -135,24 +180,29 @@ fn asked_of(line: &Line) -> (&'static str, i64) {
 }
 
 fn asks(alloc: Global, line: &[u8]) -> (&'static str, i64) {
-    asked_of(&read(alloc, line))
+    asked_of(&read(alloc, line).line)
 }
+
+static OTHER_LINES: [(&[u8], &str, i64); 8] = [
+    (b"delete a 0 noreply", "delete", 1),
+    (b"decr a 18446744073709551615", "count", 1),
+    (b"touch a -9223372036854775808", "touch", i64::MIN),
+    (b"flush_all 10 noreply", "flush_all", 10),
+    (b"mg key s c O123 t k f h l q v T30 N-1 R60", "mg", 30),
+    (b"md a I T30 C18446744073709551615 q", "md", 30),
+    (b"ma a D0 M+ N-5", "ma", -5),
+    (b"ms YQ== 1 b T-1 Mr", "ms", -1),
+];
 
 #[test]
 fn the_other_lines(rt: HostRuntime) {
-    let lines = [
-        (b"delete a 0 noreply".as_slice(), ("delete", 1)),
-        (b"decr a 18446744073709551615", ("count", 1)),
-        (b"touch a -9223372036854775808", ("touch", i64::MIN)),
-        (b"flush_all 10 noreply", ("flush_all", 10)),
-        (b"mg key s c O123 t k f h l q v T30 N-1 R60", ("mg", 30)),
-        (b"md a I T30 C18446744073709551615 q", ("md", 30)),
-        (b"ma a D0 M+ N-5", ("ma", -5)),
-        (b"ms YQ== 1 b T-1 Mr", ("ms", -1)),
-    ];
-    for (line, want) in lines {
-        equal(&rt, (line, asks(rt.alloc(), line)), (line, want));
+    for (line, name, number) in &OTHER_LINES {
+        equal(&rt, asks(rt.alloc(), *line), (*name, *number));
     }
+}
+
+#[test]
+fn laws_and_a_fault_of_memory(rt: HostRuntime) {
     equal(&rt, Refusal::from(WireFault::NotBase64), Refusal::BadKey);
     table_is_never_out_of_memory();
     flags_in_any_order();
@@ -170,7 +220,7 @@ fn refusal_of(line: &Line) -> (Option<Refusal>, u64) {
 
 /// How a line is refused, if it is, and how many bytes behind it are skipped or are its block.
 pub fn refused(alloc: Global, line: &[u8]) -> (Option<Refusal>, u64) {
-    refusal_of(&read(alloc, line))
+    refusal_of(&read(alloc, line).line)
 }
 
 /// Lines with the bytes that stand behind them and their faults, if they have one. Each key takes memory: those of at most 38

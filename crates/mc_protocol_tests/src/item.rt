@@ -5,23 +5,25 @@ use crate::asserting::{equal, holds};
 use mc_item::{Answer, Expiry, Item, Kind, NoMemory, Op, PackedExpiry, Value, expiry};
 use mc_wire::Key;
 use std::alloc::Global;
+use std::process::Abort;
 use std::test::Fail;
+
+static EXPTIMES: [(i64, u64, Expiry); 8] = [
+    (0, 1000, Expiry::Never),
+    (-1, 1000, Expiry::At(1000)),
+    (-1, 0, Expiry::At(0)),
+    (1, 1000, Expiry::At(1001)),
+    (2_592_000, 1000, Expiry::At(2_593_000)),
+    (2_592_001, 1000, Expiry::At(2_592_001)),
+    (2_592_001, 3_000_000, Expiry::At(2_592_001)),
+    (10, 1_099_511_627_776, Expiry::At(1_099_511_627_786)),
+];
 
 #[test]
 fn exptimes_mean_seconds(rt: HostRuntime) {
-    let rows = [
-        (0, 1000, Expiry::Never),
-        (-1, 1000, Expiry::At(1000)),
-        (-1, 0, Expiry::At(0)),
-        (1, 1000, Expiry::At(1001)),
-        (2_592_000, 1000, Expiry::At(2_593_000)),
-        (2_592_001, 1000, Expiry::At(2_592_001)),
-        (2_592_001, 3_000_000, Expiry::At(2_592_001)),
-        (10, 1_099_511_627_776, Expiry::At(1_099_511_627_786)),
-    ];
-    for (exptime, now, want) in rows {
-        holds(&rt, now <= 1_099_511_627_776);
-        equal(&rt, (exptime, expiry(exptime, now)), (exptime, want));
+    for (exptime, now, want) in &EXPTIMES {
+        holds(&rt, *now <= 1_099_511_627_776);
+        equal(&rt, (*exptime, expiry(*exptime, *now)), (*exptime, *want));
     }
 }
 
@@ -42,24 +44,32 @@ fn value_of(alloc: Global, text: &[u8]) -> Result<Value, NoMemory>
     Value::new(bytes)
 }
 
+/// The number that a value of this text holds.
+fn number_of(alloc: Global, text: &[u8]) -> Result<Option<u64>, NoMemory>
+    requires { length text.now ≤ 100 }
+{
+    Ok(value_of(alloc, text)?.number())
+}
+
+static NUMBERS: [(&[u8], Option<u64>); 10] = [
+    (b"7  ", Some(7)),
+    (b"00000000000000000009", Some(9)),
+    (b"000000000000000000009", None),
+    (b" 9", None),
+    (b"", None),
+    (b"18446744073709551615", Some(u64::MAX)),
+    (b"18446744073709551616", None),
+    (b"x", None),
+    (b"5 5", None),
+    (b"5\t", None),
+];
+
 #[test]
 fn values_hold_numbers(rt: HostRuntime) -> Result<(), Fail> {
-    let rows: [(&[u8], Option<u64>); 10] = [
-        (b"7  ", Some(7)),
-        (b"00000000000000000009", Some(9)),
-        (b"000000000000000000009", None),
-        (b" 9", None),
-        (b"", None),
-        (b"18446744073709551615", Some(u64::MAX)),
-        (b"18446744073709551616", None),
-        (b"x", None),
-        (b"5 5", None),
-        (b"5\t", None),
-    ];
-    for (text, want) in rows {
+    for (text, want) in &NUMBERS {
         holds(&rt, text.len() <= 100);
-        let value = value_of(rt.alloc(), text)?;
-        equal(&rt, (text, value.number()), (text, want));
+        let number = number_of(rt.alloc(), *text)?;
+        equal(&rt, (*text, number), (*text, *want));
     }
     Ok(())
 }
@@ -78,44 +88,55 @@ fn item_of(value: Value) -> Item {
     }
 }
 
-/// The value of an item and a block of such texts, joined.
-fn joined(alloc: Global, text: &[u8], block: &[u8], is_behind: bool) -> Result<Value, NoMemory>
-    requires text { length text.now ≤ 100 }
-    requires block { length block.now ≤ 100 }
-{
-    let (item, block) = (item_of(value_of(alloc, text)?), value_of(alloc, block)?);
+/// The value of an item and a block, joined, where both are short.
+fn short_joined(
+    alloc: Global,
+    item: &Item,
+    block: &Value,
+    is_behind: bool,
+) -> Result<Value, NoMemory> {
     if item.value.len() > 100 || block.len() > 100 {
         return Ok(Value::empty());
     }
-    item.joined(alloc, &block, is_behind)
+    item.joined(alloc, block, is_behind)
 }
 
-#[test]
-fn values_are_joined(rt: HostRuntime) -> Result<(), Fail> {
-    let alloc = rt.alloc();
-    let after = joined(alloc, b"bc", b"d", true)?;
-    equal(&rt, after.bytes(), b"bcd".as_slice());
-    let before = joined(alloc, b"bc", b"d", false)?.clone()?;
-    equal(
-        &rt,
-        (before.bytes(), before.is_empty()),
-        (b"dbc".as_slice(), false),
-    );
+/// An item of the value `bc` and the block `d`, joined.
+fn joined(alloc: Global, is_behind: bool) -> Result<Value, NoMemory> {
+    let item = item_of(value_of(alloc, b"bc")?);
+    let block = value_of(alloc, b"d")?;
+    short_joined(alloc, &item, &block, is_behind)
+}
+
+/// Asserts what they are, joined, and that a clone has the same bytes.
+fn are_joined(rt: &impl Abort, alloc: Global, is_behind: bool, want: &[u8]) -> Result<(), Fail> {
+    let value = joined(alloc, is_behind)?;
+    equal(rt, value.bytes(), want);
+    let clone = value.clone()?;
+    equal(rt, (clone.bytes(), clone.is_empty()), (want, false));
     Ok(())
 }
 
 #[test]
-fn items_have_numbers(rt: HostRuntime) -> Result<(), Fail> {
+fn values_are_joined(rt: HostRuntime) -> Result<(), Fail> {
+    are_joined(&rt, rt.alloc(), true, b"bcd")?;
+    are_joined(&rt, rt.alloc(), false, b"dbc")
+}
+
+#[test]
+fn an_item_has_a_number(rt: HostRuntime) -> Result<(), Fail> {
     let item = item_of(value_of(rt.alloc(), b"17")?);
     equal(
         &rt,
         (item.number(), item.is_dead(1000), item.is_dead(999)),
         (Some(17), true, false),
     );
-    let greatest = Value::of_number(rt.alloc(), u64::MAX)?;
-    equal(&rt, greatest.bytes(), b"18446744073709551615".as_slice());
-    let zero = Value::of_number(rt.alloc(), 0)?;
-    equal(&rt, zero.bytes(), b"0".as_slice());
+    Ok(())
+}
+
+#[test]
+fn letters_are_no_number(rt: HostRuntime) -> Result<(), Fail> {
+    equal(&rt, value_of(rt.alloc(), b"d")?.len(), 1);
     let letters = item_of(value_of(rt.alloc(), b"bc")?);
     equal(&rt, letters.number(), None);
     equal(
@@ -123,8 +144,29 @@ fn items_have_numbers(rt: HostRuntime) -> Result<(), Fail> {
         (letters.value.len(), letters.value.is_empty()),
         (2, false),
     );
-    equal(&rt, value_of(rt.alloc(), b"d")?.len(), 1);
     Ok(())
+}
+
+/// Asserts the text of a number.
+fn is_written(rt: &impl Abort, alloc: Global, number: u64, want: &[u8]) -> Result<(), Fail> {
+    let value = Value::of_number(alloc, number)?;
+    equal(rt, value.bytes(), want);
+    Ok(())
+}
+
+#[test]
+fn numbers_have_texts(rt: HostRuntime) -> Result<(), Fail> {
+    is_written(&rt, rt.alloc(), u64::MAX, b"18446744073709551615")?;
+    is_written(&rt, rt.alloc(), 0, b"0")
+}
+
+/// The kind of an operation, and how many bytes its key has.
+fn kind_and_key(op: Op) -> (Kind, Option<usize>) {
+    let length = match op.key() {
+        Some(key) => Some(key.bytes().len()),
+        None => None,
+    };
+    (op.kind(), length)
 }
 
 #[test]
@@ -133,13 +175,20 @@ fn pieces_have_kinds_and_keys(rt: HostRuntime) -> Result<(), Fail> {
         key: Key::from_word(rt.alloc(), b"a")?,
         exptime: 0,
     };
-    equal(&rt, touch.kind(), Kind::Touch);
-    equal(&rt, touch.key().map_or(0, |key| key.bytes().len()), 1);
+    equal(&rt, kind_and_key(touch), (Kind::Touch, Some(1)));
     let flush = Op::Flush { delay: 0 };
-    equal(&rt, flush.kind(), Kind::Flush);
-    holds(&rt, flush.key().is_none());
-    holds(&rt, Answer::Touched.is_lawful(Kind::Touch));
-    holds(&rt, !Answer::NoMemory.is_lawful(Kind::Touch));
-    holds(&rt, !Answer::Number(1).is_lawful(Kind::MetaCount));
+    equal(&rt, kind_and_key(flush), (Kind::Flush, None));
     Ok(())
+}
+
+/// Whether it answers an operation of this kind.
+fn answers(answer: Answer, kind: Kind) -> bool {
+    answer.is_lawful(kind)
+}
+
+#[test]
+fn answers_are_lawful_for_their_kinds(rt: HostRuntime) {
+    holds(&rt, answers(Answer::Touched, Kind::Touch));
+    holds(&rt, !answers(Answer::NoMemory, Kind::Touch));
+    holds(&rt, !answers(Answer::Number(1), Kind::MetaCount));
 }

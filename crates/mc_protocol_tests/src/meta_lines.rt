@@ -1,208 +1,195 @@
 //! Meta lines with values from outside: what each flag asks, which fault is told, and what is skipped.
 use crate::asserting::{equal, holds};
-use crate::command::refused;
-use mc_command::{
-    Command, Direction, Line, MetaMode, Opaque, Refusal, ReturnFlag, Returned, read_line,
-};
-use mc_wire::DEFAULT_VALUE_LIMIT;
+use crate::command::{is_a, read, refused};
+use mc_command::{Command, Direction, Line, MetaMode, Opaque, Refusal, ReturnFlag, Returned};
+use std::process::Abort;
 
-/// The command of a line, with or without a block.
-fn command_of(line: Line) -> Option<Command> {
-    match line {
-        Line::Whole(command) | Line::Data(command, _) => Some(command),
-        Line::Refused(_) | Line::Skip { .. } => None,
-    }
-}
-
-#[test]
-fn a_get_asks_what_its_flags_say(rt: HostRuntime) {
-    let line = b"mg key s c O123 t kxyz f h l q v T30 N-1 R60".as_slice();
-    let Some(Command::MetaGet(get)) = command_of(read_line(rt.alloc(), line, DEFAULT_VALUE_LIMIT))
-    else {
-        assert!(rt; false, "no mg");
-        return;
+/// Asserts that it is the `mg` of the next test.
+fn asks_with_its_flags(rt: &impl Abort, line: &Line) {
+    let Line::Whole(Command::MetaGet(get)) = line else {
+        panic!(rt; "no mg")
     };
-    let returned = [
-        ReturnFlag::Size,
-        ReturnFlag::Unique,
-        ReturnFlag::Opaque,
-        ReturnFlag::TimeLeft,
-        ReturnFlag::Key,
-        ReturnFlag::ClientFlags,
-        ReturnFlag::Fetched,
-        ReturnFlag::LastAccess,
-    ];
-    equal(&rt, get.key.bytes(), b"key".as_slice());
-    equal(&rt, get.flags.returned.flags(), returned.as_slice());
-    equal(&rt, get.flags.opaque.bytes(), b"123".as_slice());
+    equal(rt, get.key.bytes(), b"key".as_slice());
+    equal(rt, get.flags.returned.flags(), RETURNED.as_slice());
+    equal(rt, get.flags.opaque.bytes(), b"123".as_slice());
     equal(
-        &rt,
+        rt,
         (get.flags.base64, get.flags.quiet, get.value),
         (false, true, true),
     );
     equal(
-        &rt,
+        rt,
         (get.touch, get.vivify, get.recache),
         (Some(30), Some(-1), Some(60)),
     );
 }
 
+/// What that `mg` has given back, in the order of its flags.
+static RETURNED: [ReturnFlag; 8] = [
+    ReturnFlag::Size,
+    ReturnFlag::Unique,
+    ReturnFlag::Opaque,
+    ReturnFlag::TimeLeft,
+    ReturnFlag::Key,
+    ReturnFlag::ClientFlags,
+    ReturnFlag::Fetched,
+    ReturnFlag::LastAccess,
+];
+
 #[test]
-fn the_modes_of_ms_in_either_case(rt: HostRuntime) {
-    let modes = [
-        (b"ms YQ== 1 b ME".as_slice(), MetaMode::Add),
-        (b"ms YQ== 1 b Me".as_slice(), MetaMode::Add),
-        (b"ms YQ== 1 b MA".as_slice(), MetaMode::Append),
-        (b"ms YQ== 1 b Ma".as_slice(), MetaMode::Append),
-        (b"ms YQ== 1 b MP".as_slice(), MetaMode::Prepend),
-        (b"ms YQ== 1 b Mp".as_slice(), MetaMode::Prepend),
-        (b"ms YQ== 1 b MR".as_slice(), MetaMode::Replace),
-        (b"ms YQ== 1 b Mr".as_slice(), MetaMode::Replace),
-        (b"ms YQ== 1 b MS".as_slice(), MetaMode::Set),
-        (b"ms YQ== 1 b Ms".as_slice(), MetaMode::Set),
-        (b"ms YQ== 1 b".as_slice(), MetaMode::Set),
-    ];
-    for (line, mode) in modes {
-        let Some(Command::MetaSet(set)) = command_of(read_line(
-            rt.alloc(),
-            line,
-            DEFAULT_VALUE_LIMIT,
-        )) else {
-            assert!(rt; false, "no ms: {mode:?}");
-            return;
-        };
-        equal(&rt, set.mode, mode);
-        equal(&rt, set.key.bytes(), b"a".as_slice());
-        equal(
-            &rt,
-            (set.client_flags, set.exptime, set.compare),
-            (0, 0, None),
-        );
+fn a_get_asks_what_its_flags_say(rt: HostRuntime) {
+    let read = read(rt.alloc(), b"mg key s c O123 t kxyz f h l q v T30 N-1 R60");
+    asks_with_its_flags(&rt, &read.line);
+}
+
+/// Of an `ms` of the key `a`: its mode, and its client flags, exptime and unique.
+fn ms_of(line: &Line) -> Option<(MetaMode, (u32, i64, Option<u64>))> {
+    match line {
+        Line::Data(Command::MetaSet(set), _) if is_a(&set.key) => {
+            Some((set.mode, (set.client_flags, set.exptime, set.compare)))
+        }
+        _ => None,
     }
 }
 
+static MODES: [(&[u8], MetaMode); 11] = [
+    (b"ms YQ== 1 b ME", MetaMode::Add),
+    (b"ms YQ== 1 b Me", MetaMode::Add),
+    (b"ms YQ== 1 b MA", MetaMode::Append),
+    (b"ms YQ== 1 b Ma", MetaMode::Append),
+    (b"ms YQ== 1 b MP", MetaMode::Prepend),
+    (b"ms YQ== 1 b Mp", MetaMode::Prepend),
+    (b"ms YQ== 1 b MR", MetaMode::Replace),
+    (b"ms YQ== 1 b Mr", MetaMode::Replace),
+    (b"ms YQ== 1 b MS", MetaMode::Set),
+    (b"ms YQ== 1 b Ms", MetaMode::Set),
+    (b"ms YQ== 1 b", MetaMode::Set),
+];
+
+#[test]
+fn the_modes_of_ms_in_either_case(rt: HostRuntime) {
+    for (line, mode) in &MODES {
+        let asked = ms_of(&read(rt.alloc(), *line).line);
+        equal(&rt, asked, Some((*mode, (0, 0, None))));
+    }
+}
+
+/// Of an `ma`: its direction, amount and initial number, and its exptimes for an item that it makes and for one that it finds.
+fn ma_of(line: &Line) -> Option<((Direction, u64, u64), (Option<i64>, Option<i64>))> {
+    match line {
+        Line::Whole(Command::MetaArithmetic(asked)) => {
+            Some((
+                (asked.direction, asked.amount, asked.initial),
+                (asked.vivify, asked.exptime),
+            ))
+        }
+        _ => None,
+    }
+}
+
+static COUNTS: [(&[u8], (Direction, u64, u64), Option<i64>); 4] = [
+    (b"ma a", (Direction::Increment, 1, 0), None),
+    (b"ma a D7 J007 M- N0", (Direction::Decrement, 7, 7), Some(0)),
+    (
+        b"ma a Md J18446744073709551615",
+        (Direction::Decrement, 1, u64::MAX),
+        None,
+    ),
+    (b"ma a D0 M+ N-5", (Direction::Increment, 0, 0), Some(-5)),
+];
+
 #[test]
 fn the_defaults_of_ma_and_its_flags(rt: HostRuntime) {
-    let lines = [
-        (b"ma a".as_slice(), Direction::Increment, 1, 0, None),
-        (
-            b"ma a D7 J007 M- N0".as_slice(),
-            Direction::Decrement,
-            7,
-            7,
-            Some(0),
-        ),
-        (
-            b"ma a Md J18446744073709551615".as_slice(),
-            Direction::Decrement,
-            1,
-            u64::MAX,
-            None,
-        ),
-        (
-            b"ma a D0 M+ N-5".as_slice(),
-            Direction::Increment,
-            0,
-            0,
-            Some(-5),
-        ),
-    ];
-    for (line, direction, amount, initial, vivify) in lines {
-        let Some(Command::MetaArithmetic(asked)) = command_of(read_line(
-            rt.alloc(),
-            line,
-            DEFAULT_VALUE_LIMIT,
-        )) else {
-            assert!(rt; false, "no ma");
-            return;
-        };
-        equal(&rt, asked.direction, direction);
-        equal(&rt, (asked.amount, asked.initial), (amount, initial));
-        equal(&rt, (asked.vivify, asked.exptime), (vivify, None));
+    for (line, counted, vivify) in &COUNTS {
+        let asked = ma_of(&read(rt.alloc(), *line).line);
+        equal(&rt, asked, Some((*counted, (*vivify, None))));
+    }
+}
+
+/// Of an `md`: whether it marks and whether it is quiet, its unique and its exptime.
+fn md_of(line: &Line) -> Option<((bool, bool), (Option<u64>, Option<i64>))> {
+    match line {
+        Line::Whole(Command::MetaDelete(delete)) => {
+            Some((
+                (delete.invalidate, delete.flags.quiet),
+                (delete.compare, delete.exptime),
+            ))
+        }
+        _ => None,
     }
 }
 
 #[test]
 fn a_delete_compares_and_marks(rt: HostRuntime) {
-    let line = b"md a I T30 C18446744073709551615 q".as_slice();
-    let Some(Command::MetaDelete(delete)) = command_of(read_line(
-        rt.alloc(),
-        line,
-        DEFAULT_VALUE_LIMIT,
-    )) else {
-        assert!(rt; false, "no md");
-        return;
-    };
-    equal(&rt, (delete.invalidate, delete.flags.quiet), (true, true));
+    let read = read(rt.alloc(), b"md a I T30 C18446744073709551615 q");
     equal(
         &rt,
-        (delete.compare, delete.exptime),
-        (Some(u64::MAX), Some(30)),
+        md_of(&read.line),
+        Some(((true, true), (Some(u64::MAX), Some(30)))),
     );
 }
 
+static FAULTS: [(&[u8], Refusal); 15] = [
+    (b"mg", Refusal::BadFormat),
+    (b"ms a", Refusal::BadFormat),
+    (b"mg a\x7f ?", Refusal::InvalidFlag),
+    (b"mg a V", Refusal::InvalidFlag),
+    (b"md a x", Refusal::InvalidFlag),
+    (b"ma a I", Refusal::InvalidFlag),
+    (b"mg a\x7f v v", Refusal::DuplicateFlag),
+    (b"mg a vx v", Refusal::DuplicateFlag),
+    (
+        b"mg a O1 Oxxxxxxxxxxxxxxxxxxxxxxxxxxxxxxxxx",
+        Refusal::DuplicateFlag,
+    ),
+    (
+        b"mg a Oxxxxxxxxxxxxxxxxxxxxxxxxxxxxxxxxx T",
+        Refusal::OpaqueTooLong,
+    ),
+    (b"mg a T", Refusal::BadFormat),
+    (b"mg a\x7f", Refusal::BadKey),
+    (b"md YR== b", Refusal::BadKey),
+    (b"ms a\x7f x", Refusal::BadKey),
+    (b"ms a x", Refusal::BadFormat),
+];
+
 #[test]
 fn the_first_fault_is_told(rt: HostRuntime) {
-    let lines = [
-        (b"mg".as_slice(), Refusal::BadFormat),
-        (b"ms a".as_slice(), Refusal::BadFormat),
-        (b"mg a\x7f ?".as_slice(), Refusal::InvalidFlag),
-        (b"mg a V".as_slice(), Refusal::InvalidFlag),
-        (b"md a x".as_slice(), Refusal::InvalidFlag),
-        (b"ma a I".as_slice(), Refusal::InvalidFlag),
-        (b"mg a\x7f v v".as_slice(), Refusal::DuplicateFlag),
-        (b"mg a vx v".as_slice(), Refusal::DuplicateFlag),
-        (
-            b"mg a O1 Oxxxxxxxxxxxxxxxxxxxxxxxxxxxxxxxxx".as_slice(),
-            Refusal::DuplicateFlag,
-        ),
-        (
-            b"mg a Oxxxxxxxxxxxxxxxxxxxxxxxxxxxxxxxxx T".as_slice(),
-            Refusal::OpaqueTooLong,
-        ),
-        (b"mg a T".as_slice(), Refusal::BadFormat),
-        (b"mg a\x7f".as_slice(), Refusal::BadKey),
-        (b"md YR== b".as_slice(), Refusal::BadKey),
-        (b"ms a\x7f x".as_slice(), Refusal::BadKey),
-        (b"ms a x".as_slice(), Refusal::BadFormat),
-    ];
-    for (line, want) in lines {
-        equal(&rt, refused(rt.alloc(), line), (Some(want), 0));
+    for (line, want) in &FAULTS {
+        equal(&rt, refused(rt.alloc(), *line), (Some(*want), 0));
     }
 }
+
+static SKIPPED: [(&[u8], Refusal, u64); 6] = [
+    (b"ms a 2 v", Refusal::InvalidFlag, 4),
+    (b"ms YR== 2 b", Refusal::BadKey, 4),
+    (b"ms a 2 C1 Ma", Refusal::BadFormat, 4),
+    (b"ms a 1048577", Refusal::TooLarge, 1_048_579),
+    (b"ms a 1048577 ME C1", Refusal::BadFormat, 1_048_579),
+    (b"ms a 4294967295", Refusal::TooLarge, 4_294_967_297),
+];
 
 #[test]
 fn a_refused_ms_skips_its_block(rt: HostRuntime) {
-    let skipped = [
-        (b"ms a 2 v".as_slice(), Refusal::InvalidFlag, 4),
-        (b"ms YR== 2 b".as_slice(), Refusal::BadKey, 4),
-        (b"ms a 2 C1 Ma".as_slice(), Refusal::BadFormat, 4),
-        (b"ms a 1048577".as_slice(), Refusal::TooLarge, 1_048_579),
-        (
-            b"ms a 1048577 ME C1".as_slice(),
-            Refusal::BadFormat,
-            1_048_579,
-        ),
-        (
-            b"ms a 4294967295".as_slice(),
-            Refusal::TooLarge,
-            4_294_967_297,
-        ),
-    ];
-    for (line, want, count) in skipped {
-        equal(&rt, refused(rt.alloc(), line), (Some(want), count));
+    for (line, want, count) in &SKIPPED {
+        equal(&rt, refused(rt.alloc(), *line), (Some(*want), *count));
     }
 }
 
+static LONGEST: [u8; 32] = [120; 32];
+
 #[test]
-fn tokens_and_returned_flags_are_kept(rt: HostRuntime) {
-    let Some(longest) = Opaque::from_token(&[120; 32]) else {
-        assert!(rt; false, "32 bytes");
-        return;
+fn tokens_are_kept(rt: HostRuntime) {
+    let Some(longest) = Opaque::from_token(&LONGEST) else {
+        panic!(&rt; "32 bytes")
     };
-    equal(&rt, longest.bytes(), [120; 32].as_slice());
+    equal(&rt, longest.bytes(), LONGEST.as_slice());
     holds(&rt, Opaque::from_token(&[120; 33]).is_none());
     equal(&rt, Opaque::empty().bytes().len(), 0);
+}
+
+#[test]
+fn returned_flags_are_kept(rt: HostRuntime) {
     let mut returned = Returned::new();
     returned.push(ReturnFlag::Opaque);
     returned.push(ReturnFlag::Key);

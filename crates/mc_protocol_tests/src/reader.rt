@@ -49,6 +49,11 @@ fn what_came(next: &Next) -> Came {
     }
 }
 
+/// What comes next.
+fn next_of(alloc: Global, reader: &mut Reader) -> Came {
+    what_came(&reader.next(alloc))
+}
+
 /// Asserts that the whole piece is taken.
 fn feed_all(rt: &impl Abort, reader: &mut Reader, piece: &[u8]) {
     equal(rt, reader.feed(piece), piece.len());
@@ -57,14 +62,14 @@ fn feed_all(rt: &impl Abort, reader: &mut Reader, piece: &[u8]) {
 /// Asserts that these come next, one after another.
 fn gives(rt: &impl Abort, alloc: Global, reader: &mut Reader, wanted: &[Came]) {
     for one in wanted {
-        equal(rt, what_came(&reader.next(alloc)), *one);
+        equal(rt, next_of(alloc, reader), *one);
     }
 }
 
 /// Asserts that what comes up to the next `NeedMore` begins the wanted commands, and tells how many came.
 fn gives_some(rt: &impl Abort, alloc: Global, reader: &mut Reader, wanted: &[Came]) -> usize {
     for (count, one) in wanted.iter().enumerate() {
-        let given = what_came(&reader.next(alloc));
+        let given = next_of(alloc, reader);
         if given == Came::NeedMore {
             return count;
         }
@@ -208,7 +213,7 @@ fn a_refused_allocation_gives_up_one_command(rt: HostRuntime) {
         Came::Get,
         Came::MetaNoop,
     ] {
-        let given = what_came(&reader.next(alloc));
+        let given = next_of(alloc, &mut reader);
         if given == Came::Refused(Refusal::Memory) && wanted != Came::MetaNoop {
             refused = refused.saturating_add(1);
         } else {

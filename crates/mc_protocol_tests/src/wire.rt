@@ -1,5 +1,6 @@
 //! What no clause says: values from outside, success where memory is ample, and outlets that take a
 //! byte at a time and fail in the middle of a text.
+ghost use Rattle.std.specs.Prelude.{◌<◌};
 ghost use Rattle.mc_wire.specs.Outlet.{Listed, sight_out};
 
 use crate::asserting::{equal, holds};
@@ -7,6 +8,8 @@ use mc_wire::{
     BASE64_LIMIT, DECODED_KEY_LIMIT, KEY_LIMIT, Key, OutFault, Outlet, WireFault, base64_is_text,
     key_fault, number_i64, number_u64, put_all, put_parts, words,
 };
+use std::alloc::Global;
+use std::process::Abort;
 use std::test::Fail;
 
 /// Takes one byte a write, and fails once it was written to so often.
@@ -49,181 +52,199 @@ fn words_are_the_runs_between_spaces(rt: HostRuntime) {
     equal(&rt, walk.next(), None);
 }
 
+static UNSIGNED: [(&[u8], Result<u64, WireFault>); 6] = [
+    (b"00000000000000000042", Ok(42)),
+    (b"000000000000000000042", Err(WireFault::NotNumber)),
+    (b"18446744073709551615", Ok(u64::MAX)),
+    (b"18446744073709551616", Err(WireFault::NotNumber)),
+    (b"-1", Err(WireFault::NotNumber)),
+    (b"", Err(WireFault::NotNumber)),
+];
+
+static SIGNED: [(&[u8], Result<i64, WireFault>); 7] = [
+    (b"9223372036854775807", Ok(i64::MAX)),
+    (b"9223372036854775808", Err(WireFault::NotNumber)),
+    (b"-9223372036854775808", Ok(i64::MIN)),
+    (b"-9223372036854775809", Err(WireFault::NotNumber)),
+    (b"-00000000000000000001", Ok(-1)),
+    (b"--1", Err(WireFault::NotNumber)),
+    (b"-", Err(WireFault::NotNumber)),
+];
+
 #[test]
 fn numbers_end_where_64_bits_end(rt: HostRuntime) {
-    let unsigned = [
-        (b"00000000000000000042".as_slice(), Ok(42)),
-        (
-            b"000000000000000000042".as_slice(),
-            Err(WireFault::NotNumber),
-        ),
-        (b"18446744073709551615".as_slice(), Ok(u64::MAX)),
-        (
-            b"18446744073709551616".as_slice(),
-            Err(WireFault::NotNumber),
-        ),
-        (b"-1".as_slice(), Err(WireFault::NotNumber)),
-        (b"".as_slice(), Err(WireFault::NotNumber)),
-    ];
-    for (word, want) in unsigned {
-        equal(&rt, (word, number_u64(word)), (word, want));
+    for (word, want) in &UNSIGNED {
+        equal(&rt, (*word, number_u64(*word)), (*word, *want));
     }
-    let signed = [
-        (b"9223372036854775807".as_slice(), Ok(i64::MAX)),
-        (b"9223372036854775808".as_slice(), Err(WireFault::NotNumber)),
-        (b"-9223372036854775808".as_slice(), Ok(i64::MIN)),
-        (
-            b"-9223372036854775809".as_slice(),
-            Err(WireFault::NotNumber),
-        ),
-        (b"-00000000000000000001".as_slice(), Ok(-1)),
-        (b"--1".as_slice(), Err(WireFault::NotNumber)),
-        (b"-".as_slice(), Err(WireFault::NotNumber)),
-    ];
-    for (word, want) in signed {
-        equal(&rt, (word, number_i64(word)), (word, want));
+    for (word, want) in &SIGNED {
+        equal(&rt, (*word, number_i64(*word)), (*word, *want));
     }
 }
+
+/// The place of the key of this word among so many.
+fn place_of(alloc: Global, word: &[u8], places: usize) -> Result<usize, WireFault>
+    requires { 0 < places }
+{
+    Ok(Key::from_word(alloc, word)?.place(places))
+}
+
+/// Whether the keys of both words are the same.
+fn are_alike(alloc: Global, one: &[u8], other: &[u8]) -> Result<bool, WireFault> {
+    let one = Key::from_word(alloc, one)?;
+    Ok(Key::from_word(alloc, other)? == one)
+}
+
+/// Whether the key of this word and a clone of it have its bytes, and are the same.
+fn keeps_its_bytes(alloc: Global, word: &[u8]) -> Result<bool, WireFault> {
+    let key = Key::from_word(alloc, word)?;
+    let clone = key.clone()?;
+    Ok(key.bytes() == word && clone.bytes() == word && clone == key)
+}
+
+static PLACES: [(&[u8], usize); 5] = [(b"a", 0), (b"b", 1), (b"c", 0), (b"d", 1), (b"e", 0)];
 
 /// The places are those of the published hashes E40C292C, E70C2DE5, E60C2C52, E10C2473 and E00C22E0.
 #[test]
 fn keys_have_their_places(rt: HostRuntime) -> Result<(), Fail> {
-    for (word, shard) in [(b"a", 0), (b"b", 1), (b"c", 0), (b"d", 1), (b"e", 0)] {
-        let key = Key::from_word(rt.alloc(), word)?;
-        equal(&rt, (word, key.place(2)), (word, shard));
+    for (word, shard) in &PLACES {
+        let place = place_of(rt.alloc(), *word, 2)?;
+        equal(&rt, (*word, place), (*word, *shard));
     }
-    let key = Key::from_word(rt.alloc(), b"foobar")?;
-    equal(&rt, key.place(1 << 32), 0xBF9C_F968);
-    equal(&rt, key.bytes(), b"foobar".as_slice());
-    holds(&rt, key.clone()? == key);
-    holds(&rt, key != Key::from_word(rt.alloc(), b"fooba")?);
+    let place = place_of(rt.alloc(), b"foobar", 1 << 32)?;
+    equal(&rt, place, 0xBF9C_F968);
+    holds(&rt, keeps_its_bytes(rt.alloc(), b"foobar")?);
+    holds(&rt, !are_alike(rt.alloc(), b"fooba", b"foobar")?);
     Ok(())
 }
+
+static WORDS: [&[u8]; 5] = [
+    b"k",
+    b"0123456789012345678901234567890123456",
+    b"01234567890123456789012345678901234567",
+    b"012345678901234567890123456789012345678",
+    b"0123456789012345678901234567890123456789",
+];
 
 /// A key of at most 38 bytes lies in the `Key` itself, a longer one in a block of memory: nothing of that is seen.
 #[test]
 fn keys_are_alike_wherever_they_lie(rt: HostRuntime) -> Result<(), Fail> {
-    let words = [
-        b"k".as_slice(),
-        b"0123456789012345678901234567890123456",
-        b"01234567890123456789012345678901234567",
-        b"012345678901234567890123456789012345678",
-        b"0123456789012345678901234567890123456789",
-    ];
-    for word in words {
-        let key = Key::from_word(rt.alloc(), word)?;
-        equal(&rt, key.bytes(), word);
-        equal(&rt, key.clone()?.bytes(), word);
-        for other in words {
-            let alike = Key::from_word(rt.alloc(), other)? == key;
-            equal(&rt, (word, alike), (word, word == other));
+    for word in &WORDS {
+        let kept = keeps_its_bytes(rt.alloc(), *word)?;
+        equal(&rt, (*word, kept), (*word, true));
+        for other in &WORDS {
+            let alike = are_alike(rt.alloc(), *word, *other)?;
+            equal(&rt, (*word, alike), (*word, *word == *other));
         }
     }
+    Ok(())
+}
+
+static VECTORS: [(&[u8], &[u8]); 7] = [
+    (b"Zg==", b"f"),
+    (b"Zm8=", b"fo"),
+    (b"Zm9v", b"foo"),
+    (b"Zm9vYg==", b"foob"),
+    (b"Zm9vYmE=", b"fooba"),
+    (b"Zm9vYmFy", b"foobar"),
+    (b"AAEg/w==", b"\x00\x01\x20\xff"),
+];
+
+/// Asserts that the key of a word in base64 has such bytes, and is shown as it was read.
+fn is_base64(rt: &impl Abort, alloc: Global, word: &[u8], bytes: &[u8]) -> Result<(), Fail> {
+    let key = Key::from_base64(alloc, word)?;
+    equal(rt, (word, key.bytes()), (word, bytes));
+    let mut room = [0; BASE64_LIMIT];
+    equal(rt, (bytes, key.to_base64(&mut room)), (bytes, word));
     Ok(())
 }
 
 /// The texts are those of RFC 4648, section 10.
 #[test]
 fn base64_keys_are_shown_as_they_were_read(rt: HostRuntime) -> Result<(), Fail> {
-    let vectors = [
-        (b"Zg==".as_slice(), b"f".as_slice()),
-        (b"Zm8=".as_slice(), b"fo".as_slice()),
-        (b"Zm9v".as_slice(), b"foo".as_slice()),
-        (b"Zm9vYg==".as_slice(), b"foob".as_slice()),
-        (b"Zm9vYmE=".as_slice(), b"fooba".as_slice()),
-        (b"Zm9vYmFy".as_slice(), b"foobar".as_slice()),
-        (b"AAEg/w==".as_slice(), b"\x00\x01\x20\xff".as_slice()),
-    ];
-    for (word, bytes) in vectors {
-        let key = Key::from_base64(rt.alloc(), word)?;
-        equal(&rt, (word, key.bytes()), (word, bytes));
-        equal(
-            &rt,
-            (bytes, key.to_base64(&mut [0; BASE64_LIMIT])),
-            (bytes, word),
-        );
+    for (word, bytes) in &VECTORS {
+        is_base64(&rt, rt.alloc(), *word, *bytes)?;
     }
+    Ok(())
+}
+
+#[test]
+fn the_longest_keys_in_base64(rt: HostRuntime) -> Result<(), Fail> {
     let longest = Key::from_base64(rt.alloc(), &[b'A'; 248])?;
     base64_is_text();
     equal(&rt, longest.bytes(), [0; DECODED_KEY_LIMIT].as_slice());
     let long = Key::from_word(rt.alloc(), &[b'k'; KEY_LIMIT])?;
-    equal(
-        &rt,
-        long.to_base64(&mut [0; BASE64_LIMIT]).len(),
-        BASE64_LIMIT,
-    );
+    let mut room = [0; BASE64_LIMIT];
+    equal(&rt, long.to_base64(&mut room).len(), BASE64_LIMIT);
     Ok(())
+}
+
+static FAULTS: [(&[u8], Option<WireFault>, WireFault); 7] = [
+    (b"", Some(WireFault::NoKey), WireFault::NoKey),
+    (b"a b", Some(WireFault::KeyByte), WireFault::NotBase64),
+    (b"\x7f", Some(WireFault::KeyByte), WireFault::NotBase64),
+    (b"YR==", None, WireFault::NotBase64),
+    (b"YQ=", None, WireFault::NotBase64),
+    (b"-_==", None, WireFault::NotBase64),
+    (
+        &[b'A'; 251],
+        Some(WireFault::KeyTooLong),
+        WireFault::KeyTooLong,
+    ),
+];
+
+/// The fault of what was read, if it has one.
+fn fault_of(key: Result<Key, WireFault>) -> Option<WireFault> {
+    key.err()
 }
 
 /// Also where an allocation is refused: such a word asks for none.
 #[test]
 fn faults_of_words_take_no_memory(rt: HostRuntime) {
-    let words = [
-        (
-            b"".as_slice(),
-            Some(WireFault::NoKey),
-            Some(WireFault::NoKey),
-        ),
-        (
-            b"a b".as_slice(),
-            Some(WireFault::KeyByte),
-            Some(WireFault::NotBase64),
-        ),
-        (
-            b"\x7f".as_slice(),
-            Some(WireFault::KeyByte),
-            Some(WireFault::NotBase64),
-        ),
-        (b"YR==".as_slice(), None, Some(WireFault::NotBase64)),
-        (b"YQ=".as_slice(), None, Some(WireFault::NotBase64)),
-        (b"-_==".as_slice(), None, Some(WireFault::NotBase64)),
-        (
-            [b'A'; 251].as_slice(),
-            Some(WireFault::KeyTooLong),
-            Some(WireFault::KeyTooLong),
-        ),
-    ];
-    for (word, plain, base64) in words {
-        equal(&rt, (word, key_fault(word)), (word, plain));
+    for (word, plain, base64) in &FAULTS {
+        equal(&rt, (*word, key_fault(*word)), (*word, *plain));
         if plain.is_some() {
-            equal(
-                &rt,
-                (word, Key::from_word(rt.alloc(), word).err()),
-                (word, plain),
-            );
+            let fault = fault_of(Key::from_word(rt.alloc(), *word));
+            equal(&rt, (*word, fault), (*word, *plain));
         }
-        equal(
-            &rt,
-            (word, Key::from_base64(rt.alloc(), word).err()),
-            (word, base64),
-        );
+        let fault = fault_of(Key::from_base64(rt.alloc(), *word));
+        equal(&rt, (*word, fault), (*word, Some(*base64)));
+    }
+}
+
+/// Whether a key was read, and is cloned.
+fn is_cloned(key: Result<Key, WireFault>) -> bool {
+    match &key {
+        Ok(key) => key.clone().is_ok(),
+        Err(_) => false,
     }
 }
 
 /// Also where an allocation is refused: a key of at most 38 bytes asks for none.
 #[test]
 fn short_keys_take_no_memory(rt: HostRuntime) {
-    let key = Key::from_word(rt.alloc(), &[b'k'; 38]);
-    holds(&rt, key.is_ok_and(|key| key.clone().is_ok()));
-    holds(&rt, Key::from_base64(rt.alloc(), b"YQ==").is_ok());
+    holds(&rt, is_cloned(Key::from_word(rt.alloc(), &[b'k'; 38])));
+    holds(
+        &rt,
+        fault_of(Key::from_base64(rt.alloc(), b"YQ==")).is_none(),
+    );
+}
+
+static LONG_KEY: [u8; 39] = [b'a'; 39];
+
+/// Asserts that it is the long key, or that its memory was refused.
+fn is_long_key(rt: &impl Abort, key: Result<Key, WireFault>) {
+    match &key {
+        Ok(key) => equal(rt, key.bytes(), LONG_KEY.as_slice()),
+        Err(fault) => equal(rt, *fault, WireFault::Memory),
+    }
 }
 
 /// With an allocation refused the answer is `Memory`, and else the key.
 #[test]
 fn memory_is_the_only_other_fault(rt: HostRuntime) {
-    let long = [b'a'; 39];
-    for key in [
-        Key::from_word(rt.alloc(), &long),
-        Key::from_base64(
-            rt.alloc(),
-            b"YWFhYWFhYWFhYWFhYWFhYWFhYWFhYWFhYWFhYWFhYWFhYWFhYWFh",
-        ),
-    ] {
-        match key {
-            Ok(key) => equal(&rt, key.bytes(), long.as_slice()),
-            Err(fault) => equal(&rt, fault, WireFault::Memory),
-        }
-    }
+    is_long_key(&rt, Key::from_word(rt.alloc(), &LONG_KEY));
+    let word = b"YWFhYWFhYWFhYWFhYWFhYWFhYWFhYWFhYWFhYWFhYWFhYWFhYWFh";
+    is_long_key(&rt, Key::from_base64(rt.alloc(), word));
 }
 
 #[test]

@@ -2,7 +2,7 @@
 use mc_command::{Direction, MetaMode, StoreMode};
 use mc_item::{MetaCount, MetaDelete, MetaGet, MetaStore, NoMemory, Op, Value, Vivify};
 use mc_wire::{GREATEST_VALUE_LIMIT, Key, WireFault};
-use std::alloc::{AllocError, Global};
+use std::alloc::Global;
 
 /// What is asked of the item under a key.
 #[derive(Clone, Copy)]
@@ -184,7 +184,9 @@ fn reading(key: Key, ask: Ask) -> Op {
 /// The operation, with its own key and value.
 pub fn op_of(alloc: Global, word: &str, ask: Ask) -> Result<Op, WireFault> {
     let key = Key::from_word(alloc, word.as_bytes())?;
-    let value = value_of(alloc, ask).map_err(|_| AllocError)?;
+    let Ok(value) = value_of(alloc, ask) else {
+        return Err(WireFault::Memory);
+    };
     match storing(key, value, ask) {
         Ok(op) => Ok(op),
         Err(key) => Ok(reading(key, ask)),
