@@ -4,10 +4,10 @@ ghost use Rattle.std.specs.Prelude.{◌<◌};
 
 use crate::asserting::{equal, holds};
 use crate::outlet::{Memory, outlet, outlet_over};
+use crate::stranger::stranger_of;
 use mc_command::Rules;
 use mc_conn::{Conn, Taken};
 use mc_item::{Answer, Kind};
-use mc_join::Stranger;
 use mc_reply::Ticket;
 use mc_ring::Reply;
 use mc_split::Piece;
@@ -44,7 +44,7 @@ fn takes(rt: &impl Abort, alloc: Global, conn: &mut Conn, want: Taken) {
 
 /// Asserts that a reply is taken in.
 fn accepts(rt: &impl Abort, conn: &mut Conn, reply: Reply) {
-    holds(rt, conn.accept(reply).is_ok());
+    equal(rt, stranger_of(conn.accept(reply)), None);
 }
 
 /// Asserts that the replies of `count` commands go out.
@@ -86,13 +86,24 @@ fn take_all(alloc: Global, conn: &mut Conn) -> Taken {
     Taken::Full
 }
 
+/// Answers a piece that came, with its shard, and tells whether one did.
+fn answers(rt: &impl Abort, conn: &mut Conn, piece: Option<(usize, Piece)>) -> bool {
+    match &piece {
+        Some((_, piece)) => {
+            accepts(rt, conn, answer(rt, piece));
+            true
+        }
+        None => false,
+    }
+}
+
 /// Answers all pieces.
 fn answer_all(rt: &impl Abort, conn: &mut Conn) {
     for _ in 0..CONVERSATION.len() {
-        let Some((_, piece)) = conn.next_piece() else {
+        let piece = conn.next_piece();
+        if !answers(rt, conn, piece) {
             return;
-        };
-        accepts(rt, conn, answer(rt, &piece));
+        }
     }
 }
 
@@ -311,12 +322,8 @@ fn is_stranger(
     kind: Kind,
     answer: Answer,
 ) {
-    let Err(Stranger { reply }) = conn.accept(reply(rt, ticket, part, kind, answer)) else {
-        return rt.abort();
-    };
-    equal(rt, reply.ticket, Ticket(ticket));
-    equal(rt, reply.part, part);
-    equal(rt, reply.kind, kind);
+    let stranger = stranger_of(conn.accept(reply(rt, ticket, part, kind, answer)));
+    equal(rt, stranger, Some((Ticket(ticket), part, kind)));
 }
 
 #[test]

@@ -5,9 +5,10 @@ ghost use Rattle.mc_join.specs.Held.{opened_count};
 
 use crate::asserting::{equal, holds};
 use crate::outlet::{Memory, outlet};
+use crate::stranger::stranger_of;
 use mc_command::{Command, Keys, Retrieval};
 use mc_item::{Answer, Kind, Value};
-use mc_join::{Full, Joiner, Stranger};
+use mc_join::Joiner;
 use mc_reply::{Form, Ticket};
 use mc_ring::Reply;
 use mc_split::split;
@@ -87,11 +88,68 @@ fn open(rt: &impl Abort, joiner: &mut Joiner, form: Form)
     holds(rt, joiner.open(form).is_ok());
 }
 
+/// Opens a get of these keys, for whose ticket there is room.
+fn open_get(
+    rt: &impl Abort,
+    alloc: Global,
+    joiner: &mut Joiner,
+    ticket: u64,
+    keys: &[&[u8]],
+) -> Result<(), Fail>
+    requires { ticket ≡ opened_count joiner.old }
+    ensures { OnOk result (opened_count joiner.new ≡ opened_count joiner.old + 1) }
+{
+    open(rt, joiner, get(alloc, Ticket(ticket), keys)?);
+    Ok(())
+}
+
+/// Opens an `mn`, for whose ticket there is room.
+fn open_noop(rt: &impl Abort, alloc: Global, joiner: &mut Joiner, ticket: u64) -> Result<(), Fail>
+    requires { ticket ≡ opened_count joiner.old }
+    ensures { OnOk result (opened_count joiner.new ≡ opened_count joiner.old + 1) }
+{
+    open(rt, joiner, noop(alloc, Ticket(ticket))?);
+    Ok(())
+}
+
+/// Asserts that there is no room for an `mn`.
+fn is_full(rt: &impl Abort, alloc: Global, joiner: &mut Joiner, ticket: u64) -> Result<(), Fail>
+    requires { ticket ≡ opened_count joiner.old }
+    ensures { opened_count joiner.new ≡ opened_count joiner.old }
+{
+    holds(rt, joiner.open(noop(alloc, Ticket(ticket))?).is_err());
+    Ok(())
+}
+
 /// Whether the reply was taken in.
 fn takes(joiner: &mut Joiner, reply: Reply) -> bool
     ensures { opened_count joiner.new ≡ opened_count joiner.old }
 {
-    joiner.accept(reply).is_ok()
+    stranger_of(joiner.accept(reply)).is_none()
+}
+
+/// Asserts that a miss is taken in.
+fn misses(rt: &impl Abort, joiner: &mut Joiner, ticket: u64, part: usize)
+    ensures { opened_count joiner.new ≡ opened_count joiner.old }
+{
+    let miss = reply(rt, ticket, part, Kind::Fetch, Answer::Miss);
+    holds(rt, takes(joiner, miss));
+}
+
+/// Asserts that a hit is taken in.
+fn hits(
+    rt: &impl Abort,
+    alloc: Global,
+    joiner: &mut Joiner,
+    ticket: u64,
+    part: usize,
+    value: &[u8],
+) -> Result<(), Fail>
+    ensures { opened_count joiner.new ≡ opened_count joiner.old }
+{
+    let found = reply(rt, ticket, part, Kind::Fetch, hit(alloc, value)?);
+    holds(rt, takes(joiner, found));
+    Ok(())
 }
 
 /// Asserts what a hand answers and writes, and that `ready` told its length.
@@ -109,15 +167,13 @@ fn hands(rt: &impl Abort, alloc: Global, joiner: &mut Joiner, commands: u64, tex
 fn a_get_waits_for_its_first_key(rt: HostRuntime) -> Result<(), Fail> {
     let alloc = rt.alloc();
     let mut joiner = Joiner::new(alloc, 1)?;
-    open(&rt, &mut joiner, get(alloc, Ticket(0), &[b"a", b"b"])?);
+    open_get(&rt, alloc, &mut joiner, 0, &[b"a", b"b"])?;
     equal(&rt, joiner.waiting(), 1);
-    let miss = reply(&rt, 0, 1, Kind::Fetch, Answer::Miss);
-    holds(&rt, takes(&mut joiner, miss));
+    misses(&rt, &mut joiner, 0, 1);
     hands(&rt, alloc, &mut joiner, 0, b"");
     let again = reply(&rt, 0, 1, Kind::Fetch, Answer::Miss);
     holds(&rt, !takes(&mut joiner, again));
-    let found = reply(&rt, 0, 0, Kind::Fetch, hit(alloc, b"x")?);
-    holds(&rt, takes(&mut joiner, found));
+    hits(&rt, alloc, &mut joiner, 0, 0, b"x")?;
     equal(&rt, joiner.ready(), 21);
     hands(&rt, alloc, &mut joiner, 1, b"VALUE a 0 1\r\nx\r\nEND\r\n");
     equal(&rt, joiner.waiting(), 0);
@@ -132,7 +188,12 @@ fn names_each(code: usize, count: usize) -> bool {
         seen[rest % 4] = true;
         rest /= 4;
     }
-    seen.iter().take(count).all(|part| *part)
+    for is_seen in seen.iter().take(count) {
+        if !*is_seen {
+            return false;
+        }
+    }
+    true
 }
 
 /// Accepts the answers of a get in the order that the code names; a part that comes again, or isn't there, is not taken
@@ -179,11 +240,7 @@ fn answers_come_in_every_order(rt: HostRuntime) -> Result<(), Fail> {
     for count in 1..5 {
         for code in 0..256 {
             let mut joiner = Joiner::new(alloc, 1)?;
-            open(
-                &rt,
-                &mut joiner,
-                get(alloc, Ticket(0), keys.split_at(count).0)?,
-            );
+            open_get(&rt, alloc, &mut joiner, 0, keys.split_at(count).0)?;
             accept_in_order(&rt, alloc, &mut joiner, code, count)?;
             if names_each(code, count) {
                 hands(&rt, alloc, &mut joiner, 1, texts[count - 1]);
@@ -199,17 +256,10 @@ fn answers_come_in_every_order(rt: HostRuntime) -> Result<(), Fail> {
 fn a_repeated_key_is_shown_each_time(rt: HostRuntime) -> Result<(), Fail> {
     let alloc = rt.alloc();
     let mut joiner = Joiner::new(alloc, 1)?;
-    open(
-        &rt,
-        &mut joiner,
-        get(alloc, Ticket(0), &[b"a", b"b", b"a"])?,
-    );
-    let last = reply(&rt, 0, 2, Kind::Fetch, hit(alloc, b"2")?);
-    holds(&rt, takes(&mut joiner, last));
-    let first = reply(&rt, 0, 0, Kind::Fetch, hit(alloc, b"1")?);
-    holds(&rt, takes(&mut joiner, first));
-    let middle = reply(&rt, 0, 1, Kind::Fetch, Answer::Miss);
-    holds(&rt, takes(&mut joiner, middle));
+    open_get(&rt, alloc, &mut joiner, 0, &[b"a", b"b", b"a"])?;
+    hits(&rt, alloc, &mut joiner, 0, 2, b"2")?;
+    hits(&rt, alloc, &mut joiner, 0, 0, b"1")?;
+    misses(&rt, &mut joiner, 0, 1);
     hands(
         &rt,
         alloc,
@@ -231,14 +281,8 @@ fn is_stranger(
 )
     ensures { opened_count joiner.new ≡ opened_count joiner.old }
 {
-    match joiner.accept(reply(rt, ticket, part, kind, answer)) {
-        Ok(()) => panic!(rt; "taken in"),
-        Err(Stranger { reply }) => {
-            equal(rt, reply.ticket, Ticket(ticket));
-            equal(rt, reply.part, part);
-            equal(rt, reply.kind, kind);
-        }
-    }
+    let stranger = stranger_of(joiner.accept(reply(rt, ticket, part, kind, answer)));
+    equal(rt, stranger, Some((Ticket(ticket), part, kind)));
 }
 
 #[test]
@@ -247,18 +291,16 @@ fn strangers_are_handed_back(rt: HostRuntime) -> Result<(), Fail> {
     let mut joiner = Joiner::new(alloc, 2)?;
     // No ticket is open.
     is_stranger(&rt, &mut joiner, 0, 0, Kind::Fetch, Answer::Miss);
-    open(&rt, &mut joiner, get(alloc, Ticket(0), &[b"a", b"b"])?);
+    open_get(&rt, alloc, &mut joiner, 0, &[b"a", b"b"])?;
     // A part that isn't there, a ticket that isn't open yet, another kind.
     is_stranger(&rt, &mut joiner, 0, 2, Kind::Fetch, Answer::Miss);
     is_stranger(&rt, &mut joiner, 1, 0, Kind::Fetch, Answer::Miss);
     is_stranger(&rt, &mut joiner, u64::MAX, 0, Kind::Fetch, Answer::Miss);
     is_stranger(&rt, &mut joiner, 0, 0, Kind::MetaGet, Answer::Miss);
-    let first = reply(&rt, 0, 0, Kind::Fetch, Answer::Miss);
-    holds(&rt, takes(&mut joiner, first));
+    misses(&rt, &mut joiner, 0, 0);
     // A part that is answered, whatever the second answer says.
     is_stranger(&rt, &mut joiner, 0, 0, Kind::Fetch, hit(alloc, b"x")?);
-    let second = reply(&rt, 0, 1, Kind::Fetch, Answer::Miss);
-    holds(&rt, takes(&mut joiner, second));
+    misses(&rt, &mut joiner, 0, 1);
     hands(&rt, alloc, &mut joiner, 1, b"END\r\n");
     // A ticket that was closed.
     is_stranger(&rt, &mut joiner, 0, 0, Kind::Fetch, Answer::Miss);
@@ -272,11 +314,10 @@ fn a_failed_outlet_is_written_to_no_more(rt: HostRuntime) -> Result<(), Fail> {
     let text = b"MN\r\nEND\r\n";
     for left in 0..9 {
         let mut joiner = Joiner::new(alloc, 4)?;
-        open(&rt, &mut joiner, noop(alloc, Ticket(0))?);
-        open(&rt, &mut joiner, get(alloc, Ticket(1), &[b"a"])?);
-        open(&rt, &mut joiner, get(alloc, Ticket(2), &[b"b"])?);
-        let miss = reply(&rt, 1, 0, Kind::Fetch, Answer::Miss);
-        holds(&rt, takes(&mut joiner, miss));
+        open_noop(&rt, alloc, &mut joiner, 0)?;
+        open_get(&rt, alloc, &mut joiner, 1, &[b"a"])?;
+        open_get(&rt, alloc, &mut joiner, 2, &[b"b"])?;
+        misses(&rt, &mut joiner, 1, 0);
         let mut out = outlet(alloc, left);
         equal(&rt, joiner.ready(), 9);
         holds(&rt, joiner.hand(&mut out).is_err());
@@ -288,13 +329,12 @@ fn a_failed_outlet_is_written_to_no_more(rt: HostRuntime) -> Result<(), Fail> {
         equal(&rt, out.taken.len(), left);
         equal(&rt, out.writes, writes);
         // Answers are still taken in.
-        let late = reply(&rt, 2, 0, Kind::Fetch, Answer::Miss);
-        holds(&rt, takes(&mut joiner, late));
+        misses(&rt, &mut joiner, 2, 0);
         equal(&rt, joiner.hand(&mut out), Ok(0));
         equal(&rt, joiner.waiting(), 3);
         joiner.reset();
         equal(&rt, joiner.waiting(), 0);
-        open(&rt, &mut joiner, noop(alloc, Ticket(0))?);
+        open_noop(&rt, alloc, &mut joiner, 0)?;
         hands(&rt, alloc, &mut joiner, 1, b"MN\r\n");
     }
     Ok(())
@@ -313,7 +353,7 @@ fn open_noops(
     ensures { OnOk result (opened_count joiner.new ≡ to) }
 {
     for ticket in from..to {
-        open(rt, joiner, noop(alloc, Ticket(ticket))?);
+        open_noop(rt, alloc, joiner, ticket)?;
     }
     Ok(())
 }
@@ -336,11 +376,10 @@ fn a_large_value_goes_out_by_itself(rt: HostRuntime) -> Result<(), Fail> {
     let alloc = rt.alloc();
     let value = vec![in alloc; 7; 16_384]?;
     let mut joiner = Joiner::new(alloc, 4)?;
-    open(&rt, &mut joiner, noop(alloc, Ticket(0))?);
-    open(&rt, &mut joiner, get(alloc, Ticket(1), &[b"a"])?);
-    open(&rt, &mut joiner, noop(alloc, Ticket(2))?);
-    let found = reply(&rt, 1, 0, Kind::Fetch, hit(alloc, value.as_slice())?);
-    holds(&rt, takes(&mut joiner, found));
+    open_noop(&rt, alloc, &mut joiner, 0)?;
+    open_get(&rt, alloc, &mut joiner, 1, &[b"a"])?;
+    open_noop(&rt, alloc, &mut joiner, 2)?;
+    hits(&rt, alloc, &mut joiner, 1, 0, value.as_slice())?;
     let mut out = outlet(alloc, usize::MAX);
     let text = b"MN\r\nVALUE a 0 16384\r\n";
     let len = text.len() + 16_384 + b"\r\nEND\r\nMN\r\n".len();
@@ -364,8 +403,7 @@ fn a_reply_above_the_room_goes_out_in_few_writes(rt: HostRuntime) -> Result<(), 
     let mut joiner = Joiner::new(alloc, 1)?;
     open(&rt, &mut joiner, get_often(alloc, Ticket(0), 100)?);
     for part in 0..100 {
-        let found = reply(&rt, 0, part, Kind::Fetch, hit(alloc, value.as_slice())?);
-        holds(&rt, takes(&mut joiner, found));
+        hits(&rt, alloc, &mut joiner, 0, part, value.as_slice())?;
     }
     let item = b"VALUE k 0 1024\r\n".len() + 1_024 + b"\r\n".len();
     let len = 100 * item + b"END\r\n".len();
@@ -403,11 +441,10 @@ impl Outlet for Drip {
 fn above_the_room(rt: &impl Abort, alloc: Global) -> Result<Joiner, Fail> {
     let value = vec![in alloc; 7; 16_360]?;
     let mut joiner = Joiner::new(alloc, 4)?;
-    open(rt, &mut joiner, noop(alloc, Ticket(0))?);
-    open(rt, &mut joiner, get(alloc, Ticket(1), &[b"a"])?);
-    open(rt, &mut joiner, noop(alloc, Ticket(2))?);
-    let found = reply(rt, 1, 0, Kind::Fetch, hit(alloc, value.as_slice())?);
-    holds(rt, takes(&mut joiner, found));
+    open_noop(rt, alloc, &mut joiner, 0)?;
+    open_get(rt, alloc, &mut joiner, 1, &[b"a"])?;
+    open_noop(rt, alloc, &mut joiner, 2)?;
+    hits(rt, alloc, &mut joiner, 1, 0, value.as_slice())?;
     Ok(joiner)
 }
 
@@ -517,13 +554,12 @@ fn a_hit_copies_no_value(rt: HostRuntime) {
 fn a_window_of_one_is_full_with_one(rt: HostRuntime) -> Result<(), Fail> {
     let alloc = rt.alloc();
     let mut joiner = Joiner::new(alloc, 1)?;
-    open(&rt, &mut joiner, noop(alloc, Ticket(0))?);
-    assert_eq!(rt; joiner.open(noop(alloc, Ticket(1))?), Err(Full));
+    open_noop(&rt, alloc, &mut joiner, 0)?;
+    is_full(&rt, alloc, &mut joiner, 1)?;
     hands(&rt, alloc, &mut joiner, 1, b"MN\r\n");
-    open(&rt, &mut joiner, get(alloc, Ticket(1), &[b"a"])?);
+    open_get(&rt, alloc, &mut joiner, 1, &[b"a"])?;
     hands(&rt, alloc, &mut joiner, 0, b"");
-    let miss = reply(&rt, 1, 0, Kind::Fetch, Answer::Miss);
-    holds(&rt, takes(&mut joiner, miss));
+    misses(&rt, &mut joiner, 1, 0);
     hands(&rt, alloc, &mut joiner, 1, b"END\r\n");
     Ok(())
 }
@@ -532,17 +568,15 @@ fn a_window_of_one_is_full_with_one(rt: HostRuntime) -> Result<(), Fail> {
 fn a_window_of_four_goes_round(rt: HostRuntime) -> Result<(), Fail> {
     let alloc = rt.alloc();
     let mut joiner = Joiner::new(alloc, 4)?;
-    open(&rt, &mut joiner, get(alloc, Ticket(0), &[b"a"])?);
-    open(&rt, &mut joiner, get(alloc, Ticket(1), &[b"b"])?);
-    open(&rt, &mut joiner, noop(alloc, Ticket(2))?);
-    open(&rt, &mut joiner, get(alloc, Ticket(3), &[b"c"])?);
-    assert_eq!(rt; joiner.open(noop(alloc, Ticket(4))?), Err(Full));
+    open_get(&rt, alloc, &mut joiner, 0, &[b"a"])?;
+    open_get(&rt, alloc, &mut joiner, 1, &[b"b"])?;
+    open_noop(&rt, alloc, &mut joiner, 2)?;
+    open_get(&rt, alloc, &mut joiner, 3, &[b"c"])?;
+    is_full(&rt, alloc, &mut joiner, 4)?;
     // A later reply that is whole waits for the first.
-    let later = reply(&rt, 1, 0, Kind::Fetch, hit(alloc, b"1")?);
-    holds(&rt, takes(&mut joiner, later));
+    hits(&rt, alloc, &mut joiner, 1, 0, b"1")?;
     hands(&rt, alloc, &mut joiner, 0, b"");
-    let first = reply(&rt, 0, 0, Kind::Fetch, Answer::Miss);
-    holds(&rt, takes(&mut joiner, first));
+    misses(&rt, &mut joiner, 0, 0);
     hands(
         &rt,
         alloc,
@@ -551,14 +585,12 @@ fn a_window_of_four_goes_round(rt: HostRuntime) -> Result<(), Fail> {
         b"END\r\nVALUE b 0 1\r\n1\r\nEND\r\nMN\r\n",
     );
     equal(&rt, joiner.waiting(), 1);
-    open(&rt, &mut joiner, noop(alloc, Ticket(4))?);
-    open(&rt, &mut joiner, get(alloc, Ticket(5), &[b"d"])?);
-    open(&rt, &mut joiner, noop(alloc, Ticket(6))?);
-    assert_eq!(rt; joiner.open(noop(alloc, Ticket(7))?), Err(Full));
-    let last = reply(&rt, 5, 0, Kind::Fetch, hit(alloc, b"5")?);
-    holds(&rt, takes(&mut joiner, last));
-    let third = reply(&rt, 3, 0, Kind::Fetch, hit(alloc, b"3")?);
-    holds(&rt, takes(&mut joiner, third));
+    open_noop(&rt, alloc, &mut joiner, 4)?;
+    open_get(&rt, alloc, &mut joiner, 5, &[b"d"])?;
+    open_noop(&rt, alloc, &mut joiner, 6)?;
+    is_full(&rt, alloc, &mut joiner, 7)?;
+    hits(&rt, alloc, &mut joiner, 5, 0, b"5")?;
+    hits(&rt, alloc, &mut joiner, 3, 0, b"3")?;
     hands(
         &rt,
         alloc,

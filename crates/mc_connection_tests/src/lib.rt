@@ -16,3 +16,5 @@ mod ring;
 mod split;
 #[cfg(test)]
 mod stats;
+#[cfg(test)]
+mod stranger;

@@ -39,11 +39,20 @@ fn reply(number: u64) -> Reply {
     Reply::new(Ticket(number), 0, Kind::Flush, Answer::Done)
 }
 
-/// The number of the command of a piece.
-fn number_of(parcel: Option<Parcel>) -> Option<u64> {
-    match parcel {
-        Some(Parcel::Piece(piece)) => Some(piece.ticket.0),
-        _ => None,
+/// What a parcel is, where there is one: the piece of the command of this number, or the end.
+fn parcel_of(parcel: Option<Parcel>) -> Option<Option<u64>> {
+    match &parcel {
+        Some(Parcel::Piece(piece)) => Some(Some(piece.ticket.0)),
+        Some(Parcel::End) => Some(None),
+        None => None,
+    }
+}
+
+/// The number of the command of a reply, where there is one.
+fn reply_of(reply: Option<Reply>) -> Option<u64> {
+    match &reply {
+        Some(reply) => Some(reply.ticket.0),
+        None => None,
     }
 }
 
@@ -51,12 +60,12 @@ fn number_of(parcel: Option<Parcel>) -> Option<u64> {
 fn a_ring_of_one_holds_one_parcel(rt: HostRuntime) -> Result<(), Fail> {
     let (mut seats, mut shards) = lanes(rt.alloc(), SIZES)?;
     let (seat, shard) = (&mut seats[1], &mut shards[2]);
-    holds(&rt, shard.take(1).is_none());
-    holds(&rt, seat.send(2, piece(7)).is_ok());
-    equal(&rt, number_of(seat.send(2, piece(8)).err()), Some(8));
-    equal(&rt, number_of(shard.take(1)), Some(7));
-    holds(&rt, seat.send(2, Parcel::End).is_ok());
-    holds(&rt, matches!(&shard.take(1), Some(Parcel::End)));
+    equal(&rt, parcel_of(shard.take(1)), None);
+    equal(&rt, parcel_of(seat.send(2, piece(7)).err()), None);
+    equal(&rt, parcel_of(seat.send(2, piece(8)).err()), Some(Some(8)));
+    equal(&rt, parcel_of(shard.take(1)), Some(Some(7)));
+    equal(&rt, parcel_of(seat.send(2, Parcel::End).err()), None);
+    equal(&rt, parcel_of(shard.take(1)), Some(None));
     Ok(())
 }
 
@@ -64,19 +73,11 @@ fn a_ring_of_one_holds_one_parcel(rt: HostRuntime) -> Result<(), Fail> {
 fn a_ring_of_one_holds_one_reply(rt: HostRuntime) -> Result<(), Fail> {
     let (mut seats, mut shards) = lanes(rt.alloc(), SIZES)?;
     let (seat, shard) = (&mut seats[1], &mut shards[2]);
-    holds(&rt, seat.receive(2).is_none());
-    holds(&rt, shard.give(1, reply(7)).is_ok());
-    equal(
-        &rt,
-        shard.give(1, reply(8)).err().map(|reply| reply.ticket),
-        Some(Ticket(8)),
-    );
-    equal(
-        &rt,
-        seat.receive(2).map(|reply| reply.ticket),
-        Some(Ticket(7)),
-    );
-    holds(&rt, seat.receive(2).is_none());
+    equal(&rt, reply_of(seat.receive(2)), None);
+    equal(&rt, reply_of(shard.give(1, reply(7)).err()), None);
+    equal(&rt, reply_of(shard.give(1, reply(8)).err()), Some(8));
+    equal(&rt, reply_of(seat.receive(2)), Some(7));
+    equal(&rt, reply_of(seat.receive(2)), None);
     Ok(())
 }
 
@@ -86,10 +87,10 @@ fn what_waits_is_seen_on_its_lane_alone(rt: HostRuntime) -> Result<(), Fail> {
     let (seat, shard) = (&mut seats[1], &mut shards[2]);
     equal(&rt, (seat.number(), seat.shards()), (1, 3));
     equal(&rt, (shard.number(), shard.seats()), (2, 2));
-    holds(&rt, seat.send(2, piece(7)).is_ok());
+    equal(&rt, parcel_of(seat.send(2, piece(7)).err()), None);
     holds(&rt, shard.has_parcel(1));
     holds(&rt, !shard.has_parcel(0));
-    holds(&rt, shard.give(1, reply(7)).is_ok());
+    equal(&rt, reply_of(shard.give(1, reply(7)).err()), None);
     holds(&rt, seat.has_reply(2));
     holds(&rt, !seat.has_reply(0));
     Ok(())
@@ -100,7 +101,7 @@ fn sends(seat: &mut SeatEnds, number: u64) -> bool
     requires { 0 < length seat.old.lanes }
     ensures { AreSameEnds seat.old seat.new }
 {
-    seat.send(0, piece(number)).is_ok()
+    parcel_of(seat.send(0, piece(number)).err()).is_none()
 }
 
 /// Gives the first seat the reply to that piece, and tells whether it went out.
@@ -108,15 +109,15 @@ fn gives(shard: &mut ShardEnds, number: u64) -> bool
     requires { 0 < length shard.old.lanes }
     ensures { AreSameEnds shard.old shard.new }
 {
-    shard.give(0, reply(number)).is_ok()
+    reply_of(shard.give(0, reply(number)).err()).is_none()
 }
 
-/// The number of the command of the piece of the first seat that is taken, if one is.
-fn takes(shard: &mut ShardEnds) -> Option<u64>
+/// The parcel of the first seat that is taken, if one is.
+fn takes(shard: &mut ShardEnds) -> Option<Option<u64>>
     requires { 0 < length shard.old.lanes }
     ensures { AreSameEnds shard.old shard.new }
 {
-    number_of(shard.take(0))
+    parcel_of(shard.take(0))
 }
 
 #[test]
@@ -132,38 +133,40 @@ fn what_waits_is_counted(rt: HostRuntime) -> Result<(), Fail> {
     equal(&rt, beside(seat, shard), (0, 0));
     holds(&rt, sends(seat, 0));
     holds(&rt, sends(seat, 1));
-    equal(&rt, takes(shard), Some(0));
+    equal(&rt, takes(shard), Some(Some(0)));
     holds(&rt, gives(shard, 0));
     equal(&rt, beside(seat, shard), (1, 1));
     Ok(())
 }
 
+/// Numbers of seats, shards and places of a ring, and whether there are lanes for them.
+static NUMBERS: [(usize, usize, usize, bool); 8] = [
+    (0, 1, 1, false),
+    (4_097, 1, 1, false),
+    (1, 0, 1, false),
+    (1, 17, 1, false),
+    (1, 1, 0, false),
+    (1, 1, 1025, false),
+    (64, 16, 1, true),
+    (1, 1, 1024, true),
+];
+
 #[test]
 fn numbers_out_of_range_are_refused(rt: HostRuntime) {
-    for (seats, shards, ring) in [
-        (0, 1, 1),
-        (4_097, 1, 1),
-        (1, 0, 1),
-        (1, 17, 1),
-        (1, 1, 0),
-        (1, 1, 1025),
-    ] {
+    for (seats, shards, ring, are_made) in &NUMBERS {
         let sizes = Sizes {
-            seats,
-            shards,
-            ring,
+            seats: *seats,
+            shards: *shards,
+            ring: *ring,
             ..SIZES
         };
-        equal(&rt, lanes(rt.alloc(), sizes).err(), Some(RingRefusal::Size));
-    }
-    for (seats, shards, ring) in [(64, 16, 1), (1, 1, 1024)] {
-        let sizes = Sizes {
-            seats,
-            shards,
-            ring,
-            ..SIZES
+        let refusal = lanes(rt.alloc(), sizes).err();
+        let want = if *are_made {
+            None
+        } else {
+            Some(RingRefusal::Size)
         };
-        holds(&rt, lanes(rt.alloc(), sizes).is_ok());
+        equal(&rt, refusal, want);
     }
 }
 

@@ -6,9 +6,9 @@ use mc_command::{
     Block, Command, Keys, MetaFlags, MetaGet, Opaque, Profile, Refusal, Retrieval, ReturnFlag,
     Returned, Storage, StoreMode,
 };
-use mc_item::{Answer, Kind, Op};
+use mc_item::{Answer, Kind, NoMemory, Op};
 use mc_reply::{Form, Shape, Ticket};
-use mc_split::{Plan, split};
+use mc_split::{Piece, Plan, split};
 use mc_wire::{Key, words};
 use std::alloc::Global;
 use std::process::Abort;
@@ -72,6 +72,27 @@ fn meta_get(alloc: Global, shows_key: bool) -> Result<Command, Refusal> {
     }))
 }
 
+/// What becomes of a command.
+struct PlanOf {
+    plan: Plan,
+}
+
+impl Drop for PlanOf {
+    /// By hand, so that to let one go is one call for whoever holds it.
+    fn drop(self) {
+        let PlanOf { plan: _plan } = self;
+    }
+}
+
+/// Splits a command over so many shards.
+fn planned(alloc: Global, command: Command, shards: usize) -> Result<PlanOf, NoMemory>
+    requires { 0 < shards }
+{
+    Ok(PlanOf {
+        plan: split(alloc, command, TICKET, MOMENT, shards)?,
+    })
+}
+
 /// Asserts the shards of a plan's pieces, that they are numbered, and that each has a slot.
 fn has_shards(rt: &impl Abort, plan: &Plan, shards: &[usize]) {
     equal(rt, plan.form.ticket, TICKET);
@@ -89,47 +110,44 @@ fn has_shards(rt: &impl Abort, plan: &Plan, shards: &[usize]) {
 #[test]
 fn a_get_asks_its_keys_in_order(rt: HostRuntime) -> Result<(), Fail> {
     let alloc = rt.alloc();
-    let plan = split(alloc, get(alloc)?, TICKET, MOMENT, 2)?;
-    has_shards(&rt, &plan, &[0, 1, 0, 0]);
-    let Plan { mut form, .. } = plan;
-    for part in [2, 0, 3] {
-        fill(&rt, &mut form, part);
-        holds(&rt, !form.slots.is_filled());
-    }
-    fill(&rt, &mut form, 1);
-    holds(&rt, form.slots.is_filled());
+    let mut get = planned(alloc, get(alloc)?, 2)?;
+    has_shards(&rt, &get.plan, &[0, 1, 0, 0]);
+    fills(&rt, &mut get.plan.form, &[2, 0, 3, 1]);
     Ok(())
 }
 
-fn fill(rt: &impl Abort, form: &mut Form, part: usize) {
-    holds(rt, part < form.slots.answers().len());
-    form.fill(part, Answer::Miss);
+/// Fills the slots in this order, and asserts that the last one fills the form.
+fn fills(rt: &impl Abort, form: &mut Form, parts: &[usize]) {
+    for part in parts {
+        holds(rt, !form.slots.is_filled());
+        holds(rt, *part < form.slots.answers().len());
+        form.fill(*part, Answer::Miss);
+    }
+    holds(rt, form.slots.is_filled());
 }
 
-#[test]
-fn one_key_is_one_piece(rt: HostRuntime) -> Result<(), Fail> {
-    let alloc = rt.alloc();
-    let plan = split(alloc, set(alloc)?, TICKET, MOMENT, 2)?;
-    has_shards(&rt, &plan, &[1]);
-    holds(
-        &rt,
-        matches!(&plan.form.shape, Shape::Line { noreply: true, .. }),
-    );
-    let Plan {
-        mut form,
-        mut pieces,
-    } = plan;
-    let stores = match pieces.pop_front() {
+/// Whether a piece, with its shard, stores three bytes with the flags 5.
+fn stores_three(piece: Option<&(usize, Piece)>) -> bool {
+    match piece {
         Some((_, piece)) => match &piece.op {
             Op::Store { value, flags, .. } => value.len() == 3 && *flags == 5,
             _ => false,
         },
         None => false,
-    };
-    holds(&rt, stores);
-    holds(&rt, !form.slots.is_filled());
-    fill(&rt, &mut form, 0);
-    holds(&rt, form.slots.is_filled());
+    }
+}
+
+#[test]
+fn one_key_is_one_piece(rt: HostRuntime) -> Result<(), Fail> {
+    let alloc = rt.alloc();
+    let mut set = planned(alloc, set(alloc)?, 2)?;
+    has_shards(&rt, &set.plan, &[1]);
+    holds(
+        &rt,
+        matches!(&set.plan.form.shape, Shape::Line { noreply: true, .. }),
+    );
+    holds(&rt, stores_three(set.plan.pieces.front()));
+    fills(&rt, &mut set.plan.form, &[0]);
     Ok(())
 }
 
@@ -140,9 +158,9 @@ fn a_flush_asks_every_shard(rt: HostRuntime) -> Result<(), Fail> {
         delay: -1,
         noreply: false,
     };
-    let plan = split(alloc, flush, TICKET, MOMENT, 3)?;
-    has_shards(&rt, &plan, &[0, 1, 2]);
-    equal(&rt, plan.form.kind, Kind::Flush);
+    let flush = planned(alloc, flush, 3)?;
+    has_shards(&rt, &flush.plan, &[0, 1, 2]);
+    equal(&rt, flush.plan.form.kind, Kind::Flush);
     Ok(())
 }
 
@@ -150,50 +168,57 @@ fn a_flush_asks_every_shard(rt: HostRuntime) -> Result<(), Fail> {
 fn some_commands_ask_no_shard(rt: HostRuntime) -> Result<(), Fail> {
     let alloc = rt.alloc();
     for noreply in [false, true] {
-        let plan = split(alloc, Command::Verbosity { noreply }, TICKET, MOMENT, 2)?;
-        has_shards(&rt, &plan, &[]);
-        holds(&rt, plan.form.slots.is_filled());
+        let verbosity = planned(alloc, Command::Verbosity { noreply }, 2)?;
+        has_shards(&rt, &verbosity.plan, &[]);
+        holds(&rt, verbosity.plan.form.slots.is_filled());
     }
-    let plan = split(alloc, Command::MetaNoop, TICKET, MOMENT, 2)?;
-    has_shards(&rt, &plan, &[]);
+    let noop = planned(alloc, Command::MetaNoop, 2)?;
+    has_shards(&rt, &noop.plan, &[]);
     Ok(())
+}
+
+/// Whether the reply to an `mg` shows its value, and then whether it keeps its key.
+fn keeps_key(shape: &Shape) -> Option<bool> {
+    match shape {
+        Shape::Meta { key, value, .. } if *value => Some(key.is_some()),
+        _ => None,
+    }
 }
 
 #[test]
 fn a_meta_reply_keeps_the_key_where_it_shows_it(rt: HostRuntime) -> Result<(), Fail> {
     let alloc = rt.alloc();
     for shows_key in [false, true] {
-        let plan = split(alloc, meta_get(alloc, shows_key)?, TICKET, MOMENT, 2)?;
-        has_shards(&rt, &plan, &[0]);
-        let keeps = match &plan.form.shape {
-            Shape::Meta { key, value, .. } => *value && key.is_some() == shows_key,
-            _ => false,
-        };
-        holds(&rt, keeps);
+        let get = planned(alloc, meta_get(alloc, shows_key)?, 2)?;
+        has_shards(&rt, &get.plan, &[0]);
+        equal(&rt, keeps_key(&get.plan.form.shape), Some(shows_key));
     }
     Ok(())
 }
 
-/// As many keys as the longest line has room for.
-#[test]
-fn a_get_of_32766_keys(rt: HostRuntime) -> Result<(), Fail> {
-    let alloc = rt.alloc();
+/// A get that names a key 32,766 times: as often as the longest line has room for.
+fn longest_get(alloc: Global) -> Result<Command, Fail> {
     let mut others = Vec::new(alloc);
     for _ in 1..32_766u32 {
         others.extend_from_slice(b" a")?;
     }
-    let get = Command::Get(Retrieval {
+    Ok(Command::Get(Retrieval {
         keys: Keys::read(alloc, b"a", words(others.as_slice()))?,
         touch: None,
         with_unique: false,
-    });
-    let mut plan = split(alloc, get, TICKET, MOMENT, 2)?;
-    equal(&rt, plan.pieces.len(), 32_766);
-    equal(&rt, plan.form.slots.answers().len(), 32_766);
-    let last = plan
-        .pieces
-        .pop_back()
-        .map(|(shard, piece)| (shard, piece.part));
+    }))
+}
+
+#[test]
+fn a_get_of_32766_keys(rt: HostRuntime) -> Result<(), Fail> {
+    let alloc = rt.alloc();
+    let get = planned(alloc, longest_get(alloc)?, 2)?;
+    equal(&rt, get.plan.pieces.len(), 32_766);
+    equal(&rt, get.plan.form.slots.answers().len(), 32_766);
+    let last = match get.plan.pieces.back() {
+        Some((shard, piece)) => Some((*shard, piece.part)),
+        None => None,
+    };
     equal(&rt, last, Some((0, 32_765)));
     Ok(())
 }
@@ -208,10 +233,10 @@ fn is_split(
     let Ok(command) = command else {
         return false;
     };
-    let Ok(plan) = split(alloc, command, TICKET, MOMENT, 2) else {
+    let Ok(planned) = planned(alloc, command, 2) else {
         return false;
     };
-    has_shards(rt, &plan, shards);
+    has_shards(rt, &planned.plan, shards);
     true
 }
 
@@ -232,11 +257,9 @@ fn a_refused_allocation_refuses_one_plan(rt: HostRuntime) {
             is_split(&rt, alloc, meta_get(alloc, true), &[0]),
             is_split(&rt, alloc, Ok(flush), &[0, 1]),
         ];
-        refused = made
-            .iter()
-            .filter(|one| !**one)
-            .count()
-            .saturating_add(refused);
+        for is_made in made {
+            refused = refused.saturating_add(usize::from(!is_made));
+        }
     }
     holds(&rt, refused <= 1);
 }
