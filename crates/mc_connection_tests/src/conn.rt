@@ -86,24 +86,13 @@ fn take_all(alloc: Global, conn: &mut Conn) -> Taken {
     Taken::Full
 }
 
-/// Answers a piece that came, with its shard, and tells whether one did.
-fn answers(rt: &impl Abort, conn: &mut Conn, piece: Option<(usize, Piece)>) -> bool {
-    match &piece {
-        Some((_, piece)) => {
-            accepts(rt, conn, answer(rt, piece));
-            true
-        }
-        None => false,
-    }
-}
-
 /// Answers all pieces.
 fn answer_all(rt: &impl Abort, conn: &mut Conn) {
     for _ in 0..CONVERSATION.len() {
-        let piece = conn.next_piece();
-        if !answers(rt, conn, piece) {
+        let Some((_, piece)) = conn.next_piece() else {
             return;
-        }
+        };
+        accepts(rt, conn, answer(rt, &piece));
     }
 }
 

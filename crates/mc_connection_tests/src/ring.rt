@@ -40,20 +40,30 @@ fn reply(number: u64) -> Reply {
 }
 
 /// What a parcel is, where there is one: the piece of the command of this number, or the end.
-fn parcel_of(parcel: Option<Parcel>) -> Option<Option<u64>> {
-    match &parcel {
+fn content(parcel: &Option<Parcel>) -> Option<Option<u64>> {
+    match parcel {
         Some(Parcel::Piece(piece)) => Some(Some(piece.ticket.0)),
         Some(Parcel::End) => Some(None),
         None => None,
     }
 }
 
+/// The same, of a parcel that is let go.
+fn parcel_of(parcel: Option<Parcel>) -> Option<Option<u64>> {
+    content(&parcel)
+}
+
 /// The number of the command of a reply, where there is one.
-fn reply_of(reply: Option<Reply>) -> Option<u64> {
-    match &reply {
+fn number(reply: &Option<Reply>) -> Option<u64> {
+    match reply {
         Some(reply) => Some(reply.ticket.0),
         None => None,
     }
+}
+
+/// The same, of a reply that is let go.
+fn reply_of(reply: Option<Reply>) -> Option<u64> {
+    number(&reply)
 }
 
 #[test]

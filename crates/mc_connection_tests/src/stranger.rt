@@ -4,9 +4,14 @@ use mc_join::Stranger;
 use mc_reply::Ticket;
 
 /// The ticket, the part and the kind of a reply that was handed back, or nothing where it was taken in.
-pub fn stranger_of(accepted: Result<(), Stranger>) -> Option<(Ticket, usize, Kind)> {
-    match &accepted {
+fn told(accepted: &Result<(), Stranger>) -> Option<(Ticket, usize, Kind)> {
+    match accepted {
         Ok(()) => None,
         Err(Stranger { reply }) => Some((reply.ticket, reply.part, reply.kind)),
     }
+}
+
+/// The same, of a reply that is let go.
+pub fn stranger_of(accepted: Result<(), Stranger>) -> Option<(Ticket, usize, Kind)> {
+    told(&accepted)
 }
