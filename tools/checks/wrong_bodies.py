@@ -28,9 +28,10 @@ open, of which function, or which lines of the proof files it refused. Each edit
     unread     the edit doesn't compile, or its check ended otherwise                                            (a fault)
     proved     the crate is proved with it                                                                       (a fault)
 
-The libraries below a crate are those that `rt ci`, `rt check` or `rt lib` left in out/. What was found is kept in a file
-(--kept FILE; out/wrong-bodies.json), edit by edit, so a run that was stopped goes on where it was. An edit is tried again where it
-or its crate has changed since. N crates are worked on at a time (--jobs N), each on a copy.
+The libraries below a crate are those that `rt ci`, `rt check` or `rt lib` left in out/; what no edit changes is taken from what
+`rt check` kept there of the crate itself, if it did. What was found is kept in a file (--kept FILE; out/wrong-bodies.json), edit by
+edit, so a run that was stopped goes on where it was. An edit is tried again where it or its crate has changed since. N crates are
+worked on at a time (--jobs N), each on a copy.
 """
 import argparse
 import concurrent.futures
@@ -290,6 +291,9 @@ class Copy:
         for part in PARTS:
             if (self.crate / part).is_dir():
                 shutil.copytree(self.crate / part, self.folder / part)
+        if (self.crate / "out/incremental").is_dir():
+            # what an edit doesn't change is taken from what the crate's own check proved
+            shutil.copytree(self.crate / "out/incremental", self.kept)
         root = "src/main.rt" if (self.crate / "src/main.rt").is_file() else "src/lib.rt"
         self.words = [f"{kit}/bin/rattle", "check", "--crate-name", name, root, "-L", f"dependency={kit}/rlibs", "--links", f"{name}="]
         for it in ["std", *needs[name]]:
@@ -310,6 +314,13 @@ class Copy:
         finally:
             for file in texts:
                 shutil.copy(self.crate / file, self.folder / file)
+
+    def __enter__(self):
+        return self
+
+    def __exit__(self, *_):
+        shutil.rmtree(self.folder)
+        shutil.rmtree(self.kept, ignore_errors=True)
 
     def result(self, edit, words, source):
         kind = judged(words, source, applied(edit)[0][1])
@@ -358,12 +369,15 @@ def try_all(edits, known, given):
 
     def of_crate(name, room):
         own = [it for it in edits if it.parent.parent.name == name and known.get(name_of(it), {}).get("digest") != digest(it)]
-        for edit, found in Copy(room, name).tried(own) if own else []:
-            with keeping:
-                known[name_of(edit)] = found
-                given.kept.parent.mkdir(exist_ok=True)
-                given.kept.write_text(json.dumps(known, indent=1))
-                print(f"{name_of(edit)}: {found['kind']}", flush=True)
+        if not own:
+            return
+        with Copy(room, name) as copy:
+            for edit, found in copy.tried(own):
+                with keeping:
+                    known[name_of(edit)] = found
+                    given.kept.parent.mkdir(exist_ok=True)
+                    given.kept.write_text(json.dumps(known, indent=1))
+                    print(f"{name_of(edit)}: {found['kind']}", flush=True)
 
     names = sorted({it.parent.parent.name for it in edits}, key=lambda name: -sum(it.parent.parent.name == name for it in edits))
     with tempfile.TemporaryDirectory(prefix="wrong-bodies-") as room, concurrent.futures.ThreadPoolExecutor(given.jobs) as pool:

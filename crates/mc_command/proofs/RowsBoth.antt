@@ -223,7 +223,7 @@ compares = (refl, refl)
 
 -- The reply to a meta command follows the rules by which its line is read.
 abbrev mg_by : Profile → Bool → Line
-mg_by profile unnoted = Whole (command.MetaGet (record { key = a; flags = record { base64 = false; quiet = false; profile = profile; returned = []; opaque = [] }; value = true; touch = None; vivify = None; recache = None; unnoted = unnoted }))
+mg_by profile unnoted = Whole (command.MetaGet (record { asked = record { key = a; touch = None; vivify = None; recache = None; unnoted = unnoted }; flags = record { base64 = false; quiet = false; profile = profile; returned = []; opaque = [] }; value = true }))
 
 replies : AreSo ((codes "mg a v", mg_by Own false, mg_by DropIn false) ∷ [])
 unfolding line_of words_of name_of is_key meta_line_of

@@ -30,7 +30,7 @@ heads = refl
 
 -- a get that gives these flags back
 abbrev got : List ReturnFlag → Line
-got returned = Whole (MetaGet (record { key = codes "a"; flags = record { base64 = false; quiet = true; profile = Own; returned = returned; opaque = codes "1" }; value = true; touch = None; vivify = None; recache = None; unnoted = false }))
+got returned = Whole (MetaGet (record { asked = record { key = codes "a"; touch = None; vivify = None; recache = None; unnoted = false }; flags = record { base64 = false; quiet = true; profile = Own; returned = returned; opaque = codes "1" }; value = true }))
 
 gets : map line (codes "mg a k v O1 q t" ∷ codes "mg a t q O1 v k" ∷ []) ≡ got (Key ∷ Opaque ∷ TimeLeft ∷ []) ∷ got (TimeLeft ∷ Opaque ∷ Key ∷ []) ∷ []
 unfolding line_of name_of meta_line_of words_of number_of is_key word_count_refusal

@@ -121,13 +121,15 @@ directions = refl
 -- all that a get may ask, with the returned flags in the order of the request
 whole_get : mg (codes "key s c O123 t k f h l q v T30 N-1 R60")
     ≡ Whole (MetaGet (record {
-      key = codes "key";
+      asked = record {
+        key = codes "key";
+        touch = Some (pos 30);
+        vivify = Some (negsuc 0);
+        recache = Some (pos 60);
+        unnoted = false;
+      };
       flags = record { base64 = false; quiet = true; profile = Own; returned = Size ∷ Unique ∷ Opaque ∷ TimeLeft ∷ Key ∷ ClientFlags ∷ Fetched ∷ LastAccess ∷ []; opaque = codes "123" };
       value = true;
-      touch = Some (pos 30);
-      vivify = Some (negsuc 0);
-      recache = Some (pos 60);
-      unnoted = false;
     }))
 unfolding meta_line_of words_of number_of is_key word_count_refusal
 whole_get = refl
@@ -135,28 +137,30 @@ whole_get = refl
 -- the order of flags decides the returned ones alone
 other_order : map mg (codes "a v T1 k N2 t q" ∷ codes "a q N2 k T1 v t" ∷ codes "a k t q v T1 N2" ∷ [])
     ≡ replicate 3 (Whole (MetaGet (record {
-      key = codes "a";
+      asked = record {
+        key = codes "a";
+        touch = Some (pos 1);
+        vivify = Some (pos 2);
+        recache = None;
+        unnoted = false;
+      };
       flags = record { base64 = false; quiet = true; profile = Own; returned = Key ∷ TimeLeft ∷ []; opaque = [] };
       value = true;
-      touch = Some (pos 1);
-      vivify = Some (pos 2);
-      recache = None;
-      unnoted = false;
     })))
 unfolding meta_line_of words_of number_of is_key word_count_refusal
 other_order = refl
 
 -- a token on a flag that takes none is ignored, `O` alone has the empty token, and 32 bytes are the most
 tokens_ignored : map mg (codes "a vxyz kq O" ∷ (codes "a O" ++ replicate 32 120) ∷ [])
-    ≡ Whole (MetaGet (record { key = codes "a"; flags = record no_flags { returned = Key ∷ Opaque ∷ [] }; value = true; touch = None; vivify = None; recache = None; unnoted = false }))
-    ∷ Whole (MetaGet (record { key = codes "a"; flags = record no_flags { returned = Opaque ∷ []; opaque = replicate 32 120 }; value = false; touch = None; vivify = None; recache = None; unnoted = false }))
+    ≡ Whole (MetaGet (record { asked = record { key = codes "a"; touch = None; vivify = None; recache = None; unnoted = false }; flags = record no_flags { returned = Key ∷ Opaque ∷ [] }; value = true }))
+    ∷ Whole (MetaGet (record { asked = record { key = codes "a"; touch = None; vivify = None; recache = None; unnoted = false }; flags = record no_flags { returned = Opaque ∷ []; opaque = replicate 32 120 }; value = false }))
     ∷ []
 unfolding meta_line_of words_of is_key word_count_refusal
 tokens_ignored = refl
 
 -- a key in base64, wherever `b` stands; canonical only, and of 1 to 186 bytes
 base64_keys : map mg (codes "YQ== k b" ∷ codes "YQ== b k" ∷ [])
-    ≡ replicate 2 (Whole (MetaGet (record { key = codes "a"; flags = record { base64 = true; quiet = false; profile = Own; returned = Key ∷ []; opaque = [] }; value = false; touch = None; vivify = None; recache = None; unnoted = false })))
+    ≡ replicate 2 (Whole (MetaGet (record { asked = record { key = codes "a"; touch = None; vivify = None; recache = None; unnoted = false }; flags = record { base64 = true; quiet = false; profile = Own; returned = Key ∷ []; opaque = [] }; value = false })))
 unfolding meta_line_of words_of decoded_key base64_bytes base64_on_literals word_count_refusal
 base64_keys = refl
 
@@ -166,7 +170,7 @@ unfolding meta_line_of words_of number_of decoded_key base64_bytes base64_on_lit
 base64_refused = refl
 
 -- without `b` the word itself is the key
-plain_key : md (codes "YQ==") ≡ Whole (MetaDelete (record { key = codes "YQ=="; flags = no_flags; compare = None; unique = None; invalidate = false; exptime = None }))
+plain_key : md (codes "YQ==") ≡ Whole (MetaDelete (record { asked = record { key = codes "YQ=="; compare = None; unique = None; invalidate = false; exptime = None }; flags = no_flags }))
 unfolding meta_line_of words_of is_key word_count_refusal
 plain_key = refl
 
@@ -185,24 +189,25 @@ unfolding meta_line_of words_of number_of is_key word_count_refusal
 whole_set = refl
 
 whole_delete : md (codes "a T30 E0 I C5 q k")
-    ≡ Whole (MetaDelete (record { key = codes "a"; flags = record { base64 = false; quiet = true; profile = Own; returned = Key ∷ []; opaque = [] }; compare = Some 5; unique = Some 0; invalidate = true; exptime = Some (pos 30) }))
+    ≡ Whole (MetaDelete (record { asked = record { key = codes "a"; compare = Some 5; unique = Some 0; invalidate = true; exptime = Some (pos 30) }; flags = record { base64 = false; quiet = true; profile = Own; returned = Key ∷ []; opaque = [] } }))
 unfolding meta_line_of words_of number_of is_key word_count_refusal
 whole_delete = refl
 
 whole_arithmetic : map ma (codes "a N60 J007 D3 Md T-1 v t c C18446744073709551615 E18446744073709551615" ∷ codes "a" ∷ [])
     ≡ Whole (MetaArithmetic (record {
-      key = codes "a";
+      asked = record {
+        key = codes "a";
+        compare = Some 18446744073709551615;
+        unique = Some 18446744073709551615;
+        direction = Decrement;
+        amount = 3;
+        exptime = Some (negsuc 0);
+        vivify = Some (record { exptime = pos 60; initial = 7 });
+      };
       flags = record { base64 = false; quiet = false; profile = Own; returned = TimeLeft ∷ Unique ∷ []; opaque = [] };
       value = true;
-      compare = Some 18446744073709551615;
-      unique = Some 18446744073709551615;
-      direction = Decrement;
-      amount = 3;
-      initial = 7;
-      vivify = Some (pos 60);
-      exptime = Some (negsuc 0);
     }))
-    ∷ Whole (MetaArithmetic (record { key = codes "a"; flags = no_flags; value = false; compare = None; unique = None; direction = Increment; amount = 1; initial = 0; vivify = None; exptime = None }))
+    ∷ Whole (MetaArithmetic (record { asked = record { key = codes "a"; compare = None; unique = None; direction = Increment; amount = 1; exptime = None; vivify = None }; flags = no_flags; value = false }))
     ∷ []
 unfolding meta_line_of words_of number_of is_key word_count_refusal
 whole_arithmetic = refl
@@ -218,12 +223,12 @@ flags_before_keys = refl
 
 -- the ends of the ranges of tokens, signs, and the most digits
 widest_tokens : map ma (codes "a D18446744073709551615 J00000000000000000007 N-9223372036854775808 T-0" ∷ [])
-    ≡ Whole (MetaArithmetic (record { key = codes "a"; flags = no_flags; value = false; compare = None; unique = None; direction = Increment; amount = 18446744073709551615; initial = 7; vivify = Some (negsuc 9223372036854775807); exptime = Some (pos 0) })) ∷ []
+    ≡ Whole (MetaArithmetic (record { asked = record { key = codes "a"; compare = None; unique = None; direction = Increment; amount = 18446744073709551615; exptime = Some (pos 0); vivify = Some (record { exptime = negsuc 9223372036854775807; initial = 7 }) }; flags = no_flags; value = false })) ∷ []
 unfolding meta_line_of words_of number_of is_key word_count_refusal
 widest_tokens = refl
 
 -- 186 bytes are the most that a word of base64 gives
 longest_base64 : md (replicate 248 65 ++ codes " b")
-    ≡ Whole (MetaDelete (record { key = replicate 186 0; flags = record { base64 = true; quiet = false; profile = Own; returned = []; opaque = [] }; compare = None; unique = None; invalidate = false; exptime = None }))
+    ≡ Whole (MetaDelete (record { asked = record { key = replicate 186 0; compare = None; unique = None; invalidate = false; exptime = None }; flags = record { base64 = true; quiet = false; profile = Own; returned = []; opaque = [] } }))
 unfolding meta_line_of words_of decoded_key base64_bytes base64_on_literals word_count_refusal
 longest_base64 = refl

@@ -23,6 +23,7 @@ use Rattle.mc_command.specs.declared.meta.MetaMode.{MetaMode}
 use Rattle.mc_command.specs.declared.meta.MetaMode.TheVariants as mode
 use Rattle.mc_command.specs.declared.meta.MetaSet.{MetaSet}
 use Rattle.mc_command.specs.declared.meta.ReturnFlag.{ReturnFlag}
+use Rattle.mc_command.specs.declared.meta.Vivify.{Vivify}
 use Rattle.mc_command.specs.declared.meta.ReturnFlag.TheVariants as shows
 use Rattle.mc_command.specs.declared.meta.MetaKind.{MetaKind}
 use Rattle.mc_command.specs.declared.meta.MetaKind.TheVariants.{Get, Set, Delete, Arithmetic}
@@ -184,13 +185,15 @@ set_mode words = unwrap_or (option_and_then mode_of (token_of (byte "M") words))
 
 abbrev pub meta_get_of : Rules → List ℕ → List (List ℕ) → MetaGet
 meta_get_of rules key words = record {
-  key = key;
+  asked = record {
+    key = key;
+    touch = exptime_token rules (byte "T") words;
+    vivify = exptime_token rules (byte "N") words;
+    recache = exptime_token rules (byte "R") words;
+    unnoted = has_flag (byte "u") words;
+  };
   flags = flags_of rules.profile words;
   value = has_flag (byte "v") words;
-  touch = exptime_token rules (byte "T") words;
-  vivify = exptime_token rules (byte "N") words;
-  recache = exptime_token rules (byte "R") words;
-  unnoted = has_flag (byte "u") words;
 }
 
 abbrev pub meta_set_of : Rules → List ℕ → List (List ℕ) → MetaSet
@@ -207,26 +210,33 @@ meta_set_of rules key words = record {
 
 abbrev pub meta_delete_of : Rules → List ℕ → List (List ℕ) → MetaDelete
 meta_delete_of rules key words = record {
-  key = key;
+  asked = record {
+    key = key;
+    compare = unsigned_token (2 ^ 64) (byte "C") words;
+    unique = unsigned_token (2 ^ 64) (byte "E") words;
+    invalidate = has_flag (byte "I") words;
+    exptime = exptime_token rules (byte "T") words;
+  };
   flags = flags_of rules.profile words;
-  compare = unsigned_token (2 ^ 64) (byte "C") words;
-  unique = unsigned_token (2 ^ 64) (byte "E") words;
-  invalidate = has_flag (byte "I") words;
-  exptime = exptime_token rules (byte "T") words;
 }
+
+-- the item that `ma` makes of a miss: its exptime is the token of N, its number that of J
+abbrev pub vivify_of : Option ℤ → ℕ → Option Vivify
+vivify_of exptime initial = option_map (λ exptime. record { exptime = exptime; initial = initial }) exptime
 
 abbrev pub meta_arithmetic_of : Rules → List ℕ → List (List ℕ) → MetaArithmetic
 meta_arithmetic_of rules key words = record {
-  key = key;
+  asked = record {
+    key = key;
+    compare = unsigned_token (2 ^ 64) (byte "C") words;
+    unique = unsigned_token (2 ^ 64) (byte "E") words;
+    direction = unwrap_or (option_and_then direction_of (token_of (byte "M") words)) Increment;
+    amount = unwrap_or (unsigned_token (2 ^ 64) (byte "D") words) 1;
+    exptime = exptime_token rules (byte "T") words;
+    vivify = vivify_of (exptime_token rules (byte "N") words) (unwrap_or (unsigned_token (2 ^ 64) (byte "J") words) 0);
+  };
   flags = flags_of rules.profile words;
   value = has_flag (byte "v") words;
-  compare = unsigned_token (2 ^ 64) (byte "C") words;
-  unique = unsigned_token (2 ^ 64) (byte "E") words;
-  direction = unwrap_or (option_and_then direction_of (token_of (byte "M") words)) Increment;
-  amount = unwrap_or (unsigned_token (2 ^ 64) (byte "D") words) 1;
-  initial = unwrap_or (unsigned_token (2 ^ 64) (byte "J") words) 0;
-  vivify = exptime_token rules (byte "N") words;
-  exptime = exptime_token rules (byte "T") words;
 }
 
 -- the command of this key and these flags

@@ -27,8 +27,8 @@ pub use keys::{Keys, are_keys};
 pub use laws::{data_can_be_given_up, flags_in_any_order, table_is_never_out_of_memory};
 pub use line::{Line, read_line, read_line_under};
 pub use meta::{
-    MetaArithmetic, MetaDelete, MetaFlags, MetaGet, MetaKind, MetaMode, MetaSet, Opaque,
-    RETURN_FLAGS, ReturnFlag, Returned,
+    MetaArithmetic, MetaCount, MetaDelete, MetaFetch, MetaFlags, MetaGet, MetaKind, MetaMode,
+    MetaRemoval, MetaSet, Opaque, RETURN_FLAGS, ReturnFlag, Returned, Vivify,
 };
 pub use meta_line::{read_meta_get, read_meta_set};
 pub use refusal::Refusal;

@@ -188,10 +188,16 @@ pub struct MetaFlags {
 /// `mg`.
 #[derive(Drop)]
 pub struct MetaGet {
-    pub key: Key,
+    pub asked: MetaFetch,
     pub flags: MetaFlags,
     /// `v`: the value is shown.
     pub value: bool,
+}
+
+/// What `mg` asks of an item.
+#[derive(Drop)]
+pub struct MetaFetch {
+    pub key: Key,
     /// `T`: the exptime that a hit is given.
     pub touch: Option<i64>,
     /// `N`: a miss makes an empty item with this exptime.
@@ -237,11 +243,17 @@ pub enum MetaMode {
 /// `md`.
 #[derive(Drop)]
 pub struct MetaDelete {
-    pub key: Key,
+    pub asked: MetaRemoval,
     pub flags: MetaFlags,
+}
+
+/// What `md` asks of an item.
+#[derive(Drop)]
+pub struct MetaRemoval {
+    pub key: Key,
     /// `C`: the unique that the item must have.
     pub compare: Option<u64>,
-    /// `E`: the unique that an item marked stale is given.
+    /// `E`: the unique that an item marked stale is given; without it the shard gives its next one.
     pub unique: Option<u64>,
     /// `I`: the item is marked stale in place of going.
     pub invalidate: bool,
@@ -252,21 +264,33 @@ pub struct MetaDelete {
 /// `ma`.
 #[derive(Drop)]
 pub struct MetaArithmetic {
-    pub key: Key,
+    pub asked: MetaCount,
     pub flags: MetaFlags,
     /// `v`: the number is shown.
     pub value: bool,
+}
+
+/// What `ma` asks of an item.
+#[derive(Drop)]
+pub struct MetaCount {
+    pub key: Key,
     /// `C`: the unique that the item must have.
     pub compare: Option<u64>,
-    /// `E`: the unique that the item is given.
+    /// `E`: the unique that the item is given; without it the shard gives its next one.
     pub unique: Option<u64>,
     pub direction: Direction,
     /// `D`: the amount, 1 where none is given.
     pub amount: u64,
-    /// `J`: the number of a made item, 0 where none is given.
-    pub initial: u64,
-    /// `N`: a miss makes an item with this exptime.
-    pub vivify: Option<i64>,
     /// `T`: the exptime that a present item is given.
     pub exptime: Option<i64>,
+    /// `N` and `J`: the item that a miss makes.
+    pub vivify: Option<Vivify>,
+}
+
+/// The item that `ma` makes of a miss, by its flags `N` and `J`.
+#[derive(Clone, Copy)]
+pub struct Vivify {
+    pub exptime: i64,
+    /// The number of the item, 0 where none is given.
+    pub initial: u64,
 }

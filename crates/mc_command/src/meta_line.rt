@@ -11,7 +11,10 @@ use crate::block::Block;
 use crate::command::{Command, Direction};
 use crate::field::read_key;
 use crate::line::{Line, block_line, whole_line};
-use crate::meta::{MetaArithmetic, MetaDelete, MetaGet, MetaKind, MetaMode, MetaSet};
+use crate::meta::{
+    MetaArithmetic, MetaCount, MetaDelete, MetaFetch, MetaGet, MetaKind, MetaMode, MetaRemoval,
+    MetaSet, Vivify,
+};
 use crate::meta_flags::{FlagsRead, read_flags};
 use crate::refusal::Refusal;
 use crate::rules::Rules;
@@ -159,13 +162,15 @@ impl FlagsRead {
         ensures { result ≡ get_by rules key self }
     {
         MetaGet {
-            key,
+            asked: MetaFetch {
+                key,
+                touch: rules.exptime_in(self.exptime),
+                vivify: rules.exptime_in(self.vivify),
+                recache: rules.exptime_in(self.recache),
+                unnoted: self.unnoted,
+            },
             flags: self.flags,
             value: self.value,
-            touch: rules.exptime_in(self.exptime),
-            vivify: rules.exptime_in(self.vivify),
-            recache: rules.exptime_in(self.recache),
-            unnoted: self.unnoted,
         }
     }
 
@@ -189,29 +194,34 @@ impl FlagsRead {
         ensures { result ≡ delete_by rules key self }
     {
         MetaDelete {
-            key,
+            asked: MetaRemoval {
+                key,
+                compare: self.compare,
+                unique: self.unique,
+                invalidate: self.invalidate,
+                exptime: rules.exptime_in(self.exptime),
+            },
             flags: self.flags,
-            compare: self.compare,
-            unique: self.unique,
-            invalidate: self.invalidate,
-            exptime: rules.exptime_in(self.exptime),
         }
     }
 
     fn into_arithmetic(self, rules: Rules, key: Key) -> MetaArithmetic
         ensures { result ≡ arithmetic_by rules key self }
     {
+        let initial = self.initial.unwrap_or(0);
+        let vivify = rules.exptime_in(self.vivify);
         MetaArithmetic {
-            key,
+            asked: MetaCount {
+                key,
+                compare: self.compare,
+                unique: self.unique,
+                direction: self.direction.unwrap_or(Direction::Increment),
+                amount: self.amount.unwrap_or(1),
+                exptime: rules.exptime_in(self.exptime),
+                vivify: vivify.map(|exptime| Vivify { exptime, initial }),
+            },
             flags: self.flags,
             value: self.value,
-            compare: self.compare,
-            unique: self.unique,
-            direction: self.direction.unwrap_or(Direction::Increment),
-            amount: self.amount.unwrap_or(1),
-            initial: self.initial.unwrap_or(0),
-            vivify: rules.exptime_in(self.vivify),
-            exptime: rules.exptime_in(self.exptime),
         }
     }
 }

@@ -18,7 +18,6 @@ pub(crate) struct Dispatcher {
     pub(crate) unsent: VecDeque<(usize, Piece)>,
     /// What the pieces of the next command share.
     pub(crate) splitter: Splitter,
-    ghost some_shards: { 0 < splitter.shards },
 }
 
 impl Dispatcher {

@@ -3,8 +3,8 @@ ghost use Rattle.std.specs.Prelude.{◌<◌};
 
 use crate::asserting::{equal, holds};
 use mc_command::{
-    Block, Command, Keys, MetaFlags, MetaGet, Opaque, Profile, Refusal, Retrieval, ReturnFlag,
-    Returned, Storage, StoreMode,
+    Block, Command, Keys, MetaFetch, MetaFlags, MetaGet, Opaque, Profile, Refusal, Retrieval,
+    ReturnFlag, Returned, Storage, StoreMode,
 };
 use mc_item::{Answer, Kind, NoMemory, Op};
 use mc_reply::{Form, Shape, Ticket};
@@ -56,7 +56,13 @@ fn meta_get(alloc: Global, shows_key: bool) -> Result<Command, Refusal> {
         returned.push(ReturnFlag::Key);
     }
     Ok(Command::MetaGet(MetaGet {
-        key: Key::from_word(alloc, KEY_A)?,
+        asked: MetaFetch {
+            key: Key::from_word(alloc, KEY_A)?,
+            touch: None,
+            vivify: None,
+            recache: Some(30),
+            unnoted: false,
+        },
         flags: MetaFlags {
             base64: false,
             quiet: false,
@@ -65,10 +71,6 @@ fn meta_get(alloc: Global, shows_key: bool) -> Result<Command, Refusal> {
             opaque: Opaque::empty(),
         },
         value: true,
-        touch: None,
-        vivify: None,
-        recache: Some(30),
-        unnoted: false,
     }))
 }
 

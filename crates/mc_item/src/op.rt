@@ -5,7 +5,7 @@ ghost use Rattle.mc_item.specs.Kind.{kind_of, key_of};
 
 use crate::answer::Kind;
 use crate::value::Value;
-use mc_command::{Direction, MetaMode, StoreMode};
+use mc_command::{Direction, MetaCount, MetaFetch, MetaMode, MetaRemoval, StoreMode};
 use mc_wire::Key;
 
 /// One piece of a command, for the shard of its key.
@@ -47,24 +47,10 @@ pub enum Op {
     Stats,
     /// `stats reset`: of one shard.
     ResetStats,
-    MetaGet(MetaGet),
+    MetaGet(MetaFetch),
     MetaStore(MetaStore),
-    MetaDelete(MetaDelete),
+    MetaDelete(MetaRemoval),
     MetaCount(MetaCount),
-}
-
-/// `mg`: what its flags ask.
-#[derive(Drop)]
-pub struct MetaGet {
-    pub key: Key,
-    /// `T`: the exptime that it sets.
-    pub touch: Option<i64>,
-    /// `N`: the exptime of the empty item that it makes of a miss.
-    pub vivify: Option<i64>,
-    /// `R`: with fewer seconds left, this client is told to recompute the item.
-    pub recache: Option<i64>,
-    /// `u`: that the item was read isn't noted.
-    pub unnoted: bool,
 }
 
 /// `ms`: what is stored, and what its flags ask.
@@ -80,43 +66,6 @@ pub struct MetaStore {
     pub flags: u32,
     pub exptime: i64,
     pub value: Value,
-}
-
-/// `md`: what its flags ask.
-#[derive(Drop)]
-pub struct MetaDelete {
-    pub key: Key,
-    /// `C`: the unique that the item must have.
-    pub compare: Option<u64>,
-    /// `E`: the unique that an item gets that is marked stale; without it the shard gives its next one.
-    pub unique: Option<u64>,
-    /// `I`: the item is marked stale in place of going.
-    pub invalidate: bool,
-    /// `T`: the exptime that an item gets that is marked stale.
-    pub exptime: Option<i64>,
-}
-
-/// `ma`: what is added or taken away, and what its flags ask.
-#[derive(Drop)]
-pub struct MetaCount {
-    pub key: Key,
-    /// `C`: the unique that the item must have.
-    pub compare: Option<u64>,
-    /// `E`: the unique that the item gets; without it the shard gives its next one.
-    pub unique: Option<u64>,
-    pub direction: Direction,
-    pub amount: u64,
-    /// `T`: the exptime that it sets.
-    pub exptime: Option<i64>,
-    /// `N` and `J`: the item that it makes of a miss.
-    pub vivify: Option<Vivify>,
-}
-
-/// The item that `ma` makes of a miss, by its flags `N` and `J`.
-#[derive(Clone, Copy)]
-pub struct Vivify {
-    pub exptime: i64,
-    pub initial: u64,
 }
 
 impl Op {

@@ -3,8 +3,8 @@ ghost use Rattle.std.specs.Prelude.{◌≡◌, ◌<◌, replicate};
 ghost use Rattle.mc_item.specs.Tally.{asked_of, counted, counter, counting, no_counts, noted, status_of};
 
 use crate::answer::Answer;
-use crate::op::{MetaGet, Op};
-use mc_command::{Direction, StoreMode};
+use crate::op::Op;
+use mc_command::{Direction, MetaFetch, StoreMode};
 
 /// What a shard is asked, as it is counted: under memcached's names (protocol.txt, "General-purpose statistics").
 #[derive(Clone, Copy)]
@@ -69,7 +69,7 @@ impl CountedAs {
             Op::Store { .. } => CountedAs::Set,
             Op::Fetch { touch: Some(_), .. }
             | Op::Touch { .. }
-            | Op::MetaGet(MetaGet { touch: Some(_), .. }) => CountedAs::Touch,
+            | Op::MetaGet(MetaFetch { touch: Some(_), .. }) => CountedAs::Touch,
             Op::Fetch { .. } | Op::MetaGet(_) => CountedAs::Get,
             Op::Count { direction, .. } => CountedAs::counting(*direction),
             Op::Delete { .. } | Op::MetaDelete(_) => CountedAs::Delete,

@@ -3,7 +3,7 @@
 //! `a_line_without_memory_is_given_up` passes at every N.
 use crate::asserting::{equal, holds};
 use mc_command::{
-    Block, Command, Direction, Keys, Line, Refusal, StoreMode, announced_bytes,
+    Block, Command, Direction, Keys, Line, Refusal, StoreMode, Vivify, announced_bytes,
     data_can_be_given_up, flags_in_any_order, read_line, table_is_never_out_of_memory,
 };
 use mc_wire::{DEFAULT_VALUE_LIMIT, Key, WireFault, words};
@@ -146,6 +146,14 @@ fn keys_stand_in_the_order_of_the_request(rt: HostRuntime) -> Result<(), Fail> {
     Ok(())
 }
 
+/// The exptime of the item that a line of `ma` makes of a miss, 0 where it makes none.
+fn made_at(vivify: Option<Vivify>) -> i64 {
+    match vivify {
+        Some(made) => made.exptime,
+        None => 0,
+    }
+}
+
 /// What a line asks of one key: its name, and a number.
 fn asked_of(line: &Line) -> (&'static str, i64) {
     match line {
@@ -171,9 +179,9 @@ fn asked_of(line: &Line) -> (&'static str, i64) {
                 noreply: true,
             },
         ) => ("flush_all", *delay),
-        Line::Whole(Command::MetaGet(get)) => ("mg", get.touch.unwrap_or(0)),
-        Line::Whole(Command::MetaDelete(delete)) => ("md", delete.exptime.unwrap_or(0)),
-        Line::Whole(Command::MetaArithmetic(count)) => ("ma", count.vivify.unwrap_or(0)),
+        Line::Whole(Command::MetaGet(get)) => ("mg", get.asked.touch.unwrap_or(0)),
+        Line::Whole(Command::MetaDelete(delete)) => ("md", delete.asked.exptime.unwrap_or(0)),
+        Line::Whole(Command::MetaArithmetic(count)) => ("ma", made_at(count.asked.vivify)),
         Line::Data(Command::MetaSet(set), _) => ("ms", set.exptime),
         _ => ("another", 0),
     }

@@ -1,7 +1,9 @@
 //! Meta lines with values from outside: what each flag asks, which fault is told, and what is skipped.
 use crate::asserting::{equal, holds};
 use crate::command::{is_a, read, refused};
-use mc_command::{Command, Direction, Line, MetaMode, Opaque, Refusal, ReturnFlag, Returned};
+use mc_command::{
+    Command, Direction, Line, MetaArithmetic, MetaMode, Opaque, Refusal, ReturnFlag, Returned,
+};
 use std::process::Abort;
 
 /// Asserts that it is the `mg` of the next test.
@@ -9,7 +11,7 @@ fn asks_with_its_flags(rt: &impl Abort, line: &Line) {
     let Line::Whole(Command::MetaGet(get)) = line else {
         panic!(rt; "no mg")
     };
-    equal(rt, get.key.bytes(), b"key".as_slice());
+    equal(rt, get.asked.key.bytes(), b"key".as_slice());
     equal(rt, get.flags.returned.flags(), RETURNED.as_slice());
     equal(rt, get.flags.opaque.bytes(), b"123".as_slice());
     equal(
@@ -19,7 +21,7 @@ fn asks_with_its_flags(rt: &impl Abort, line: &Line) {
     );
     equal(
         rt,
-        (get.touch, get.vivify, get.recache),
+        (get.asked.touch, get.asked.vivify, get.asked.recache),
         (Some(30), Some(-1), Some(60)),
     );
 }
@@ -74,35 +76,39 @@ fn the_modes_of_ms_in_either_case(rt: HostRuntime) {
     }
 }
 
-/// Of an `ma`: its direction, amount and initial number, and its exptimes for an item that it makes and for one that it finds.
-fn ma_of(line: &Line) -> Option<((Direction, u64, u64), (Option<i64>, Option<i64>))> {
+/// Of an `ma`: its direction and amount, the exptime and the number of an item that it makes, and its exptime for one that it
+/// finds.
+fn ma_of(line: &Line) -> Option<((Direction, u64), Option<(i64, u64)>, Option<i64>)> {
     match line {
-        Line::Whole(Command::MetaArithmetic(asked)) => {
-            Some((
-                (asked.direction, asked.amount, asked.initial),
-                (asked.vivify, asked.exptime),
-            ))
+        Line::Whole(Command::MetaArithmetic(MetaArithmetic { asked, .. })) => {
+            let made = asked.vivify.map(|made| (made.exptime, made.initial));
+            Some(((asked.direction, asked.amount), made, asked.exptime))
         }
         _ => None,
     }
 }
 
-static COUNTS: [(&[u8], (Direction, u64, u64), Option<i64>); 4] = [
-    (b"ma a", (Direction::Increment, 1, 0), None),
-    (b"ma a D7 J007 M- N0", (Direction::Decrement, 7, 7), Some(0)),
+static COUNTS: [(&[u8], (Direction, u64), Option<(i64, u64)>); 5] = [
+    (b"ma a", (Direction::Increment, 1), None),
     (
-        b"ma a Md J18446744073709551615",
-        (Direction::Decrement, 1, u64::MAX),
-        None,
+        b"ma a D7 J007 M- N0",
+        (Direction::Decrement, 7),
+        Some((0, 7)),
     ),
-    (b"ma a D0 M+ N-5", (Direction::Increment, 0, 0), Some(-5)),
+    (b"ma a Md J5", (Direction::Decrement, 1), None),
+    (
+        b"ma a N1 J18446744073709551615",
+        (Direction::Increment, 1),
+        Some((1, u64::MAX)),
+    ),
+    (b"ma a D0 M+ N-5", (Direction::Increment, 0), Some((-5, 0))),
 ];
 
 #[test]
 fn the_defaults_of_ma_and_its_flags(rt: HostRuntime) {
-    for (line, counted, vivify) in &COUNTS {
+    for (line, counted, made) in &COUNTS {
         let asked = ma_of(&read(rt.alloc(), *line).line);
-        equal(&rt, asked, Some((*counted, (*vivify, None))));
+        equal(&rt, asked, Some((*counted, *made, None)));
     }
 }
 
@@ -111,8 +117,8 @@ fn md_of(line: &Line) -> Option<((bool, bool), (Option<u64>, Option<i64>))> {
     match line {
         Line::Whole(Command::MetaDelete(delete)) => {
             Some((
-                (delete.invalidate, delete.flags.quiet),
-                (delete.compare, delete.exptime),
+                (delete.asked.invalidate, delete.flags.quiet),
+                (delete.asked.compare, delete.asked.exptime),
             ))
         }
         _ => None,

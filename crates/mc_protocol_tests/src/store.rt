@@ -6,8 +6,8 @@ mod shown;
 
 use crate::asserting::equal;
 use asked::{Ask, Row, op_of};
-use mc_command::{Direction, MetaMode, StoreMode};
-use mc_item::{Answer, Op, Vivify};
+use mc_command::{Direction, MetaMode, StoreMode, Vivify};
+use mc_item::{Answer, Op};
 use mc_store::Shard;
 use mc_wire::{GREATEST_VALUE_LIMIT, WireFault};
 use shown::shown;

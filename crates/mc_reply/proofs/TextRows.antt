@@ -53,7 +53,7 @@ abbrev flags_of : Bool → Bool → List ReturnFlag → List ℕ → MetaFlags
 flags_of base64 quiet returned token = record { base64 = base64; quiet = quiet; profile = Own; returned = returned; opaque = token }
 
 abbrev meta_get : List ℕ → MetaFlags → Bool → Command
-meta_get key flags value = command.MetaGet (record { key = key; flags = flags; value = value; touch = None; vivify = None; recache = None; unnoted = false })
+meta_get key flags value = command.MetaGet (record { asked = record { key = key; touch = None; vivify = None; recache = None; unnoted = false }; flags = flags; value = value })
 
 abbrev meta_set : List ℕ → MetaFlags → Command
 meta_set key flags = command.MetaSet (record { key = key; flags = flags; mode = mode.Set; compare = None; unique = None; client_flags = 0; exptime = pos 0; block = codes "x" })
@@ -92,7 +92,7 @@ unfolding shape_of shape_text digits
 sets = (refl, refl, refl, refl)
 
 -- `ma` with `v` shows its number, also where it is quiet
-arithmetic : text_of (command.MetaArithmetic (record { key = codes "c"; flags = flags_of false true (flag.Unique ∷ []) []; value = true; compare = None; unique = None; direction = direction.Increment; amount = 2; initial = 0; vivify = None; exptime = None })) (meta_done 3 2 15 ∷ []) ≡ codes "VA 2 c3\r\n15\r\n"
+arithmetic : text_of (command.MetaArithmetic (record { asked = record { key = codes "c"; compare = None; unique = None; direction = direction.Increment; amount = 2; exptime = None; vivify = None }; flags = flags_of false true (flag.Unique ∷ []) []; value = true })) (meta_done 3 2 15 ∷ []) ≡ codes "VA 2 c3\r\n15\r\n"
 unfolding shape_of shape_text digits
 arithmetic = refl
 
@@ -118,7 +118,7 @@ memcached_zero : (text_of (meta_set (codes "a") (by_memcached (flags_of false tr
     × (text_of (meta_set (codes "a") (by_memcached (flags_of false false (flag.Unique ∷ flag.Size ∷ []) []))) (answer.Exists ∷ []) ≡ codes "EX c0\r\n")
     × (text_of (meta_set (codes "a") (by_memcached (flags_of false false (flag.Unique ∷ []) []))) (answer.NotFound ∷ []) ≡ codes "NF c0\r\n")
     × (text_of (meta_set (codes "a") (flags_of false false (flag.Unique ∷ []) [])) (answer.NotFound ∷ []) ≡ codes "NF\r\n")
-    × (text_of (command.MetaArithmetic (record { key = codes "c"; flags = by_memcached (flags_of false false (flag.Unique ∷ []) []); value = false; compare = None; unique = None; direction = direction.Increment; amount = 2; initial = 0; vivify = None; exptime = None })) (answer.NotFound ∷ []) ≡ codes "NF\r\n")
+    × (text_of (command.MetaArithmetic (record { asked = record { key = codes "c"; compare = None; unique = None; direction = direction.Increment; amount = 2; exptime = None; vivify = None }; flags = by_memcached (flags_of false false (flag.Unique ∷ []) []); value = false })) (answer.NotFound ∷ []) ≡ codes "NF\r\n")
 unfolding shape_of shape_text digits
 memcached_zero = (refl, refl, refl, refl, refl)
 

@@ -46,10 +46,10 @@ shape_of (command.Stats request.Reset) = Line false false
 shape_of (command.Stats request.Empty) = Fixed fixed.End
 shape_of command.Quit = Fixed fixed.Nothing
 shape_of command.MetaNoop = Fixed fixed.MetaNoop
-shape_of (command.MetaGet get) = Meta kind.Get get.flags get.value (shown_key get.flags get.key) false
+shape_of (command.MetaGet get) = Meta kind.Get get.flags get.value (shown_key get.flags get.asked.key) false
 shape_of (command.MetaSet set) = Meta kind.Set set.flags false (shown_key set.flags set.key) (is_lenient_in set.flags.profile set.mode)
-shape_of (command.MetaDelete delete) = Meta kind.Delete delete.flags false (shown_key delete.flags delete.key) false
+shape_of (command.MetaDelete delete) = Meta kind.Delete delete.flags false (shown_key delete.flags delete.asked.key) false
 shape_of (command.MetaArithmetic arithmetic) =
-    Meta kind.Arithmetic arithmetic.flags arithmetic.value (shown_key arithmetic.flags arithmetic.key) false
+    Meta kind.Arithmetic arithmetic.flags arithmetic.value (shown_key arithmetic.flags arithmetic.asked.key) false
 shape_of (command.Refused refusal) = Fixed (fixed.Refused refusal)
 shape_of (command.Discard key refusal) = Fixed (fixed.Refused refusal)

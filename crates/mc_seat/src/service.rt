@@ -59,8 +59,8 @@ impl Drop for Service {
 }
 
 impl Service {
-    ghost use Rattle.mc_conn.specs.Conn.{IsConn};
-    ghost use Rattle.mc_conn.specs.Told.{Told, IsAtRest, IsOver};
+    ghost use Rattle.mc_conn.specs.Conn.{IfConn};
+    ghost use Rattle.mc_conn.specs.Told.{IsAtRest, IsOver};
     ghost use Rattle.mc_seat.specs.Service.{GoOnSays, IsNew, TakesFor};
     ghost use Rattle.mc_seat.specs.internal.Reading.{ReadingSays};
 
@@ -164,10 +164,10 @@ impl Service {
     /// Makes it ready for the next line, in the same room, where the last one has ended and nothing is under way; tells whether
     /// it did.
     pub fn renew(&mut self) -> bool
-        ensures when { (told : Told) → IsConn self.old.conn told →
-            IsTrue result ↔ (IsAtRest told × IsOver told) }
-        ensures new { IsTrue result → (told : Told) → IsConn self.old.conn told →
-            IsNew told.shards told.rules told.window self.new }
+        ensures when { IfConn self.old.conn
+            (λ told. IsTrue result ↔ (IsAtRest told × IsOver told)) }
+        ensures new { IsTrue result →
+            IfConn self.old.conn (λ told. IsNew told.shards told.rules told.window self.new) }
     {
         self.seat.renew();
         self.unwritten.clear();

@@ -5,9 +5,9 @@ ghost use Rattle.std.specs.Prelude.{◌<◌, ◌≤◌};
 use crate::asserting::{equal, holds};
 use crate::memory_line::MemoryLine;
 use crate::sizes::ONE_LANE;
-use mc_command::{Command, Refusal, StoreMode};
+use mc_command::{Command, MetaRemoval, Refusal, StoreMode};
 use mc_conn::{Conn, Taken};
-use mc_item::{Answer, Expiry, Item, Kind, MetaDelete, Op, PackedExpiry, Value, expiry};
+use mc_item::{Answer, Expiry, Item, Kind, Op, PackedExpiry, Value, expiry};
 use mc_reader::{Next, Reader};
 use mc_reply::Ticket;
 use mc_ring::{Parcel, Reply, SeatEnds, ShardEnds, lanes};
@@ -198,7 +198,7 @@ fn holding(rt: &HostRuntime, alloc: Global) -> Result<Shard, AllocError> {
 
 /// `md` of the key `a`, which marks the item stale.
 fn invalidation(alloc: Global) -> Result<Op, AllocError> {
-    Ok(Op::MetaDelete(MetaDelete {
+    Ok(Op::MetaDelete(MetaRemoval {
         key: key_of(alloc)?,
         compare: None,
         unique: None,

@@ -5,7 +5,7 @@ use Rattle.mc_conn.specs.declared.conn.Conn.{Conn}
 use Rattle.mc_model.specs.declared.event.StepReply.{StepReply}
 use Rattle.mc_model.specs.declared.event.StepReply.TheVariants as replied
 use Rattle.mc_sim.specs.declared.sim.Connection.{Connection}
-use Rattle.mc_conn.specs.Conn.{IsAwaiting, IsConn}
+use Rattle.mc_conn.specs.Conn.{IfConn, IsAwaiting, IsConn}
 use Rattle.mc_conn.specs.Told.{IsAllTaken, IsAtRest, IsOpen, IsOver, IsShut, Told, all_texts, commands_of, waiting_text}
 
 -- The window has room for one more command.
@@ -31,8 +31,8 @@ MayTake kept bytes = (kept.ended ≡ false) × (kept.broken ≡ false) × (0 < l
 -- A connection that is neither ended nor broken was fed, and what it took stands behind what it was fed before.
 abbrev pub FeedsInto : Conn → List ℕ → List ℕ → StepReply → Conn → List ℕ → Type 0
 FeedsInto old fed bytes replied.Done new fed' =
-    (count : ℕ) × (0 < count) × (fed' ≡ fed ++ take count bytes) × ((told : Told) → IsConn old told → IsOpen told → TakesBytes told bytes count new)
-FeedsInto old fed bytes replied.Idle new fed' = (fed' ≡ fed) × ((told : Told) → IsConn old told → IsOpen told → TakesBytes told bytes 0 new)
+    (count : ℕ) × (0 < count) × (fed' ≡ fed ++ take count bytes) × IfConn old (λ told. IsOpen told → TakesBytes told bytes count new)
+FeedsInto old fed bytes replied.Idle new fed' = (fed' ≡ fed) × IfConn old (λ told. IsOpen told → TakesBytes told bytes 0 new)
 FeedsInto old fed bytes replied.NoMemory new fed' = (fed' ≡ fed) × (new ≡ old)
 
 -- All replies whose turn had come were handed out, behind the bytes that were handed before.
@@ -44,9 +44,9 @@ pub record HandsAll (told : Told) (new : Conn) (before after : List ℕ) : Type 
 
 -- A connection that isn't broken hands out all of them, or there is no memory and nothing changes.
 abbrev pub HandsInto : Conn → List ℕ → StepReply → Conn → List ℕ → Type 0
-HandsInto old handed replied.Done new handed' = (told : Told) → IsConn old told → told.broken ≡ false → HandsAll told new handed handed'
-HandsInto old handed replied.Idle new handed' = (told : Told) → IsConn old told → told.broken ≡ false → ⊥
-HandsInto old handed replied.NoMemory new handed' = (told : Told) → IsConn old told → told.broken ≡ false → (handed' ≡ handed) × IsConn new told
+HandsInto old handed replied.Done new handed' = IfConn old (λ told. told.broken ≡ false → HandsAll told new handed handed')
+HandsInto old handed replied.Idle new handed' = IfConn old (λ told. told.broken ≡ false → ⊥)
+HandsInto old handed replied.NoMemory new handed' = IfConn old (λ told. told.broken ≡ false → (handed' ≡ handed) × IsConn new told)
 
 -- Onto a page with more room than is needed, all are handed out.
 abbrev pub HandsOnto : Told → List ℕ → StepReply → Conn → List ℕ → Type 0

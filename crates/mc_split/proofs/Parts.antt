@@ -4,7 +4,7 @@ use Rattle.std.proofs.lemmas.List.{take_at}
 use Rattle.std.proofs.lemmas.List.FromFn.{length-map-range_with_len}
 use Rattle.mc_item.specs.declared.answer.Kind.TheVariants.{Fetch}
 use Rattle.mc_split.proofs.Shards.{ask_of, asks_kind, gets_kind}
-use Rattle.std.specs.Prelude.{ℤ, IfOk, Result, Ok, Err}
+use Rattle.std.specs.Prelude.{ℤ, IfOk, IsTrue, Result, Ok, Err}
 use Rattle.std.specs.List.{range_with_len}
 use Rattle.mc_item.specs.declared.op.Op.{Op}
 use Rattle.mc_item.specs.declared.op.Op.TheVariants as op
@@ -12,9 +12,13 @@ use Rattle.mc_item.specs.Kind.{kind_of}
 use Rattle.mc_item.specs.declared.answer.Answer.{Answer}
 use Rattle.mc_reply.specs.declared.ticket.Ticket.{Ticket}
 use Rattle.mc_split.specs.declared.plan.Piece.{Piece}
-use Rattle.mc_split.specs.Pieces.{ShardOp, asked_of}
-use Rattle.mc_split.specs.Plan.{form_kind, no_answers, parts_from}
-use Rattle.mc_split.specs.internal.Splits.{Splits}
+use Rattle.mc_split.specs.Pieces.{ShardOp, asked_of, pieces_of}
+use Rattle.mc_split.specs.Plan.{SplitsInto, form_kind, no_answers, parts_from}
+use Rattle.mc_split.specs.internal.Splits.{Splits, SplitsBehind}
+use Rattle.mc_command.specs.Command.{can_give_up}
+use Rattle.mc_command.specs.declared.command.Command.{Command}
+use Rattle.mc_reply.specs.Shape.{shape_of}
+use Rattle.mc_split.specs.declared.splitter.Splitter.{Splitter}
 use Rattle.std.specs.Result.{IsErr}
 use Rattle.mc_item.specs.declared.answer.Kind.{Kind}
 use Rattle.mc_item.specs.declared.memory.NoMemory.{NoMemory}
@@ -95,7 +99,7 @@ asks_from-next op first shards below =
 -- A form with an empty slot for each of these pieces, which stand behind those that were there.
 pub splits : (result : Result Form NoMemory) (ticket : Ticket) (moment : ℕ) (shape : Shape) (kind : Kind) (asked : List ShardOp) (old now : List (ℕ × Piece)) →
     IfOk result (λ form. form ≡ record { ticket = ticket; kind = kind; shape = shape; slots = replicate (length asked) None }) → kind ≡ form_kind asked → 0 < length asked → Queued old now ticket moment [] asked →
-    Splits result ticket moment shape asked old now
+    SplitsBehind result ticket moment shape asked old now
 splits (Ok form) ticket moment shape kind asked old now form_is kind_is some all = record {
   form = rw (form_is, empty_slots asked, kind_is);
   pieces = queued_all all;
@@ -105,7 +109,7 @@ splits (Ok form) ticket moment shape kind asked old now form_is kind_is some all
 splits (Err fault) ticket moment shape kind asked old now form_is kind_is some all = record { form = tt; pieces = tt; front = queued_behind all; asks = some }
 
 -- No memory for a piece.
-pub gives_up : (result : Result Form NoMemory) (ticket : Ticket) (moment : ℕ) (shape : Shape) (rest asked : List ShardOp) (old now : List (ℕ × Piece)) → IsErr result → 0 < length asked → Queued old now ticket moment rest asked → Splits result ticket moment shape asked old now
+pub gives_up : (result : Result Form NoMemory) (ticket : Ticket) (moment : ℕ) (shape : Shape) (rest asked : List ShardOp) (old now : List (ℕ × Piece)) → IsErr result → 0 < length asked → Queued old now ticket moment rest asked → SplitsBehind result ticket moment shape asked old now
 gives_up (Ok form) ticket moment shape rest asked old now failed some so_far = absurd cc
 gives_up (Err fault) ticket moment shape rest asked old now failed some so_far = record { form = tt; pieces = tt; front = queued_behind so_far; asks = some }
 
@@ -136,7 +140,7 @@ asks_some op shards some = omega (arith, length-map-range_with_len (ask_of op) 0
 
 -- A command that asks every shard is split once each has its piece and the form, if there was memory, a slot for each.
 pub splits_asks : (result : Result Form NoMemory) (ticket : Ticket) (moment : ℕ) (shape : Shape) (op : Op) (shards : ℕ) (old now : List (ℕ × Piece)) → IfOk result (λ form. form ≡ record { ticket = ticket; kind = kind_of op; shape = shape; slots = replicate shards None }) → 0 < shards → Queued old now ticket moment [] (asks_from op 0 shards) →
-    Splits result ticket moment shape (asks_from op 0 shards) old now
+    SplitsBehind result ticket moment shape (asks_from op 0 shards) old now
 splits_asks result ticket moment shape op shards old now form_is some all =
     let count : shards ≡ length (asks_from op 0 shards) = sym (length-map-range_with_len (ask_of op) 0 shards) in
     splits result ticket moment shape (kind_of op) (asks_from op 0 shards) old now (rw count at form_is) (asks_kind 0 shards op some) (asks_some op shards some) all
@@ -155,8 +159,18 @@ get_more old now new ticket moment part shards touch key keys others whole keys_
 
 -- A get is split once no key is left and the form, if there was memory, has a slot for each piece that was queued.
 pub splits_get : (result : Result Form NoMemory) (ticket : Ticket) (moment : ℕ) (shape : Shape) (shards : ℕ) (touch : Option ℤ) (count : ℕ) (first : List ℕ) (others keys left : List (List ℕ)) (old now : List (ℕ × Piece)) → keys ≡ first ∷ others → count ≡ length now - length old → left ≡ [] →
-    IfOk result (λ form. form ≡ record { ticket = ticket; kind = Fetch; shape = shape; slots = replicate count None }) → Queued old now ticket moment (gets_of shards touch left) (gets_of shards touch keys) → Splits result ticket moment shape (gets_of shards touch keys) old now
+    IfOk result (λ form. form ≡ record { ticket = ticket; kind = Fetch; shape = shape; slots = replicate count None }) → Queued old now ticket moment (gets_of shards touch left) (gets_of shards touch keys) → SplitsBehind result ticket moment shape (gets_of shards touch keys) old now
 splits_get result ticket moment shape shards touch count first others keys left old now keys_are count_is none form_is so_far =
     let all : Queued old now ticket moment [] (gets_of shards touch (first ∷ others)) = rw (none, keys_are) at so_far in
     let number : count ≡ length (gets_of shards touch (first ∷ others)) = omega (arith, count_is, added all, ap length all.together, length-append all.done []) in
     rw keys_are (splits result ticket moment shape Fetch (gets_of shards touch (first ∷ others)) old now (rw number at form_is) (gets_kind shards touch first others) (omega arith) all)
+
+-- A command is split once its pieces are queued.
+pub splits_into : (splitter : Splitter) (command : Command) (result : Result Form NoMemory) (shape : Shape) (asked : List ShardOp) (old now : List (ℕ × Piece)) → shape ≡ shape_of command → asked ≡ pieces_of splitter.shards command → IsTrue (can_give_up command) → Splits result splitter.ticket splitter.moment shape asked old now →
+    SplitsInto splitter command result old now
+splits_into splitter command (Ok form) shape asked old now shape_is pieces_are may one =
+    let all = rw (shape_is, pieces_are) at one in
+    record { form = all.form; pieces = all.pieces; unchanged = tt; asks = tt; gives_up = tt }
+splits_into splitter command (Err fault) shape asked old now shape_is pieces_are may one =
+    let all = rw (shape_is, pieces_are) at one in
+    record { form = tt; pieces = tt; unchanged = all.unchanged; asks = all.asks; gives_up = may }

@@ -45,13 +45,13 @@ stats_pieces = (refl, refl, refl)
 abbrev flags_k : MetaFlags
 flags_k = record { base64 = false; quiet = true; profile = Own; returned = flag.TimeLeft ∷ flag.Key ∷ []; opaque = [] }
 
-vivify_pieces : pieces_of 2 (command.MetaArithmetic (record { key = codes "c"; flags = flags_k; value = true; compare = None; unique = None; direction = direction.Increment; amount = 1; initial = 13; vivify = Some (pos 30); exptime = None }))
+vivify_pieces : pieces_of 2 (command.MetaArithmetic (record { asked = record { key = codes "c"; compare = None; unique = None; direction = direction.Increment; amount = 1; exptime = None; vivify = Some (record { exptime = pos 30; initial = 13 }) }; flags = flags_k; value = true }))
     ≡ record { shard = 0; op = op.MetaCount (record { key = codes "c"; compare = None; unique = None; direction = direction.Increment; amount = 1; exptime = None; vivify = Some (record { exptime = pos 30; initial = 13 }) }) } ∷ []
 unfolding pieces_of fnv_of
 vivify_pieces = refl
 
 abbrev deletion : MetaFlags → Command
-deletion flags = command.MetaDelete (record { key = codes "a"; flags = flags; compare = None; unique = None; invalidate = false; exptime = None })
+deletion flags = command.MetaDelete (record { asked = record { key = codes "a"; compare = None; unique = None; invalidate = false; exptime = None }; flags = flags })
 
 -- the key is kept for the reply where the flag k stands
 shapes : (shape_of (deletion flags_k) ≡ shape.Meta kind.Delete flags_k false (Some (codes "a")) false)

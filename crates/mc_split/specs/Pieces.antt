@@ -1,14 +1,12 @@
 -- The pieces of a command: what each shard is asked, in order.
-use Rattle.std.specs.Prelude.{ℕ, ℤ, List, [], ◌∷◌, Option, map}
+use Rattle.std.specs.Prelude.{ℕ, List, [], ◌∷◌, map}
 use Rattle.std.specs.List.{range_with_len}
-use Rattle.std.specs.Option.{option_map}
 use Rattle.mc_wire.specs.Key.{place_of}
 use Rattle.mc_command.specs.declared.command.Command.{Command}
 use Rattle.mc_command.specs.declared.command.Command.TheVariants as command
 use Rattle.mc_command.specs.declared.command.StatsRequest.TheVariants as request
 use Rattle.mc_item.specs.declared.op.Op.{Op}
 use Rattle.mc_item.specs.declared.op.Op.TheVariants as op
-use Rattle.mc_item.specs.declared.op.Vivify.{Vivify}
 
 -- a piece: the shard that is asked, and what it is asked
 pub record ShardOp : Type 0 where
@@ -23,10 +21,6 @@ asked_of shards key op = record { shard = place_of key shards; op = op }
 abbrev pub asked_of_all : ℕ → Op → List ShardOp
 asked_of_all shards op = map (λ shard. record { shard = shard; op = op }) (range_with_len 0 shards)
 
--- the item that ma makes of a miss: its exptime is the token of N, its number that of J
-abbrev pub vivify_of : Option ℤ → ℕ → Option Vivify
-vivify_of exptime initial = option_map (λ exptime. record { exptime = exptime; initial = initial }) exptime
-
 -- The pieces of a command, over the given number of shards: one for a command with one key, one a key in the order of the
 -- request for a get, one a shard for flush_all and stats, and none for what asks no shard.
 unfoldable pub pieces_of : ℕ → Command → List ShardOp
@@ -39,12 +33,10 @@ pieces_of shards (command.Touch key exptime noreply) = asked_of shards key (op.T
 pieces_of shards (command.FlushAll delay noreply) = asked_of_all shards (op.Flush delay)
 pieces_of shards (command.Stats request.General) = asked_of_all shards op.Stats
 pieces_of shards (command.Stats request.Reset) = asked_of_all shards op.ResetStats
-pieces_of shards (command.MetaGet get) = asked_of shards get.key (op.MetaGet (record { key = get.key; touch = get.touch; vivify = get.vivify; recache = get.recache; unnoted = get.unnoted })) ∷ []
+pieces_of shards (command.MetaGet get) = asked_of shards get.asked.key (op.MetaGet get.asked) ∷ []
 pieces_of shards (command.MetaSet set) =
     asked_of shards set.key (op.MetaStore (record { key = set.key; mode = set.mode; compare = set.compare; unique = set.unique; flags = set.client_flags; exptime = set.exptime; value = set.block })) ∷ []
-pieces_of shards (command.MetaDelete delete) =
-    asked_of shards delete.key (op.MetaDelete (record { key = delete.key; compare = delete.compare; unique = delete.unique; invalidate = delete.invalidate; exptime = delete.exptime })) ∷ []
-pieces_of shards (command.MetaArithmetic arithmetic) =
-    asked_of shards arithmetic.key (op.MetaCount (record { key = arithmetic.key; compare = arithmetic.compare; unique = arithmetic.unique; direction = arithmetic.direction; amount = arithmetic.amount; exptime = arithmetic.exptime; vivify = vivify_of arithmetic.vivify arithmetic.initial })) ∷ []
+pieces_of shards (command.MetaDelete delete) = asked_of shards delete.asked.key (op.MetaDelete delete.asked) ∷ []
+pieces_of shards (command.MetaArithmetic arithmetic) = asked_of shards arithmetic.asked.key (op.MetaCount arithmetic.asked) ∷ []
 pieces_of shards (command.Discard key refusal) = asked_of shards key (op.Delete key) ∷ []
 pieces_of shards command = []

@@ -1,6 +1,9 @@
 //! The pieces of the classic commands.
-ghost use Rattle.std.specs.Prelude.{◌≡◌, ◌<◌, ◌∷◌, [], IfOk, OnErr, false, length, map};
-ghost use Rattle.mc_split.specs.internal.Splits.{SplitsAs};
+ghost use Rattle.std.specs.Prelude.{◌≡◌, ◌∷◌, [], IfOk, OnErr, false, length, map};
+ghost use Rattle.mc_reply.specs.Shape.{shape_of};
+ghost use Rattle.mc_split.specs.Pieces.{pieces_of};
+ghost use Rattle.mc_split.specs.Plan.{SplitsInto};
+ghost use Rattle.mc_split.specs.internal.Splits.{SplitsBehind};
 
 use crate::plan::Piece;
 use crate::splitter::Splitter;
@@ -37,8 +40,7 @@ impl Splitter {
         queue: &mut VecDeque<(usize, Piece)>,
         storage: Storage,
     ) -> Result<Form, NoMemory>
-        requires { 0 < self.shards }
-        ensures { SplitsAs self (Command.Store storage) result queue.old.items queue.new.items }
+        ensures { SplitsInto self (Command.Store storage) result queue.old.items queue.new.items }
     {
         let shape = Shape::Line {
             noreply: storage.noreply,
@@ -55,15 +57,33 @@ impl Splitter {
         self.one(queue, shape, shard, op)
     }
 
-    /// `get`, `gets`, `gat`, `gats`: one piece a key, in the order of the request.
+    /// `get`, `gets`, `gat`, `gats`: one piece a key, in the order of the request. Where memory runs out, the queue holds
+    /// what it held.
     #[tactic(auto, unfolding(crate::specs::Pieces::pieces_of, mc_reply::specs::Shape::shape_of))]
     pub(crate) fn get(
         self,
         queue: &mut VecDeque<(usize, Piece)>,
         retrieval: Retrieval,
     ) -> Result<Form, NoMemory>
-        requires { 0 < self.shards }
-        ensures { SplitsAs self (Command.Get retrieval) result queue.old.items queue.new.items }
+        ensures { SplitsInto self (Command.Get retrieval) result queue.old.items queue.new.items }
+    {
+        let before = queue.len();
+        let form = self.fetch_each(queue, retrieval);
+        if form.is_err() {
+            queue.truncate(before);
+        }
+        form
+    }
+
+    /// A piece for each key. Where memory runs out, some of them may stand in the queue.
+    #[tactic(auto, unfolding(crate::specs::Pieces::pieces_of, mc_reply::specs::Shape::shape_of))]
+    fn fetch_each(
+        self,
+        queue: &mut VecDeque<(usize, Piece)>,
+        retrieval: Retrieval,
+    ) -> Result<Form, NoMemory>
+        ensures { SplitsBehind result self.ticket self.moment (shape_of (Command.Get retrieval))
+            (pieces_of self.shards (Command.Get retrieval)) queue.old.items queue.new.items }
     {
         let before = queue.len();
         let touch = retrieval.touch;
@@ -93,8 +113,7 @@ impl Splitter {
         key: Key,
         noreply: bool,
     ) -> Result<Form, NoMemory>
-        requires { 0 < self.shards }
-        ensures { SplitsAs self (Command.Delete key noreply) result
+        ensures { SplitsInto self (Command.Delete key noreply) result
             queue.old.items queue.new.items }
     {
         let shard = key.place(self.shards);
@@ -109,8 +128,7 @@ impl Splitter {
         key: Key,
         refusal: Refusal,
     ) -> Result<Form, NoMemory>
-        requires { 0 < self.shards }
-        ensures { SplitsAs self (Command.Discard key refusal) result
+        ensures { SplitsInto self (Command.Discard key refusal) result
             queue.old.items queue.new.items }
     {
         let shard = key.place(self.shards);
@@ -128,8 +146,7 @@ impl Splitter {
         amount: u64,
         noreply: bool,
     ) -> Result<Form, NoMemory>
-        requires { 0 < self.shards }
-        ensures { SplitsAs self (Command.Count key direction amount noreply) result
+        ensures { SplitsInto self (Command.Count key direction amount noreply) result
             queue.old.items queue.new.items }
     {
         let shard = key.place(self.shards);
@@ -150,8 +167,7 @@ impl Splitter {
         exptime: i64,
         noreply: bool,
     ) -> Result<Form, NoMemory>
-        requires { 0 < self.shards }
-        ensures { SplitsAs self (Command.Touch key exptime noreply) result
+        ensures { SplitsInto self (Command.Touch key exptime noreply) result
             queue.old.items queue.new.items }
     {
         let shard = key.place(self.shards);
@@ -171,8 +187,7 @@ impl Splitter {
         delay: i64,
         noreply: bool,
     ) -> Result<Form, NoMemory>
-        requires { 0 < self.shards }
-        ensures { SplitsAs self (Command.FlushAll delay noreply) result
+        ensures { SplitsInto self (Command.FlushAll delay noreply) result
             queue.old.items queue.new.items }
     {
         self.all(queue, plain_line(noreply), ToAll::Flush { delay })

@@ -1,8 +1,8 @@
 //! The pieces of the meta commands.
-ghost use Rattle.std.specs.Prelude.{◌≡◌, ◌<◌, IfOk};
+ghost use Rattle.std.specs.Prelude.{◌≡◌, IfOk};
 ghost use Rattle.std.specs.List.{list_any};
 ghost use Rattle.mc_reply.specs.Shape.{is_key_flag, is_lenient_in, shown_key};
-ghost use Rattle.mc_split.specs.internal.Splits.{SplitsAs};
+ghost use Rattle.mc_split.specs.Plan.{SplitsInto};
 
 use crate::classic::value_of;
 use crate::plan::Piece;
@@ -11,7 +11,7 @@ use mc_command::{
     Command, MetaArithmetic, MetaDelete, MetaFlags, MetaGet, MetaKind, MetaMode, MetaSet, Profile,
     ReturnFlag,
 };
-use mc_item::{NoMemory, Op, Vivify};
+use mc_item::{MetaStore, NoMemory, Op};
 use mc_reply::{Form, Shape};
 use mc_wire::Key;
 use std::alloc::AllocError;
@@ -50,32 +50,24 @@ fn is_lenient_in(profile: Profile, mode: MetaMode) -> bool
 }
 
 impl Splitter {
-    /// `mg`.
+    /// Splits `mg` with any flags, as `split_into` does.
     #[tactic(auto, unfolding(crate::specs::Pieces::pieces_of, mc_reply::specs::Shape::shape_of))]
-    pub(crate) fn meta_get(
+    pub fn split_meta_get(
         self,
         queue: &mut VecDeque<(usize, Piece)>,
         get: MetaGet,
     ) -> Result<Form, NoMemory>
-        requires { 0 < self.shards }
-        ensures { SplitsAs self (Command.MetaGet get) result queue.old.items queue.new.items }
+        ensures { SplitsInto self (Command.MetaGet get) result queue.old.items queue.new.items }
     {
         let shape = Shape::Meta {
             kind: MetaKind::Get,
             value: get.value,
-            key: copy_shown(&get.flags, &get.key)?,
+            key: copy_shown(&get.flags, &get.asked.key)?,
             flags: get.flags,
             lenient: false,
         };
-        let shard = get.key.place(self.shards);
-        let op = Op::MetaGet(mc_item::MetaGet {
-            key: get.key,
-            touch: get.touch,
-            vivify: get.vivify,
-            recache: get.recache,
-            unnoted: get.unnoted,
-        });
-        self.one(queue, shape, shard, op)
+        let shard = get.asked.key.place(self.shards);
+        self.one(queue, shape, shard, Op::MetaGet(get.asked))
     }
 
     /// `ms`.
@@ -85,8 +77,7 @@ impl Splitter {
         queue: &mut VecDeque<(usize, Piece)>,
         set: MetaSet,
     ) -> Result<Form, NoMemory>
-        requires { 0 < self.shards }
-        ensures { SplitsAs self (Command.MetaSet set) result queue.old.items queue.new.items }
+        ensures { SplitsInto self (Command.MetaSet set) result queue.old.items queue.new.items }
     {
         let shape = Shape::Meta {
             kind: MetaKind::Set,
@@ -96,7 +87,7 @@ impl Splitter {
             flags: set.flags,
         };
         let shard = set.key.place(self.shards);
-        let op = Op::MetaStore(mc_item::MetaStore {
+        let op = Op::MetaStore(MetaStore {
             key: set.key,
             mode: set.mode,
             compare: set.compare,
@@ -115,56 +106,38 @@ impl Splitter {
         queue: &mut VecDeque<(usize, Piece)>,
         delete: MetaDelete,
     ) -> Result<Form, NoMemory>
-        requires { 0 < self.shards }
-        ensures { SplitsAs self (Command.MetaDelete delete) result queue.old.items queue.new.items }
+        ensures { SplitsInto self (Command.MetaDelete delete) result
+            queue.old.items queue.new.items }
     {
         let shape = Shape::Meta {
             kind: MetaKind::Delete,
             value: false,
-            key: copy_shown(&delete.flags, &delete.key)?,
+            key: copy_shown(&delete.flags, &delete.asked.key)?,
             flags: delete.flags,
             lenient: false,
         };
-        let shard = delete.key.place(self.shards);
-        let op = Op::MetaDelete(mc_item::MetaDelete {
-            key: delete.key,
-            compare: delete.compare,
-            unique: delete.unique,
-            invalidate: delete.invalidate,
-            exptime: delete.exptime,
-        });
-        self.one(queue, shape, shard, op)
+        let shard = delete.asked.key.place(self.shards);
+        self.one(queue, shape, shard, Op::MetaDelete(delete.asked))
     }
 
-    /// `ma`. The item that it makes of a miss has the exptime of `N` and the number of `J`.
+    /// `ma`.
     #[tactic(auto, unfolding(crate::specs::Pieces::pieces_of, mc_reply::specs::Shape::shape_of))]
     pub(crate) fn meta_arithmetic(
         self,
         queue: &mut VecDeque<(usize, Piece)>,
         arithmetic: MetaArithmetic,
     ) -> Result<Form, NoMemory>
-        requires { 0 < self.shards }
-        ensures { SplitsAs self (Command.MetaArithmetic arithmetic) result
+        ensures { SplitsInto self (Command.MetaArithmetic arithmetic) result
             queue.old.items queue.new.items }
     {
         let shape = Shape::Meta {
             kind: MetaKind::Arithmetic,
             value: arithmetic.value,
-            key: copy_shown(&arithmetic.flags, &arithmetic.key)?,
+            key: copy_shown(&arithmetic.flags, &arithmetic.asked.key)?,
             flags: arithmetic.flags,
             lenient: false,
         };
-        let shard = arithmetic.key.place(self.shards);
-        let initial = arithmetic.initial;
-        let op = Op::MetaCount(mc_item::MetaCount {
-            key: arithmetic.key,
-            compare: arithmetic.compare,
-            unique: arithmetic.unique,
-            direction: arithmetic.direction,
-            amount: arithmetic.amount,
-            exptime: arithmetic.exptime,
-            vivify: arithmetic.vivify.map(|exptime| Vivify { exptime, initial }),
-        });
-        self.one(queue, shape, shard, op)
+        let shard = arithmetic.asked.key.place(self.shards);
+        self.one(queue, shape, shard, Op::MetaCount(arithmetic.asked))
     }
 }

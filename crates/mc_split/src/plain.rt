@@ -1,5 +1,5 @@
 //! The commands that are split without a value of a command: from their words to their piece and the form of their reply.
-ghost use Rattle.std.specs.Prelude.{◌≡◌, ◌<◌, ◌≤◌, ◌∷◌, [], Bool, IfOk, List, None, ℕ, ℤ, length};
+ghost use Rattle.std.specs.Prelude.{◌≡◌, ◌≤◌, ◌∷◌, [], Bool, IfOk, List, None, ℕ, ℤ, length};
 ghost use Rattle.mc_command.specs.Command.{with_block};
 ghost use Rattle.mc_command.specs.Field.{AreKeys};
 ghost use Rattle.mc_command.specs.declared.command.Command.TheVariants as command;
@@ -9,13 +9,12 @@ ghost use Rattle.mc_wire.specs.Words.{words_of};
 ghost use Rattle.mc_wire.specs.declared.TheConstants.{GREATEST_VALUE_LIMIT};
 ghost use Rattle.mc_plain.specs.Plain.{get_of, meta_get_of, set_of};
 ghost use Rattle.mc_split.specs.Plan.{form_of, Queues, SplitsInto};
-ghost use Rattle.mc_split.specs.internal.Splits.{SplitsAs};
 
 use crate::classic::plain_line;
 use crate::plan::Piece;
 use crate::splitter::Splitter;
 use mc_command::{
-    Block, Keys, MetaFlags, MetaGet, MetaKind, MetaSet, Opaque, Profile, Refusal, Retrieval,
+    Block, Keys, MetaFetch, MetaFlags, MetaKind, MetaSet, Opaque, Profile, Refusal, Retrieval,
     Returned, StoreMode,
 };
 use mc_item::{Kind, NoMemory, Op, Value};
@@ -50,7 +49,6 @@ impl Splitter {
         queue: &mut VecDeque<(usize, Piece)>,
         key: &[u8],
     ) -> Result<Key, NoMemory>
-        requires shards { 0 < self.shards }
         requires key { key_fault key.now ≡ None }
         ensures shown { IfOk result (λ shown. shown ≡ key.now) }
         ensures queues { (with_unique : Bool) →
@@ -78,9 +76,8 @@ impl Splitter {
         self.form_of_one(shape, Kind::Fetch)
     }
 
-    /// Splits `get KEY ..`, or `gets KEY ..`, by the first key and the text of the others: puts its pieces behind those of the
-    /// queue, one a key, in the order of the request, and gives the form of its reply. Where memory runs out, the queue holds
-    /// what it held.
+    /// Splits `get KEY ..`, or `gets KEY ..`, by the first key and the text of the others, as `split_into` does.
+    #[tactic(auto, unfolding(crate::specs::Pieces::pieces_of, mc_reply::specs::Shape::shape_of))]
     pub fn split_get(
         self,
         queue: &mut VecDeque<(usize, Piece)>,
@@ -88,18 +85,20 @@ impl Splitter {
         others: &[u8],
         with_unique: bool,
     ) -> Result<Form, NoMemory>
-        requires shards { 0 < self.shards }
         requires first { key_fault first.now ≡ None }
         requires others { AreKeys (words_of others.now) }
         ensures { SplitsInto self (get_of (first.now ∷ words_of others.now) with_unique) result
             queue.old.items queue.new.items }
     {
-        let before = queue.len();
-        let form = self.get_keys(queue, first, others, with_unique);
-        if form.is_err() {
-            queue.truncate(before);
-        }
-        form
+        let keys = Keys::from_key_words(self.alloc, first, others)?;
+        self.get(
+            queue,
+            Retrieval {
+                keys,
+                touch: None,
+                with_unique,
+            },
+        )
     }
 
     /// Puts the piece of `mg KEY v` behind those of the queue. Where memory runs out, the queue holds what it held.
@@ -110,14 +109,13 @@ impl Splitter {
         queue: &mut VecDeque<(usize, Piece)>,
         key: &[u8],
     ) -> Result<(), NoMemory>
-        requires shards { 0 < self.shards }
         requires key { key_fault key.now ≡ None }
         ensures { (profile : Profile) →
             Queues self (meta_get_of profile key.now) result queue.old.items queue.new.items }
     {
         let key = Key::from_key_word(self.alloc, key)?;
         let shard = key.place(self.shards);
-        let op = Op::MetaGet(mc_item::MetaGet {
+        let op = Op::MetaGet(MetaFetch {
             key,
             touch: None,
             vivify: None,
@@ -151,41 +149,26 @@ impl Splitter {
         self.form_of_one(shape, Kind::MetaGet)
     }
 
-    /// Splits `mg` with any flags, as `split_get` does.
-    pub fn split_meta_get(
-        self,
-        queue: &mut VecDeque<(usize, Piece)>,
-        get: MetaGet,
-    ) -> Result<Form, NoMemory>
-        requires { 0 < self.shards }
-        ensures { SplitsInto self (command.MetaGet get) result queue.old.items queue.new.items }
-    {
-        let before = queue.len();
-        let form = self.meta_get(queue, get);
-        if form.is_err() {
-            queue.truncate(before);
-        }
-        form
-    }
-
-    /// Splits `ms` with this block in place of its own, as `split_get` does.
+    /// Splits `ms` with this block in place of its own, as `split_into` does.
+    #[tactic(auto, unfolding(crate::specs::Pieces::pieces_of, mc_reply::specs::Shape::shape_of))]
     pub fn split_meta_set(
         self,
         queue: &mut VecDeque<(usize, Piece)>,
         set: MetaSet,
         block: &[u8],
     ) -> Result<Form, NoMemory>
-        requires shards { 0 < self.shards }
-        requires small { length block.now ≤ GREATEST_VALUE_LIMIT }
+        requires { length block.now ≤ GREATEST_VALUE_LIMIT }
         ensures { SplitsInto self (with_block (command.MetaSet set) block.now) result
             queue.old.items queue.new.items }
     {
-        let before = queue.len();
-        let form = self.meta_set_with(queue, set, block);
-        if form.is_err() {
-            queue.truncate(before);
-        }
-        form
+        let block = Vec::from_slice(self.alloc, block)?;
+        self.meta_set(
+            queue,
+            MetaSet {
+                block: Block::new(block),
+                ..set
+            },
+        )
     }
 
     /// Puts the piece of `set KEY FLAGS E N [noreply]` with its block behind those of the queue. Where memory runs out, the
@@ -200,7 +183,6 @@ impl Splitter {
         exptime: i64,
         block: &[u8],
     ) -> Result<(), NoMemory>
-        requires shards { 0 < self.shards }
         requires key { key_fault key.now ≡ None }
         requires small { length block.now ≤ GREATEST_VALUE_LIMIT }
         ensures { (noreply : Bool) →
@@ -229,54 +211,5 @@ impl Splitter {
             result ≡ form_of shards self.ticket (set_of key flags exptime noreply block) }
     {
         self.form_of_one(plain_line(noreply), Kind::Store)
-    }
-
-    /// `get KEY ..` and `gets KEY ..`.
-    #[tactic(auto, unfolding(crate::specs::Pieces::pieces_of, mc_reply::specs::Shape::shape_of))]
-    fn get_keys(
-        self,
-        queue: &mut VecDeque<(usize, Piece)>,
-        first: &[u8],
-        others: &[u8],
-        with_unique: bool,
-    ) -> Result<Form, NoMemory>
-        requires shards { 0 < self.shards }
-        requires first { key_fault first.now ≡ None }
-        requires others { AreKeys (words_of others.now) }
-        ensures { SplitsAs self (get_of (first.now ∷ words_of others.now) with_unique) result
-            queue.old.items queue.new.items }
-    {
-        let keys = Keys::from_key_words(self.alloc, first, others)?;
-        self.get(
-            queue,
-            Retrieval {
-                keys,
-                touch: None,
-                with_unique,
-            },
-        )
-    }
-
-    /// `ms` with this block.
-    #[tactic(auto, unfolding(crate::specs::Pieces::pieces_of, mc_reply::specs::Shape::shape_of))]
-    fn meta_set_with(
-        self,
-        queue: &mut VecDeque<(usize, Piece)>,
-        set: MetaSet,
-        block: &[u8],
-    ) -> Result<Form, NoMemory>
-        requires shards { 0 < self.shards }
-        requires small { length block.now ≤ GREATEST_VALUE_LIMIT }
-        ensures { SplitsAs self (with_block (command.MetaSet set) block.now) result
-            queue.old.items queue.new.items }
-    {
-        let block = Vec::from_slice(self.alloc, block)?;
-        self.meta_set(
-            queue,
-            MetaSet {
-                block: Block::new(block),
-                ..set
-            },
-        )
     }
 }

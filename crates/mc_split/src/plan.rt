@@ -3,7 +3,6 @@ ghost use Rattle.std.specs.Prelude.{◌≡◌, ◌<◌, ◌++◌, IfOk, IsTrue, 
 ghost use Rattle.mc_command.specs.Command.{can_give_up};
 ghost use Rattle.mc_split.specs.Pieces.{pieces_of};
 ghost use Rattle.mc_split.specs.Plan.{SplitsInto, form_of, parts_from};
-ghost use Rattle.mc_split.specs.internal.Splits.{SplitsAs};
 
 use crate::splitter::Splitter;
 use mc_command::Command;
@@ -59,29 +58,13 @@ pub fn split(
 impl Splitter {
     /// Splits a command: puts its pieces behind those of the queue, and gives the form of its reply. All growth happens
     /// here, before the first piece goes out. Where memory runs out, the queue holds what it held.
+    #[tactic(auto, unfolding(crate::specs::Pieces::pieces_of, mc_reply::specs::Shape::shape_of))]
     pub fn split_into(
         self,
         queue: &mut VecDeque<(usize, Piece)>,
         command: Command,
     ) -> Result<Form, NoMemory>
-        requires { 0 < self.shards }
-        ensures splits { SplitsInto self command result queue.old.items queue.new.items }
-        ensures asks { OnErr result (0 < length (pieces_of self.shards command)) }
-    {
-        let before = queue.len();
-        let form = self.split(queue, command);
-        if form.is_err() {
-            queue.truncate(before);
-        }
-        form
-    }
-
-    /// Splits a command.
-    #[tactic(auto, unfolding(crate::specs::Pieces::pieces_of, mc_reply::specs::Shape::shape_of))]
-    fn split(self, queue: &mut VecDeque<(usize, Piece)>, command: Command) -> Result<Form, NoMemory>
-        requires { 0 < self.shards }
-        ensures splits { SplitsAs self command result queue.old.items queue.new.items }
-        ensures gives_up { OnErr result (IsTrue (can_give_up command)) }
+        ensures { SplitsInto self command result queue.old.items queue.new.items }
     {
         match command {
             Command::Store(storage) => self.store(queue, storage),
@@ -104,7 +87,7 @@ impl Splitter {
             Command::Verbosity { noreply: true } | Command::Quit => Ok(self.fixed(Fixed::Nothing)),
             Command::Stats(asked) => self.stats(queue, asked),
             Command::MetaNoop => Ok(self.fixed(Fixed::MetaNoop)),
-            Command::MetaGet(get) => self.meta_get(queue, get),
+            Command::MetaGet(get) => self.split_meta_get(queue, get),
             Command::MetaSet(set) => self.meta_set(queue, set),
             Command::MetaDelete(delete) => self.meta_delete(queue, delete),
             Command::MetaArithmetic(arithmetic) => self.meta_arithmetic(queue, arithmetic),

@@ -1,9 +1,6 @@
 //! The pieces of one command, numbered, and the form of its reply.
 ghost use Rattle.std.specs.Prelude.{◌≡◌, ◌<◌, ◌++◌, ◌∷◌, [], IfOk, OnOk, OnErr, None, replicate};
 ghost use Rattle.std.specs.VecDeque.{deque_len, deque_capacity};
-ghost use Rattle.mc_split.specs.Pieces.{ShardOp};
-ghost use Rattle.mc_split.specs.Plan.{form_with};
-ghost use Rattle.mc_split.specs.internal.Splits.{Splits};
 
 use crate::plan::Piece;
 use mc_item::{Kind, NoMemory, Op};
@@ -19,6 +16,7 @@ pub struct Splitter {
     /// The moment at which the command was taken, in seconds since 1970.
     pub moment: u64,
     pub shards: usize,
+    ghost some_shards: { 0 < shards },
 }
 
 /// Makes room for one piece more.
@@ -50,6 +48,10 @@ fn grow(queue: &mut VecDeque<(usize, Piece)>) -> Result<(), AllocError>
 fn let_go(_op: Op) {}
 
 impl Splitter {
+    ghost use Rattle.mc_split.specs.Pieces.{ShardOp};
+    ghost use Rattle.mc_split.specs.Plan.{form_with};
+    ghost use Rattle.mc_split.specs.internal.Splits.{Splits};
+
     /// The form of a reply that asks no shard, so that its kind is of no meaning.
     pub(crate) fn fixed(self, fixed: Fixed) -> Form
         ensures { result ≡ form_with self.ticket (Shape.Fixed fixed) [] }

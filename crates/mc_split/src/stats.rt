@@ -1,7 +1,8 @@
 //! The pieces of what every shard is asked, and of `stats`.
-ghost use Rattle.std.specs.Prelude.{◌≡◌, ◌<◌};
+ghost use Rattle.std.specs.Prelude.{◌≡◌};
 ghost use Rattle.mc_split.specs.Pieces.{asked_of_all};
-ghost use Rattle.mc_split.specs.internal.Splits.{Splits, SplitsAs};
+ghost use Rattle.mc_split.specs.Plan.{SplitsInto};
+ghost use Rattle.mc_split.specs.internal.Splits.{Splits, SplitsBehind};
 ghost use Rattle.mc_split.specs.internal.ToAll.{op_of};
 
 use crate::classic::plain_line;
@@ -44,8 +45,7 @@ impl Splitter {
         queue: &mut VecDeque<(usize, Piece)>,
         asked: StatsRequest,
     ) -> Result<Form, NoMemory>
-        requires { 0 < self.shards }
-        ensures { SplitsAs self (Command.Stats asked) result queue.old.items queue.new.items }
+        ensures { SplitsInto self (Command.Stats asked) result queue.old.items queue.new.items }
     {
         match asked {
             StatsRequest::General => self.all(queue, Shape::Stats, ToAll::Stats),
@@ -54,15 +54,32 @@ impl Splitter {
         }
     }
 
-    /// Asks every shard: one piece a shard, rising.
+    /// Asks every shard: one piece a shard, rising. Where memory runs out, the queue holds what it held.
     pub(crate) fn all(
         self,
         queue: &mut VecDeque<(usize, Piece)>,
         shape: Shape,
         asked: ToAll,
     ) -> Result<Form, NoMemory>
-        requires { 0 < self.shards }
         ensures { Splits result self.ticket self.moment shape
+            (asked_of_all self.shards (op_of asked)) queue.old.items queue.new.items }
+    {
+        let before = queue.len();
+        let form = self.ask_each(queue, shape, asked);
+        if form.is_err() {
+            queue.truncate(before);
+        }
+        form
+    }
+
+    /// Asks each shard. Where memory runs out, some of the pieces may stand in the queue.
+    fn ask_each(
+        self,
+        queue: &mut VecDeque<(usize, Piece)>,
+        shape: Shape,
+        asked: ToAll,
+    ) -> Result<Form, NoMemory>
+        ensures { SplitsBehind result self.ticket self.moment shape
             (asked_of_all self.shards (op_of asked)) queue.old.items queue.new.items }
     {
         for shard in 0..self.shards {

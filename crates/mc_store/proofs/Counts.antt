@@ -5,9 +5,9 @@ use Rattle.std.specs.FinMap.{get}
 use Rattle.std.specs.Map.{lookup}
 use Rattle.mc_command.specs.declared.command.Direction.{Direction}
 use Rattle.mc_item.specs.declared.item.Item.{Item}
-use Rattle.mc_item.specs.declared.op.Vivify.{Vivify}
+use Rattle.mc_command.specs.declared.meta.Vivify.{Vivify}
 use Rattle.mc_item.specs.declared.op.Op.TheVariants.{Count, MetaCount}
-use Rattle.mc_item.specs.declared.op.MetaCount as op
+use Rattle.mc_command.specs.declared.meta.MetaCount as op
 use Rattle.mc_item.specs.declared.answer.Answer.{Answer}
 use Rattle.mc_item.specs.declared.answer.Answer.TheVariants.{Exists, NonNumeric, Number, MetaDone}
 use Rattle.mc_item.specs.Expiry.{expiry_of}

@@ -5,7 +5,7 @@ use Rattle.std.specs.FinMap.{get, insert}
 use Rattle.std.specs.Map.{lookup, remove_entry, set_value}
 use Rattle.mc_item.specs.declared.item.Item.{Item}
 use Rattle.mc_item.specs.declared.op.Op.TheVariants.{Delete, MetaDelete, Flush}
-use Rattle.mc_item.specs.declared.op.MetaDelete as op
+use Rattle.mc_command.specs.declared.meta.MetaRemoval as op
 use Rattle.mc_item.specs.declared.answer.Answer.TheVariants.{NotFound, Exists, Deleted, Done, NoCas}
 use Rattle.mc_item.specs.Expiry.{expiry_of}
 use Rattle.mc_item.specs.Kind.{kind_of, is_lawful}
@@ -29,33 +29,33 @@ unfolding step_of kind_of is_lawful
 delete_hit held state key item h is = ends (without_dead state (Some key)) (Delete key) Deleted _ (λ e. absurd cc) (goes_as held state key item (λ s o. delete_step s key o) Deleted h is (λ s u _. refl))
 
 -- Where nothing alive is under the key, `md` finds none, and a dead item there goes.
-pub meta_delete_miss : (held : ShardContents) (state : State) (asked : op.MetaDelete) → Keeps held state → None ≡ live held.time (lookup (pointwise nat_eq asked.key) held.entries) → Ends (without_dead state (Some asked.key)) (MetaDelete asked) NotFound (with_entries held (remove_entry (pointwise nat_eq asked.key) held.entries))
+pub meta_delete_miss : (held : ShardContents) (state : State) (asked : op.MetaRemoval) → Keeps held state → None ≡ live held.time (lookup (pointwise nat_eq asked.key) held.entries) → Ends (without_dead state (Some asked.key)) (MetaDelete asked) NotFound (with_entries held (remove_entry (pointwise nat_eq asked.key) held.entries))
 unfolding step_of kind_of is_lawful
 meta_delete_miss held state asked h none = ends (without_dead state (Some asked.key)) (MetaDelete asked) NotFound _ (λ e. absurd cc) (misses_as held state asked.key (λ s o. meta_delete_step s asked o) NotFound h none (λ s. refl))
 
 -- `md` of an item whose unique isn't the one asked for changes nothing and is answered that it exists.
-pub meta_delete_exists : (held : ShardContents) (state : State) (asked : op.MetaDelete) (item : Item) → Keeps held state → Some item ≡ live held.time (lookup (pointwise nat_eq asked.key) held.entries) → is_other asked.compare item.unique ≡ true → Ends (without_dead state (Some asked.key)) (MetaDelete asked) Exists held
+pub meta_delete_exists : (held : ShardContents) (state : State) (asked : op.MetaRemoval) (item : Item) → Keeps held state → Some item ≡ live held.time (lookup (pointwise nat_eq asked.key) held.entries) → is_other asked.compare item.unique ≡ true → Ends (without_dead state (Some asked.key)) (MetaDelete asked) Exists held
 unfolding step_of kind_of is_lawful
 meta_delete_exists held state asked item h is other = ends (without_dead state (Some asked.key)) (MetaDelete asked) Exists held (λ e. absurd cc)
     (unchanged_as held state asked.key item (λ s o. meta_delete_step s asked o) Exists h is
     (λ s u i. let o : is_other asked.compare u.item.unique ≡ true = rw i other in rw o))
 
 -- `md` without `I`, at the item's unique or at none, takes out the item that is alive under the key.
-pub meta_delete_hit : (held : ShardContents) (state : State) (asked : op.MetaDelete) (item : Item) → Keeps held state → Some item ≡ live held.time (lookup (pointwise nat_eq asked.key) held.entries) → is_other asked.compare item.unique ≡ false → asked.invalidate ≡ false → Ends (without_dead state (Some asked.key)) (MetaDelete asked) Deleted (with_entries held (remove_entry (pointwise nat_eq asked.key) held.entries))
+pub meta_delete_hit : (held : ShardContents) (state : State) (asked : op.MetaRemoval) (item : Item) → Keeps held state → Some item ≡ live held.time (lookup (pointwise nat_eq asked.key) held.entries) → is_other asked.compare item.unique ≡ false → asked.invalidate ≡ false → Ends (without_dead state (Some asked.key)) (MetaDelete asked) Deleted (with_entries held (remove_entry (pointwise nat_eq asked.key) held.entries))
 unfolding step_of kind_of is_lawful
 meta_delete_hit held state asked item h is other no_mark = ends (without_dead state (Some asked.key)) (MetaDelete asked) Deleted _ (λ e. absurd cc)
     (goes_as held state asked.key item (λ s o. meta_delete_step s asked o) Deleted h is
     (λ s u i. let o : is_other asked.compare u.item.unique ≡ false = rw i other in rw (o, no_mark)))
 
-marks : (s : State) (asked : op.MetaDelete) (u : Used) → is_other asked.compare u.item.unique ≡ false → asked.invalidate ≡ true → stales s asked u ≡ meta_delete_step s asked (Some u)
+marks : (s : State) (asked : op.MetaRemoval) (u : Used) → is_other asked.compare u.item.unique ≡ false → asked.invalidate ≡ true → stales s asked u ≡ meta_delete_step s asked (Some u)
 marks s asked u o mark = rw (o, mark)
 
 -- the outcome with this unique
-abbrev staling : State → op.MetaDelete → Used → ℕ → State → Outcome
+abbrev staling : State → op.MetaRemoval → Used → ℕ → State → Outcome
 staling state asked u unique after = (Done, with_items after (insert state.items asked.key (record u { item = stale_item u.item asked.exptime state.time unique })))
 
 -- `md` with `I` changes nothing where the client gives no unique and the shard has none left.
-pub stale_refused : (held : ShardContents) (state : State) (asked : op.MetaDelete) (item : Item) → Keeps held state → Some item ≡ live held.time (lookup (pointwise nat_eq asked.key) held.entries) → is_other asked.compare item.unique ≡ false → asked.invalidate ≡ true → None ≡ unique_for asked.unique (next_of held) →
+pub stale_refused : (held : ShardContents) (state : State) (asked : op.MetaRemoval) (item : Item) → Keeps held state → Some item ≡ live held.time (lookup (pointwise nat_eq asked.key) held.entries) → is_other asked.compare item.unique ≡ false → asked.invalidate ≡ true → None ≡ unique_for asked.unique (next_of held) →
     Ends (without_dead state (Some asked.key)) (MetaDelete asked) NoCas held
 unfolding step_of kind_of is_lawful
 stale_refused held state asked item h is other mark none = ends (without_dead state (Some asked.key)) (MetaDelete asked) NoCas held (λ e. absurd cc)
@@ -68,7 +68,7 @@ stale_keeps held state key u item (Some token) h found value = set_in_place held
 stale_keeps held state key u item None h found value = gives (with_entries held (set_value (pointwise nat_eq key) held.entries item)) (with_items state (insert state.items key (record u { item = item }))) None (set_in_place held state key u item h found value)
 
 -- `md` with `I`, at the item's unique or at none, marks the item stale where it stands and gives it a new unique.
-pub stale_done : (held : ShardContents) (state : State) (asked : op.MetaDelete) (item : Item) (unique : ℕ) → Keeps held state → Some item ≡ live held.time (lookup (pointwise nat_eq asked.key) held.entries) → is_other asked.compare item.unique ≡ false → asked.invalidate ≡ true → Some unique ≡ unique_for asked.unique (next_of held) →
+pub stale_done : (held : ShardContents) (state : State) (asked : op.MetaRemoval) (item : Item) (unique : ℕ) → Keeps held state → Some item ≡ live held.time (lookup (pointwise nat_eq asked.key) held.entries) → is_other asked.compare item.unique ≡ false → asked.invalidate ≡ true → Some unique ≡ unique_for asked.unique (next_of held) →
     Ends (without_dead state (Some asked.key)) (MetaDelete asked) Done (record held { entries = set_value (pointwise nat_eq asked.key) held.entries (stale_item item asked.exptime held.time unique); given = given_after asked.unique held.given })
 unfolding step_of kind_of is_lawful
 stale_done held state asked item unique h is other mark there = ends (without_dead state (Some asked.key)) (MetaDelete asked) Done _ (λ e. absurd cc)

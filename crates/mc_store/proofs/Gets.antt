@@ -8,7 +8,7 @@ use Rattle.lru.specs.LruCache.{promoted}
 use Rattle.mc_item.specs.declared.item.Item.{Item}
 use Rattle.mc_item.specs.declared.item.Expiry.{Expiry}
 use Rattle.mc_item.specs.declared.op.Op.TheVariants.{Fetch, Touch, MetaGet}
-use Rattle.mc_item.specs.declared.op.MetaGet as op
+use Rattle.mc_command.specs.declared.meta.MetaFetch as op
 use Rattle.mc_item.specs.declared.answer.Answer.{Answer}
 use Rattle.mc_item.specs.declared.answer.Answer.TheVariants.{Hit, Miss, NoMemory, NotFound, Touched, MetaHit}
 use Rattle.mc_item.specs.Expiry.{expiry_of, seconds_left}
@@ -57,29 +57,29 @@ touch_hit held state key exptime item h is =
     (uses_as held state key item (λ s o. touch_step s key exptime o) (λ _ _. Touched) (λ i time. touched_item i exptime time) (λ _ _. refl) h is (λ s u _. refl))
 
 -- `mg` of a live item that finds no memory changes nothing.
-pub meta_get_lacks : (held : ShardContents) (state : State) (asked : op.MetaGet) → Keeps held state → IsSome (live held.time (lookup (pointwise nat_eq asked.key) held.entries)) → Ends (without_dead state (Some asked.key)) (MetaGet asked) NoMemory held
+pub meta_get_lacks : (held : ShardContents) (state : State) (asked : op.MetaFetch) → Keeps held state → IsSome (live held.time (lookup (pointwise nat_eq asked.key) held.entries)) → Ends (without_dead state (Some asked.key)) (MetaGet asked) NoMemory held
 unfolding step_of kind_of is_lawful
 meta_get_lacks held state asked h some =
     let alive = some_of (live held.time (lookup (pointwise nat_eq asked.key) held.entries)) some in
     ends (without_dead state (Some asked.key)) (MetaGet asked) NoMemory held (λ _. refl) (lacks_as held state asked.key alive.0 _ h alive.1)
 
 -- `mg` of a live item shows it and makes it the most recently used one, where its use is noted.
-pub meta_get_hit : (held : ShardContents) (state : State) (asked : op.MetaGet) (item : Item) → asked.unnoted ≡ false → Keeps held state → Some item ≡ live held.time (lookup (pointwise nat_eq asked.key) held.entries) → Ends (without_dead state (Some asked.key)) (MetaGet asked) (MetaHit (hit_of item asked.touch asked.recache held.time)) (with_entries held (set_value (pointwise nat_eq asked.key) (promoted (pointwise nat_eq asked.key) held.entries) (at_now (shown_item item asked.touch asked.recache held.time) held.time)))
+pub meta_get_hit : (held : ShardContents) (state : State) (asked : op.MetaFetch) (item : Item) → asked.unnoted ≡ false → Keeps held state → Some item ≡ live held.time (lookup (pointwise nat_eq asked.key) held.entries) → Ends (without_dead state (Some asked.key)) (MetaGet asked) (MetaHit (hit_of item asked.touch asked.recache held.time)) (with_entries held (set_value (pointwise nat_eq asked.key) (promoted (pointwise nat_eq asked.key) held.entries) (at_now (shown_item item asked.touch asked.recache held.time) held.time)))
 unfolding step_of kind_of is_lawful
 meta_get_hit held state asked item noted h is =
     ends (without_dead state (Some asked.key)) (MetaGet asked) (MetaHit (hit_of item asked.touch asked.recache held.time)) _ (λ _. refl)
     (uses_as held state asked.key item (λ s o. meta_get_step s asked o) (λ i time. MetaHit (hit_of i asked.touch asked.recache time)) (λ i time. shown_item i asked.touch asked.recache time) (λ _ _. refl) h is (λ s u _. rw noted))
 
 -- the item that a hit leaves whose use isn't noted
-abbrev pub seen : op.MetaGet → Item → ℕ → Item
+abbrev pub seen : op.MetaFetch → Item → ℕ → Item
 seen asked item time = record (shown_item item asked.touch asked.recache time) { fetched = item.fetched }
 
-sees : (s : State) (asked : op.MetaGet) (u : Used) → asked.unnoted ≡ true →
+sees : (s : State) (asked : op.MetaFetch) (u : Used) → asked.unnoted ≡ true →
     (MetaHit (hit_of u.item asked.touch asked.recache s.time), with_items s (insert s.items asked.key (record u { item = seen asked u.item s.time }))) ≡ meta_get_step s asked (Some u)
 sees s asked u unnoted = rw unnoted
 
 -- Where its use isn't noted, `mg` of a live item shows it and leaves it at its place in the order of use.
-pub meta_see_hit : (held : ShardContents) (state : State) (asked : op.MetaGet) (item : Item) → asked.unnoted ≡ true → Keeps held state → Some item ≡ live held.time (lookup (pointwise nat_eq asked.key) held.entries) → Ends (without_dead state (Some asked.key)) (MetaGet asked) (MetaHit (hit_of item asked.touch asked.recache held.time)) (with_entries held (set_value (pointwise nat_eq asked.key) held.entries (seen asked item held.time)))
+pub meta_see_hit : (held : ShardContents) (state : State) (asked : op.MetaFetch) (item : Item) → asked.unnoted ≡ true → Keeps held state → Some item ≡ live held.time (lookup (pointwise nat_eq asked.key) held.entries) → Ends (without_dead state (Some asked.key)) (MetaGet asked) (MetaHit (hit_of item asked.touch asked.recache held.time)) (with_entries held (set_value (pointwise nat_eq asked.key) held.entries (seen asked item held.time)))
 unfolding step_of kind_of is_lawful
 meta_see_hit held state asked item unnoted h is =
     ends (without_dead state (Some asked.key)) (MetaGet asked) (MetaHit (hit_of item asked.touch asked.recache held.time)) _ (λ _. refl)
@@ -91,7 +91,7 @@ meta_see_hit held state asked item unnoted h is =
     )))
 
 -- the key was settled, and is settled once more by what makes the item
-pub meta_get_absent : (held : ShardContents) (state : State) (asked : op.MetaGet) (answer : Answer) (new : ShardContents) → Keeps held state → None ≡ live held.time (lookup (pointwise nat_eq asked.key) held.entries) →
+pub meta_get_absent : (held : ShardContents) (state : State) (asked : op.MetaFetch) (answer : Answer) (new : ShardContents) → Keeps held state → None ≡ live held.time (lookup (pointwise nat_eq asked.key) held.entries) →
     (let again = without_dead (without_dead state (Some asked.key)) (Some asked.key) in Closes again (absent_meta_get again asked.key asked.vivify) answer new) → Ends (without_dead state (Some asked.key)) (MetaGet asked) answer new
 unfolding step_of kind_of is_lawful
 meta_get_absent held state asked answer new h none closes =

@@ -11,11 +11,11 @@ use Rattle.mc_wire.specs.Limits.{latest_moment}
 use Rattle.mc_item.specs.declared.item.Item.{Item}
 use Rattle.mc_item.specs.declared.op.Op.{Op}
 use Rattle.mc_item.specs.declared.op.Op.TheVariants.{Store, Fetch, Count, Delete, Touch, Flush, Stats, ResetStats, MetaGet, MetaStore, MetaDelete, MetaCount}
-use Rattle.mc_item.specs.declared.op.MetaDelete as op
-use Rattle.mc_item.specs.declared.op.MetaGet as mg
+use Rattle.mc_command.specs.declared.meta.MetaRemoval as op
+use Rattle.mc_command.specs.declared.meta.MetaFetch as mg
 use Rattle.mc_item.specs.declared.op.MetaStore as ms
-use Rattle.mc_item.specs.declared.op.MetaCount as ma
-use Rattle.mc_item.specs.declared.op.Vivify.{Vivify}
+use Rattle.mc_command.specs.declared.meta.MetaCount as ma
+use Rattle.mc_command.specs.declared.meta.Vivify.{Vivify}
 use Rattle.mc_item.specs.declared.answer.Kind.{Kind}
 use Rattle.mc_item.specs.declared.answer.Kind.TheVariants as kind
 use Rattle.mc_item.specs.declared.answer.Answer.{Answer}
@@ -313,7 +313,7 @@ abbrev seen : State → Used → Option ℤ → Option ℤ → Used
 seen s u touch recache = record u { item = record (shown_item u.item touch recache s.time) { fetched = u.item.fetched } }
 
 -- what mg asks
-abbrev getting : List ℕ → Option ℤ → Option ℤ → Option ℤ → Bool → mg.MetaGet
+abbrev getting : List ℕ → Option ℤ → Option ℤ → Option ℤ → Bool → mg.MetaFetch
 getting key touch vivify recache unnoted = record { key = key; touch = touch; vivify = vivify; recache = recache; unnoted = unnoted }
 
 meta_get_follows : (s : State) (key : List ℕ) (touch vivify recache : Option ℤ) (unnoted : Bool) (o : Option Used) → get s.items key ≡ o → Follows s kind.MetaGet None (Some key) (meta_get_step s (getting key touch vivify recache unnoted) o)
@@ -339,7 +339,7 @@ unfolding is_lawful
 delete_follows s key None = unchanged s kind.Delete None (Some key) NotFound (λ _ _ e. cc) refl
 delete_follows s key (Some u) = goes s kind.Delete None key Deleted (λ _ _ e. cc) refl
 
-stale_follows : (s : State) (asked : op.MetaDelete) (u : Used) → Follows s kind.MetaDelete asked.unique (Some asked.key) (stales s asked u)
+stale_follows : (s : State) (asked : op.MetaRemoval) (u : Used) → Follows s kind.MetaDelete asked.unique (Some asked.key) (stales s asked u)
 unfolding is_lawful
 stale_follows s asked u =
     let stale : ℕ → Used = λ unique. record u { item = stale_item u.item asked.exptime s.time unique } in
@@ -352,7 +352,7 @@ stale_follows s asked u =
       sent = λ may k h. absurd (let both : true ≡ false = may in cc);
     }))
 
-meta_delete_follows : (s : State) (asked : op.MetaDelete) (o : Option Used) → Follows s kind.MetaDelete asked.unique (Some asked.key) (meta_delete_step s asked o)
+meta_delete_follows : (s : State) (asked : op.MetaRemoval) (o : Option Used) → Follows s kind.MetaDelete asked.unique (Some asked.key) (meta_delete_step s asked o)
 unfolding is_lawful
 meta_delete_follows s asked None = unchanged s kind.MetaDelete asked.unique (Some asked.key) NotFound (λ _ _ e. cc) refl
 meta_delete_follows s asked (Some u) = compares s kind.MetaDelete asked.unique (Some asked.key) asked.compare u.item (if asked.invalidate then stales s asked u else delete_step s asked.key (Some u)) refl (elim (cases_Bool asked.invalidate) [

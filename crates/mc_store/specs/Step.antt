@@ -14,11 +14,11 @@ use Rattle.mc_item.specs.declared.item.Expiry.TheVariants.{Never, At}
 use Rattle.mc_item.specs.declared.op.Op.{Op}
 use Rattle.mc_item.specs.declared.op.Op.TheVariants.{Store, Fetch, Count, Delete, Touch, Flush, MetaGet, MetaStore, MetaDelete, MetaCount}
 use Rattle.mc_item.specs.declared.op.Op.TheVariants as op
-use Rattle.mc_item.specs.declared.op.MetaGet as mg
+use Rattle.mc_command.specs.declared.meta.MetaFetch as mg
 use Rattle.mc_item.specs.declared.op.MetaStore as ms
-use Rattle.mc_item.specs.declared.op.MetaDelete as md
-use Rattle.mc_item.specs.declared.op.MetaCount as ma
-use Rattle.mc_item.specs.declared.op.Vivify.{Vivify}
+use Rattle.mc_command.specs.declared.meta.MetaRemoval as md
+use Rattle.mc_command.specs.declared.meta.MetaCount as ma
+use Rattle.mc_command.specs.declared.meta.Vivify.{Vivify}
 use Rattle.mc_item.specs.declared.answer.Answer.{Answer}
 use Rattle.mc_item.specs.declared.answer.MetaDone as done
 use Rattle.mc_item.specs.declared.answer.Answer.TheVariants as answer
@@ -78,7 +78,7 @@ abbrev pub shows : Bool → State → List ℕ → Used → Item → State
 shows false state key used shown = first state key shown
 shows true state key used shown = with_items state (insert state.items key (record used { item = record shown { fetched = used.item.fetched } }))
 
-abbrev pub meta_get_step : State → mg.MetaGet → Option Used → Outcome
+abbrev pub meta_get_step : State → mg.MetaFetch → Option Used → Outcome
 meta_get_step state asked None = absent_meta_get state asked.key asked.vivify
 meta_get_step state asked (Some used) =
     (MetaHit (hit_of used.item asked.touch asked.recache state.time), shows asked.unnoted state asked.key used (shown_item used.item asked.touch asked.recache state.time))
@@ -170,11 +170,11 @@ delete_step state key None = (NotFound, state)
 delete_step state key (Some used) = (Deleted, with_items state (remove state.items key))
 
 -- md with I: the item becomes stale where it stands
-abbrev pub stales : State → md.MetaDelete → Used → Outcome
+abbrev pub stales : State → md.MetaRemoval → Used → Outcome
 stales state asked used =
     numbered state asked.unique (λ unique after. (Done, with_items after (insert state.items asked.key (record used { item = stale_item used.item asked.exptime state.time unique }))))
 
-abbrev pub meta_delete_step : State → md.MetaDelete → Option Used → Outcome
+abbrev pub meta_delete_step : State → md.MetaRemoval → Option Used → Outcome
 meta_delete_step state asked None = (NotFound, state)
 meta_delete_step state asked (Some used) =
     compared state asked.compare used.item (if asked.invalidate then stales state asked used else delete_step state asked.key (Some used))

@@ -33,7 +33,7 @@ use Rattle.mc_seat.proofs.Along.{keeps_trans}
 pub some_shards : (conn : Conn) (told : Told) → IsConn conn told → 0 < told.shards
 unfolding IsConn
 some_shards conn told is =
-    let some = conn.dispatcher.some_shards in
+    let some = conn.dispatcher.splitter.some_shards in
     let same = is.shards in
     omega (arith, some, same)
 

@@ -19,7 +19,7 @@ use Rattle.mc_command.specs.declared.meta.MetaKind.TheVariants.{Get, Set, Delete
 use Rattle.mc_command.specs.declared.refusal.Refusal.{Refusal}
 use Rattle.mc_command.specs.declared.rules.Rules.{Rules}
 use Rattle.mc_command.specs.Field.{exptime_by}
-use Rattle.mc_command.specs.Meta.{compare_by, compare_refusal, direction_of, flags_of, has_flag, mode_of, token_of, unless, unsigned_token}
+use Rattle.mc_command.specs.Meta.{compare_by, compare_refusal, direction_of, flags_of, has_flag, mode_of, token_of, unless, unsigned_token, vivify_of}
 
 -- the signed number that a flag's token gives
 abbrev pub signed_token : ℕ → List (List ℕ) → Option ℤ
@@ -62,13 +62,15 @@ asked_of rules name words = record {
 
 abbrev pub get_by : Rules → List ℕ → FlagsRead → MetaGet
 get_by rules key asked = record {
-  key = key;
+  asked = record {
+    key = key;
+    touch = exptime_in rules asked.exptime;
+    vivify = exptime_in rules asked.vivify;
+    recache = exptime_in rules asked.recache;
+    unnoted = asked.unnoted;
+  };
   flags = asked.flags;
   value = asked.value;
-  touch = exptime_in rules asked.exptime;
-  vivify = exptime_in rules asked.vivify;
-  recache = exptime_in rules asked.recache;
-  unnoted = asked.unnoted;
 }
 
 abbrev pub set_by : Rules → List ℕ → FlagsRead → MetaSet
@@ -85,26 +87,29 @@ set_by rules key asked = record {
 
 abbrev pub delete_by : Rules → List ℕ → FlagsRead → MetaDelete
 delete_by rules key asked = record {
-  key = key;
+  asked = record {
+    key = key;
+    compare = asked.compare;
+    unique = asked.unique;
+    invalidate = asked.invalidate;
+    exptime = exptime_in rules asked.exptime;
+  };
   flags = asked.flags;
-  compare = asked.compare;
-  unique = asked.unique;
-  invalidate = asked.invalidate;
-  exptime = exptime_in rules asked.exptime;
 }
 
 abbrev pub arithmetic_by : Rules → List ℕ → FlagsRead → MetaArithmetic
 arithmetic_by rules key asked = record {
-  key = key;
+  asked = record {
+    key = key;
+    compare = asked.compare;
+    unique = asked.unique;
+    direction = unwrap_or asked.direction Increment;
+    amount = unwrap_or asked.amount 1;
+    exptime = exptime_in rules asked.exptime;
+    vivify = vivify_of (exptime_in rules asked.vivify) (unwrap_or asked.initial 0);
+  };
   flags = asked.flags;
   value = asked.value;
-  compare = asked.compare;
-  unique = asked.unique;
-  direction = unwrap_or asked.direction Increment;
-  amount = unwrap_or asked.amount 1;
-  initial = unwrap_or asked.initial 0;
-  vivify = exptime_in rules asked.vivify;
-  exptime = exptime_in rules asked.exptime;
 }
 
 -- the command of this key and these flags

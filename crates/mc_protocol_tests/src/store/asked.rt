@@ -1,6 +1,6 @@
 //! What a row of a test asks of a shard, as plain data.
-use mc_command::{Direction, MetaMode, StoreMode};
-use mc_item::{MetaCount, MetaDelete, MetaGet, MetaStore, NoMemory, Op, Value, Vivify};
+use mc_command::{Direction, MetaCount, MetaFetch, MetaMode, MetaRemoval, StoreMode, Vivify};
+use mc_item::{MetaStore, NoMemory, Op, Value};
 use mc_wire::{GREATEST_VALUE_LIMIT, Key, WireFault};
 use std::alloc::Global;
 
@@ -122,7 +122,7 @@ fn storing(key: Key, value: Value, ask: Ask) -> Result<Op, Key> {
 }
 
 fn meta_deleted(key: Key, compare: Option<u64>, unique: Option<u64>, invalidate: bool) -> Op {
-    Op::MetaDelete(MetaDelete {
+    Op::MetaDelete(MetaRemoval {
         key,
         compare,
         unique,
@@ -166,7 +166,7 @@ fn reading(key: Key, ask: Ask) -> Op {
         Ask::Flush(delay) => Op::Flush { delay },
         Ask::Stats => Op::Stats,
         Ask::ResetStats => Op::ResetStats,
-        Ask::Mg(touch, vivify, recache) => Op::MetaGet(MetaGet {
+        Ask::Mg(touch, vivify, recache) => Op::MetaGet(MetaFetch {
             key,
             touch,
             vivify,

@@ -1,7 +1,7 @@
 //! The events of a connection: bytes in, commands taken, replies out, and its beginning and end.
 ghost use Rattle.std.specs.Prelude.{◌≡◌, ◌<◌, ◌≤◌, ◌+◌, ◌↔◌, false, IsTrue, length};
-ghost use Rattle.mc_conn.specs.Conn.{IsConn};
-ghost use Rattle.mc_conn.specs.Told.{IsAllTaken, IsOpen, Told, waiting_text};
+ghost use Rattle.mc_conn.specs.Conn.{IfConn};
+ghost use Rattle.mc_conn.specs.Told.{IsAllTaken, IsOpen, waiting_text};
 ghost use Rattle.mc_sim.specs.Feeding.{FeedsInto, HandsInto, HandsOnto, MayBegin, MayTake, Refreshed, TakesBytes};
 ghost use Rattle.mc_sim.specs.Stands.{StepsByEvent};
 ghost use Rattle.mc_model.specs.Events.Event.{Open, Feed, Take, Hand, End, Break};
@@ -118,8 +118,7 @@ impl Sim {
 
 /// Whether a seat has had no connection, or its connection may be followed by another one.
 fn may_begin(place: &Seat) -> bool
-    ensures { (told : Told) → IsConn place.now.conn told →
-        IsTrue result ↔ MayBegin told place.now.current }
+    ensures { IfConn place.now.conn (λ told. IsTrue result ↔ MayBegin told place.now.current) }
 {
     place.current.is_none() || (place.conn.is_at_rest() && place.conn.is_over())
 }
@@ -150,8 +149,8 @@ fn feed_into(alloc: Global, conn: &mut Conn, fed: &mut Vec<u8>, bytes: &[u8]) ->
 /// Feeds a connection, and tells how many bytes it took.
 fn feed_some(alloc: Global, conn: &mut Conn, bytes: &[u8]) -> usize
     ensures within { result ≤ length bytes.now }
-    ensures taken { (told : Told) → IsConn conn.old told → IsOpen told →
-        TakesBytes told bytes.now result conn.new }
+    ensures taken { IfConn conn.old (λ told. IsOpen told →
+        TakesBytes told bytes.now result conn.new) }
 {
     refresh(alloc, conn);
     conn.feed(bytes)
@@ -159,7 +158,7 @@ fn feed_some(alloc: Global, conn: &mut Conn, bytes: &[u8]) -> usize
 
 /// Asks a connection of which all commands are taken for the next one. It finds none, and is ready for more bytes.
 fn refresh(alloc: Global, conn: &mut Conn)
-    ensures { (told : Told) → IsConn conn.old told → Refreshed told conn.new }
+    ensures { IfConn conn.old (λ told. Refreshed told conn.new) }
 {
     if !conn.whole() {
         ask(alloc, conn);
@@ -168,7 +167,7 @@ fn refresh(alloc: Global, conn: &mut Conn)
 
 /// Asks a connection of which all commands are taken for the next one.
 fn ask(alloc: Global, conn: &mut Conn)
-    ensures { (told : Told) → IsConn conn.old told → IsAllTaken told → Refreshed told conn.new }
+    ensures { IfConn conn.old (λ told. IsAllTaken told → Refreshed told conn.new) }
 {
     let _ = conn.take(alloc, 0);
 }
@@ -189,9 +188,9 @@ fn hand_out(alloc: Global, conn: &mut Conn, handed: &mut Vec<u8>) -> StepReply
 
 /// Hands out all replies whose turn has come onto a page, whose bytes are then those handed.
 fn hand_onto(conn: &mut Conn, page: Page, handed: &mut Vec<u8>) -> StepReply
-    ensures { (told : Told) → IsConn conn.old told → told.broken ≡ false → page.failed ≡ false →
+    ensures { IfConn conn.old (λ told. told.broken ≡ false → page.failed ≡ false →
         length page.bytes.items + length (waiting_text told) < page.limit →
-        HandsOnto told page.bytes.items result conn.new handed.new.items }
+        HandsOnto told page.bytes.items result conn.new handed.new.items) }
 {
     let mut page = page;
     let result = conn.hand(&mut page);

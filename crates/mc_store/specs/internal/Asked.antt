@@ -3,8 +3,8 @@ use Rattle.std.specs.Prelude.{ℕ, ℤ, List, Option}
 use Rattle.mc_command.specs.declared.command.Direction.{Direction}
 use Rattle.mc_command.specs.declared.meta.MetaMode.{MetaMode}
 use Rattle.mc_item.specs.declared.op.MetaStore.{MetaStore}
-use Rattle.mc_item.specs.declared.op.MetaCount.{MetaCount}
-use Rattle.mc_item.specs.declared.op.Vivify.{Vivify}
+use Rattle.mc_command.specs.declared.meta.MetaCount.{MetaCount}
+use Rattle.mc_command.specs.declared.meta.Vivify.{Vivify}
 use Rattle.mc_store.specs.declared.shard.storing.Storing.{Storing}
 use Rattle.mc_store.specs.declared.shard.counting.Counting.{Counting}
 

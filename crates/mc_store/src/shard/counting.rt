@@ -9,8 +9,8 @@ ghost use Rattle.mc_store.specs.Step.{counted};
 
 use crate::items::is_other;
 use crate::shard::{Shard, fresh_item};
-use mc_command::Direction;
-use mc_item::{Answer, Item, Kind, MetaCount, MetaDone, PackedExpiry, Value, Vivify};
+use mc_command::{Direction, MetaCount, Vivify};
+use mc_item::{Answer, Item, Kind, MetaDone, PackedExpiry, Value};
 use mc_wire::Key;
 use std::alloc::Global;
 

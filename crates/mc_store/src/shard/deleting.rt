@@ -7,7 +7,8 @@ ghost use Rattle.mc_store.specs.Step.{coming};
 
 use crate::items::{Staling, is_other};
 use crate::shard::Shard;
-use mc_item::{Answer, Expiry, Kind, MetaDelete, expiry};
+use mc_command::MetaRemoval;
+use mc_item::{Answer, Expiry, Kind, expiry};
 use mc_wire::Key;
 
 impl Shard {
@@ -30,7 +31,7 @@ impl Shard {
 
     /// `md`; with `invalidate` the item is marked stale in place of going.
     #[tactic(auto, unfolding(mc_item::specs::Kind::is_lawful))]
-    pub(super) fn meta_delete(&mut self, asked: &MetaDelete) -> Answer
+    pub(super) fn meta_delete(&mut self, asked: &MetaRemoval) -> Answer
         ensures acts { Acts self.old (op.MetaDelete asked.now) result self.new }
         ensures lawful { is_lawful Kind.MetaDelete result ≡ true }
     {

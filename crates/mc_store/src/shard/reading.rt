@@ -7,7 +7,8 @@ ghost use Rattle.mc_wire.specs.declared.TheConstants.{LATEST_MOMENT};
 
 use crate::access::{Access, Reader, Use, expiry_from, is_won};
 use crate::shard::Shard;
-use mc_item::{Answer, Item, Kind, Marks, MetaGet, MetaHit, PackedExpiry, Value};
+use mc_command::MetaFetch;
+use mc_item::{Answer, Item, Kind, Marks, MetaHit, PackedExpiry, Value};
 use mc_wire::{Key, LATEST_MOMENT};
 
 /// The marks of a hit, by the item before the command.
@@ -158,7 +159,7 @@ impl Shard {
 
     /// `mg`.
     #[tactic(auto, unfolding(mc_item::specs::Kind::is_lawful))]
-    pub(super) fn meta_get(&mut self, asked: MetaGet) -> Answer
+    pub(super) fn meta_get(&mut self, asked: MetaFetch) -> Answer
         ensures acts { Acts self.old (op.MetaGet asked) result self.new }
         ensures lawful { is_lawful Kind.MetaGet result ≡ true }
     {
@@ -177,7 +178,7 @@ impl Shard {
 
     /// `mg` with the flag `u`: that the item was read isn't noted.
     #[tactic(auto, unfolding(mc_item::specs::Kind::is_lawful))]
-    fn meta_see(&mut self, asked: MetaGet) -> Answer
+    fn meta_see(&mut self, asked: MetaFetch) -> Answer
         requires { asked.unnoted ≡ true }
         ensures acts { Acts self.old (op.MetaGet asked) result self.new }
         ensures lawful { is_lawful Kind.MetaGet result ≡ true }

@@ -2,7 +2,7 @@
 use Rattle.std.proofs.Common.{◌≡◌, ◌-◌}
 use Rattle.mc_split.specs.internal.ToAll.{op_of}
 use Rattle.mc_split.proofs.Parts.{Queued, asks_from}
-use Rattle.mc_split.proofs.splitter.Splitter.all.Given as goal
+use Rattle.mc_split.proofs.splitter.Splitter.ask_each.Given as goal
 
 abbrev pub invariant-loop-shard : goal.invariant-loop-shard
 invariant-loop-shard l = record {

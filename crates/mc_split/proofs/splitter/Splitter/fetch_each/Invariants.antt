@@ -2,7 +2,7 @@
 use Rattle.mc_wire.specs.Words.{words_left}
 use Rattle.mc_command.specs.Field.{AreKeys}
 use Rattle.mc_split.proofs.Parts.{Queued, gets_of}
-use Rattle.mc_split.proofs.splitter.Splitter.get.Given as goal
+use Rattle.mc_split.proofs.splitter.Splitter.fetch_each.Given as goal
 
 abbrev pub invariant-loop-word : goal.invariant-loop-word
 invariant-loop-word l = record {

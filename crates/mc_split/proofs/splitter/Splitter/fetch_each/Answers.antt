@@ -4,7 +4,7 @@ use Rattle.mc_wire.specs.Words.{words_left}
 use Rattle.mc_split.specs.Pieces.{pieces_of}
 use Rattle.mc_reply.specs.Shape.{shape_of}
 use Rattle.mc_split.proofs.Parts.{get_first, get_more, splits_get}
-use Rattle.mc_split.proofs.splitter.Splitter.get.Goals as goal
+use Rattle.mc_split.proofs.splitter.Splitter.fetch_each.Goals as goal
 
 pub loop-word-init : goal.loop-word-init
 loop-word-init c =
