@@ -6,7 +6,6 @@ use Rattle.mc_wire.specs.Number.{number_of, integer_of}
 use Rattle.mc_command.specs.declared.command.Command.{Command}
 use Rattle.mc_command.specs.declared.command.Command.TheVariants.{FlushAll}
 use Rattle.mc_command.specs.declared.command.StoreMode.{StoreMode}
-use Rattle.mc_command.specs.declared.command.StoreMode.TheVariants.{Cas}
 use Rattle.mc_command.specs.declared.command.Direction.{Direction}
 use Rattle.mc_command.specs.declared.refusal.Refusal.{Refusal}
 use Rattle.mc_command.specs.declared.refusal.Refusal.TheVariants.{BadFormat, BadKey, WordCount}
@@ -15,7 +14,7 @@ use Rattle.mc_command.specs.Field.{exptime_by, exptime_of, is_key, is_noreply, k
 use Rattle.mc_command.specs.Rules.{is_drop_in}
 use Rattle.mc_command.specs.declared.rules.Rules.{Rules}
 use Rattle.mc_command.specs.Blocks.{MayBeGivenUp}
-use Rattle.mc_command.specs.Classic.{storage_words, cas_mode, cas_words, keys_of, get_words, gat_words, is_zero, delete_words, count_words, touch_words, flush_of, flush_words}
+use Rattle.mc_command.specs.Classic.{storage_words, compare_of, cas_words, keys_of, get_words, gat_words, is_zero, delete_words, count_words, touch_words, flush_of, flush_words}
 
 -- a field whose fault may be given up
 abbrev pub Yields : {A : Type 0} → Result A Refusal → Type 0
@@ -52,8 +51,9 @@ yields_then (Err refusal) rest yields each = yields
 pub yields_exptime : (rules : Rules) (word : List ℕ) → Yields (exptime_of rules word)
 yields_exptime rules word = yields_then (signed_of word) (λ number. Ok (exptime_by rules number)) (yields_signed word) (λ number. tt)
 
-pub yields_mode : (unique : List ℕ) → Yields (cas_mode unique)
-yields_mode unique = yields_then (unsigned_of (2 ^ 64) unique) (λ unique. Ok (Cas unique)) (yields_number (2 ^ 64) unique) (λ unique. tt)
+pub yields_compare : (unique : Option (List ℕ)) → Yields (compare_of unique)
+yields_compare None = tt
+yields_compare (Some word) = yields_then (unsigned_of (2 ^ 64) word) (λ unique. Ok (Some unique)) (yields_number (2 ^ 64) word) (λ unique. tt)
 
 pub yields_noreply : (word : Option (List ℕ)) → Yields (noreply_of word)
 yields_noreply None = tt
@@ -81,7 +81,7 @@ may_cond : (test : Bool) (one other : Result Command Refusal) → MayBeGivenUp o
 may_cond true one other first second = first
 may_cond false one other first second = second
 
-pub ruleset readings = (may_then, yields_key, yields_keys, yields_number, yields_exptime, yields_mode, yields_last)
+pub ruleset readings = (may_then, yields_key, yields_keys, yields_number, yields_exptime, yields_compare, yields_last)
 
 -- A line of `set`, `add`, `replace`, `append` or `prepend` may be given up, whatever its words are.
 pub storage_may : (rules : Rules) (mode : StoreMode) (words : List (List ℕ)) → MayBeGivenUp (storage_words rules mode words)

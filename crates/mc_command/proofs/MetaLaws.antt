@@ -54,7 +54,7 @@ given_up_command : (rules : Rules) (name : MetaKind) (key : List ℕ) (words : L
 given_up_command rules Get key words = refl
 given_up_command rules Set key words =
     let set = meta_set_of rules key words in
-    given_up_unless (compare_refusal rules set) _ (of_cond (not (is_drop_in rules) && (is_some set.compare && not (is_set set.mode))) _ _ refl tt) refl
+    given_up_unless (compare_refusal rules set) _ (of_cond (not (is_drop_in rules) && (is_some set.asked.compare && not (is_set set.asked.mode))) _ _ refl tt) refl
 given_up_command rules Delete key words = refl
 given_up_command rules Arithmetic key words = refl
 

@@ -10,10 +10,8 @@ use Rattle.mc_command.specs.declared.command.Command.{Command}
 use Rattle.mc_command.specs.declared.command.Command.TheVariants as command
 use Rattle.mc_command.specs.declared.command.StatsRequest.TheVariants as request
 use Rattle.mc_command.specs.declared.command.StoreMode.{StoreMode}
-use Rattle.mc_command.specs.declared.command.StoreMode.TheVariants as store
+use Rattle.mc_command.specs.declared.command.StoreMode.TheVariants as mode
 use Rattle.mc_command.specs.declared.command.Direction.TheVariants.{Increment}
-use Rattle.mc_command.specs.declared.meta.MetaMode.{MetaMode}
-use Rattle.mc_command.specs.declared.meta.MetaMode.TheVariants as mode
 use Rattle.mc_command.specs.declared.refusal.Refusal.TheVariants.{Unknown, BadFormat, BadKey, DuplicateFlag, Hidden, InvalidFlag, TooLarge, WordCount}
 use Rattle.mc_command.specs.declared.rules.Profile.{Profile}
 use Rattle.mc_command.specs.declared.rules.Profile.TheVariants.{Own, DropIn}
@@ -39,7 +37,7 @@ abbrev a : List ℕ
 a = codes "a"
 
 abbrev set : ℤ → Bool → Command
-set exptime noreply = command.Store (record { key = a; mode = store.Set; flags = 0; exptime = exptime; noreply = noreply; lenient = false; block = [] })
+set exptime noreply = command.Store (record { asked = record { key = a; mode = mode.Set; compare = None; unique = None; flags = 0; exptime = exptime; value = [] }; noreply = noreply; lenient = false })
 
 -- `set` with this exptime and a block of one byte
 abbrev until : ℤ → Line
@@ -170,38 +168,32 @@ unfolding line_of words_of name_of
 versions = (refl, refl)
 
 -- A joined value that is too large counts as not stored, or it is an error.
-abbrev joining : StoreMode → Bool → Line
-joining mode lenient = Data (command.Store (record { key = a; mode = mode; flags = 0; exptime = pos 0; noreply = false; lenient = lenient; block = [] })) 1
+abbrev joining : StoreMode → Option ℕ → Bool → Line
+joining mode compare lenient = Data (command.Store (record { asked = record { key = a; mode = mode; compare = compare; unique = None; flags = 0; exptime = pos 0; value = [] }; noreply = false; lenient = lenient })) 1
 
 joins : AreSo (
-    (codes "append a 0 0 1", joining store.Append false, joining store.Append true)
-    ∷ (codes "prepend a 0 0 1", joining store.Prepend false, joining store.Prepend true)
-    ∷ (codes "add a 0 0 1", joining store.Add false, joining store.Add false)
-    ∷ (codes "replace a 0 0 1", joining store.Replace false, joining store.Replace false)
-    ∷ (codes "cas a 0 0 1 5", joining (store.Cas 5) false, joining (store.Cas 5) false)
+    (codes "append a 0 0 1", joining mode.Append None false, joining mode.Append None true)
+    ∷ (codes "prepend a 0 0 1", joining mode.Prepend None false, joining mode.Prepend None true)
+    ∷ (codes "add a 0 0 1", joining mode.Add None false, joining mode.Add None false)
+    ∷ (codes "replace a 0 0 1", joining mode.Replace None false, joining mode.Replace None false)
+    ∷ (codes "cas a 0 0 1 5", joining mode.Set (Some 5) false, joining mode.Set (Some 5) false)
     ∷ []
     )
 unfolding line_of words_of name_of is_key number_of int_wrap
 joins = (refl, refl)
 
 -- `ms` in this mode that compares with this unique, with this exptime and a block of one byte
-abbrev ms_until : Profile → ℤ → MetaMode → Option ℕ → Line
+abbrev ms_until : Profile → ℤ → StoreMode → Option ℕ → Line
 ms_until profile exptime mode compare =
     Data (command.MetaSet (record {
-      key = a;
+      asked = record { key = a; mode = mode; compare = compare; unique = None; flags = 0; exptime = exptime; value = [] };
       flags = record { base64 = false; quiet = false; profile = profile; returned = []; opaque = [] };
-      mode = mode;
-      compare = compare;
-      unique = None;
-      client_flags = 0;
-      exptime = exptime;
-      block = [];
     })) 1
 
-abbrev own_ms : MetaMode → Option ℕ → Line
+abbrev own_ms : StoreMode → Option ℕ → Line
 own_ms mode compare = ms_until Own (pos 0) mode compare
 
-abbrev ms : MetaMode → Option ℕ → Line
+abbrev ms : StoreMode → Option ℕ → Line
 ms mode compare = ms_until DropIn (pos 0) mode compare
 
 -- `C` with a mode other than S, and modes that join

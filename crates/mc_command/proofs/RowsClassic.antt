@@ -7,7 +7,7 @@ use Rattle.mc_wire.specs.declared.TheConstants.{DEFAULT_VALUE_LIMIT}
 use Rattle.mc_command.specs.declared.command.Command.{Command}
 use Rattle.mc_command.specs.declared.command.Command.TheVariants as command
 use Rattle.mc_command.specs.declared.command.StoreMode.{StoreMode}
-use Rattle.mc_command.specs.declared.command.StoreMode.TheVariants.{Set, Add, Replace, Append, Prepend, Cas}
+use Rattle.mc_command.specs.declared.command.StoreMode.TheVariants.{Set, Add, Replace, Append, Prepend}
 use Rattle.mc_command.specs.declared.command.Direction.TheVariants.{Increment, Decrement}
 use Rattle.mc_command.specs.declared.refusal.Refusal.TheVariants.{Unknown, BadFormat, BadKey, InvalidFlag, TooLarge}
 use Rattle.mc_command.specs.declared.line.Line.{Line}
@@ -33,8 +33,14 @@ AreSo rows = map (λ row. line_of (own DEFAULT_VALUE_LIMIT) (words_of row.0)) ro
 abbrev each_is : Line → List (List ℕ) → Rows
 each_is line texts = map (λ text. (text, line)) texts
 
+abbrev stored_at : Option ℕ → List ℕ → StoreMode → ℕ → ℤ → Bool → Command
+stored_at compare key mode flags exptime noreply = command.Store (record { asked = record { key = key; mode = mode; compare = compare; unique = None; flags = flags; exptime = exptime; value = [] }; noreply = noreply; lenient = false })
+
 abbrev stored : List ℕ → StoreMode → ℕ → ℤ → Bool → Command
-stored key mode flags exptime noreply = command.Store (record { key = key; mode = mode; flags = flags; exptime = exptime; noreply = noreply; lenient = false; block = [] })
+stored key mode flags exptime noreply = stored_at None key mode flags exptime noreply
+
+abbrev swapped : ℕ → List ℕ → Bool → Command
+swapped unique key noreply = stored_at (Some unique) key Set 0 (pos 0) noreply
 
 abbrev got : List (List ℕ) → Option ℤ → Bool → Line
 got keys touch with_unique = Whole (command.Get (record { keys = keys; touch = touch; with_unique = with_unique }))
@@ -56,8 +62,8 @@ storage_rows : AreSo (
     ∷ (codes "replace a 0 9223372036854775807 2", Data (stored a Replace 0 (pos 9223372036854775807) false) 2)
     ∷ (codes "append a 4294967295 7 2", Data (stored a Append 4294967295 (pos 7) false) 2)
     ∷ (codes "prepend a 0 -9223372036854775808 1", Data (stored a Prepend 0 (negsuc 9223372036854775807) false) 1)
-    ∷ (codes "cas a 0 0 1 18446744073709551615", Data (stored a (Cas 18446744073709551615) 0 (pos 0) false) 1)
-    ∷ (codes "cas a 0 0 1 7 noreply", Data (stored a (Cas 7) 0 (pos 0) true) 1)
+    ∷ (codes "cas a 0 0 1 18446744073709551615", Data (swapped 18446744073709551615 a false) 1)
+    ∷ (codes "cas a 0 0 1 7 noreply", Data (swapped 7 a true) 1)
     ∷ (codes "set a 0 0 00000000000000000001", Data (stored a Set 0 (pos 0) false) 1)
     ∷ (codes "set a 0 0 1048576", Data (stored a Set 0 (pos 0) false) 1048576)
     ∷ (codes "set " ++ letters 250 ++ codes " 0 0 2", Data (stored (letters 250) Set 0 (pos 0) false) 2)
@@ -156,7 +162,7 @@ number_rows : AreSo (
     (codes "set a 00000000000000000007 -0 1", Data (stored a Set 7 (pos 0) false) 1)
     ∷ (codes "set a 0 00000000000000000009 1", Data (stored a Set 0 (pos 9) false) 1)
     ∷ (codes "set a 0 -00000000000000000009 1", Data (stored a Set 0 (negsuc 8) false) 1)
-    ∷ (codes "cas a 0 0 1 00000000000000000007", Data (stored a (Cas 7) 0 (pos 0) false) 1)
+    ∷ (codes "cas a 0 0 1 00000000000000000007", Data (swapped 7 a false) 1)
     ∷ (codes "incr a 007", Whole (command.Count a Increment 7 false))
     ∷ (codes "incr a 00000000000000000005", Whole (command.Count a Increment 5 false))
     ∷ (codes "decr a 18446744073709551615 noreply", Whole (command.Count a Decrement 18446744073709551615 true))
@@ -177,7 +183,7 @@ number_rows = refl
 
 -- `noreply` is a key in the place of one, and a bad word in any other place but its own
 noreply_rows : AreSo (
-    (codes "cas noreply 0 0 1 7", Data (stored (codes "noreply") (Cas 7) 0 (pos 0) false) 1)
+    (codes "cas noreply 0 0 1 7", Data (swapped 7 (codes "noreply") false) 1)
     ∷ (codes "gets noreply noreply", got (codes "noreply" ∷ codes "noreply" ∷ []) None true)
     ∷ (codes "gat 0 noreply", got (codes "noreply" ∷ []) (Some (pos 0)) false)
     ∷ (codes "delete noreply", Whole (command.Delete (codes "noreply") false))

@@ -10,7 +10,7 @@ use Rattle.mc_command.specs.declared.command.Direction.TheVariants.{Increment, D
 use Rattle.mc_command.specs.declared.line.Line.{Line}
 use Rattle.mc_command.specs.declared.line.Line.TheVariants.{Whole, Data, Refused, Skip}
 use Rattle.mc_command.specs.declared.meta.MetaFlags.{MetaFlags}
-use Rattle.mc_command.specs.declared.meta.MetaMode.TheVariants as mode
+use Rattle.mc_command.specs.declared.command.StoreMode.TheVariants as mode
 use Rattle.mc_command.specs.declared.meta.ReturnFlag.TheVariants.{Unique, ClientFlags, Fetched, Key, LastAccess, Opaque, Size, TimeLeft}
 use Rattle.mc_command.specs.declared.meta.MetaKind.TheVariants.{Get, Set, Delete, Arithmetic}
 use Rattle.mc_command.specs.declared.refusal.Refusal.TheVariants.{BadFormat, BadKey, InvalidFlag, DuplicateFlag, OpaqueTooLong, TooLarge}
@@ -105,7 +105,7 @@ line_limits : map (λ text. line_of (own LEAST_VALUE_LIMIT) (words_of text)) (ma
 unfolding line_of name_of meta_line_of words_of number_of is_key word_count_refusal
 line_limits = refl
 
-largest_value : ms (codes "a 1048576") ≡ Data (MetaSet (record { key = codes "a"; flags = no_flags; mode = mode.Set; compare = None; unique = None; client_flags = 0; exptime = pos 0; block = [] })) 1048576
+largest_value : ms (codes "a 1048576") ≡ Data (MetaSet (record { asked = record { key = codes "a"; mode = mode.Set; compare = None; unique = None; flags = 0; exptime = pos 0; value = [] }; flags = no_flags })) 1048576
 unfolding meta_line_of words_of number_of is_key word_count_refusal
 largest_value = refl
 
@@ -176,14 +176,8 @@ plain_key = refl
 
 whole_set : ms (codes "a 5 T30 s F7 C9 E77 c q Oxy MS")
     ≡ Data (MetaSet (record {
-      key = codes "a";
+      asked = record { key = codes "a"; mode = mode.Set; compare = Some 9; unique = Some 77; flags = 7; exptime = pos 30; value = [] };
       flags = record { base64 = false; quiet = true; profile = Own; returned = Size ∷ Unique ∷ Opaque ∷ []; opaque = codes "xy" };
-      mode = mode.Set;
-      compare = Some 9;
-      unique = Some 77;
-      client_flags = 7;
-      exptime = pos 30;
-      block = [];
     })) 5
 unfolding meta_line_of words_of number_of is_key word_count_refusal
 whole_set = refl

@@ -18,15 +18,15 @@ abbrev pub whole_line : Result Command Refusal → Line
 whole_line (Ok command) = Whole command
 whole_line (Err refusal) = Refused refusal
 
--- the key that a storage command of this mode sets, whatever stands under it
-abbrev pub key_set_by : StoreMode → List ℕ → Option (List ℕ)
-key_set_by mode.Set key = Some key
-key_set_by other key = None
+-- the key that a storage command of this mode sets, whatever stands under it; `cas` compares a unique
+abbrev pub key_set_by : StoreMode → Option ℕ → List ℕ → Option (List ℕ)
+key_set_by mode.Set None key = Some key
+key_set_by mode compare key = None
 
 -- the key whose item goes where a command's value is too large: of `set`, and of `ms` in each of its modes
 abbrev pub key_set : Command → Option (List ℕ)
-key_set (command.Store storage) = key_set_by storage.mode storage.key
-key_set (command.MetaSet set) = Some set.key
+key_set (command.Store storage) = key_set_by storage.asked.mode storage.asked.compare storage.asked.key
+key_set (command.MetaSet set) = Some set.asked.key
 key_set other = None
 
 -- the key whose item goes where the value of a command is too large: memcached leaves no old value behind

@@ -9,7 +9,8 @@ use Rattle.std.specs.Str.{bytes_eq}
 use Rattle.mc_command.specs.declared.command.Command.{Command}
 use Rattle.mc_command.specs.declared.command.Command.TheVariants.{Store, Get, Delete, Count, Touch, FlushAll, Stats, Verbosity}
 use Rattle.mc_command.specs.declared.command.StoreMode.{StoreMode}
-use Rattle.mc_command.specs.declared.command.StoreMode.TheVariants.{Append, Prepend, Cas}
+use Rattle.mc_command.specs.declared.command.StoreRequest.{StoreRequest}
+use Rattle.mc_command.specs.declared.command.StoreMode.TheVariants.{Set, Append, Prepend}
 use Rattle.mc_command.specs.declared.command.Direction.{Direction}
 use Rattle.mc_command.specs.declared.command.StatsRequest.{StatsRequest}
 use Rattle.mc_command.specs.declared.command.StatsRequest.TheVariants.{General, Reset, Empty}
@@ -37,33 +38,46 @@ with_last rules [] read = read None
 with_last rules (word ∷ []) read = read (Some word)
 with_last rules words read = Err (word_count_refusal rules)
 
--- a storage command, its block still empty; the mode of `cas` is read behind the exptime
-abbrev pub storage_of : Rules → Result StoreMode Refusal → List ℕ → List ℕ → List ℕ → Option (List ℕ) → Result Command Refusal
-storage_of rules mode key flags exptime last =
+-- the unique that `cas` compares, by its word; the other commands have none
+abbrev pub compare_of : Option (List ℕ) → Result (Option ℕ) Refusal
+compare_of None = Ok None
+compare_of (Some word) = then_of (unsigned_of (2 ^ 64) word) (λ unique. Ok (Some unique))
+
+-- what a classic storage command asks, its block still empty; the shard gives the item its unique
+abbrev pub asked_to_store : StoreMode → Option ℕ → List ℕ → ℕ → ℤ → StoreRequest (List ℕ)
+asked_to_store mode compare key flags exptime = record {
+  key = key;
+  mode = mode;
+  compare = compare;
+  unique = None;
+  flags = flags;
+  exptime = exptime;
+  value = [];
+}
+
+-- a storage command, by its words
+abbrev pub storage_of : Rules → StoreMode → List ℕ → List ℕ → List ℕ → Option (List ℕ) → Option (List ℕ) → Result Command Refusal
+storage_of rules mode key flags exptime unique last =
     then_of (key_of key) (λ key.
     then_of (unsigned_of (2 ^ 32) flags) (λ flags.
     then_of (exptime_of rules exptime) (λ exptime.
-    then_of mode (λ mode.
+    then_of (compare_of unique) (λ compare.
     then_of (last_word_of rules last) (λ noreply.
-    Ok (Store (record { key = key; mode = mode; flags = flags; exptime = exptime; noreply = noreply; lenient = is_lenient rules mode; block = [] })))))))
+    Ok (Store (record { asked = asked_to_store mode compare key flags exptime; noreply = noreply; lenient = is_lenient rules mode })))))))
 
 -- set, add, replace, append and prepend: KEY flags E N [noreply]
 abbrev pub storage_words : Rules → StoreMode → List (List ℕ) → Result Command Refusal
 storage_words rules mode (key ∷ flags ∷ exptime ∷ count ∷ more) =
-    with_last rules more (storage_of rules (Ok mode) key flags exptime)
+    with_last rules more (storage_of rules mode key flags exptime None)
 storage_words rules mode words = Err (word_count_refusal rules)
 
 abbrev pub storage_line : Rules → StoreMode → List (List ℕ) → Line
 storage_line rules mode words = block_line rules (count_in rules words) (storage_words rules mode words)
 
--- the mode of `cas`, by the word of its unique
-abbrev pub cas_mode : List ℕ → Result StoreMode Refusal
-cas_mode unique = then_of (unsigned_of (2 ^ 64) unique) (λ unique. Ok (Cas unique))
-
 -- cas: KEY flags E N U [noreply]
 abbrev pub cas_words : Rules → List (List ℕ) → Result Command Refusal
 cas_words rules (key ∷ flags ∷ exptime ∷ count ∷ unique ∷ more) =
-    with_last rules more (storage_of rules (cas_mode unique) key flags exptime)
+    with_last rules more (storage_of rules Set key flags exptime (Some unique))
 cas_words rules words = Err (word_count_refusal rules)
 
 -- the count of the block of `cas`; memcached awaits no block where the unique is missing

@@ -3,13 +3,18 @@ use Rattle.std.specs.Prelude.{ℕ, Bool, true, false, List}
 use Rattle.mc_command.specs.declared.command.Command.{Command}
 use Rattle.mc_command.specs.declared.command.Command.TheVariants as command
 use Rattle.mc_command.specs.declared.command.StatsRequest.TheVariants as request
+use Rattle.mc_command.specs.declared.command.StoreRequest.{StoreRequest}
 use Rattle.mc_command.specs.declared.refusal.Refusal.{Refusal}
 use Rattle.mc_command.specs.declared.refusal.Refusal.TheVariants as refusal
 
+-- what is asked to be stored, with this value
+abbrev pub with_value : {V : Type 0} → StoreRequest V → V → StoreRequest V
+with_value asked value = record asked { value = value }
+
 -- the command with this data block; a command that has none stays as it is
 abbrev pub with_block : Command → List ℕ → Command
-with_block (command.Store storage) block = command.Store (record storage { block = block })
-with_block (command.MetaSet set) block = command.MetaSet (record set { block = block })
+with_block (command.Store storage) block = command.Store (record storage { asked = with_value storage.asked block })
+with_block (command.MetaSet set) block = command.MetaSet (record set { asked = with_value set.asked block })
 with_block other block = other
 
 -- A refusal says that memory ran out.

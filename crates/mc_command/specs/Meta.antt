@@ -19,8 +19,8 @@ use Rattle.mc_command.specs.declared.meta.MetaArithmetic.{MetaArithmetic}
 use Rattle.mc_command.specs.declared.meta.MetaDelete.{MetaDelete}
 use Rattle.mc_command.specs.declared.meta.MetaFlags.{MetaFlags}
 use Rattle.mc_command.specs.declared.meta.MetaGet.{MetaGet}
-use Rattle.mc_command.specs.declared.meta.MetaMode.{MetaMode}
-use Rattle.mc_command.specs.declared.meta.MetaMode.TheVariants as mode
+use Rattle.mc_command.specs.declared.command.StoreMode.{StoreMode}
+use Rattle.mc_command.specs.declared.command.StoreMode.TheVariants as mode
 use Rattle.mc_command.specs.declared.meta.MetaSet.{MetaSet}
 use Rattle.mc_command.specs.declared.meta.ReturnFlag.{ReturnFlag}
 use Rattle.mc_command.specs.declared.meta.Vivify.{Vivify}
@@ -76,7 +76,7 @@ letter_says rows (letter ∷ []) = lookup (λ letters. is_among letters letter) 
 letter_says rows token = None
 
 -- the mode of `ms`, in either case
-abbrev pub mode_of : List ℕ → Option MetaMode
+abbrev pub mode_of : List ℕ → Option StoreMode
 mode_of token =
     letter_says ((codes "Ee", mode.Add) ∷ (codes "Aa", mode.Append) ∷ (codes "Pp", mode.Prepend) ∷
     (codes "Rr", mode.Replace) ∷ (codes "Ss", mode.Set) ∷ []) token
@@ -131,22 +131,22 @@ abbrev pub meta_key_of : Bool → List ℕ → Result (List ℕ) Refusal
 meta_key_of base64 word = if base64 then decoded_key word else key_of word
 
 -- `ms` compares in its mode S alone
-abbrev pub is_set : MetaMode → Bool
+abbrev pub is_set : StoreMode → Bool
 is_set mode.Set = true
 is_set other = false
 
 -- By memcached's rules it compares in the others too.
 abbrev pub compare_refusal : Rules → MetaSet → Option Refusal
-compare_refusal rules set = if not (is_drop_in rules) && (is_some set.compare && not (is_set set.mode)) then Some BadFormat else None
+compare_refusal rules set = if not (is_drop_in rules) && (is_some set.asked.compare && not (is_set set.asked.mode)) then Some BadFormat else None
 
 -- the token of `C` in a mode, by memcached's rules: E compares nothing, and A and P nothing with 0
-abbrev pub compared_in : MetaMode → Option ℕ → Option ℕ
+abbrev pub compared_in : StoreMode → Option ℕ → Option ℕ
 compared_in mode.Add compare = None
 compared_in mode.Append (Some zero) = None
 compared_in mode.Prepend (Some zero) = None
 compared_in mode compare = compare
 
-abbrev pub compare_by : Rules → MetaMode → Option ℕ → Option ℕ
+abbrev pub compare_by : Rules → StoreMode → Option ℕ → Option ℕ
 compare_by rules mode compare = if is_drop_in rules then compared_in mode compare else compare
 
 -- the exptime, or the seconds, that the token of a flag gives
@@ -178,7 +178,7 @@ flags_of profile words = record {
 }
 
 -- the mode that the flags of `ms` give it; S where they give none
-abbrev pub set_mode : List (List ℕ) → MetaMode
+abbrev pub set_mode : List (List ℕ) → StoreMode
 set_mode words = unwrap_or (option_and_then mode_of (token_of (byte "M") words)) mode.Set
 
 -- What a key and the flags of each command ask, with the defaults of flags that do not stand there.
@@ -198,14 +198,16 @@ meta_get_of rules key words = record {
 
 abbrev pub meta_set_of : Rules → List ℕ → List (List ℕ) → MetaSet
 meta_set_of rules key words = record {
-  key = key;
+  asked = record {
+    key = key;
+    mode = set_mode words;
+    compare = compare_by rules (set_mode words) (unsigned_token (2 ^ 64) (byte "C") words);
+    unique = unsigned_token (2 ^ 64) (byte "E") words;
+    flags = unwrap_or (unsigned_token (2 ^ 32) (byte "F") words) 0;
+    exptime = unwrap_or (exptime_token rules (byte "T") words) (pos 0);
+    value = [];
+  };
   flags = flags_of rules.profile words;
-  mode = set_mode words;
-  compare = compare_by rules (set_mode words) (unsigned_token (2 ^ 64) (byte "C") words);
-  unique = unsigned_token (2 ^ 64) (byte "E") words;
-  client_flags = unwrap_or (unsigned_token (2 ^ 32) (byte "F") words) 0;
-  exptime = unwrap_or (exptime_token rules (byte "T") words) (pos 0);
-  block = [];
 }
 
 abbrev pub meta_delete_of : Rules → List ℕ → List (List ℕ) → MetaDelete

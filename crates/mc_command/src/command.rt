@@ -76,8 +76,14 @@ impl Command {
         ensures { result ≡ with_block self block }
     {
         match self {
-            Command::Store(storage) => Command::Store(Storage { block, ..storage }),
-            Command::MetaSet(set) => Command::MetaSet(MetaSet { block, ..set }),
+            Command::Store(storage) => Command::Store(Storage {
+                asked: storage.asked.with_value(block),
+                ..storage
+            }),
+            Command::MetaSet(set) => Command::MetaSet(MetaSet {
+                asked: set.asked.with_value(block),
+                ..set
+            }),
             other => other,
         }
     }
@@ -86,27 +92,55 @@ impl Command {
 /// A classic storage command with its data block (protocol.txt, "Storage commands").
 #[derive(Drop)]
 pub struct Storage {
-    pub key: Key,
-    pub mode: StoreMode,
-    pub flags: u32,
-    pub exptime: i64,
+    /// What its shard is asked.
+    pub asked: StoreRequest<Block>,
     pub noreply: bool,
     /// A joined value that is too large counts as not stored, and that is no error: `append` and `prepend` by memcached's
     /// rules.
     pub lenient: bool,
-    pub block: Block,
 }
 
-/// Which storage command it is.
+/// What a storage command asks of an item, a classic one or `ms`. A line gives it a data block, and a shard takes it with a
+/// value that can be shared.
+#[derive(Drop)]
+pub struct StoreRequest<V> {
+    pub key: Key,
+    pub mode: StoreMode,
+    /// `cas`, and the flag `C`: the unique that the item must have.
+    pub compare: Option<u64>,
+    /// The flag `E`: the unique that the item is given; without it the shard gives its next one.
+    pub unique: Option<u64>,
+    /// The client flags, 0 where none are given.
+    pub flags: u32,
+    /// The exptime, 0 where none is given.
+    pub exptime: i64,
+    pub value: V,
+}
+
+impl<V: Drop> StoreRequest<V> {
+    ghost use Rattle.mc_command.specs.Command.{with_value};
+
+    /// The same with this value in place of its own, which is let go.
+    pub fn with_value(self, value: V) -> StoreRequest<V>
+        ensures { result ≡ with_value self value }
+    {
+        StoreRequest { value, ..self }
+    }
+}
+
+/// What a storage command does with the value that is there: the name of a classic one, the flag `M` of `ms`.
 #[derive(Clone, Copy, Debug, PartialEq, Eq)]
 pub enum StoreMode {
+    /// `set` and `cas`, and `S`.
     Set,
+    /// `add`, and `E`.
     Add,
+    /// `replace`, and `R`.
     Replace,
+    /// `append`, and `A`.
     Append,
+    /// `prepend`, and `P`.
     Prepend,
-    /// `cas`, with the unique that the item must have.
-    Cas(u64),
 }
 
 /// A classic get (protocol.txt, "Retrieval command" and "Get And Touch").

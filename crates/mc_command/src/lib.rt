@@ -21,14 +21,14 @@ mod table;
 
 pub use announced::{announced_bytes, announced_bytes_under, read_block_count};
 pub use block::Block;
-pub use command::{Command, Direction, Retrieval, StatsRequest, Storage, StoreMode};
+pub use command::{Command, Direction, Retrieval, StatsRequest, Storage, StoreMode, StoreRequest};
 pub use field::{read_exptime, read_last_word, read_u32};
 pub use keys::{Keys, are_keys};
 pub use laws::{data_can_be_given_up, flags_in_any_order, table_is_never_out_of_memory};
 pub use line::{Line, read_line, read_line_under};
 pub use meta::{
-    MetaArithmetic, MetaCount, MetaDelete, MetaFetch, MetaFlags, MetaGet, MetaKind, MetaMode,
-    MetaRemoval, MetaSet, Opaque, RETURN_FLAGS, ReturnFlag, Returned, Vivify,
+    MetaArithmetic, MetaCount, MetaDelete, MetaFetch, MetaFlags, MetaGet, MetaKind, MetaRemoval,
+    MetaSet, Opaque, RETURN_FLAGS, ReturnFlag, Returned, Vivify,
 };
 pub use meta_line::{read_meta_get, read_meta_set};
 pub use refusal::Refusal;

@@ -13,7 +13,7 @@ use crate::classic::{
     read_count, read_delete, read_flush_all, read_gat, read_get, read_stats, read_touch,
     read_verbosity,
 };
-use crate::command::{Command, Storage, StoreMode};
+use crate::command::{Command, Storage, StoreMode, StoreRequest};
 use crate::hiding::hide_fault;
 use crate::meta_line::read_meta;
 use crate::name::{CommandName, read_name};
@@ -158,12 +158,16 @@ fn key_set(command: Command) -> Option<Key>
     match command {
         Command::Store(
             Storage {
-                key,
-                mode: StoreMode::Set,
+                asked: StoreRequest {
+                    key,
+                    mode: StoreMode::Set,
+                    compare: None,
+                    ..
+                },
                 ..
             },
         ) => Some(key),
-        Command::MetaSet(set) => Some(set.key),
+        Command::MetaSet(set) => Some(set.asked.key),
         other => {
             let_go(other);
             None

@@ -3,7 +3,7 @@ ghost use Rattle.std.specs.Prelude.{◌≡◌, ◌<◌, ◌≤◌, [], ◌∷◌
 ghost use Rattle.std.specs.Option.{SomeIff};
 
 use crate::block::Block;
-use crate::command::Direction;
+use crate::command::{Direction, StoreRequest};
 use crate::rules::{Profile, Rules};
 use arrayvec::ArrayVec;
 use mc_wire::{Key, OPAQUE_LIMIT};
@@ -188,6 +188,7 @@ pub struct MetaFlags {
 /// `mg`.
 #[derive(Drop)]
 pub struct MetaGet {
+    /// What its shard is asked.
     pub asked: MetaFetch,
     pub flags: MetaFlags,
     /// `v`: the value is shown.
@@ -211,38 +212,15 @@ pub struct MetaFetch {
 /// `ms`, with its data block.
 #[derive(Drop)]
 pub struct MetaSet {
-    pub key: Key,
+    /// What its shard is asked.
+    pub asked: StoreRequest<Block>,
     pub flags: MetaFlags,
-    pub mode: MetaMode,
-    /// `C`: the unique that the item must have.
-    pub compare: Option<u64>,
-    /// `E`: the unique that the item is given.
-    pub unique: Option<u64>,
-    /// `F`: the client flags, 0 where none are given.
-    pub client_flags: u32,
-    /// `T`: the exptime, 0 where none is given.
-    pub exptime: i64,
-    pub block: Block,
-}
-
-/// The mode of `ms`, its flag `M`.
-#[derive(Clone, Copy, Debug, PartialEq, Eq)]
-pub enum MetaMode {
-    /// `S`.
-    Set,
-    /// `E`.
-    Add,
-    /// `R`.
-    Replace,
-    /// `A`.
-    Append,
-    /// `P`.
-    Prepend,
 }
 
 /// `md`.
 #[derive(Drop)]
 pub struct MetaDelete {
+    /// What its shard is asked.
     pub asked: MetaRemoval,
     pub flags: MetaFlags,
 }
@@ -264,6 +242,7 @@ pub struct MetaRemoval {
 /// `ma`.
 #[derive(Drop)]
 pub struct MetaArithmetic {
+    /// What its shard is asked.
     pub asked: MetaCount,
     pub flags: MetaFlags,
     /// `v`: the number is shown.

@@ -7,9 +7,9 @@ ghost use Rattle.mc_command.specs.internal.FlagsAsked.{asked_of};
 ghost use Rattle.mc_command.specs.internal.FlagReading.{CountsFlags, nothing_asked, unseen, with_flag, with_word};
 ghost use Rattle.mc_command.specs.internal.FlagReading as spec;
 
-use crate::command::Direction;
+use crate::command::{Direction, StoreMode};
 use crate::field::{read_i64, read_u32, read_u64};
-use crate::meta::{MetaFlags, MetaKind, MetaMode, Opaque, ReturnFlag, Returned};
+use crate::meta::{MetaFlags, MetaKind, Opaque, ReturnFlag, Returned};
 use crate::refusal::Refusal;
 use crate::rules::{Profile, Rules};
 use mc_wire::WordWalk;
@@ -41,7 +41,7 @@ pub(crate) struct FlagsRead {
     /// `F`.
     pub(crate) client_flags: Option<u32>,
     /// `M` of `ms`.
-    pub(crate) mode: Option<MetaMode>,
+    pub(crate) mode: Option<StoreMode>,
     /// `M` of `ma`.
     pub(crate) direction: Option<Direction>,
 }
@@ -62,7 +62,7 @@ enum Flag {
     /// `O`.
     Opaque(Opaque),
     /// `M` of `ms`.
-    Mode(MetaMode),
+    Mode(StoreMode),
     /// `M` of `ma`.
     Direction(Direction),
     /// `T`.
@@ -255,15 +255,15 @@ fn mode_flag(name: MetaKind, token: &[u8]) -> Result<Flag, Refusal>
 }
 
 /// The mode of `ms`, in either case.
-fn mode_of(token: &[u8]) -> Option<MetaMode>
+fn mode_of(token: &[u8]) -> Option<StoreMode>
     ensures { result ≡ table.mode_of token.now }
 {
     match token {
-        [b'E' | b'e'] => Some(MetaMode::Add),
-        [b'A' | b'a'] => Some(MetaMode::Append),
-        [b'P' | b'p'] => Some(MetaMode::Prepend),
-        [b'R' | b'r'] => Some(MetaMode::Replace),
-        [b'S' | b's'] => Some(MetaMode::Set),
+        [b'E' | b'e'] => Some(StoreMode::Add),
+        [b'A' | b'a'] => Some(StoreMode::Append),
+        [b'P' | b'p'] => Some(StoreMode::Prepend),
+        [b'R' | b'r'] => Some(StoreMode::Replace),
+        [b'S' | b's'] => Some(StoreMode::Set),
         _ => None,
     }
 }

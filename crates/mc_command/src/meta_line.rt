@@ -8,12 +8,12 @@ ghost use Rattle.mc_command.specs.internal.FlagsAsked.{arithmetic_by, command_by
 
 use crate::announced::read_block_count;
 use crate::block::Block;
-use crate::command::{Command, Direction};
+use crate::command::{Command, Direction, StoreMode, StoreRequest};
 use crate::field::read_key;
 use crate::line::{Line, block_line, whole_line};
 use crate::meta::{
-    MetaArithmetic, MetaCount, MetaDelete, MetaFetch, MetaGet, MetaKind, MetaMode, MetaRemoval,
-    MetaSet, Vivify,
+    MetaArithmetic, MetaCount, MetaDelete, MetaFetch, MetaGet, MetaKind, MetaRemoval, MetaSet,
+    Vivify,
 };
 use crate::meta_flags::{FlagsRead, read_flags};
 use crate::refusal::Refusal;
@@ -152,7 +152,7 @@ impl FlagsRead {
         ensures { as_meta_set result ≡ command_by rules MetaKind.Set key self }
     {
         let set = self.into_set(alloc, rules, key);
-        if !rules.is_drop_in() && set.compare.is_some() && set.mode != MetaMode::Set {
+        if !rules.is_drop_in() && set.asked.compare.is_some() && set.asked.mode != StoreMode::Set {
             return Err(Refusal::BadFormat);
         }
         Ok(set)
@@ -177,16 +177,18 @@ impl FlagsRead {
     fn into_set(self, alloc: Global, rules: Rules, key: Key) -> MetaSet
         ensures { result ≡ set_by rules key self }
     {
-        let mode = self.mode.unwrap_or(MetaMode::Set);
+        let mode = self.mode.unwrap_or(StoreMode::Set);
         MetaSet {
-            key,
+            asked: StoreRequest {
+                key,
+                mode,
+                compare: rules.compared(mode, self.compare),
+                unique: self.unique,
+                flags: self.client_flags.unwrap_or(0),
+                exptime: rules.exptime_in(self.exptime).unwrap_or(0),
+                value: Block::empty(alloc),
+            },
             flags: self.flags,
-            mode,
-            compare: rules.compared(mode, self.compare),
-            unique: self.unique,
-            client_flags: self.client_flags.unwrap_or(0),
-            exptime: rules.exptime_in(self.exptime).unwrap_or(0),
-            block: Block::empty(alloc),
         }
     }
 

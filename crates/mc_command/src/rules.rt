@@ -3,7 +3,6 @@ ghost use Rattle.std.specs.Prelude.{◌≡◌, ◌≤◌, ◌^◌};
 ghost use Rattle.std.specs.Int.{int_wrap, w32};
 
 use crate::command::StoreMode;
-use crate::meta::MetaMode;
 use crate::refusal::Refusal;
 use mc_wire::DEFAULT_LINE_LIMIT;
 
@@ -97,14 +96,14 @@ impl Rules {
 
     /// The unique that `ms` compares in a mode: by memcached's rules none in mode `E`, and 0 is none in the modes `A`
     /// and `P`.
-    pub(crate) fn compared(self, mode: MetaMode, unique: Option<u64>) -> Option<u64>
+    pub(crate) fn compared(self, mode: StoreMode, unique: Option<u64>) -> Option<u64>
         ensures { result ≡ compare_by self mode unique }
     {
         if !self.is_drop_in() {
             return unique;
         }
         match (mode, unique) {
-            (MetaMode::Add, _) | (MetaMode::Append | MetaMode::Prepend, Some(0)) => None,
+            (StoreMode::Add, _) | (StoreMode::Append | StoreMode::Prepend, Some(0)) => None,
             _ => unique,
         }
     }

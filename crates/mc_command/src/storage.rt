@@ -10,7 +10,7 @@ ghost use Rattle.mc_command.specs.Classic as spec;
 
 use crate::announced::{announced, announced_by_cas};
 use crate::block::Block;
-use crate::command::{Command, Storage, StoreMode};
+use crate::command::{Command, Storage, StoreMode, StoreRequest};
 use crate::field::{read_exptime, read_key, read_last_word, read_u32, read_u64};
 use crate::line::{Line, block_line};
 use crate::refusal::Refusal;
@@ -35,7 +35,7 @@ pub(crate) fn read_storage(
             block_line(
                 rules,
                 block,
-                storage(alloc, rules, Ok(mode), key, flags, exptime, noreply),
+                storage(alloc, rules, mode, key, flags, exptime, None, noreply),
             )
         }
         _ => miscounted(rules, block),
@@ -54,7 +54,16 @@ pub(crate) fn read_cas(alloc: Global, mut walk: WordWalk<'_>, rules: Rules) -> L
             block_line(
                 rules,
                 block,
-                storage(alloc, rules, cas_mode(unique), key, flags, exptime, noreply),
+                storage(
+                    alloc,
+                    rules,
+                    StoreMode::Set,
+                    key,
+                    flags,
+                    exptime,
+                    Some(unique),
+                    noreply,
+                ),
             )
         }
         _ => miscounted(rules, block),
@@ -69,39 +78,47 @@ fn miscounted(rules: Rules, block: Option<u32>) -> Line
     block_line(rules, block, Err(rules.word_count_refusal()))
 }
 
-/// A storage command, by its words. A fault of its mode is told where no word before it has one.
+/// A storage command, by its words. Only `cas` has a unique.
 fn storage(
     alloc: Global,
     rules: Rules,
-    mode: Result<StoreMode, Refusal>,
+    mode: StoreMode,
     key: &[u8],
     flags: &[u8],
     exptime: &[u8],
+    unique: Option<&[u8]>,
     noreply: Option<&[u8]>,
 ) -> Result<Command, Refusal>
     ensures { Reads
         (spec.storage_of rules mode key.now flags.now exptime.now
-        (option_copied noreply.entry)) result }
+        (option_copied unique.entry) (option_copied noreply.entry)) result }
 {
     let key = read_key(alloc, key)?;
     let flags = read_u32(flags)?;
     let exptime = read_exptime(rules, exptime)?;
-    let mode = mode?;
+    let compare = read_compare(unique)?;
     let noreply = read_last_word(rules, noreply)?;
     Ok(Command::Store(Storage {
-        key,
-        mode,
-        flags,
-        exptime,
+        asked: StoreRequest {
+            key,
+            mode,
+            compare,
+            unique: None,
+            flags,
+            exptime,
+            value: Block::empty(alloc),
+        },
         noreply,
         lenient: rules.is_lenient(mode),
-        block: Block::empty(alloc),
     }))
 }
 
-/// The mode of `cas`, by the word of its unique.
-fn cas_mode(unique: &[u8]) -> Result<StoreMode, Refusal>
-    ensures { result ≡ spec.cas_mode unique.now }
+/// The unique that `cas` compares, by its word.
+fn read_compare(unique: Option<&[u8]>) -> Result<Option<u64>, Refusal>
+    ensures { result ≡ spec.compare_of (option_copied unique.entry) }
 {
-    Ok(StoreMode::Cas(read_u64(unique)?))
+    match unique {
+        Some(word) => Ok(Some(read_u64(word)?)),
+        None => Ok(None),
+    }
 }

@@ -4,7 +4,7 @@ ghost use Rattle.std.specs.Prelude.{◌<◌};
 use crate::asserting::{equal, holds};
 use mc_command::{
     Block, Command, Keys, MetaFetch, MetaFlags, MetaGet, Opaque, Profile, Refusal, Retrieval,
-    ReturnFlag, Returned, Storage, StoreMode,
+    ReturnFlag, Returned, Storage, StoreMode, StoreRequest,
 };
 use mc_item::{Answer, Kind, NoMemory, Op};
 use mc_reply::{Form, Shape, Ticket};
@@ -40,13 +40,17 @@ fn get(alloc: Global) -> Result<Command, Refusal> {
 
 fn set(alloc: Global) -> Result<Command, Refusal> {
     Ok(Command::Store(Storage {
-        key: Key::from_word(alloc, KEY_B)?,
-        mode: StoreMode::Set,
-        flags: 5,
-        exptime: 0,
+        asked: StoreRequest {
+            key: Key::from_word(alloc, KEY_B)?,
+            mode: StoreMode::Set,
+            compare: None,
+            unique: None,
+            flags: 5,
+            exptime: 0,
+            value: Block::new(Vec::from_slice(alloc, b"xyz")?),
+        },
         noreply: true,
         lenient: false,
-        block: Block::new(Vec::from_slice(alloc, b"xyz")?),
     }))
 }
 
@@ -132,7 +136,7 @@ fn fills(rt: &impl Abort, form: &mut Form, parts: &[usize]) {
 fn stores_three(piece: Option<&(usize, Piece)>) -> bool {
     match piece {
         Some((_, piece)) => match &piece.op {
-            Op::Store { value, flags, .. } => value.len() == 3 && *flags == 5,
+            Op::Store(asked) => asked.value.len() == 3 && asked.flags == 5,
             _ => false,
         },
         None => false,

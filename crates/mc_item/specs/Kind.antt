@@ -9,7 +9,7 @@ use Rattle.mc_item.specs.declared.answer.Answer.TheVariants.{Stored, NotStored, 
 use Rattle.mc_item.specs.declared.answer.Answer.TheVariants as answer
 
 unfoldable pub kind_of : Op → Kind
-kind_of (op.Store key mode flags exptime value) = Store
+kind_of (op.Store store) = Store
 kind_of (op.Fetch key touch) = Fetch
 kind_of (op.Count key direction amount) = Count
 kind_of (op.Delete key) = Delete
@@ -24,7 +24,7 @@ kind_of (op.MetaCount count) = MetaCount
 
 -- the key whose item is asked for; flush_all and stats have none
 unfoldable pub key_of : Op → Option (List ℕ)
-key_of (op.Store key mode flags exptime value) = Some key
+key_of (op.Store store) = Some store.key
 key_of (op.Fetch key touch) = Some key
 key_of (op.Count key direction amount) = Some key
 key_of (op.Delete key) = Some key

@@ -4,7 +4,6 @@ use Rattle.std.specs.Option.{is_some}
 use denote.Enum.Declared.{tag_of}
 use Rattle.mc_command.specs.declared.command.Direction.{Direction}
 use Rattle.mc_command.specs.declared.command.Direction.TheVariants as direction
-use Rattle.mc_command.specs.declared.command.StoreMode.TheVariants as mode
 use Rattle.mc_item.specs.declared.answer.Answer.{Answer}
 use Rattle.mc_item.specs.declared.answer.Answer.TheVariants as answer
 use Rattle.mc_item.specs.declared.op.Op.{Op}
@@ -23,8 +22,7 @@ counting direction.Decrement = asked.Decr
 
 -- what a piece counts as
 unfoldable pub asked_of : Op → CountedAs
-asked_of (op.Store key (mode.Cas unique) flags exptime value) = asked.Cas
-asked_of (op.Store key _ flags exptime value) = asked.Set
+asked_of (op.Store store) = if is_some store.compare then asked.Cas else asked.Set
 asked_of (op.Fetch key touch) = if is_some touch then asked.Touch else asked.Get
 asked_of (op.Count key direction amount) = counting direction
 asked_of (op.Delete key) = asked.Delete

@@ -5,20 +5,14 @@ ghost use Rattle.mc_item.specs.Kind.{kind_of, key_of};
 
 use crate::answer::Kind;
 use crate::value::Value;
-use mc_command::{Direction, MetaCount, MetaFetch, MetaMode, MetaRemoval, StoreMode};
+use mc_command::{Direction, MetaCount, MetaFetch, MetaRemoval, StoreRequest};
 use mc_wire::Key;
 
 /// One piece of a command, for the shard of its key.
 #[derive(Drop)]
 pub enum Op {
     /// `set`, `add`, `replace`, `append`, `prepend`, `cas`.
-    Store {
-        key: Key,
-        mode: StoreMode,
-        flags: u32,
-        exptime: i64,
-        value: Value,
-    },
+    Store(StoreRequest<Value>),
     /// `get` and `gets`; with an exptime `gat` and `gats`.
     Fetch {
         key: Key,
@@ -48,24 +42,9 @@ pub enum Op {
     /// `stats reset`: of one shard.
     ResetStats,
     MetaGet(MetaFetch),
-    MetaStore(MetaStore),
+    MetaStore(StoreRequest<Value>),
     MetaDelete(MetaRemoval),
     MetaCount(MetaCount),
-}
-
-/// `ms`: what is stored, and what its flags ask.
-#[derive(Drop)]
-pub struct MetaStore {
-    pub key: Key,
-    pub mode: MetaMode,
-    /// `C`: the unique that the item must have.
-    pub compare: Option<u64>,
-    /// `E`: the unique that the item gets; without it the shard gives its next one.
-    pub unique: Option<u64>,
-    /// The client's flags.
-    pub flags: u32,
-    pub exptime: i64,
-    pub value: Value,
 }
 
 impl Op {
@@ -75,7 +54,7 @@ impl Op {
         ensures { result ≡ kind_of self.now }
     {
         match self {
-            Op::Store { .. } => Kind::Store,
+            Op::Store(_) => Kind::Store,
             Op::Fetch { .. } => Kind::Fetch,
             Op::Count { .. } => Kind::Count,
             Op::Delete { .. } => Kind::Delete,
@@ -96,13 +75,12 @@ impl Op {
         ensures { option_copied result ≡ key_of self.now }
     {
         match self {
-            Op::Store { key, .. }
-            | Op::Fetch { key, .. }
+            Op::Fetch { key, .. }
             | Op::Count { key, .. }
             | Op::Delete { key }
             | Op::Touch { key, .. } => Some(key),
             Op::MetaGet(get) => Some(&get.key),
-            Op::MetaStore(store) => Some(&store.key),
+            Op::Store(store) | Op::MetaStore(store) => Some(&store.key),
             Op::MetaDelete(delete) => Some(&delete.key),
             Op::MetaCount(count) => Some(&count.key),
             Op::Flush { .. } | Op::Stats | Op::ResetStats => None,

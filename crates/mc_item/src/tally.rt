@@ -4,7 +4,7 @@ ghost use Rattle.mc_item.specs.Tally.{asked_of, counted, counter, counting, no_c
 
 use crate::answer::Answer;
 use crate::op::Op;
-use mc_command::{Direction, MetaFetch, StoreMode};
+use mc_command::{Direction, MetaFetch};
 
 /// What a shard is asked, as it is counted: under memcached's names (protocol.txt, "General-purpose statistics").
 #[derive(Clone, Copy)]
@@ -62,11 +62,8 @@ impl CountedAs {
         ensures { result ≡ asked_of op.now }
     {
         match op {
-            Op::Store {
-                mode: StoreMode::Cas(_),
-                ..
-            } => CountedAs::Cas,
-            Op::Store { .. } => CountedAs::Set,
+            Op::Store(asked) | Op::MetaStore(asked) if asked.compare.is_some() => CountedAs::Cas,
+            Op::Store(_) | Op::MetaStore(_) => CountedAs::Set,
             Op::Fetch { touch: Some(_), .. }
             | Op::Touch { .. }
             | Op::MetaGet(MetaFetch { touch: Some(_), .. }) => CountedAs::Touch,
@@ -75,8 +72,6 @@ impl CountedAs {
             Op::Delete { .. } | Op::MetaDelete(_) => CountedAs::Delete,
             Op::Flush { .. } => CountedAs::Flush,
             Op::Stats | Op::ResetStats => CountedAs::Stats,
-            Op::MetaStore(asked) if asked.compare.is_some() => CountedAs::Cas,
-            Op::MetaStore(_) => CountedAs::Set,
             Op::MetaCount(asked) => CountedAs::counting(asked.direction),
         }
     }

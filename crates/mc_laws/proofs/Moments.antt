@@ -42,7 +42,7 @@ unfolding pieces_of fnv_of
 asks_both = refl
 
 abbrev store : List ℕ → Op
-store key = op.Store key mode.Set 0 (pos 0) (codes "2")
+store key = op.Store (record { key = key; mode = mode.Set; compare = None; unique = None; flags = 0; exptime = pos 0; value = codes "2" })
 
 -- a shard at the second 1000, which holds nothing
 abbrev old : ℕ → State

@@ -34,14 +34,15 @@ pub fn is_a(key: &Key) -> bool {
     key.bytes() == b"a".as_slice()
 }
 
-/// Whether it is a storage command of this mode under the key `a`, with the flags 5, dead at once, without reply.
-fn is_storage(line: &Line, mode: StoreMode) -> bool {
+/// Whether it is a storage command of this mode and at this unique under the key `a`, with the flags 5, dead at once, without reply.
+fn is_storage(line: &Line, mode: StoreMode, compare: Option<u64>) -> bool {
     match line {
         Line::Data(Command::Store(stored), 3) => {
-            is_a(&stored.key)
-                && (stored.mode, stored.flags) == (mode, 5)
-                && (stored.exptime, stored.noreply) == (-1, true)
-                && stored.block.bytes() == b"xyz".as_slice()
+            let asked = &stored.asked;
+            is_a(&asked.key)
+                && (asked.mode, asked.compare, asked.flags) == (mode, compare, 5)
+                && (asked.exptime, stored.noreply) == (-1, true)
+                && asked.value.bytes() == b"xyz".as_slice()
         }
         _ => false,
     }
@@ -58,26 +59,31 @@ fn with_block(line: Line, block: Block) -> ReadLine {
 }
 
 /// Whether the line and the block `xyz` are such a command.
-fn stores(alloc: Global, line: &[u8], mode: StoreMode) -> Result<bool, AllocError> {
+fn stores(
+    alloc: Global,
+    line: &[u8],
+    mode: StoreMode,
+    compare: Option<u64>,
+) -> Result<bool, AllocError> {
     let block = Block::new(Vec::from_slice(alloc, b"xyz")?);
     let read = with_block(read_line(alloc, line, DEFAULT_VALUE_LIMIT), block);
-    Ok(is_storage(&read.line, mode))
+    Ok(is_storage(&read.line, mode, compare))
 }
 
-static STORAGE_LINES: [(&[u8], StoreMode); 6] = [
-    (b"set a 5 -1 3 noreply", StoreMode::Set),
-    (b"add a 5 -1 3 noreply", StoreMode::Add),
-    (b"replace a 5 -1 3 noreply", StoreMode::Replace),
-    (b"append a 5 -1 3 noreply", StoreMode::Append),
-    (b"prepend a 5 -1 3 noreply", StoreMode::Prepend),
-    (b"cas a 5 -1 3 9 noreply", StoreMode::Cas(9)),
+static STORAGE_LINES: [(&[u8], StoreMode, Option<u64>); 6] = [
+    (b"set a 5 -1 3 noreply", StoreMode::Set, None),
+    (b"add a 5 -1 3 noreply", StoreMode::Add, None),
+    (b"replace a 5 -1 3 noreply", StoreMode::Replace, None),
+    (b"append a 5 -1 3 noreply", StoreMode::Append, None),
+    (b"prepend a 5 -1 3 noreply", StoreMode::Prepend, None),
+    (b"cas a 5 -1 3 9 noreply", StoreMode::Set, Some(9)),
 ];
 
 #[test]
 fn a_storage_line_takes_its_block(rt: HostRuntime) -> Result<(), Fail> {
-    for (line, mode) in &STORAGE_LINES {
+    for (line, mode, compare) in &STORAGE_LINES {
         equal(&rt, announced_bytes(*line), 5);
-        let stored = stores(rt.alloc(), *line, *mode)?;
+        let stored = stores(rt.alloc(), *line, *mode, *compare)?;
         equal(&rt, (*mode, stored), (*mode, true));
     }
     Ok(())
@@ -182,7 +188,7 @@ fn asked_of(line: &Line) -> (&'static str, i64) {
         Line::Whole(Command::MetaGet(get)) => ("mg", get.asked.touch.unwrap_or(0)),
         Line::Whole(Command::MetaDelete(delete)) => ("md", delete.asked.exptime.unwrap_or(0)),
         Line::Whole(Command::MetaArithmetic(count)) => ("ma", made_at(count.asked.vivify)),
-        Line::Data(Command::MetaSet(set), _) => ("ms", set.exptime),
+        Line::Data(Command::MetaSet(set), _) => ("ms", set.asked.exptime),
         _ => ("another", 0),
     }
 }

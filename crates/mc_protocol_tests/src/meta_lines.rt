@@ -2,7 +2,7 @@
 use crate::asserting::{equal, holds};
 use crate::command::{is_a, read, refused};
 use mc_command::{
-    Command, Direction, Line, MetaArithmetic, MetaMode, Opaque, Refusal, ReturnFlag, Returned,
+    Command, Direction, Line, MetaArithmetic, Opaque, Refusal, ReturnFlag, Returned, StoreMode,
 };
 use std::process::Abort;
 
@@ -45,27 +45,28 @@ fn a_get_asks_what_its_flags_say(rt: HostRuntime) {
 }
 
 /// Of an `ms` of the key `a`: its mode, and its client flags, exptime and unique.
-fn ms_of(line: &Line) -> Option<(MetaMode, (u32, i64, Option<u64>))> {
+fn ms_of(line: &Line) -> Option<(StoreMode, (u32, i64, Option<u64>))> {
     match line {
-        Line::Data(Command::MetaSet(set), _) if is_a(&set.key) => {
-            Some((set.mode, (set.client_flags, set.exptime, set.compare)))
+        Line::Data(Command::MetaSet(set), _) if is_a(&set.asked.key) => {
+            let asked = &set.asked;
+            Some((asked.mode, (asked.flags, asked.exptime, asked.compare)))
         }
         _ => None,
     }
 }
 
-static MODES: [(&[u8], MetaMode); 11] = [
-    (b"ms YQ== 1 b ME", MetaMode::Add),
-    (b"ms YQ== 1 b Me", MetaMode::Add),
-    (b"ms YQ== 1 b MA", MetaMode::Append),
-    (b"ms YQ== 1 b Ma", MetaMode::Append),
-    (b"ms YQ== 1 b MP", MetaMode::Prepend),
-    (b"ms YQ== 1 b Mp", MetaMode::Prepend),
-    (b"ms YQ== 1 b MR", MetaMode::Replace),
-    (b"ms YQ== 1 b Mr", MetaMode::Replace),
-    (b"ms YQ== 1 b MS", MetaMode::Set),
-    (b"ms YQ== 1 b Ms", MetaMode::Set),
-    (b"ms YQ== 1 b", MetaMode::Set),
+static MODES: [(&[u8], StoreMode); 11] = [
+    (b"ms YQ== 1 b ME", StoreMode::Add),
+    (b"ms YQ== 1 b Me", StoreMode::Add),
+    (b"ms YQ== 1 b MA", StoreMode::Append),
+    (b"ms YQ== 1 b Ma", StoreMode::Append),
+    (b"ms YQ== 1 b MP", StoreMode::Prepend),
+    (b"ms YQ== 1 b Mp", StoreMode::Prepend),
+    (b"ms YQ== 1 b MR", StoreMode::Replace),
+    (b"ms YQ== 1 b Mr", StoreMode::Replace),
+    (b"ms YQ== 1 b MS", StoreMode::Set),
+    (b"ms YQ== 1 b Ms", StoreMode::Set),
+    (b"ms YQ== 1 b", StoreMode::Set),
 ];
 
 #[test]

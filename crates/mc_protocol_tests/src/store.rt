@@ -6,7 +6,7 @@ mod shown;
 
 use crate::asserting::equal;
 use asked::{Ask, Row, op_of};
-use mc_command::{Direction, MetaMode, StoreMode, Vivify};
+use mc_command::{Direction, StoreMode, Vivify};
 use mc_item::{Answer, Op};
 use mc_store::Shard;
 use mc_wire::{GREATEST_VALUE_LIMIT, WireFault};
@@ -189,7 +189,7 @@ static LEAST_USED: [Row; 15] = [
     (1000, "e", Ask::Get, "0 5 302 bytes"),
     // A refused add makes its item the first, a refused cas or replace does not.
     (1000, "a", Ask::Put(StoreMode::Add, "y"), "not stored"),
-    (1000, "e", Ask::Put(StoreMode::Cas(99), "y"), "exists"),
+    (1000, "e", Ask::Cas(99, "y"), "exists"),
     (1000, "c", Ask::Put(StoreMode::Replace, "y"), "not stored"),
     (1000, "g", Ask::Long(303), "stored"),
     (1000, "e", Ask::Get, "miss"),
@@ -368,8 +368,8 @@ fn an_append_makes_all_others_go(rt: HostRuntime) -> Result<(), Fail> {
 
 static CLIENTS_UNIQUES: [Row; 11] = [
     (1000, "a", Ask::MsAs(77, "x"), "c77 s1 t99 0"),
-    (1000, "a", Ask::Put(StoreMode::Cas(76), "y"), "exists"),
-    (1000, "a", Ask::Put(StoreMode::Cas(77), "y"), "stored"),
+    (1000, "a", Ask::Cas(76, "y"), "exists"),
+    (1000, "a", Ask::Cas(77, "y"), "stored"),
     (1000, "a", Ask::Get, "0 1 y"),
     (1000, "a", Ask::MdAs(0, true), "done"),
     (
@@ -483,9 +483,9 @@ static CLASSIC: [Row; 17] = [
     (1000, "a", Ask::Put(StoreMode::Prepend, "a"), "stored"),
     (1000, "a", Ask::Mg(None, None, None), "f3 c5 h0 l0 t30 abcd"),
     (1000, "c", Ask::Put(StoreMode::Append, "d"), "not stored"),
-    (1000, "a", Ask::Put(StoreMode::Cas(4), "x"), "exists"),
-    (1000, "a", Ask::Put(StoreMode::Cas(5), "x"), "stored"),
-    (1000, "c", Ask::Put(StoreMode::Cas(5), "x"), "not found"),
+    (1000, "a", Ask::Cas(4, "x"), "exists"),
+    (1000, "a", Ask::Cas(5, "x"), "stored"),
+    (1000, "c", Ask::Cas(5, "x"), "not found"),
     (1000, "a", Ask::Gat(-1), "0 7 x"),
     (1000, "a", Ask::Gat(-1), "miss"),
     (1000, "a", Ask::Put(StoreMode::Add, "5"), "stored"),
@@ -579,7 +579,7 @@ static TIME_LEFT: [Row; 9] = [
         Ask::Mg(None, None, Some(30)),
         "f0 c1 h1 l0 t20 Z x",
     ),
-    (1081, "a", Ask::Put(StoreMode::Cas(99), "y"), "exists"),
+    (1081, "a", Ask::Cas(99, "y"), "exists"),
     (1082, "a", Ask::Put(StoreMode::Add, "y"), "not stored"),
     (
         1083,
@@ -610,7 +610,7 @@ static MARKS: [Row; 16] = [
     (
         1000,
         "a",
-        Ask::Ms(MetaMode::Set, Some(1), "x"),
+        Ask::Ms(StoreMode::Set, Some(1), "x"),
         "c3 s1 t99 0",
     ),
     (1000, "a", Ask::Md(None, true), "done"),
@@ -637,14 +637,19 @@ static MARKS: [Row; 16] = [
     (
         1000,
         "a",
-        Ask::Ms(MetaMode::Append, None, "y"),
+        Ask::Ms(StoreMode::Append, None, "y"),
         "c9 s2 t99 0",
     ),
     (1000, "a", Ask::Mg(None, None, None), "f9 c9 h0 l0 t99 xy"),
-    (1000, "a", Ask::Ms(MetaMode::Add, None, "y"), "not stored"),
+    (1000, "a", Ask::Ms(StoreMode::Add, None, "y"), "not stored"),
     (1000, "a", Ask::Md(None, false), "deleted"),
     (1000, "a", Ask::Md(None, false), "not found"),
-    (1000, "a", Ask::Ms(MetaMode::Set, Some(1), "x"), "not found"),
+    (
+        1000,
+        "a",
+        Ask::Ms(StoreMode::Set, Some(1), "x"),
+        "not found",
+    ),
     (1000, "a", Ask::Mg(None, None, None), "miss"),
 ];
 
@@ -750,7 +755,7 @@ static SHORT: [(Row, bool); 18] = [
         (
             1000,
             KEY_C,
-            Ask::Ms(MetaMode::Set, None, "5"),
+            Ask::Ms(StoreMode::Set, None, "5"),
             "c9 s1 t99 0",
         ),
         false,
@@ -776,10 +781,7 @@ static SHORT: [(Row, bool); 18] = [
     ((1000, KEY_G, Ask::Get, "miss"), true),
     ((1000, KEY_C, Ask::Ma(None, 2, None), "c13 s1 t99 7"), false),
     ((1000, KEY_C, Ask::Md(None, true), "done"), true),
-    (
-        (1000, KEY_C, Ask::Put(StoreMode::Cas(15), "6"), "stored"),
-        true,
-    ),
+    ((1000, KEY_C, Ask::Cas(15, "6"), "stored"), true),
     ((1000, KEY_E, Ask::Touch(60), "touched"), true),
     ((1000, KEY_C, Ask::Delete, "deleted"), true),
     (

@@ -1,5 +1,5 @@
 -- Worked texts with what they spell, and worked streams with their commands.
-use Rattle.std.proofs.Common.{◌≡◌, ℕ, ◌<◌, Bool, false, ◌||◌, List, [], ◌∷◌, ◌++◌, length, ◌==◌, refl, codes, pos, lit<}
+use Rattle.std.proofs.Common.{◌≡◌, ℕ, ◌<◌, Bool, false, ◌||◌, List, [], ◌∷◌, ◌++◌, length, ◌==◌, refl, codes, pos, lit<, None}
 use Rattle.std.proofs.lemmas.Bool.{or_parts}
 use Rattle.std.specs.Int.{int_wrap}
 use Rattle.mc_wire.specs.declared.TheConstants.{DEFAULT_LINE_LIMIT, DEFAULT_VALUE_LIMIT}
@@ -32,7 +32,7 @@ spelled : (line tail : List ℕ) (entry : Command) → has_end line ≡ false �
 spelled line tail entry none short long is = lined (own DEFAULT_VALUE_LIMIT) line tail entry (no_end line none) short long is
 
 abbrev stored : List ℕ → ℕ → List ℕ → Command
-stored key flags bytes = command.Store (record { key = key; mode = Set; flags = flags; exptime = pos 0; noreply = false; lenient = false; block = bytes })
+stored key flags bytes = command.Store (record { asked = record { key = key; mode = Set; compare = None; unique = None; flags = flags; exptime = pos 0; value = bytes }; noreply = false; lenient = false })
 
 -- a line, ended by CR LF or by LF alone
 noop : Spells (own DEFAULT_VALUE_LIMIT) (codes "mn\r\n") command.MetaNoop

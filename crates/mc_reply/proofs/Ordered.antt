@@ -88,7 +88,7 @@ pub orders_flags : (command : Command) (returned : List ReturnFlag) → IsPermut
     DiffersInOrder (returned_in command) returned (text_of command answers) (text_of (with_returned command returned) answers)
 unfolding shape_of
 orders_flags (command.MetaGet get) returned moved answers = ordered kind.Get get.flags returned get.value get.asked.key false answers moved
-orders_flags (command.MetaSet set) returned moved answers = ordered kind.Set set.flags returned false set.key (is_lenient_in set.flags.profile set.mode) answers moved
+orders_flags (command.MetaSet set) returned moved answers = ordered kind.Set set.flags returned false set.asked.key (is_lenient_in set.flags.profile set.asked.mode) answers moved
 orders_flags (command.MetaDelete delete) returned moved answers = ordered kind.Delete delete.flags returned false delete.asked.key false answers moved
 orders_flags (command.MetaArithmetic arithmetic) returned moved answers = ordered kind.Arithmetic arithmetic.flags returned arithmetic.value arithmetic.asked.key false answers moved
 orders_flags other returned moved answers = alike [] returned (text_of other answers)

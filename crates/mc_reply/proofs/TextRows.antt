@@ -6,9 +6,7 @@ use Rattle.mc_command.specs.declared.command.Command.{Command}
 use Rattle.mc_command.specs.declared.command.Command.TheVariants as command
 use Rattle.mc_command.specs.declared.command.Direction.TheVariants as direction
 use Rattle.mc_command.specs.declared.command.StoreMode.{StoreMode}
-use Rattle.mc_command.specs.declared.command.StoreMode.TheVariants as store
-use Rattle.mc_command.specs.declared.meta.MetaMode.{MetaMode}
-use Rattle.mc_command.specs.declared.meta.MetaMode.TheVariants as mode
+use Rattle.mc_command.specs.declared.command.StoreMode.TheVariants as mode
 use Rattle.mc_command.specs.declared.meta.MetaFlags.{MetaFlags}
 use Rattle.mc_command.specs.declared.meta.ReturnFlag.{ReturnFlag}
 use Rattle.mc_command.specs.declared.meta.ReturnFlag.TheVariants as flag
@@ -56,7 +54,7 @@ abbrev meta_get : List ℕ → MetaFlags → Bool → Command
 meta_get key flags value = command.MetaGet (record { asked = record { key = key; touch = None; vivify = None; recache = None; unnoted = false }; flags = flags; value = value })
 
 abbrev meta_set : List ℕ → MetaFlags → Command
-meta_set key flags = command.MetaSet (record { key = key; flags = flags; mode = mode.Set; compare = None; unique = None; client_flags = 0; exptime = pos 0; block = codes "x" })
+meta_set key flags = command.MetaSet (record { asked = record { key = key; mode = mode.Set; compare = None; unique = None; flags = 0; exptime = pos 0; value = codes "x" }; flags = flags })
 
 abbrev meta_hit : List ℕ → ℕ → Option ℕ → Bool → Bool → Bool → Answer
 meta_hit value unique left won stale sent = answer.MetaHit (record { value = value; flags = 0; unique = unique; fetched = true; idle = 2; left = left; marks = record { won = won; stale = stale; sent = sent } })
@@ -102,11 +100,11 @@ abbrev by_memcached : MetaFlags → MetaFlags
 by_memcached flags = record flags { profile = DropIn }
 
 abbrev joined : StoreMode → Bool → Bool → Command
-joined mode noreply lenient = command.Store (record { key = codes "a"; mode = mode; flags = 0; exptime = pos 0; noreply = noreply; lenient = lenient; block = codes "x" })
+joined mode noreply lenient = command.Store (record { asked = record { key = codes "a"; mode = mode; compare = None; unique = None; flags = 0; exptime = pos 0; value = codes "x" }; noreply = noreply; lenient = lenient })
 
 -- the reply to `ms` with these flags in this mode, whose value is too large
-abbrev ms_too_large : MetaFlags → MetaMode → List ℕ
-ms_too_large flags mode = text_of (command.MetaSet (record { key = codes "a"; flags = flags; mode = mode; compare = None; unique = None; client_flags = 0; exptime = pos 0; block = codes "x" })) (answer.TooLarge ∷ [])
+abbrev ms_too_large : MetaFlags → StoreMode → List ℕ
+ms_too_large flags mode = text_of (command.MetaSet (record { asked = record { key = codes "a"; mode = mode; compare = None; unique = None; flags = 0; exptime = pos 0; value = codes "x" }; flags = flags })) (answer.TooLarge ∷ [])
 
 memcached_marks : (text_of (meta_get (codes "a") (by_memcached (flags_of false false (flag.Unique ∷ []) [])) true) (meta_hit (codes "x") 5 None false true true ∷ []) ≡ codes "VA 1 c5 Z X\r\nx\r\n")
     × (text_of (meta_get (codes "a") (by_memcached (flags_of false false [] [])) false) (meta_hit (codes "x") 5 None true true false ∷ []) ≡ codes "HD X W\r\n")
@@ -122,9 +120,9 @@ memcached_zero : (text_of (meta_set (codes "a") (by_memcached (flags_of false tr
 unfolding shape_of shape_text digits
 memcached_zero = (refl, refl, refl, refl, refl)
 
-joined_too_large : (text_of (joined store.Append false true) (answer.TooLarge ∷ []) ≡ codes "NOT_STORED\r\n")
-    × (text_of (joined store.Append true true) (answer.TooLarge ∷ []) ≡ [])
-    × (text_of (joined store.Append false false) (answer.TooLarge ∷ []) ≡ codes "SERVER_ERROR object too large for cache\r\n")
+joined_too_large : (text_of (joined mode.Append false true) (answer.TooLarge ∷ []) ≡ codes "NOT_STORED\r\n")
+    × (text_of (joined mode.Append true true) (answer.TooLarge ∷ []) ≡ [])
+    × (text_of (joined mode.Append false false) (answer.TooLarge ∷ []) ≡ codes "SERVER_ERROR object too large for cache\r\n")
 unfolding shape_of shape_text digits
 joined_too_large = (refl, refl, refl)
 

@@ -5,8 +5,8 @@ use Rattle.mc_command.specs.declared.command.Command.{Command}
 use Rattle.mc_command.specs.declared.command.Command.TheVariants as command
 use Rattle.mc_command.specs.declared.command.StatsRequest.TheVariants as request
 use Rattle.mc_command.specs.declared.meta.MetaFlags.{MetaFlags}
-use Rattle.mc_command.specs.declared.meta.MetaMode.{MetaMode}
-use Rattle.mc_command.specs.declared.meta.MetaMode.TheVariants.{Append, Prepend}
+use Rattle.mc_command.specs.declared.command.StoreMode.{StoreMode}
+use Rattle.mc_command.specs.declared.command.StoreMode.TheVariants.{Append, Prepend}
 use Rattle.mc_command.specs.declared.meta.ReturnFlag.{ReturnFlag}
 use Rattle.mc_command.specs.declared.meta.ReturnFlag.TheVariants.{Key}
 use Rattle.mc_command.specs.declared.rules.Profile.{Profile}
@@ -26,7 +26,7 @@ abbrev pub shown_key : MetaFlags → List ℕ → Option (List ℕ)
 shown_key flags key = if list_any is_key_flag flags.returned then Some key else None
 
 -- By memcached's rules a value that `ms` joins counts as not stored where it is too large, and that is no error.
-abbrev pub is_lenient_in : Profile → MetaMode → Bool
+abbrev pub is_lenient_in : Profile → StoreMode → Bool
 is_lenient_in DropIn Append = true
 is_lenient_in DropIn Prepend = true
 is_lenient_in profile mode = false
@@ -47,7 +47,7 @@ shape_of (command.Stats request.Empty) = Fixed fixed.End
 shape_of command.Quit = Fixed fixed.Nothing
 shape_of command.MetaNoop = Fixed fixed.MetaNoop
 shape_of (command.MetaGet get) = Meta kind.Get get.flags get.value (shown_key get.flags get.asked.key) false
-shape_of (command.MetaSet set) = Meta kind.Set set.flags false (shown_key set.flags set.key) (is_lenient_in set.flags.profile set.mode)
+shape_of (command.MetaSet set) = Meta kind.Set set.flags false (shown_key set.flags set.asked.key) (is_lenient_in set.flags.profile set.asked.mode)
 shape_of (command.MetaDelete delete) = Meta kind.Delete delete.flags false (shown_key delete.flags delete.asked.key) false
 shape_of (command.MetaArithmetic arithmetic) =
     Meta kind.Arithmetic arithmetic.flags arithmetic.value (shown_key arithmetic.flags arithmetic.asked.key) false

@@ -35,7 +35,7 @@ use Rattle.mc_rows.specs.Conversation.{Sent, replies, reply_on, outcomes_on, ste
 -- The table of outcomes is the step, whatever stands under the key.
 step_on_is_step : (state : State) (op : Op) → step_on state op (found_by state op) ≡ step_of state op
 unfolding step_of key_of
-step_on_is_step state (op.Store key mode flags exptime value) = refl
+step_on_is_step state (op.Store asked) = refl
 step_on_is_step state (op.Fetch key touch) = refl
 step_on_is_step state (op.Count key direction amount) = refl
 step_on_is_step state (op.Delete key) = refl

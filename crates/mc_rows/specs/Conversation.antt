@@ -23,7 +23,7 @@ use Rattle.mc_model.specs.Alone.{alone}
 use Rattle.mc_split.specs.Pieces.{pieces_of}
 use Rattle.mc_reply.specs.Text.{text_of}
 use Rattle.mc_store.specs.State.{State, Used}
-use Rattle.mc_store.specs.Step.{Outcome, fetch_step, store_step, mode_of, compare_of, count_step, delete_step, touch_step, flush_step, coming, meta_get_step, meta_delete_step, stats_of}
+use Rattle.mc_store.specs.Step.{Outcome, fetch_step, store_step, counting, count_step, delete_step, touch_step, flush_step, coming, meta_get_step, meta_delete_step, stats_of}
 
 -- a line without its end, and the bytes behind it that belong to it
 pub record Sent : Type 0 where
@@ -53,10 +53,9 @@ replies moment sent = alone row_sizes (map (taken_at moment) sent)
 -- what a shard answers where this stands under the key, and its state then
 abbrev pub step_on : State → Op → Option Used → Outcome
 step_on state (op.Fetch key touch) found = fetch_step state key touch found
-step_on state (op.Store key mode flags exptime value) found =
-    store_step state (record { key = key; mode = mode_of mode; compare = compare_of mode; unique = None; flags = flags; exptime = exptime; value = value }) (λ done. Stored) found
+step_on state (op.Store asked) found = store_step state asked (λ done. Stored) found
 step_on state (op.Count key direction amount) found =
-    count_step state (record { key = key; compare = None; unique = None; direction = direction; amount = amount; exptime = None; vivify = None }) (λ done. Number done.number) found
+    count_step state (counting key direction amount) (λ done. Number done.number) found
 step_on state (op.Delete key) found = delete_step state key found
 step_on state (op.Touch key exptime) found = touch_step state key exptime found
 step_on state (op.Flush delay) found = (Done, flush_step state (coming (expiry_of delay state.time) state.time))

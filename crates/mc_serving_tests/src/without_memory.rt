@@ -5,7 +5,7 @@ ghost use Rattle.std.specs.Prelude.{◌<◌, ◌≤◌};
 use crate::asserting::{equal, holds};
 use crate::memory_line::MemoryLine;
 use crate::sizes::ONE_LANE;
-use mc_command::{Command, MetaRemoval, Refusal, StoreMode};
+use mc_command::{Command, MetaRemoval, Refusal, StoreMode, StoreRequest};
 use mc_conn::{Conn, Taken};
 use mc_item::{Answer, Expiry, Item, Kind, Op, PackedExpiry, Value, expiry};
 use mc_reader::{Next, Reader};
@@ -173,13 +173,15 @@ fn asks(rt: &impl Abort, alloc: Global, shard: &mut Shard, op: Op, name: &str) {
 
 /// A set of `17` under the key `a`.
 fn set(alloc: Global) -> Result<Op, AllocError> {
-    Ok(Op::Store {
+    Ok(Op::Store(StoreRequest {
         key: key_of(alloc)?,
         mode: StoreMode::Set,
+        compare: None,
+        unique: None,
         flags: 0,
         exptime: 0,
         value: value_of(alloc)?,
-    })
+    }))
 }
 
 /// A shard that holds the key `a`.

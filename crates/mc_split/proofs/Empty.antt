@@ -38,7 +38,7 @@ empty_where_silent shards some (command.Stats request.Reset) answers h = asks_si
 empty_where_silent shards some (command.Get retrieval) answers h =
     values_shown (list_any is_no_memory answers) (flat_map (λ (pair : List ℕ × Answer). item_text retrieval.with_unique pair.0 pair.1) (zip retrieval.keys answers))
 empty_where_silent shards some (command.MetaGet get) (given ∷ []) h = meta_silent MetaGet refl kind.Get get.flags get.value (shown_key get.flags get.asked.key) false given h.0
-empty_where_silent shards some (command.MetaSet set) (given ∷ []) h = meta_silent MetaStore refl kind.Set set.flags false (shown_key set.flags set.key) (is_lenient_in set.flags.profile set.mode) given h.0
+empty_where_silent shards some (command.MetaSet set) (given ∷ []) h = meta_silent MetaStore refl kind.Set set.flags false (shown_key set.flags set.asked.key) (is_lenient_in set.flags.profile set.asked.mode) given h.0
 empty_where_silent shards some (command.MetaDelete delete) (given ∷ []) h = meta_silent MetaDelete refl kind.Delete delete.flags false (shown_key delete.flags delete.asked.key) false given h.0
 empty_where_silent shards some (command.MetaArithmetic arithmetic) (given ∷ []) h = meta_silent MetaCount refl kind.Arithmetic arithmetic.flags arithmetic.value (shown_key arithmetic.flags arithmetic.asked.key) false given h.0
 empty_where_silent shards some (command.Refused refused) answers h = refused_shown refused

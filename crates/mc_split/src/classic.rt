@@ -8,7 +8,7 @@ ghost use Rattle.mc_split.specs.internal.Splits.{SplitsBehind};
 use crate::plan::Piece;
 use crate::splitter::Splitter;
 use crate::stats::ToAll;
-use mc_command::{Block, Command, Direction, Refusal, Retrieval, Storage};
+use mc_command::{Block, Command, Direction, Refusal, Retrieval, Storage, StoreRequest};
 use mc_item::{Kind, NoMemory, Op, Value};
 use mc_reply::{Fixed, Form, Shape};
 use mc_wire::Key;
@@ -19,6 +19,21 @@ pub fn value_of(block: Block) -> Result<Value, NoMemory>
     ensures { IfOk result (λ value. value ≡ block) }
 {
     Value::new(block.into_bytes())
+}
+
+/// What a storage command asks of its shard: the bytes of its block are the value.
+pub(crate) fn asked_of_shard(asked: StoreRequest<Block>) -> Result<StoreRequest<Value>, NoMemory>
+    ensures { IfOk result (λ request. request ≡ asked) }
+{
+    Ok(StoreRequest {
+        key: asked.key,
+        mode: asked.mode,
+        compare: asked.compare,
+        unique: asked.unique,
+        flags: asked.flags,
+        exptime: asked.exptime,
+        value: value_of(asked.value)?,
+    })
 }
 
 /// The line of the answer, or nothing; where it says that a value is too large, that is an error.
@@ -46,15 +61,13 @@ impl Splitter {
             noreply: storage.noreply,
             lenient: storage.lenient,
         };
-        let shard = storage.key.place(self.shards);
-        let op = Op::Store {
-            key: storage.key,
-            mode: storage.mode,
-            flags: storage.flags,
-            exptime: storage.exptime,
-            value: value_of(storage.block)?,
-        };
-        self.one(queue, shape, shard, op)
+        let shard = storage.asked.key.place(self.shards);
+        self.one(
+            queue,
+            shape,
+            shard,
+            Op::Store(asked_of_shard(storage.asked)?),
+        )
     }
 
     /// `get`, `gets`, `gat`, `gats`: one piece a key, in the order of the request. Where memory runs out, the queue holds

@@ -4,14 +4,14 @@ ghost use Rattle.std.specs.List.{list_any};
 ghost use Rattle.mc_reply.specs.Shape.{is_key_flag, is_lenient_in, shown_key};
 ghost use Rattle.mc_split.specs.Plan.{SplitsInto};
 
-use crate::classic::value_of;
+use crate::classic::asked_of_shard;
 use crate::plan::Piece;
 use crate::splitter::Splitter;
 use mc_command::{
-    Command, MetaArithmetic, MetaDelete, MetaFlags, MetaGet, MetaKind, MetaMode, MetaSet, Profile,
-    ReturnFlag,
+    Command, MetaArithmetic, MetaDelete, MetaFlags, MetaGet, MetaKind, MetaSet, Profile,
+    ReturnFlag, StoreMode,
 };
-use mc_item::{MetaStore, NoMemory, Op};
+use mc_item::{NoMemory, Op};
 use mc_reply::{Form, Shape};
 use mc_wire::Key;
 use std::alloc::AllocError;
@@ -43,10 +43,10 @@ fn copy_shown(flags: &MetaFlags, key: &Key) -> Result<Option<Key>, AllocError>
 }
 
 /// Whether a value that `ms` joins in this mode counts as not stored where it is too large.
-fn is_lenient_in(profile: Profile, mode: MetaMode) -> bool
+fn is_lenient_in(profile: Profile, mode: StoreMode) -> bool
     ensures { result ≡ is_lenient_in profile mode }
 {
-    matches!(profile, Profile::DropIn) && matches!(mode, MetaMode::Append | MetaMode::Prepend)
+    matches!(profile, Profile::DropIn) && matches!(mode, StoreMode::Append | StoreMode::Prepend)
 }
 
 impl Splitter {
@@ -82,20 +82,12 @@ impl Splitter {
         let shape = Shape::Meta {
             kind: MetaKind::Set,
             value: false,
-            key: copy_shown(&set.flags, &set.key)?,
-            lenient: is_lenient_in(set.flags.profile, set.mode),
+            key: copy_shown(&set.flags, &set.asked.key)?,
+            lenient: is_lenient_in(set.flags.profile, set.asked.mode),
             flags: set.flags,
         };
-        let shard = set.key.place(self.shards);
-        let op = Op::MetaStore(MetaStore {
-            key: set.key,
-            mode: set.mode,
-            compare: set.compare,
-            unique: set.unique,
-            flags: set.client_flags,
-            exptime: set.exptime,
-            value: value_of(set.block)?,
-        });
+        let shard = set.asked.key.place(self.shards);
+        let op = Op::MetaStore(asked_of_shard(set.asked)?);
         self.one(queue, shape, shard, op)
     }
 

@@ -15,7 +15,7 @@ use crate::plan::Piece;
 use crate::splitter::Splitter;
 use mc_command::{
     Block, Keys, MetaFetch, MetaFlags, MetaKind, MetaSet, Opaque, Profile, Refusal, Retrieval,
-    Returned, StoreMode,
+    Returned, StoreMode, StoreRequest,
 };
 use mc_item::{Kind, NoMemory, Op, Value};
 use mc_reply::{Fixed, Form, Shape};
@@ -165,7 +165,7 @@ impl Splitter {
         self.meta_set(
             queue,
             MetaSet {
-                block: Block::new(block),
+                asked: set.asked.with_value(Block::new(block)),
                 ..set
             },
         )
@@ -192,13 +192,15 @@ impl Splitter {
         let key = Key::from_key_word(self.alloc, key)?;
         let block = Vec::from_slice(self.alloc, block)?;
         let shard = key.place(self.shards);
-        let op = Op::Store {
+        let op = Op::Store(StoreRequest {
             key,
             mode: StoreMode::Set,
+            compare: None,
+            unique: None,
             flags,
             exptime,
             value: Value::new(block)?,
-        };
+        });
         self.push(queue, shard, 0, op)?;
         Ok(())
     }

@@ -13,11 +13,10 @@ use Rattle.mc_item.specs.declared.answer.Answer.TheVariants.{Exists, NonNumeric,
 use Rattle.mc_item.specs.Expiry.{expiry_of}
 use Rattle.mc_item.specs.Value.{number_in, number_text}
 use Rattle.mc_item.specs.Kind.{kind_of, is_lawful}
-use Rattle.mc_store.specs.internal.Asked.{counting}
 use Rattle.mc_store.specs.internal.Found.{live}
 use Rattle.mc_store.specs.State.{State, without_dead, entered}
 use Rattle.mc_store.specs.Rows.{counted_item, done_of}
-use Rattle.mc_store.specs.Step.{Outcome, Reply, is_other, numbered, counted, changes, absent_count, count_step, step_of}
+use Rattle.mc_store.specs.Step.{Outcome, Reply, is_other, numbered, counted, changes, counting, absent_count, count_step, step_of}
 use Rattle.mc_store.specs.Shard.{ShardContents, Keeps}
 use Rattle.mc_store.proofs.Writes.{Closes, along, met_time}
 use Rattle.mc_store.proofs.Outcomes.{Ends, ends, absent_as, present_as, unchanged_as}
@@ -99,13 +98,13 @@ counted_by held state item asked reply number to new_item answer new h is other 
 
 -- `incr` and `decr` count at no unique, make nothing of a miss and leave the expiry.
 pub classic_count : (settled : State) (key : List ℕ) (direction : Direction) (amount : ℕ) (answer : Answer) (new : ShardContents) →
-    Closes settled (count_step settled (counting key None None direction amount None None) (λ done. Number done.number) (get settled.items key)) answer new → Ends settled (Count key direction amount) answer new
+    Closes settled (count_step settled (counting key direction amount) (λ done. Number done.number) (get settled.items key)) answer new → Ends settled (Count key direction amount) answer new
 unfolding step_of kind_of is_lawful
 classic_count settled key direction amount answer new closes = ends settled (Count key direction amount) answer new (λ _. refl) closes
 
 -- `ma` counts as its flags ask.
 pub meta_count : (settled : State) (asked : op.MetaCount) (answer : Answer) (new : ShardContents) →
-    Closes settled (count_step settled (counting asked.key asked.compare asked.unique asked.direction asked.amount asked.exptime asked.vivify) (λ done. MetaDone done) (get settled.items asked.key)) answer new → Ends settled (MetaCount asked) answer new
+    Closes settled (count_step settled asked (λ done. MetaDone done) (get settled.items asked.key)) answer new → Ends settled (MetaCount asked) answer new
 unfolding step_of kind_of is_lawful
 meta_count settled asked answer new closes = ends settled (MetaCount asked) answer new (λ _. refl) closes
 

@@ -1,21 +1,20 @@
 -- Worked rows of the definitions, each computed: two shards, this one the first, at the second 1000.
-use Rattle.std.proofs.Common.{◌≡◌, ℕ, true, false, List, [], Some, None, pos, negsuc}
+use Rattle.std.proofs.Common.{◌≡◌, ℕ, true, false, List, [], Option, Some, None, pos, negsuc}
 use Rattle.std.specs.Prelude.{codes}
-use Rattle.mc_command.specs.declared.command.StoreMode.TheVariants as mode
+use Rattle.mc_command.specs.declared.command.StoreMode.{StoreMode}
+use Rattle.mc_command.specs.declared.command.StoreMode.TheVariants.{Set, Replace}
+use Rattle.mc_command.specs.declared.command.StoreRequest.{StoreRequest}
 use Rattle.mc_command.specs.declared.command.Direction.TheVariants.{Increment, Decrement}
-use Rattle.mc_command.specs.declared.meta.MetaMode.TheVariants.{Replace}
 use Rattle.mc_item.specs.declared.item.Item.{Item}
 use Rattle.mc_item.specs.declared.item.Expiry.TheVariants.{Never, At}
 use Rattle.mc_item.specs.declared.answer.Answer.{Answer}
 use Rattle.mc_item.specs.declared.answer.Answer.TheVariants.{Stored, Exists, NotFound, NoCas, MetaDone}
 use Rattle.mc_item.specs.declared.answer.MetaDone as done
-use Rattle.mc_item.specs.declared.op.MetaStore.{MetaStore}
 use Rattle.mc_item.specs.Expiry.{expiry_of, is_dead, seconds_left}
 use Rattle.mc_item.specs.Tally.{no_counts}
-use Rattle.mc_store.specs.internal.Asked.{storing}
 use Rattle.mc_store.specs.State.{Used, Items, State, is_dead_at, next_unique}
 use Rattle.mc_store.specs.Rows.{joined_item, stale_item, marks_of, hit_of, vivified_item, made_hit}
-use Rattle.mc_store.specs.Step.{Outcome, mode_of, compare_of, store_step, numbered, counted, coming}
+use Rattle.mc_store.specs.Step.{Outcome, store_step, numbered, counted, coming}
 
 -- the first of two shards, where given is the number of uniques that it has given
 abbrev at : Items → ℕ → State
@@ -31,9 +30,13 @@ used it = record { item = it; number = 3 }
 abbrev plain : done.MetaDone → Answer
 plain _ = Stored
 
+-- to store a value in this mode, at this unique
+abbrev storing : List ℕ → StoreMode → Option ℕ → List ℕ → StoreRequest (List ℕ)
+storing key mode compare value = record { key = key; mode = mode; compare = compare; unique = None; flags = 0; exptime = pos 0; value = value }
+
 -- cas at the unique 1
-abbrev swap : List ℕ → List ℕ → MetaStore
-swap key value = storing key (mode_of (mode.Cas 1)) (compare_of (mode.Cas 1)) None 0 (pos 0) value
+abbrev swap : List ℕ → List ℕ → StoreRequest (List ℕ)
+swap key value = storing key Set (Some 1) value
 
 -- The rows, of which each computes.
 record WorkedRows : Type 0 where
@@ -43,7 +46,7 @@ record WorkedRows : Type 0 where
   nothing_to_swap : (m : Items) → (store_step (at m 2) (swap (codes "c") (codes "z")) plain None) ≡ (NotFound, at m 2)
   -- a stored item has the next unique, which counts as given
   second_unique : (m : Items) →
-      (store_step (at m 1) (storing (codes "a") Replace None None 0 (pos 0) (codes "y")) (λ done. MetaDone done) (Some (used (item 1)))).0 ≡
+      (store_step (at m 1) (storing (codes "a") Replace None (codes "y")) (λ done. MetaDone done) (Some (used (item 1)))).0 ≡
       MetaDone (record { unique = 3; size = 1; left = None; number = 0 })
   -- append keeps flags and expiry
   appended : joined_item (record (item 1) { flags = 7; expiry = At 1030; fetched = true; stale = true }) (codes "xy") 3 ≡

@@ -5,15 +5,15 @@ use Rattle.std.specs.FinMap.{get, insert, remove}
 use Rattle.std.proofs.lemmas.Bool.{cases_Bool, both_ways, not-true, and_parts, or_right}
 use Rattle.std.proofs.lemmas.Nat.{same_from_place}
 use Rattle.std.proofs.Math.Nat.{mul_comm}
-use Rattle.mc_command.specs.declared.meta.MetaMode.{MetaMode}
-use Rattle.mc_command.specs.declared.meta.MetaMode.TheVariants.{Set, Add, Append, Prepend}
+use Rattle.mc_command.specs.declared.command.StoreMode.{StoreMode}
+use Rattle.mc_command.specs.declared.command.StoreMode.TheVariants.{Set, Add, Append, Prepend}
 use Rattle.mc_wire.specs.Limits.{latest_moment}
 use Rattle.mc_item.specs.declared.item.Item.{Item}
 use Rattle.mc_item.specs.declared.op.Op.{Op}
 use Rattle.mc_item.specs.declared.op.Op.TheVariants.{Store, Fetch, Count, Delete, Touch, Flush, Stats, ResetStats, MetaGet, MetaStore, MetaDelete, MetaCount}
 use Rattle.mc_command.specs.declared.meta.MetaRemoval as op
 use Rattle.mc_command.specs.declared.meta.MetaFetch as mg
-use Rattle.mc_item.specs.declared.op.MetaStore as ms
+use Rattle.mc_command.specs.declared.command.StoreRequest.{StoreRequest}
 use Rattle.mc_command.specs.declared.meta.MetaCount as ma
 use Rattle.mc_command.specs.declared.meta.Vivify.{Vivify}
 use Rattle.mc_item.specs.declared.answer.Kind.{Kind}
@@ -30,8 +30,7 @@ use Rattle.mc_item.specs.Kind.{kind_of, key_of, is_lawful}
 use Rattle.mc_item.specs.Tally.{no_counts}
 use Rattle.mc_store.specs.State.{Used, Items, State, is_due, arrived, is_dead_at, with_items, without_dead, settle, first, entered, next_unique, with_given}
 use Rattle.mc_store.specs.Rows.{fetched_item, touched_item, stored_item, joined_item, counted_item, counter_item, vivified_item, stale_item, shown_item, hit_of, made_hit, done_of, is_won, has_fewer_left}
-use Rattle.mc_store.specs.Step.{Outcome, Reply, is_other, compared, numbered, is_too_large, writes, stores, joins, absent_store, present_store, store_step, mode_of, compare_of, absent_count, counts, count_step, fetch_step, touch_step, absent_meta_get, meta_get_step, shows, delete_step, stales, meta_delete_step, counted, coming, flush_step, stats_of, noted_in, step_of, Answers, IsStep}
-use Rattle.mc_store.specs.internal.Asked.{storing, counting}
+use Rattle.mc_store.specs.Step.{Outcome, Reply, is_other, compared, numbered, is_too_large, writes, stores, joins, absent_store, present_store, store_step, counting, absent_count, counts, count_step, fetch_step, touch_step, absent_meta_get, meta_get_step, shows, delete_step, stales, meta_delete_step, counted, coming, flush_step, stats_of, noted_in, step_of, Answers, IsStep}
 use Rattle.mc_store.specs.Laws.{StaysUnless, tells_stored, IsEvicted, SameStored, IsKept, HasNewUnique, token_of, is_sent, may_clear_sent, AnswersAreLawful, StepsAgree, OthersStay, UniquesRise, UniquesDiffer, UniquesTell, TokensAreTaken, TimeRises, WinnersAreFirst, SentStays}
 use Rattle.mc_store.proofs.Lists.{same, same_is, by_key, nothing, get_nothing, get_gone, get_apart, get_here, get_other, get_kept, inserted_all}
 use Rattle.mc_store.proofs.Costs.{fitting_key, fitting_other}
@@ -224,7 +223,7 @@ record Refusals (asked : Kind) (reply : Reply) : Type 0 where
   not_no_cas : (shown : done.MetaDone) → ¬ (reply shown ≡ NoCas)
   told : (shown : done.MetaDone) (before : Option Used) → tells_stored (reply shown) before ≡ true
 
-module _ (s : State) (asked : Kind) (what : ms.MetaStore) (reply : Reply) (may : Refusals asked reply) where
+module _ (s : State) (asked : Kind) (what : StoreRequest (List ℕ)) (reply : Reply) (may : Refusals asked reply) where
   writing : (value : List ℕ) (item : Item) →
       Follows s asked what.unique (Some what.key) (writes s what.key what.unique value (λ unique. record item { unique = unique }) reply)
   writing value item = elim (cases_Bool (is_too_large s what.key value)) [
@@ -241,13 +240,13 @@ module _ (s : State) (asked : Kind) (what : ms.MetaStore) (reply : Reply) (may :
   joins_follow : (item : Item) (value : List ℕ) → Follows s asked what.unique (Some what.key) (joins s item what value reply)
   joins_follow item value = writing value (joined_item item value 0)
 
-  storing_absent : (mode : MetaMode) (compare : Option ℕ) → Follows s asked what.unique (Some what.key) (absent_store s what reply mode compare)
+  storing_absent : (mode : StoreMode) (compare : Option ℕ) → Follows s asked what.unique (Some what.key) (absent_store s what reply mode compare)
   storing_absent mode (Some unique) = unchanged s asked what.unique (Some what.key) NotFound (λ _ _ e. cc) may.absent
   storing_absent Set None = stores_follow
   storing_absent Add None = stores_follow
   storing_absent mode None = unchanged s asked what.unique (Some what.key) NotStored (λ _ _ e. cc) may.not_stored
 
-  storing_present : (mode : MetaMode) (u : Used) → get s.items what.key ≡ Some u →
+  storing_present : (mode : StoreMode) (u : Used) → get s.items what.key ≡ Some u →
       Follows s asked what.unique (Some what.key) (present_store s what reply mode u.item)
   storing_present Add u is = uses s asked what.unique what.key u u.item NotStored (λ _ _ e. cc) is (assumption) (λ h. h) may.not_stored
   storing_present Append u is = compares s asked what.unique (Some what.key) what.compare u.item
@@ -395,8 +394,8 @@ meta_count_follows s what reply may (Some u) is =
 step_follows : (s : State) (op : Op) → Follows s (kind_of op) (token_of op) (key_of op) (step_of s op)
 unfolding step_of kind_of key_of is_lawful
 step_follows s (Fetch key touch) = fetch_follows s key touch (get s.items key) refl
-step_follows s (Store key m flags exptime value) = storing_follows s kind.Store (storing key (mode_of m) (compare_of m) None flags exptime value) (λ _. Stored) (record { clears = refl; absent = refl; not_stored = refl; exists = refl; large = refl; no_cas = refl; replies = λ _. refl; not_no_cas = λ _ e. cc; told = λ _ _. refl }) (get s.items key) refl
-step_follows s (Count key direction amount) = classic_count_follows s (counting key None None direction amount None None) (λ shown. Number shown.number) refl (record { absent = refl; no_number = refl; no_cas = refl; replies = λ _. refl; not_no_cas = λ _ e. cc; told = λ _ _. refl }) (get s.items key) refl
+step_follows s (Store asked) = storing_follows s kind.Store asked (λ _. Stored) (record { clears = refl; absent = refl; not_stored = refl; exists = refl; large = refl; no_cas = refl; replies = λ _. refl; not_no_cas = λ _ e. cc; told = λ _ _. refl }) (get s.items asked.key) refl
+step_follows s (Count key direction amount) = classic_count_follows s (counting key direction amount) (λ shown. Number shown.number) refl (record { absent = refl; no_number = refl; no_cas = refl; replies = λ _. refl; not_no_cas = λ _ e. cc; told = λ _ _. refl }) (get s.items key) refl
 step_follows s (Delete key) = delete_follows s key (get s.items key)
 step_follows s (Touch key exptime) = touch_follows s key exptime (get s.items key) refl
 step_follows s (Flush delay) = flush_follows s (coming (expiry_of delay s.time) s.time)

@@ -5,7 +5,7 @@ use Rattle.std.specs.FinMap.{get, insert}
 use Rattle.mc_wire.specs.Limits.{latest_moment}
 use Rattle.mc_item.specs.declared.item.Item.{Item}
 use Rattle.mc_item.specs.declared.op.Op.{Op}
-use Rattle.mc_item.specs.declared.op.Op.TheVariants.{MetaStore, MetaDelete, MetaCount}
+use Rattle.mc_item.specs.declared.op.Op.TheVariants.{Store, MetaStore, MetaDelete, MetaCount}
 use Rattle.mc_item.specs.declared.answer.Kind.{Kind}
 use Rattle.mc_item.specs.declared.answer.Kind.TheVariants as kind
 use Rattle.mc_item.specs.declared.answer.Answer.{Answer}
@@ -80,6 +80,7 @@ IsKept old key item = (before : Used) × (get old key ≡ Some before) × SameSt
 
 -- the unique that a client gives, by the flag E
 abbrev pub token_of : Op → Option ℕ
+token_of (Store asked) = asked.unique
 token_of (MetaStore asked) = asked.unique
 token_of (MetaDelete asked) = asked.unique
 token_of (MetaCount asked) = asked.unique

@@ -3,11 +3,10 @@
 use Rattle.std.specs.Prelude.{ℕ, ◌≡◌, ◌+◌, ◌-◌, ◌%◌, ◌^◌, Bool, true, false, not, IsTrue, ◌||◌, ℤ, ◌⊎◌, ◌++◌, List, length, Option, Some, None, nat_le, nat_lt, ◌==◌, if◌then◌else◌}
 use Rattle.std.specs.FinMap.{get, insert, remove, len}
 use Rattle.mc_command.specs.declared.command.StoreMode.{StoreMode}
-use Rattle.mc_command.specs.declared.command.StoreMode.TheVariants as store
+use Rattle.mc_command.specs.declared.command.StoreMode.TheVariants.{Set, Add, Replace, Append, Prepend}
+use Rattle.mc_command.specs.declared.command.StoreRequest.{StoreRequest}
 use Rattle.mc_command.specs.declared.command.Direction.{Direction}
 use Rattle.mc_command.specs.declared.command.Direction.TheVariants.{Increment, Decrement}
-use Rattle.mc_command.specs.declared.meta.MetaMode.{MetaMode}
-use Rattle.mc_command.specs.declared.meta.MetaMode.TheVariants.{Set, Add, Replace, Append, Prepend}
 use Rattle.mc_item.specs.declared.item.Item.{Item}
 use Rattle.mc_item.specs.declared.item.Expiry.{Expiry}
 use Rattle.mc_item.specs.declared.item.Expiry.TheVariants.{Never, At}
@@ -15,7 +14,6 @@ use Rattle.mc_item.specs.declared.op.Op.{Op}
 use Rattle.mc_item.specs.declared.op.Op.TheVariants.{Store, Fetch, Count, Delete, Touch, Flush, MetaGet, MetaStore, MetaDelete, MetaCount}
 use Rattle.mc_item.specs.declared.op.Op.TheVariants as op
 use Rattle.mc_command.specs.declared.meta.MetaFetch as mg
-use Rattle.mc_item.specs.declared.op.MetaStore as ms
 use Rattle.mc_command.specs.declared.meta.MetaRemoval as md
 use Rattle.mc_command.specs.declared.meta.MetaCount as ma
 use Rattle.mc_command.specs.declared.meta.Vivify.{Vivify}
@@ -83,7 +81,7 @@ meta_get_step state asked None = absent_meta_get state asked.key asked.vivify
 meta_get_step state asked (Some used) =
     (MetaHit (hit_of used.item asked.touch asked.recache state.time), shows asked.unnoted state asked.key used (shown_item used.item asked.touch asked.recache state.time))
 
--- Storing, where each command asks as ms does
+-- Storing (protocol.txt, "Storage commands")
 
 -- A value is too large where it passes the limit, or where its item would cost more than the budget alone.
 abbrev pub is_too_large : State → List ℕ → List ℕ → Bool
@@ -96,44 +94,36 @@ writes state key given value item_of reply =
     else puts state key given item_of (λ made. reply (done_of made 0 state.time))
 
 -- what is asked is stored
-abbrev pub stores : State → ms.MetaStore → Reply → Outcome
+abbrev pub stores : State → StoreRequest (List ℕ) → Reply → Outcome
 stores state asked reply = writes state asked.key asked.unique asked.value (stored_item asked.value asked.flags asked.exptime state.time) reply
 
 -- what is asked is joined to the value that is there
-abbrev pub joins : State → Item → ms.MetaStore → List ℕ → Reply → Outcome
+abbrev pub joins : State → Item → StoreRequest (List ℕ) → List ℕ → Reply → Outcome
 joins state item asked value reply = writes state asked.key asked.unique value (joined_item item value) reply
 
 -- under an absent key, where Set and Add store
-abbrev pub absent_store : State → ms.MetaStore → Reply → MetaMode → Option ℕ → Outcome
+abbrev pub absent_store : State → StoreRequest (List ℕ) → Reply → StoreMode → Option ℕ → Outcome
 absent_store state asked reply mode (Some unique) = (NotFound, state)
 absent_store state asked reply Set None = stores state asked reply
 absent_store state asked reply Add None = stores state asked reply
 absent_store state asked reply mode None = (NotStored, state)
 
 -- under a key that is there, where Set and Replace store; a refused add makes the item the most recently used one
-abbrev pub present_store : State → ms.MetaStore → Reply → MetaMode → Item → Outcome
+abbrev pub present_store : State → StoreRequest (List ℕ) → Reply → StoreMode → Item → Outcome
 present_store state asked reply Add item = (NotStored, first state asked.key item)
 present_store state asked reply Append item = compared state asked.compare item (joins state item asked (item.value ++ asked.value) reply)
 present_store state asked reply Prepend item = compared state asked.compare item (joins state item asked (asked.value ++ item.value) reply)
 present_store state asked reply mode item = compared state asked.compare item (stores state asked reply)
 
-abbrev pub store_step : State → ms.MetaStore → Reply → Option Used → Outcome
+abbrev pub store_step : State → StoreRequest (List ℕ) → Reply → Option Used → Outcome
 store_step state asked reply None = absent_store state asked reply asked.mode asked.compare
 store_step state asked reply (Some used) = present_store state asked reply asked.mode used.item
 
--- the mode of ms that a classic command has: that of set, and of cas, which is set at a unique, is Set
-abbrev pub mode_of : StoreMode → MetaMode
-mode_of store.Add = Add
-mode_of store.Replace = Replace
-mode_of store.Append = Append
-mode_of store.Prepend = Prepend
-mode_of mode = Set
-
-abbrev pub compare_of : StoreMode → Option ℕ
-compare_of (store.Cas unique) = Some unique
-compare_of mode = None
-
 -- Counting, where each command asks as ma does (protocol.txt, "Increment/Decrement")
+
+-- what incr and decr ask
+abbrev pub counting : List ℕ → Direction → ℕ → ma.MetaCount
+counting key direction amount = record { key = key; compare = None; unique = None; direction = direction; amount = amount; exptime = None; vivify = None }
 
 -- It grows modulo 2^64, and falls to 0 at least.
 abbrev pub counted : Direction → ℕ → ℕ → ℕ
@@ -204,12 +194,9 @@ noted_in state op answer = record state { tally = noted state.tally (asked_of op
 -- what a settled shard answers, and its state then
 unfoldable pub step_of : State → Op → Outcome
 step_of state (Fetch key touch) = fetch_step state key touch (get state.items key)
-step_of state (Store key mode flags exptime value) =
-    store_step state (record { key = key; mode = mode_of mode; compare = compare_of mode; unique = None; flags = flags; exptime = exptime; value = value })
-    (λ done. Stored) (get state.items key)
+step_of state (Store asked) = store_step state asked (λ done. Stored) (get state.items asked.key)
 step_of state (Count key direction amount) =
-    count_step state (record { key = key; compare = None; unique = None; direction = direction; amount = amount; exptime = None; vivify = None })
-    (λ done. Number done.number) (get state.items key)
+    count_step state (counting key direction amount) (λ done. Number done.number) (get state.items key)
 step_of state (Delete key) = delete_step state key (get state.items key)
 step_of state (Touch key exptime) = touch_step state key exptime (get state.items key)
 step_of state (Flush delay) = (Done, flush_step state (coming (expiry_of delay state.time) state.time))

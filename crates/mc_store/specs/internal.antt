@@ -1,6 +1,5 @@
 -- Definitions that only the contracts of private functions name: no public contract rests on them.
 pub mod Access
-pub mod Asked
 pub mod Found
 pub mod Listed
 pub mod Parts

@@ -162,13 +162,7 @@ impl Shard {
     {
         self.arrive(moment);
         match op {
-            Op::Store {
-                key,
-                mode,
-                flags,
-                exptime,
-                value,
-            } => self.store_classic(alloc, key, mode, flags, exptime, value),
+            Op::Store(asked) => self.store_classic(alloc, asked),
             Op::Fetch { key, touch } => self.fetch(&key, touch),
             Op::Count {
                 key,

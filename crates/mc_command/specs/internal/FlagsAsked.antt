@@ -10,8 +10,8 @@ use Rattle.mc_command.specs.declared.command.Direction.TheVariants.{Increment}
 use Rattle.mc_command.specs.declared.meta.MetaArithmetic.{MetaArithmetic}
 use Rattle.mc_command.specs.declared.meta.MetaDelete.{MetaDelete}
 use Rattle.mc_command.specs.declared.meta.MetaGet.{MetaGet}
-use Rattle.mc_command.specs.declared.meta.MetaMode.{MetaMode}
-use Rattle.mc_command.specs.declared.meta.MetaMode.TheVariants as mode
+use Rattle.mc_command.specs.declared.command.StoreMode.{StoreMode}
+use Rattle.mc_command.specs.declared.command.StoreMode.TheVariants as mode
 use Rattle.mc_command.specs.declared.meta.MetaSet.{MetaSet}
 use Rattle.mc_command.specs.declared.meta_flags.FlagsRead.{FlagsRead}
 use Rattle.mc_command.specs.declared.meta.MetaKind.{MetaKind}
@@ -30,7 +30,7 @@ abbrev pub exptime_in : Rules → Option ℤ → Option ℤ
 exptime_in rules token = option_map (exptime_by rules) token
 
 -- the mode that a token gives in `ms`
-abbrev pub mode_in : MetaKind → Option (List ℕ) → Option MetaMode
+abbrev pub mode_in : MetaKind → Option (List ℕ) → Option StoreMode
 mode_in Set token = option_and_then mode_of token
 mode_in other token = None
 
@@ -75,14 +75,16 @@ get_by rules key asked = record {
 
 abbrev pub set_by : Rules → List ℕ → FlagsRead → MetaSet
 set_by rules key asked = record {
-  key = key;
+  asked = record {
+    key = key;
+    mode = unwrap_or asked.mode mode.Set;
+    compare = compare_by rules (unwrap_or asked.mode mode.Set) asked.compare;
+    unique = asked.unique;
+    flags = unwrap_or asked.client_flags 0;
+    exptime = unwrap_or (exptime_in rules asked.exptime) (pos 0);
+    value = [];
+  };
   flags = asked.flags;
-  mode = unwrap_or asked.mode mode.Set;
-  compare = compare_by rules (unwrap_or asked.mode mode.Set) asked.compare;
-  unique = asked.unique;
-  client_flags = unwrap_or asked.client_flags 0;
-  exptime = unwrap_or (exptime_in rules asked.exptime) (pos 0);
-  block = [];
 }
 
 abbrev pub delete_by : Rules → List ℕ → FlagsRead → MetaDelete

@@ -1,6 +1,6 @@
 //! What a row of a test asks of a shard, as plain data.
-use mc_command::{Direction, MetaCount, MetaFetch, MetaMode, MetaRemoval, StoreMode, Vivify};
-use mc_item::{MetaStore, NoMemory, Op, Value};
+use mc_command::{Direction, MetaCount, MetaFetch, MetaRemoval, StoreMode, StoreRequest, Vivify};
+use mc_item::{NoMemory, Op, Value};
 use mc_wire::{GREATEST_VALUE_LIMIT, Key, WireFault};
 use std::alloc::Global;
 
@@ -18,6 +18,7 @@ pub enum Ask {
     /// The same with an exptime.
     LongFor(i64, usize),
     Put(StoreMode, &'static str),
+    Cas(u64, &'static str),
     /// The same of a given number of bytes `x`.
     LongPut(StoreMode, usize),
     Get,
@@ -32,7 +33,7 @@ pub enum Ask {
     /// `mg`, with its flags `T`, `N` and `R`.
     Mg(Option<i64>, Option<i64>, Option<i64>),
     /// `ms` with the flags 9 and the exptime 99, with its flag `C`.
-    Ms(MetaMode, Option<u64>, &'static str),
+    Ms(StoreMode, Option<u64>, &'static str),
     /// `ms` with its flag `E`.
     MsAs(u64, &'static str),
     /// `md`, with its flag `C`, and whether `I` stands.
@@ -55,6 +56,7 @@ fn text_of(ask: Ask) -> &'static str {
         | Ask::SetFor(_, text)
         | Ask::Flagged(text)
         | Ask::Put(_, text)
+        | Ask::Cas(_, text)
         | Ask::Ms(_, _, text)
         | Ask::MsAs(_, text) => text,
         _ => "",
@@ -78,24 +80,38 @@ fn value_of(alloc: Global, ask: Ask) -> Result<Value, NoMemory> {
 }
 
 fn stored(key: Key, value: Value, mode: StoreMode, flags: u32, exptime: i64) -> Op {
-    Op::Store {
+    Op::Store(StoreRequest {
         key,
         mode,
+        compare: None,
+        unique: None,
         flags,
         exptime,
         value,
-    }
+    })
+}
+
+fn swapped(key: Key, value: Value, unique: u64) -> Op {
+    Op::Store(StoreRequest {
+        key,
+        mode: StoreMode::Set,
+        compare: Some(unique),
+        unique: None,
+        flags: 0,
+        exptime: 0,
+        value,
+    })
 }
 
 /// `ms` with the flags 9 and the exptime 99.
 fn meta_stored(
     key: Key,
     value: Value,
-    mode: MetaMode,
+    mode: StoreMode,
     compare: Option<u64>,
     unique: Option<u64>,
 ) -> Op {
-    Op::MetaStore(MetaStore {
+    Op::MetaStore(StoreRequest {
         key,
         mode,
         compare,
@@ -115,8 +131,9 @@ fn storing(key: Key, value: Value, ask: Ask) -> Result<Op, Key> {
         }
         Ask::Flagged(_) => Ok(stored(key, value, StoreMode::Set, 3, 30)),
         Ask::Put(mode, _) | Ask::LongPut(mode, _) => Ok(stored(key, value, mode, 0, 0)),
+        Ask::Cas(unique, _) => Ok(swapped(key, value, unique)),
         Ask::Ms(mode, compare, _) => Ok(meta_stored(key, value, mode, compare, None)),
-        Ask::MsAs(token, _) => Ok(meta_stored(key, value, MetaMode::Set, None, Some(token))),
+        Ask::MsAs(token, _) => Ok(meta_stored(key, value, StoreMode::Set, None, Some(token))),
         _ => Err(key),
     }
 }

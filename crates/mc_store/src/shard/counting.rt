@@ -14,19 +14,6 @@ use mc_item::{Answer, Item, Kind, MetaDone, PackedExpiry, Value};
 use mc_wire::Key;
 use std::alloc::Global;
 
-/// What counting asks.
-#[derive(Clone, Copy)]
-struct Counting {
-    /// The unique that the item must have.
-    compare: Option<u64>,
-    /// The unique that the item is given.
-    unique: Option<u64>,
-    direction: Direction,
-    amount: u64,
-    /// The exptime that it sets.
-    exptime: Option<i64>,
-}
-
 /// The number after it was counted: it grows modulo 2^64, and falls to 0 at least.
 fn counted(direction: Direction, number: u64, amount: u64) -> u64
     ensures { result ≡ counted direction number amount }
@@ -39,7 +26,6 @@ fn counted(direction: Direction, number: u64, amount: u64) -> u64
 
 impl Shard {
     ghost use Rattle.mc_store.specs.Step.{absent_count, count_step};
-    ghost use Rattle.mc_store.specs.internal.Asked.{counting_at};
     ghost use Rattle.mc_store.specs.internal.Parts.{Acts, Does, answered};
 
     /// `incr`, `decr`.
@@ -54,14 +40,16 @@ impl Shard {
         ensures acts { Acts self.old (op.Count key direction amount) result self.new }
         ensures lawful { is_lawful Kind.Count result ≡ true }
     {
-        let asked = Counting {
+        let asked = MetaCount {
+            key,
             compare: None,
             unique: None,
             direction,
             amount,
             exptime: None,
+            vivify: None,
         };
-        match self.count(alloc, key, asked, None) {
+        match self.count(alloc, asked) {
             Ok(done) => Answer::Number(done.number),
             Err(answer) => answer,
         }
@@ -73,14 +61,7 @@ impl Shard {
         ensures acts { Acts self.old (op.MetaCount asked) result self.new }
         ensures lawful { is_lawful Kind.MetaCount result ≡ true }
     {
-        let counting = Counting {
-            compare: asked.compare,
-            unique: asked.unique,
-            direction: asked.direction,
-            amount: asked.amount,
-            exptime: asked.exptime,
-        };
-        match self.count(alloc, asked.key, counting, asked.vivify) {
+        match self.count(alloc, asked) {
             Ok(done) => Answer::MetaDone(done),
             Err(answer) => answer,
         }
@@ -88,23 +69,17 @@ impl Shard {
 
     /// Counts a present item, or makes one.
     #[tactic(auto, unfolding(mc_item::specs::Kind::is_lawful))]
-    fn count(
-        &mut self,
-        alloc: Global,
-        key: Key,
-        asked: Counting,
-        vivify: Option<Vivify>,
-    ) -> Result<MetaDone, Answer>
+    fn count(&mut self, alloc: Global, asked: MetaCount) -> Result<MetaDone, Answer>
         ensures does { (reply : TheDone → TheAnswer) →
-            Does self.old key (λ settled.
-            count_step settled (counting_at key asked vivify) reply (get settled.items key))
+            Does self.old asked.key (λ settled.
+            count_step settled asked reply (get settled.items asked.key))
             (answered reply result) self.new }
         ensures refused { asked.compare ≡ None →
             IfErr result (λ answer. is_lawful Kind.Count answer ≡ true) }
         ensures meta_refused { IfErr result (λ answer. is_lawful Kind.MetaCount answer ≡ true) }
     {
-        let Some(item) = self.find(&key) else {
-            return self.count_absent(alloc, key, asked.unique, vivify);
+        let Some(item) = self.find(&asked.key) else {
+            return self.count_absent(alloc, asked.key, asked.unique, asked.vivify);
         };
         if is_other(asked.compare, item.unique) {
             return Err(Answer::Exists);
@@ -126,7 +101,7 @@ impl Shard {
             stale: item.stale,
             sent: item.sent,
         };
-        self.write_done(key, new, asked.unique, number)
+        self.write_done(asked.key, new, asked.unique, number)
     }
 
     /// Makes an item under a key that is not there, if that is asked.

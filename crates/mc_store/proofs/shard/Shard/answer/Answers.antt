@@ -5,8 +5,7 @@ use Rattle.mc_store.proofs.shard.Shard.answer.Goals as goal
 
 pub returns-in-Store-clause-handles : goal.returns-in-Store-clause-handles
 returns-in-Store-clause-handles c = λ state h.
-    rw (c.in-Store.is, ← to_z-of_z w64 c.in-Store.exptime (search rules))
-    (c.store_classic.ensures.acts (arrived state c.args.moment) (c.arrive.ensures state h))
+    rw c.in-Store.is (c.store_classic.ensures.acts (arrived state c.args.moment) (c.arrive.ensures state h))
 
 pub returns-in-Fetch-clause-handles : goal.returns-in-Fetch-clause-handles
 returns-in-Fetch-clause-handles c = λ state h. rw c.in-Fetch.is (c.fetch.ensures.acts (arrived state c.args.moment) (c.arrive.ensures state h))

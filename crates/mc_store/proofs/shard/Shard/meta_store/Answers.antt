@@ -1,5 +1,4 @@
-use Rattle.std.proofs.Common.{Some, w64, rules}
-use Rattle.std.proofs.lemmas.Int.{to_z-of_z}
+use Rattle.std.proofs.Common.{Some}
 use Rattle.mc_item.specs.declared.answer.Answer.TheVariants.{MetaDone}
 use Rattle.mc_item.specs.Kind.{key_of}
 use Rattle.mc_store.specs.State.{without_dead}
@@ -11,10 +10,10 @@ pub returns-in-Ok-clause-acts : goal.returns-in-Ok-clause-acts
 unfolding IsShard key_of
 returns-in-Ok-clause-acts c = λ state h.
     meta_store (without_dead state (Some c.args.asked.key)) c.args.asked (MetaDone c.in-Ok.done) (held_of c.store.new.self)
-    (rw (to_z-of_z w64 c.args.asked.exptime (search rules)) at (c.in-Ok.ensures.does (λ done. MetaDone done) state h))
+    (c.in-Ok.ensures.does (λ done. MetaDone done) state h)
 
 pub returns-in-Err-clause-acts : goal.returns-in-Err-clause-acts
 unfolding IsShard key_of
 returns-in-Err-clause-acts c = λ state h.
     meta_store (without_dead state (Some c.args.asked.key)) c.args.asked c.in-Err.answer (held_of c.store.new.self)
-    (rw (to_z-of_z w64 c.args.asked.exptime (search rules)) at (c.in-Err.ensures.does (λ done. MetaDone done) state h))
+    (c.in-Err.ensures.does (λ done. MetaDone done) state h)
