@@ -10,6 +10,7 @@ that all modules can be seen:
 """
 import re
 import shutil
+import sys
 
 from listed_crates import LIST, TOP, below, libraries
 
@@ -18,6 +19,39 @@ PARTS = {"src": (".rt", "lib.rt"), "specs": (".antt", "Lib.antt"), "proofs": (".
 
 # How the root of a crate says by which tactic its goals are proved; that of the program says it for all.
 TACTIC = "#![tactic(auto)]\n"
+
+# Files that the program doesn't need, by the beginnings of their names: worked rows, and what serves lines in memory.
+UNUSED = re.compile(r"(\w+/proofs/(\w*Rows\w*|Corners)|mc_model/proofs/Crossing|mc_serve/(src/over|specs/Over|proofs/(over|One))|mc_doors/(src/one_door|specs/One|proofs/(one_door|Sent)))\b")
+
+# A line of a crate's root, or of its definitions or lemmas, that declares a module or passes on what it has.
+NAMED = re.compile(r"^(?:pub )?(?:mod|use) (\w+)(?:::.*)?;?\n", re.M)
+
+# What is derived for tests and for other users of a crate, and the types of which the program compares or shows values.
+FOR_TESTS = {"Debug", "PartialEq", "Eq", "Error"}
+COMPARED = {"Kind", "Readiness", "Stepped", "StoreMode"}
+SHOWN = {"OptionFault"}
+
+# A type with its derives: these, the attributes below, the line that names it, and the rest of it.
+DERIVED = re.compile(r"^#\[derive\(([\w, ]+)\)\]\n((?:#\[.*\]\n)*)((?:pub(?:\(\w+\))? )?(?:struct|enum) (\w+).*(?:;|\{\}|\{\n(?:.*\n)*?\})$)", re.M)
+
+
+def is_unused(crate, part, place):
+    return bool(UNUSED.match(f"{crate}/{part}/{place}"))
+
+
+def without_unused_derives(text):
+    """A source file whose types derive what the program uses of them."""
+
+    def kept(found):
+        derives, attributes, rest, name = found.groups()
+        needed = {"Debug", "Error"} if name in SHOWN else {"PartialEq", "Eq"} if name in COMPARED else set()
+        derives = [it for it in derives.split(", ") if it not in FOR_TESTS or it in needed]
+        if "Error" not in derives:
+            attributes, rest = (re.sub(r"^ *#\[error\(.*\)\]\n", "", it, flags=re.M) for it in (attributes, rest))
+        return f"#[derive({', '.join(derives)})]\n{attributes}{rest}" if derives else f"{attributes}{rest}"
+
+    text = DERIVED.sub(kept, text)
+    return text if re.search(r"derive\(.*\bError\b", text) else text.replace("use thiserror::Error;\n", "")
 
 
 class OneCrate:
@@ -33,6 +67,7 @@ class OneCrate:
 
     def code(self, text, crate):
         """A source file of a crate."""
+        text = without_unused_derives(text)
         if crate != self.program:
             # What a crate passes on of a module of its own is named by its place there, so all modules can be seen.
             text = re.sub(r"^mod ", "pub mod ", text.replace(TACTIC, ""), flags=re.M)
@@ -53,7 +88,11 @@ class OneCrate:
             for part, (ending, root) in PARTS.items():
                 for file in sorted((TOP / "crates" / crate / part).rglob(f"*{ending}")):
                     place = file.relative_to(TOP / "crates" / crate / part)
+                    if is_unused(crate, part, place):
+                        continue
                     text = file.read_text(encoding="utf-8")
+                    if str(place) == root:
+                        text = NAMED.sub(lambda found: "" if is_unused(crate, part, found[1]) else found[0], text)
                     text = self.code(text, crate) if part == "src" else self.names(text)
                     if crate == self.program:
                         yield f"{part}/{place}", text
@@ -62,10 +101,18 @@ class OneCrate:
                     else:
                         yield f"{part}/{crate}/{place}", text
 
+    def look_for_unused(self, files):
+        """Ends the program where a file names definitions or lemmas that are left out: only a proof would show it."""
+        for place, text in files.items():
+            for part, crate, module in re.findall(rf"\bRattle\.{self.program}\.(specs|proofs)\.(\w+)\.(\w+)", text):
+                if is_unused(crate, part, module):
+                    sys.exit(f"{place} names {module} of {crate}/{part}, which one_crate.py leaves out")
+
     def write(self, folder):
         """Writes the crate into a folder, as a repository of its own; where it lies there."""
         to = folder / "crates" / self.program
         files = dict(self.files())
+        self.look_for_unused(files)
         modules = "".join(f"mod {it};\n" for it in self.crates)
         files["src/main.rt"] = files["src/main.rt"].replace(TACTIC, f"{TACTIC}\n{modules.rstrip()}", 1)
         for it in self.crates:

@@ -1,11 +1,11 @@
 #!/usr/bin/env python3
-"""Proves the program with all crates below it, builds it and starts it.
+"""Proves the program with what it needs of the crates below it, builds it and starts it.
 
     tools/start.py [--jobs N] [-- OPTION ..]   the options are mcd's: -- --listen 127.0.0.1:11211, say
     tools/start.py --try                       compiles it before any proof, and shows its version
 
-All crates are proved in one run, as the modules of one crate (one_crate.py), by N processes: one for each core, and for 4 GiB of
-memory, where nothing is said. A line tells how many functions of how many are checked. What was checked is kept, so one that was
+All is proved in one run, as the modules of one crate (one_crate.py), by N processes: one for each core, and for 4 GiB of memory,
+where nothing is said. A line tells how many functions of how many are checked. What was checked is kept, so one that was
 stopped goes on where it was. Nothing is built that isn't proved: where something isn't, what the prover says is shown, and nothing
 starts. The program then lies at crates/mcd/out/mcd, and while no file changes a later start begins at once.
 """

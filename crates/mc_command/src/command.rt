@@ -104,7 +104,9 @@ pub struct Storage {
 /// value that can be shared.
 #[derive(Drop)]
 pub struct StoreRequest<V> {
+    /// The key of the item, as it is stored: what base64 spelled is decoded.
     pub key: Key,
+    /// Whether an item has to be there already, and where the value goes: the command's name, or the flag `M`.
     pub mode: StoreMode,
     /// `cas`, and the flag `C`: the unique that the item must have.
     pub compare: Option<u64>,
@@ -114,6 +116,7 @@ pub struct StoreRequest<V> {
     pub flags: u32,
     /// The exptime, 0 where none is given.
     pub exptime: i64,
+    /// The bytes of the data block, without its line end.
     pub value: V,
 }
 

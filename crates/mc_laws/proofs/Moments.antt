@@ -3,8 +3,6 @@ use Rattle.std.proofs.Common.{◌≡◌, ℕ, zero, suc, false, inr, List, [], �
 use Rattle.std.specs.FinMap.{empty, get, get-empty, insert}
 use Rattle.std.specs.Ordering.{nat_cmp}
 use Rattle.std.specs.Cmp.Lexicographic.{slice_cmp}
-use Rattle.mc_wire.specs.Key.{fnv_of}
-use Rattle.mc_command.specs.declared.command.Command.TheVariants as command
 use Rattle.mc_command.specs.declared.command.StoreMode.TheVariants as mode
 use Rattle.mc_command.specs.declared.rules.Profile.TheVariants.{Own}
 use Rattle.mc_sizes.specs.declared.sizes.Sizes.{Sizes}
@@ -16,7 +14,6 @@ use Rattle.mc_item.specs.declared.op.Op.{Op}
 use Rattle.mc_item.specs.declared.op.Op.TheVariants as op
 use Rattle.mc_item.specs.Expiry.{expiry_of, is_dead}
 use Rattle.mc_item.specs.Kind.{key_of}
-use Rattle.mc_split.specs.Pieces.{pieces_of}
 use Rattle.mc_store.specs.State.{State, Used, entered, first}
 use Rattle.mc_store.specs.Step.{Answers, IsStep, noted_in, step_of}
 use Rattle.mc_store.specs.Rows.{fetched_item}
@@ -35,11 +32,6 @@ a = codes "a"
 
 abbrev b : List ℕ
 b = codes "b"
-
--- A get asks the first shard for the one and the second shard for the other.
-asks_both : pieces_of 2 (command.Get (record { keys = a ∷ b ∷ []; with_unique = false; touch = None })) ≡ record { shard = 0; op = op.Fetch a None } ∷ record { shard = 1; op = op.Fetch b None } ∷ []
-unfolding pieces_of fnv_of
-asks_both = refl
 
 abbrev store : List ℕ → Op
 store key = op.Store (record { key = key; mode = mode.Set; compare = None; unique = None; flags = 0; exptime = pos 0; value = codes "2" })

@@ -160,9 +160,6 @@ repeated_both n (suc m) events =
     let e : suc m + n ≡ suc (m + n) = omega arith in
     ap (λ k. repeated k events) e ∙ (ap (λ es. es ++ events) (repeated_both n m events) ∙ append_assoc (repeated n events) (repeated m events) events)
 
-pub tried_none : (sim : Sim) (events : List Event) → Tried sim events 0 sim
-tried_none sim events sizes w stands = record { times = 0; later = w; led = refl; memory = tt; enough = omega arith; stands = stands }
-
 -- The events were tried once more.
 pub tried_more : (old mid new : Sim) (events : List Event) (least more done : ℕ) → Tried old events least mid → Runs mid events done new → more ≤ least + done → Tried old events more new
 tried_more old mid new events least more done tried runs enough sizes w stands =
@@ -214,9 +211,6 @@ tried_works old mid new events least tried works work sizes w stands =
     let after = ran.2 in
     let both = leads_join sizes w was.later after.later (repeated was.times events) ran.0 was.led was.memory after.led after.memory in
     (repeated was.times events ++ ran.0, all_both IsWork (repeated was.times events) ran.0 (all_repeated IsWork was.times events work) ran.1, record { later = after.later; led = both.0; memory = both.1; stands = after.stands })
-
-pub works_none : (sim : Sim) → Works sim sim
-works_none sim sizes w stands = ([], tt, record { later = w; led = refl; memory = tt; stands = stands })
 
 -- What a core stands in.
 
@@ -286,9 +280,6 @@ none_settles old new events count seats shards moment are as_seats as_shards cou
 
 pub lanes_next : (seat shard : ℕ) → lanes_round seat (shard + 1) ≡ lanes_round seat shard ++ lane_round seat shard
 lanes_next seat shard = let e : shard + 1 ≡ suc shard = omega arith in ap (λ n. lanes_round seat n) e
-
-pub round_next : (seat shards moment : ℕ) → round (seat + 1) shards moment ≡ round seat shards moment ++ seat_round shards moment seat
-round_next seat shards moment = let e : seat + 1 ≡ suc seat = omega arith in ap (λ n. round n shards moment) e
 
 -- What holds in any case holds where a result is an error.
 pub on_err : {A E : Type 0} (result : Result A E) (P : Type 0) → P → OnErr result P

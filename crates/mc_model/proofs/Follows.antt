@@ -1,5 +1,5 @@
 -- The headline follows from the law.
-use Rattle.std.proofs.Common.{◌≡◌, ℕ, zero, suc, ◌+◌, ◌<◌, ◌≤◌, inl, inr, true, false, List, [], ◌∷◌, ◌++◌, length, map, take, drop, Some, sym, ap, ◌∙◌, subst, arith}
+use Rattle.std.proofs.Common.{◌≡◌, ℕ, zero, suc, ◌+◌, ◌<◌, ◌≤◌, inl, inr, true, false, List, [], ◌∷◌, ◌++◌, length, map, drop, Some, sym, ap, ◌∙◌, subst, arith}
 use Rattle.std.specs.Prelude.{IsTrue, MatchBool}
 use Rattle.std.specs.List.{AllByRecursion, slice_get}
 use Rattle.std.proofs.lemmas.List.{length-map, take-append-drop}
@@ -11,17 +11,17 @@ use Rattle.mc_sizes.specs.declared.sizes.Sizes.{Sizes}
 use Rattle.mc_ring.specs.Reply.{Shown}
 use Rattle.mc_split.specs.declared.plan.Piece.{Piece}
 use Rattle.mc_reader.specs.Spelling.{SpellsFront, is_last}
-use Rattle.mc_conn.specs.History.{IsAnswered, Taken, taken_of, text_done, texts_of}
+use Rattle.mc_conn.specs.History.{IsAnswered, Taken, texts_of}
 use Rattle.mc_conn.specs.Due.{due, pieces}
 use Rattle.mc_conn.specs.Fits.{HasCome, Tells, counts}
 use Rattle.mc_conn.proofs.Gets.{all_at}
 use Rattle.mc_conn.proofs.Places.{piece_at}
 use Rattle.mc_conn.proofs.Counting.{count_from_come}
-use Rattle.mc_conn.proofs.Telling.{same_taken, tells, texts_first}
+use Rattle.mc_conn.proofs.Telling.{tells}
 use Rattle.mc_model.specs.Log.{Entry, of_asker, on_shard, replies_in, reply_to}
 use Rattle.mc_model.specs.World.{Link, World, entries}
 use Rattle.mc_model.specs.Rest.{AtRest, IsAllReceived, IsAllSent, IsAllTaken}
-use Rattle.mc_model.specs.Headline.{AreAllReplies, AreReplies, Headline, IsLast, RanAsDue, handed_bytes, history, replies_to}
+use Rattle.mc_model.specs.Headline.{AreAllReplies, AreReplies, Headline, IsLast, RanAsDue, handed_bytes, history}
 use Rattle.mc_model.specs.Law.{Law, LinkLaw}
 use Rattle.mc_model.proofs.Lists.{all_from, all_take, all_unmap}
 
@@ -52,14 +52,6 @@ are_replies sizes w k link l =
       answered = t.answered;
       bytes = t.bytes;
     }
-
--- the history is of the commands taken
-pub replies_commands : (sizes : Sizes) (w : World) (k : ℕ) (link : Link) (count : ℕ) → map taken_of (history sizes w k link count) ≡ take count link.taken
-replies_commands sizes w k link count = same_taken sizes.shards (replies_in (of_asker k w.log)) 0 (take count link.taken)
-
--- the replies handed out are its texts, one a command
-pub replies_texts : (sizes : Sizes) (w : World) (k : ℕ) (link : Link) → AreReplies sizes w k link → take link.handed (replies_to sizes w k link) ≡ map text_done (history sizes w k link link.handed)
-replies_texts sizes w k link replied = texts_first sizes.shards link.handed link.taken (replies_in (of_asker k w.log)) replied.whole
 
 -- where all is taken and handed out
 are_all_replies : (sizes : Sizes) (w : World) (k : ℕ) (link : Link) → LinkLaw sizes (of_asker k w.log) link → IsAllTaken sizes link → link.handed ≡ length link.taken → AreAllReplies sizes w k link

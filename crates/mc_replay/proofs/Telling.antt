@@ -1,9 +1,9 @@
 -- The lines of the connections, one after another.
-use Rattle.std.proofs.Common.{◌≡◌, ℕ, zero, suc, ◌+◌, ◌<◌, ◌≤◌, List, [], ◌∷◌, ◌++◌, length, map, drop, ◌-◌, refl, sym, ap, subst, ◌∙◌, append_assoc, append-nil, arith, Some, get_or}
+use Rattle.std.proofs.Common.{◌≡◌, ℕ, zero, suc, ◌+◌, ◌<◌, ◌≤◌, List, [], ◌∷◌, ◌++◌, length, map, drop, ◌-◌, refl, sym, ap, subst, ◌∙◌, append_assoc, arith, Some}
 use Rattle.std.specs.List.{flat_map, slice_get}
 use Rattle.std.proofs.lemmas.List.Folds.{flat_map-map}
-use Rattle.std.proofs.lemmas.List.{at_drop_more, at_drop_all}
-use Rattle.std.proofs.lemmas.Option.{slice_get-get_or, slice_get_within, get_or_from_slice_get}
+use Rattle.std.proofs.lemmas.List.{at_drop_more}
+use Rattle.std.proofs.lemmas.Option.{slice_get_within, get_or_from_slice_get}
 use Rattle.mc_sizes.specs.declared.sizes.Sizes.{Sizes}
 use Rattle.mc_model.specs.World.{IsLink, Link, World, empty_world}
 use Rattle.mc_model.specs.Events.{Event}
@@ -32,12 +32,6 @@ pub connection_lines_more : (sizes : Sizes) (w : World) (number : ℕ) (link : L
 connection_lines_more sizes w number link text whole here lacks =
     append_assoc text _ _ ∙ (ap (λ lines. text ++ lines) (sym (connection_lines-at sizes w number link here)) ∙ lacks)
 
--- one that lacks the lines of no connection is whole
-pub connection_lines_all : (sizes : Sizes) (w : World) (number : ℕ) (text whole : List ℕ) → length w.links ≤ number
-    → text ++ connection_lines sizes w number (drop number w.links) ≡ whole → text ≡ whole
-connection_lines_all sizes w number text whole past lacks =
-    sym (append-nil text) ∙ (ap (λ lines. text ++ lines) (sym (at_drop_all (connection_lines sizes w number) w.links number past)) ∙ lacks)
-
 -- as many connections as seats, and their seats the same
 pub same_lengths : {A : Type 0} (f : A → ℕ) (xs : List A) (links : List Link) → map f xs ≡ map (λ link. link.seat) links → length xs ≡ length links
 same_lengths f [] [] same = refl
@@ -58,11 +52,6 @@ link_at f (y ∷ ys) (link ∷ links) zero x same here =
 link_at f (y ∷ ys) (link ∷ links) (suc number) x same here =
     let behind : map f ys ≡ map (λ link. link.seat) links = cc in
     link_at f ys links number x behind here
-
--- the same, by the place
-pub link_from : {A : Type 0} (f : A → ℕ) (xs : List A) (links : List Link) (number : ℕ) (d : A) → map f xs ≡ map (λ link. link.seat) links → number < length xs
-    → (link : Link) × (slice_get links number ≡ Some link) × (f (get_or xs number d) ≡ link.seat)
-link_from f xs links number d same within = link_at f xs links number (get_or xs number d) same (slice_get-get_or xs number d within)
 
 -- an event that is done counts once
 is_done-le : (reply : StepReply) → is_done reply ≤ 1

@@ -1,3 +1,3 @@
 pub mod Prefixes
 pub mod SameEnds
-pub mod Rows
+pub mod LaneLoops

@@ -1,5 +1,5 @@
 -- The lines of a seat, one after another.
-use Rattle.std.proofs.Common.{◌≡◌, ℕ, Bool, true, false, List, [], ◌∷◌, ◌++◌, length, map, Option, Some, None, refl, sym, ap, subst, ◌∙◌, append_assoc, append-nil}
+use Rattle.std.proofs.Common.{◌≡◌, ℕ, Bool, false, List, [], ◌∷◌, ◌++◌, map, Option, Some, None, refl, sym, ap, subst, ◌∙◌, append_assoc, append-nil}
 use Rattle.std.proofs.Math.Path.{Singl, contract, subst_refl}
 use Rattle.mc_wire.specs.Outlet.{Sight}
 use Rattle.mc_ring.specs.Lane.{Near}
@@ -16,15 +16,6 @@ pub passes_none : (door : DoorTold) → Passes door [] door
 passes_none TellsNothing = refl
 passes_none (TellsLines None out back over) = (None, refl, ap (λ lines. TellsLines None out lines over) (sym (append-nil back)))
 passes_none (TellsLines (Some coming) out back over) = (Some coming, (coming, refl, refl), ap (λ lines. TellsLines (Some coming) out lines over) (sym (append-nil back)))
-
-pub free_after : (first : DoorTold) (lines : List LineTold) (now : DoorTold) → Passes first lines now → IsFree first → IsFree now
-free_after TellsNothing lines now passes free = let P : DoorTold → Type 0 = λ door. IsFree door in subst P (sym passes) tt
-free_after (TellsLines coming out back over) lines now passes free = let P : DoorTold → Type 0 = λ door. IsFree door in subst P (sym passes.2) free
-
-pub free_back : (now : Sight) (commands : ℕ) (broke : Bool) (door : DoorTold) → IsFree (took_back now commands broke door)
-free_back now commands broke TellsNothing = tt
-free_back now commands broke (TellsLines coming None back over) = refl
-free_back now commands broke (TellsLines coming (Some begin) back over) = refl
 
 come_left : (line : LineTold) (lines : List LineTold) (before left : List Sight) (out : Option Sight) (back : List LineTold) (over : Bool) → before ≡ map (λ (l : LineTold). l.begin) lines ++ left → IsNext line.begin (TellsLines (Some left) out back over) → Comes (Some before) (map (λ (l : LineTold). l.begin) (lines ++ line ∷ [])) (later (Some left))
 come_left line lines before [] out back over is next = absurd next

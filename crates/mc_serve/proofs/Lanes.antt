@@ -98,9 +98,6 @@ pub record Ties (seat seat' : Ends Near) (desks desks' : List Desk) (count : ℕ
   pub desks_are : map passed_by desks' ≡ map passed_by desks
   pub tied : (shard : ℕ) (desk : Desk) → shard < count → slice_get desks shard ≡ Some desk → IsTied seat desk.ends
 
-pub ties_none : (seat : Ends Near) (desks : List Desk) → Ties seat seat desks desks 0
-ties_none seat desks = record { seat_is = refl; desks_are = refl; tied = λ shard desk below here. absurd (omega (arith, below)) }
-
 -- The worker at a place, before anything was looked at.
 record WasAt (desks : List Desk) (shard : ℕ) (now : Desk) : Type 0 where
   was : Desk

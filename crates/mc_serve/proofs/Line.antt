@@ -5,12 +5,11 @@ use Rattle.std.specs.Prelude.{filter}
 use Rattle.std.proofs.lemmas.Bool.{cases_lt}
 use Rattle.std.proofs.lemmas.Bool.Decides.{eqb_tells}
 use Rattle.mc_sizes.specs.declared.sizes.Sizes.{Sizes}
-use Rattle.mc_conn.specs.History.{Taken, AnsweredCommand}
+use Rattle.mc_conn.specs.History.{Taken}
 use Rattle.mc_conn.specs.Due as due
 use Rattle.mc_conn.specs.Due.{Ran}
 use Rattle.mc_conn.specs.Fits.{KeysFit}
 use Rattle.mc_conn.proofs.Serving.{keys_came}
-use Rattle.mc_conn.proofs.Telling.{ran_on-same}
 use Rattle.mc_model.specs.Log.{Entry, of_asker, on_shard}
 use Rattle.mc_worker.specs.Desk.{Desk}
 use Rattle.mc_ring.specs.Lane.{Near}
@@ -18,7 +17,7 @@ use Rattle.mc_ring.specs.Ends.{Ends}
 use Rattle.mc_ring.specs.Reply.{Shown}
 use Rattle.mc_serve.specs.Asking.{AreTied, HasAsked}
 use Rattle.mc_serve.specs.Logs.{AreLogsFrom, IsLogOf, together}
-use Rattle.mc_serve.proofs.Tying.{Agrees, lane_agrees, lane_came, none_came, pieces_ran, ran_of, replies_ran}
+use Rattle.mc_serve.proofs.Tying.{Agrees, lane_agrees, lane_came, none_came, ran_of}
 use Rattle.mc_serve.proofs.Joined.{worker_at}
 
 -- What one shard ran for the line.
@@ -91,16 +90,3 @@ map_on_shard shard asker (one ∷ ran) =
 pub ran_shards : (shard : ℕ) (log : List Entry) → AllByRecursion (λ entry. entry.shard ≡ shard) log → AllByRecursion (λ (ran : Ran). ran.shard ≡ shard) (map ran_of log)
 ran_shards shard [] all = tt
 ran_shards shard (entry ∷ log) all = (all.0, ran_shards shard log all.1)
-
--- What a shard ran for the line is what the line's history tells.
-pub ran_for_line : (shards shard seat : ℕ) (taken : List Taken) (got : List Shown) (all : List Entry) (history : List AnsweredCommand)
-    → Agrees shards shard seat taken got (on_shard shard all)
-    → due.on_shard shard (due.log_of shards history) ≡ due.ran_on shard (due.due shards shard taken) got
-    → of_asker seat (on_shard shard all) ≡ on_shard shard (map (entry_for seat) (due.log_of shards history))
-ran_for_line shards shard seat taken got all history agrees told =
-    let mine = of_asker seat (on_shard shard all) in
-    let these : due.ran_on shard (due.due shards shard taken) got ≡ map ran_of mine =
-    ap (λ ps. due.ran_on shard ps got) (agrees.pieces ∙ sym (pieces_ran mine))
-    ∙ (ap (λ rs. due.ran_on shard (map (λ (ran : Ran). ran.piece) (map ran_of mine)) rs) (agrees.replies ∙ sym (replies_ran mine))
-    ∙ ran_on-same shard (map ran_of mine) (ran_shards shard mine (filter_keeps (λ entry. entry.shard ≡ shard) (λ entry. entry.asker == seat) (on_shard shard all) (shard_of shard all)))) in
-    sym (map_on_shard shard seat (due.log_of shards history) ∙ (ap (λ rs. map (entry_for seat) rs) (told ∙ these) ∙ same_asker seat mine (asked_by seat (on_shard shard all))))

@@ -1,7 +1,6 @@
 -- Lines that came in by a door each.
 use Rattle.std.proofs.Common.{◌≡◌, ℕ, suc, ◌<◌, true, List, [], ◌∷◌, ◌++◌, length, map, Some, None, refl, sym, ap, subst, ◌∙◌, append-nil, arith}
 use Rattle.std.specs.List.{AllByRecursion, flat_map, slice_get}
-use Rattle.std.specs.Prelude.{IfOk, Result, Ok, Err}
 use Rattle.std.proofs.lemmas.List.{length-map}
 use Rattle.mc_wire.specs.Outlet.{Sight}
 use Rattle.mc_sizes.specs.declared.sizes.Sizes.{Sizes}
@@ -105,27 +104,3 @@ all_free told sight (door ∷ doors) (line ∷ lines) same =
     let tail : map told doors ≡ map (λ line. waits (sight line)) lines = cc in
     let P : DoorTold → Type 0 = λ d. IsFree d in
     (subst P (sym head) refl, all_free told sight doors lines tail)
-
-zips_last : {A B : Type 0} (R : A → B → Type 0) (xs : List A) (ys : List B) (x : A) (y : B) → Zips R xs ys → R x y → Zips R (xs ++ x ∷ []) (ys ++ y ∷ [])
-zips_last R [] [] x y zips this = (this, tt)
-zips_last R [] (z ∷ ys) x y zips this = absurd zips
-zips_last R (w ∷ xs) [] x y zips this = absurd zips
-zips_last R (w ∷ xs) (z ∷ ys) x y zips this = (zips.0, zips_last R xs ys x y zips.1 this)
-
--- Two lists that are related pair by pair still are once a related pair was added at their ends.
-pub zips_push : {A B : Type 0} (R : A → B → Type 0) (xs : List A) (ys ys' : List B) (x : A) (y : B) → ys' ≡ ys ++ y ∷ [] → Zips R xs ys → R x y → Zips R (xs ++ x ∷ []) ys'
-zips_push R xs ys ys' x y grown zips this = let P : List _ → Type 0 = λ zs. Zips R (xs ++ x ∷ []) zs in subst P (sym grown) (zips_last R xs ys x y zips this)
-
--- What follows from what is promised of a success is promised of it too.
-pub if_ok : {T E : Type 0} (r : Result T E) (P Q : T → Type 0) → ((x : T) → P x → Q x) → IfOk r P → IfOk r Q
-if_ok (Ok x) P Q follows p = follows x p
-if_ok (Err e) P Q follows p = tt
-
--- A list of length zero is empty.
-pub empty_when : {A : Type 0} (xs : List A) → length xs ≡ 0 → xs ≡ []
-empty_when [] none = refl
-empty_when (x ∷ xs) none = absurd (omega arith)
-
--- Two lists that are related pair by pair still are where an equal list stands for the first.
-pub zips_are : {A B : Type 0} (R : A → B → Type 0) (xs ys : List A) (zs : List B) → xs ≡ ys → Zips R xs zs → Zips R ys zs
-zips_are R xs ys zs same zips = let P : List _ → Type 0 = λ ws. Zips R ws zs in subst P same zips

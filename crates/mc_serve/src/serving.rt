@@ -9,6 +9,7 @@ ghost use Rattle.mc_threads.specs.Workers.{IsFresh, ends_of};
 ghost use Rattle.mc_serve.specs.declared.refusal.ServeRefusal.TheVariants.{Bind};
 ghost use Rattle.mc_doors.specs.Told.{IsFree};
 ghost use Rattle.mc_serve.specs.Seats.{HasSatDown};
+ghost use Rattle.mc_serve.specs.Asking.{AreTied, HasLanes};
 ghost use Rattle.mc_serve.specs.Served.{ServesDoors};
 
 use crate::part::Part;
@@ -89,10 +90,7 @@ where
         (map (λ door. D.told door) back.items)) }
 {
     let mut crew = Crew::new(alloc, sleepers.len())?;
-    // The room for what comes back comes first: nothing is lost once the lines were served.
-    let room = Vec::with_capacity(alloc, doors.len())?;
-    let mut seats = Vec::with_capacity(alloc, doors.len())?;
-    let mut workers = Vec::with_capacity(alloc, sizes.shards)?;
+    let rooms = Rooms::new(alloc, doors.len(), sizes.shards)?;
     let Ok(gate) = Arc::new(alloc, gate) else {
         return Err(CrewRefusal::Memory);
     };
@@ -103,8 +101,52 @@ where
     }
     crew.begin(rt);
     let parts = crew.join(rt)?;
-    take_apart(parts, &mut seats, &mut workers)?;
-    settle(seats, &mut workers, room)
+    rooms.settle(parts)
+}
+
+/// The room for what the threads hand back. It comes before they start: nothing is lost once the lines were served.
+#[derive(Drop)]
+struct Rooms<D: Door, G> {
+    seats: Vec<Sitting<D>>,
+    workers: Vec<Working<G>>,
+    doors: Vec<D>,
+    ghost no_seats: { seats.items ≡ [] },
+    ghost no_workers: { workers.items ≡ [] },
+    ghost no_doors: { doors.items ≡ [] },
+}
+
+impl<D: Door + Drop, G: Gate + Drop> Rooms<D, G> {
+    /// The room for as many seats and workers.
+    fn new(alloc: Global, seats: usize, workers: usize) -> Result<Rooms<D, G>, AllocError> {
+        Ok(Rooms {
+            seats: Vec::with_capacity(alloc, seats)?,
+            workers: Vec::with_capacity(alloc, workers)?,
+            doors: Vec::with_capacity(alloc, seats)?,
+        })
+    }
+
+    /// Looks at the lanes between all seats and all workers of these parts from both ends, and hands back the doors.
+    fn settle<K: Clock + Drop>(self, parts: Vec<Part<D, G, K>>) -> Result<Vec<D>, CrewRefusal>
+        requires { AllByRecursion (λ sitting.
+            HasLanes (seat_ends sitting.session)
+            (map (λ one. one.worker) (flat_map (λ part. part.workers.items) parts.items)))
+            (flat_map (λ part. part.seats.all.items) parts.items) }
+        ensures tied { IfOk result (λ _.
+            AllByRecursion (λ sitting.
+            AreTied (seat_ends sitting.session)
+            (map (λ one. one.worker) (flat_map (λ part. part.workers.items) parts.items)))
+            (flat_map (λ part. part.seats.all.items) parts.items)) }
+        ensures doors { IfOk result (λ doors. doors.items ≡
+            map (λ sitting. sitting.door) (flat_map (λ part. part.seats.all.items) parts.items)) }
+    {
+        let Rooms {
+            mut seats,
+            mut workers,
+            doors,
+        } = self;
+        take_apart(parts, &mut seats, &mut workers)?;
+        settle(seats, &mut workers, doors)
+    }
 }
 
 /// Starts a thread for each sleeper, with as many of the seats and of the workers as it has places and workers for, as far as

@@ -53,17 +53,60 @@ pub fn serve_tcp<
     let Ok(sleepers) = polling_sleepers(rt, alloc, sizes.seats, sizes.shards) else {
         return Err(ServeRefusal::Thread);
     };
-    let mut watch = watch;
-    let mut entrance = Entrance::new(alloc, listener, connections, &sleepers, watch.entrance()?)?;
-    let doors = doors_to(rt, alloc, &mut entrance, sizes, &mut watch)?;
-    let gate = ShardWatch {
-        shards: watch.shards(alloc)?,
-    };
-    let beside = Beside::start(rt, alloc, entrance, &watch, &sleepers)?;
-    let served = serve(rt, alloc, doors, sleepers, sizes, gate, clock);
-    beside.end(rt);
+    let opened = Opened::to(rt, alloc, listener, sizes, connections, watch, &sleepers)?;
+    let served = serve(rt, alloc, opened.doors, sleepers, sizes, opened.gate, clock);
+    opened.beside.end(rt);
     let back = served?;
     count_ended(back)
+}
+
+/// What is there before the first connection comes: a door for each seat, what watches the shards, and what goes on beside.
+#[derive(Drop)]
+struct Opened<R: time::Clock> {
+    doors: Vec<TcpDoor<R>>,
+    gate: ShardWatch,
+    beside: Beside,
+}
+
+impl<R: Threads + Wait + time::Clock + Copy + Send + Drop + 'static> Opened<R> {
+    /// Opens the doors to those who come in by the listener. The sleepers are those of the threads of the seats.
+    fn to(
+        rt: &R,
+        alloc: Global,
+        listener: TcpListener,
+        sizes: Sizes,
+        connections: Option<u64>,
+        watch: Watch,
+        sleepers: &[Sleeper],
+    ) -> Result<Opened<R>, ServeRefusal>
+        ensures count { IfOk result (λ opened. length opened.doors.items ≡ sizes.seats) }
+        ensures new { IfOk result (λ opened.
+            AllByRecursion (λ door.
+            told_tcp door.is_out door.gone.items door.is_over ≡ TellsLines None None [] false)
+            opened.doors.items) }
+        ensures wary { IfOk result (λ opened.
+            AllByRecursion (λ door. door.is_wary ≡ is_drop_in (rules_of sizes))
+            opened.doors.items) }
+    {
+        let mut watch = watch;
+        let mut entrance = Entrance::new(
+            alloc,
+            listener,
+            connections,
+            sleepers,
+            watch.entrance()?,
+        )?;
+        let doors = doors_to(rt, alloc, &mut entrance, sizes, &mut watch)?;
+        let gate = ShardWatch {
+            shards: watch.shards(alloc)?,
+        };
+        let beside = Beside::start(rt, alloc, entrance, &watch, sleepers)?;
+        Ok(Opened {
+            doors,
+            gate,
+            beside,
+        })
+    }
 }
 
 /// What goes on beside the serving: a thread that accepts connections, and the warden's.

@@ -27,7 +27,7 @@ use Rattle.mc_model.specs.Log.{of_asker, replies_in}
 use Rattle.mc_model.specs.Sized.{SpellAll, SpellFirst}
 use Rattle.mc_model.specs.World.{IsAt, Link, World, entries, ran, with_link}
 use Rattle.mc_model.specs.Rest.{HasWindow, IsAllTaken, IsNextCommand}
-use Rattle.mc_model.specs.Events.{Allows, Event}
+use Rattle.mc_model.specs.Events.{Event}
 use Rattle.mc_model.specs.Events.Event.{Take, End, Break}
 use Rattle.mc_model.specs.Schedule.{Happens}
 use Rattle.mc_model.specs.declared.event.StepReply.TheVariants.{Done}
@@ -40,7 +40,7 @@ use Rattle.mc_model.proofs.Lists.{at_once}
 use Rattle.mc_model.proofs.Follows.{are_replies}
 use Rattle.mc_model.proofs.Growing.{forms-append, replies_stay}
 use Rattle.mc_sim.proofs.Changing.{at_same, mirrors_stay, one_at}
-use Rattle.mc_sim.proofs.Standing.{KeptBut, found, kept_same, kept_set, none_there, seats_set, world_on}
+use Rattle.mc_sim.proofs.Standing.{KeptBut, found, kept_same, kept_set, seats_set, world_on}
 
 -- What an event finds at a seat: its place, and the number of its connection.
 pub record Finds (sim : Sim) (c number : ℕ) (place : Seat) : Type 0 where
@@ -90,12 +90,6 @@ world_stays sizes w old new world same = record {
   wired = subst (λ rings. AreWired sizes rings world.wires) (sym same.rings) world.wired;
   mirrors = world.mirrors;
 }
-
--- nothing was found at the seat
-pub finds_none : (old new : Sim) (event : Event) (c : ℕ) → ((sizes : Sizes) (w : World) (k : ℕ) (link : Link) → Allows sizes w event k link → IsAt w c k link) → ((sizes : Sizes) (w : World) → Stands sizes old w → (k : ℕ) (link : Link) → IsAt w c k link → ⊥) → IsSame old new → StepsByEvent old event replied.Idle new
-unfolding Stands
-finds_none old new event c speaks none same sizes w world =
-    (w, none_there sizes w event c (speaks sizes w) (none sizes w world), world_stays sizes w old new world same)
 
 -- The connection ends.
 pub ends : (old new : Sim) (c number : ℕ) (place after : Seat) (kept : Connection) → Finds old c number place → slice_get old.connections.items number ≡ Some kept → kept.ended ≡ false →

@@ -54,10 +54,6 @@ asked old new moment took.NeedMore says told is all = let n = says told is in re
 asked old new moment took.Full says told is all = let n = says told is in record { now = n.now; waits = λ unset every place. absurd (let full = n.full in omega (arith, full, place)) }
 asked old new moment took.Closed says told is all = let n = says told is in record { now = n.1; waits = λ unset every place. inl (shut_of told unset n.0) }
 
--- a connection with a command unread needn't be asked
-pub unasked : (conn : Conn) (told : Told) (whole : Bool) → whole ≡ true → (whole ≡ false → IsAllTaken told) × (IsAllTaken told → whole ≡ false) → IsConn conn told → Refreshed told conn
-unasked conn told whole is all now = record { now = now; waits = λ unset every place. absurd (let e : true ≡ false = sym is ∙ all.1 every in cc) }
-
 -- all of a piece is taken where all before it is used up, whether or not more commands come
 pub takes_bytes : (old new : Conn) (told : Told) (bytes : List ℕ) (count : ℕ) → IsOpen told → Refreshed told old → count ≤ length bytes → IsConn new (record told { fed = told.fed ++ take count bytes }) →
     (IsAllTaken told → IsAwaiting old → 0 < length bytes → 0 < count) → (IsUsedUp told → length bytes ≤ told.rules.line_limit → count ≡ length bytes) → (IsShut told → count ≡ length bytes) → TakesBytes told bytes count new

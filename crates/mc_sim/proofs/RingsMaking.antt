@@ -1,7 +1,7 @@
 -- The rings as they are made, with workers of empty shards.
-use Rattle.std.proofs.Common.{◌≡◌, ℕ, zero, suc, ◌<◌, ◌+◌, Some, List, [], ◌∷◌, ◌++◌, length, map, refl, ap, sym, ◌∙◌, arith, append_assoc, append-nil}
+use Rattle.std.proofs.Common.{◌≡◌, ℕ, zero, suc, ◌<◌, ◌+◌, Some, List, [], ◌∷◌, ◌++◌, length, map, refl, ap, sym, ◌∙◌}
 use Rattle.std.specs.List.{AllByRecursion, slice_get}
-use Rattle.std.proofs.lemmas.List.{length-append, length-map, map-append}
+use Rattle.std.proofs.lemmas.List.{length-map}
 use Rattle.std.proofs.lemmas.Option.{same_Some}
 use Rattle.mc_sizes.specs.declared.sizes.Sizes.{Sizes}
 use Rattle.mc_ring.specs.Lane.{Far, Near, Side}
@@ -9,7 +9,7 @@ use Rattle.mc_ring.specs.Ends.{Ends, list_at}
 use Rattle.mc_ring.specs.Made.{AreLanes, IsUnused}
 use Rattle.mc_store.specs.Shard.{ShardContents, Keeps}
 use Rattle.mc_model.specs.Sized.{empty_shard}
-use Rattle.mc_worker.specs.Desk.{Desk, HasRun}
+use Rattle.mc_worker.specs.Desk.{Desk}
 use Rattle.mc_sim.specs.Rings.{HaveWires, IsStarted, ends_of, new_wires}
 
 at_end : {A : Type 0} (xs : List A) (y : A) (zs : List A) → slice_get (xs ++ y ∷ zs) (length xs) ≡ Some y
@@ -31,31 +31,6 @@ all_more P [] x all one = (one, tt)
 all_more P (y ∷ xs) x all one = (all.0, all_more P xs x all.1 one)
 
 -- one worker more, of the next ends
-
-pub more_ends : (workers : List Desk) (desk : Desk) (ends : Ends Far) (before after shards : List (Ends Far)) → map ends_of workers ++ before ≡ shards → before ≡ ends ∷ after → desk.ends ≡ ends → map ends_of (workers ++ desk ∷ []) ++ after ≡ shards
-more_ends workers desk ends before after shards all first same =
-    ap (λ xs. xs ++ after) (map-append ends_of workers (desk ∷ [])) ∙ append_assoc (map ends_of workers) (desk.ends ∷ []) after
-    ∙ ap (λ x. map ends_of workers ++ x ∷ after) same ∙ ap (λ xs. map ends_of workers ++ xs) (sym first) ∙ all
-
-pub next_ends : (workers : List Desk) (ends : Ends Far) (before after shards : List (Ends Far)) → map ends_of workers ++ before ≡ shards → before ≡ ends ∷ after → slice_get shards (length workers) ≡ Some ends
-next_ends workers ends before after shards all first =
-    let whole : map ends_of workers ++ ends ∷ after ≡ shards = ap (λ xs. map ends_of workers ++ xs) (sym first) ∙ all in
-    ap (λ k. slice_get shards k) (sym (length-map workers ends_of)) ∙ ap (λ xs. slice_get xs (length (map ends_of workers))) (sym whole) ∙ at_end (map ends_of workers) ends after
-
-pub next_within : (workers : List Desk) (ends : Ends Far) (before after shards : List (Ends Far)) → map ends_of workers ++ before ≡ shards → before ≡ ends ∷ after → length workers < length shards
-next_within workers ends before after shards all first =
-    let whole : map ends_of workers ++ ends ∷ after ≡ shards = ap (λ xs. map ends_of workers ++ xs) (sym first) ∙ all in
-    let long : length shards ≡ length (map ends_of workers) + length (ends ∷ after) = ap length (sym whole) ∙ length-append (map ends_of workers) (ends ∷ after) in
-    let same = length-map workers ends_of in
-    let more : length (ends ∷ after) ≡ suc (length after) = refl in
-    omega arith
-
-pub all_ends : (workers : List Desk) (before shards : List (Ends Far)) → map ends_of workers ++ before ≡ shards → before ≡ [] → map ends_of workers ≡ shards
-all_ends workers before shards all none = sym (append-nil (map ends_of workers)) ∙ ap (λ xs. map ends_of workers ++ xs) (sym none) ∙ all
-
--- what is held at the beginning
-pub begins_empty : (sizes : Sizes) (number : ℕ) (desk : Desk) → HasRun (empty_shard sizes number) desk [] → Keeps desk.shard (empty_shard sizes number)
-begins_empty sizes number desk run = rw (← run.ran) run.kept
 
 keeps_at : (held : ShardContents) (sizes : Sizes) (p q : ℕ) → p ≡ q → Keeps held (empty_shard sizes p) → Keeps held (empty_shard sizes q)
 keeps_at held sizes p q same keeps = rw (← same) keeps

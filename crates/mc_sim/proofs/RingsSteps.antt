@@ -89,9 +89,6 @@ sent_room sizes c s seat seat' desk pieces replies n m piece back seen room lane
     let e : false ≡ true = lane.said.known free in
     cc
 
-pub back_is : (piece back : Piece) → parcel.Piece back ≡ parcel.Piece piece → back ≡ piece
-back_is piece back same = cc
-
 -- a reply is received
 
 abbrev ReceivesIt : Option Reply → Near → Near → Type 0
@@ -140,9 +137,6 @@ live_at (mark ∷ live) (suc i) within all = live_at live i (omega (arith, withi
 
 none_or_some : {A : Type 0} (held : Option A) (item : A) → held ≡ None → held ≡ Some item → ⊥
 none_or_some held item none some = let e : None ≡ Some item = sym none ∙ some in cc
-
-true_or_false : (mark : Option Bool) → mark ≡ Some true → mark ≡ Some false → ⊥
-true_or_false mark one other = let e : Some true ≡ Some false = sym one ∙ other in cc
 
 abbrev TakesIt : Option Parcel → Far → Far → Type 0
 TakesIt = Receives (λ parcel. parcel)

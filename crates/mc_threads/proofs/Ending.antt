@@ -1,34 +1,13 @@
 -- End is sent on one lane after another.
-use Rattle.std.proofs.Common.{ℕ, ◌+◌, ◌≤◌, inl, inr, [], ◌∷◌, ◌++◌, length, Ok, refl, ap, ◌∙◌, arith}
+use Rattle.std.proofs.Common.{ℕ, ◌+◌, ◌≤◌, inl, inr, [], ◌∷◌, ◌++◌, length, refl, ap, ◌∙◌, arith}
 use Rattle.std.proofs.lemmas.Bool.{cases_eq}
 use Rattle.mc_ring.specs.declared.parcel.Parcel.{Parcel}
 use Rattle.mc_ring.specs.declared.parcel.Parcel.TheVariants as parcel
-use Rattle.mc_ring.specs.Reply.{Shown}
 use Rattle.mc_ring.specs.Lane.{Near}
-use Rattle.mc_ring.specs.Ends.{AreSameEnds, AtLane, Ends, Sends}
-use Rattle.mc_ring.specs.EndsLaws.{at_lane-kept, at_lane-longer, at_lane-other, same_ends-refl, same_ends-trans}
+use Rattle.mc_ring.specs.Ends.{Ends}
+use Rattle.mc_ring.specs.EndsLaws.{same_ends-refl, same_ends-trans}
 use Rattle.mc_threads.specs.Serving.{EndsAll}
 use Rattle.mc_threads.specs.Ending.{EndsFirst, EndsOne, StandsStill}
-
-pub still_refl : (ends : Ends Near) → StandsStill ends ends
-still_refl ends = record { same = same_ends-refl ends; sent = λ s. refl; received = λ s. refl }
-
-pub still_trans : (first mid last : Ends Near) → StandsStill first mid → StandsStill mid last → StandsStill first last
-still_trans first mid last one two = record {
-  same = same_ends-trans first mid last one.same two.same;
-  sent = λ s. two.sent s ∙ one.sent s;
-  received = λ s. two.received s ∙ one.received s;
-}
-
-pub end_sent : (shard : ℕ) (before ends ends' : Ends Near) → StandsStill before ends → AtLane (Sends {Out = Parcel} {In = Shown} {T = Parcel} (λ (sent : Parcel). sent) parcel.End (Ok tt)) shard ends ends' → AreSameEnds ends ends' → EndsOne shard before ends'
-end_sent shard before ends ends' still at same =
-    let says : Near → Near → Type 0 = Sends {Out = Parcel} {In = Shown} {T = Parcel} (λ (sent : Parcel). sent) parcel.End (Ok tt) in
-    record {
-      same = same_ends-trans before ends ends' still.same same;
-      sent = at_lane-longer says (λ (end : Near). end.past.sent) shard (parcel.End ∷ []) ends ends' (λ x y said. ap (λ p. p.sent) said.sent) at ∙ ap (λ ps. ps ++ parcel.End ∷ []) (still.sent shard);
-      others = λ s other. at_lane-other says (λ (end : Near). end.past.sent) shard s ends ends' at other ∙ still.sent s;
-      received = λ s. at_lane-kept says (λ (end : Near). end.past.received) shard s ends ends' (λ x y said. ap (λ p. p.received) said.sent) at ∙ still.received s;
-    }
 
 -- Before anything happens End was sent on none of the lanes.
 pub ends_none : (ends : Ends Near) → EndsFirst 0 ends ends

@@ -1,8 +1,7 @@
 -- A session and what it serves a line by.
-use Rattle.std.proofs.Common.{◌≡◌, ℕ, Option, Some, None, refl, sym, subst, length}
+use Rattle.std.proofs.Common.{◌≡◌, ℕ, Option, Some, None, refl, sym, subst}
 use Rattle.std.specs.Prelude.{IsSomeAnd}
 use Rattle.mc_wire.specs.Outlet.{Sight}
-use Rattle.mc_sizes.specs.Sizes.{rules_of}
 use Rattle.mc_ring.specs.Lane.{Near}
 use Rattle.mc_ring.specs.Ends.{Ends}
 use Rattle.mc_threads.specs.declared.courier.Courier.{Courier}
@@ -10,9 +9,8 @@ use Rattle.mc_threads.specs.declared.session.Session.{Session}
 use Rattle.mc_seat.specs.declared.service.Service.{Service}
 use Rattle.mc_seat.specs.declared.service.Stepped.{Stepped}
 use Rattle.mc_seat.specs.declared.service.Stepped.TheVariants as stepped
-use Rattle.mc_seat.specs.Service.{IsNew}
 use Rattle.mc_threads.specs.Service.{IsServedBy, LineSays, ServesSomeLine, WasServedBy}
-use Rattle.mc_threads.specs.Session.{IsReady, IsVacant, StepSays}
+use Rattle.mc_threads.specs.Session.{StepSays}
 use Rattle.mc_command.specs.declared.rules.Rules.{Rules}
 
 -- There is something, of which this holds.
@@ -45,18 +43,3 @@ pub may_serve : (shards : ℕ) (rules : Rules) (may_answer : ℕ → Type 0) (be
 may_serve shards rules may_answer begin now before courier (Some service) served =
     record { before = before; told = served.told; received = served.received; conn_is = served.stopped.serves.conn_is; carries = served.carries }
 may_serve shards rules may_answer begin now before courier None served = absurd served
-
--- Where no room was made yet, one that is made for the session's sizes is as new.
-pub made_new : (rules : Rules) (window : ℕ) (session : Session) (service : Service) → session.service ≡ None → IsNew session.sizes.shards (rules_of session.sizes) session.sizes.window service → IsVacant rules window session → IsNew (length session.courier.ends.lanes) rules window service
-made_new rules window session service none made vacant =
-    let shards = length session.courier.ends.lanes in
-    let R : Option Service → Type 0 = λ o. IsReady shards rules window session o in
-    let sized = subst R none vacant.ready in
-    let S : ℕ → Type 0 = λ n. IsNew n (rules_of session.sizes) session.sizes.window service in
-    let L : Rules → Type 0 = λ n. IsNew shards n session.sizes.window service in
-    let W : ℕ → Type 0 = λ n. IsNew shards rules n service in
-    subst W sized.2 (subst L sized.1 (subst S sized.0 made))
-
--- Where there is a room, it is as new.
-pub kept_new : (rules : Rules) (window : ℕ) (session : Session) (service : Service) → session.service ≡ Some service → IsVacant rules window session → IsNew (length session.courier.ends.lanes) rules window service
-kept_new rules window session service some vacant = let R : Option Service → Type 0 = λ o. IsReady (length session.courier.ends.lanes) rules window session o in subst R some vacant.ready

@@ -42,28 +42,14 @@ pub fn listen<
 >(rt: &R, address: &str, connections: Option<u64>, sizes: Sizes, wishes: Wishes<'_>) -> ExitCode
     requires { AreWithin sizes }
 {
-    let listener = match TcpListener::bind(rt, address) {
-        Ok(listener) => listener,
+    let (listener, port) = match open(rt, address) {
+        Ok(opened) => opened,
         Err(error) => return refuse_address(rt, "listen", address, &error),
     };
-    let local = match listener.local_addr() {
-        Ok(local) => local,
-        Err(error) => return refuse_address(rt, "listen", address, &error),
-    };
-    // Where this fails fewer wait there: 128.
-    let _ = listen_again(listener.as_raw_fd(), QUEUE);
-    let _ = eprintln!(rt; "listening {local}");
     tell_files(rt, sizes.seats, sizes.shards);
-    let (watch, watching) = match start_watching(rt, VERSION, local.port(), sizes, wishes) {
+    let (watch, watching) = match start_watching(rt, VERSION, port, sizes, wishes) {
         Ok(begun) => begun,
-        Err(NotWatching::Memory) => return refuse(rt, "out of memory"),
-        Err(NotWatching::Thread) => return refuse_threads(rt, sizes.shards),
-        Err(NotWatching::Metrics(error)) => return refuse_address(
-            rt,
-            "metrics",
-            wishes.metrics.unwrap_or(""),
-            &error,
-        ),
+        Err(fault) => return refuse_watching(rt, fault, sizes.shards, wishes.metrics),
     };
     let ended = serve_tcp(
         rt,
@@ -77,9 +63,43 @@ pub fn listen<
     watching.end(rt);
     match ended {
         Ok(_) => ExitCode::SUCCESS,
-        Err(ServeRefusal::Memory) => refuse(rt, "out of memory"),
-        Err(ServeRefusal::Thread) => refuse_threads(rt, sizes.shards),
-        Err(ServeRefusal::Bind) => refuse(rt, "cannot listen"),
+        Err(refusal) => refuse_serving(rt, refusal, sizes.shards),
+    }
+}
+
+/// Listens on the address, and tells so; with the port.
+fn open<R: Net<Listener = TcpListener, Stream = TcpStream> + Eprint>(
+    rt: &R,
+    address: &str,
+) -> io::Result<(TcpListener, u16)> {
+    let listener = TcpListener::bind(rt, address)?;
+    let local = listener.local_addr()?;
+    // Where this fails fewer wait there: 128.
+    let _ = listen_again(listener.as_raw_fd(), QUEUE);
+    let _ = eprintln!(rt; "listening {local}");
+    Ok((listener, local.port()))
+}
+
+/// Tells why nothing is watched; the status with which the program ends.
+fn refuse_watching(
+    rt: &impl Eprint,
+    fault: NotWatching,
+    shards: usize,
+    metrics: Option<&str>,
+) -> ExitCode {
+    match fault {
+        NotWatching::Memory => refuse(rt, "out of memory"),
+        NotWatching::Thread => refuse_threads(rt, shards),
+        NotWatching::Metrics(error) => refuse_address(rt, "metrics", metrics.unwrap_or(""), &error),
+    }
+}
+
+/// Tells why the server ended; the status with which the program ends.
+fn refuse_serving(rt: &impl Eprint, refusal: ServeRefusal, shards: usize) -> ExitCode {
+    match refusal {
+        ServeRefusal::Memory => refuse(rt, "out of memory"),
+        ServeRefusal::Thread => refuse_threads(rt, shards),
+        ServeRefusal::Bind => refuse(rt, "cannot listen"),
     }
 }
 

@@ -1,5 +1,5 @@
 use Rattle.std.proofs.Common.{◌≡◌, arith}
-use Rattle.mc_ring.proofs.Rows.{lanes_next}
+use Rattle.mc_ring.proofs.LaneLoops.{lanes_next}
 use Rattle.mc_ring.proofs.making.all_lanes.Goals as goal
 
 pub loop-number-init : goal.loop-number-init

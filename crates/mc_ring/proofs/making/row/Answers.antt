@@ -1,6 +1,6 @@
 use Rattle.std.proofs.Common.{rules, slice_index_or}
 use Rattle.std.proofs.lemmas.Option.{slice_get-get_or}
-use Rattle.mc_ring.proofs.Rows.{joins_next, joins_all}
+use Rattle.mc_ring.proofs.LaneLoops.{joins_next, joins_all}
 use Rattle.mc_ring.proofs.making.row.Goals as goal
 
 pub loop-shard-preserved : goal.loop-shard-preserved

@@ -1,4 +1,4 @@
-use Rattle.mc_ring.proofs.Rows.{JoinsFirst}
+use Rattle.mc_ring.proofs.LaneLoops.{JoinsFirst}
 use Rattle.mc_ring.proofs.making.row.Given as goal
 
 abbrev pub invariant-loop-shard : goal.invariant-loop-shard

@@ -1,4 +1,4 @@
-use Rattle.mc_ring.proofs.Rows.{NewShards}
+use Rattle.mc_ring.proofs.LaneLoops.{NewShards}
 use Rattle.mc_ring.proofs.making.shards_without_lanes.Given as goal
 
 abbrev pub invariant-loop-number : goal.invariant-loop-number

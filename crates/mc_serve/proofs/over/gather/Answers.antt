@@ -2,7 +2,7 @@
 use Rattle.std.proofs.Common.{◌≡◌, [], ◌∷◌, ◌++◌, ◌∙◌, sym, append_assoc, append-nil, ap, rules}
 use Rattle.std.specs.Vec.Iter.{into_iter_items}
 use Rattle.mc_doors.specs.One.{IsBack, told_of}
-use Rattle.mc_serve.proofs.One.{empty_when, zips_are, zips_push}
+use Rattle.mc_serve.proofs.Zipped.{empty_when, zips_are, zips_push}
 use Rattle.mc_serve.proofs.over.gather.Goals as goal
 
 pub loop-door-preserved : goal.loop-door-preserved

@@ -4,7 +4,8 @@ use Rattle.std.proofs.lemmas.List.{length-map}
 use Rattle.mc_sizes.specs.Sizes.{MayServe}
 use Rattle.mc_serve.specs.Over.{came_back}
 use Rattle.mc_doors.specs.One.{told_of, waits}
-use Rattle.mc_serve.proofs.One.{all_free, if_ok, over_all}
+use Rattle.mc_serve.proofs.One.{all_free, over_all}
+use Rattle.mc_serve.proofs.Zipped.{if_ok}
 use denote.Exit.{no}
 use denote.Param.Send.{arg_send, param_send}
 use Rattle.mc_doors.proofs.Sent.{door_send}

@@ -16,19 +16,15 @@ settle-requires g c =
     let begun = c.in_default-started.ensures in
     let crew = c.start-started.new.crew in
     let parts = c.in_ok-parts.parts.items in
-    let seats = c.take_apart.new.seats.items in
-    let workers = c.take_apart.new.workers.items in
-    let apart = c.in_ok-take_apart.ensures in
-    record {
-      none = c.in_ok-room.ensures.items;
-      lanes = lanes_are sizes may (flat_map (λ part. part.seats.all.items) crew) seats (flat_map (λ part. part.workers.items) crew) workers c.args.doors.items []
-          (λ one. seat_at (g.D.Door.told one.door) (seat_ends one.session)) (λ one. one.door) (λ one. one.worker) (λ door. g.D.Door.told door)
-          (parts_joined crew parts seats workers c.args.doors.items [] (λ part. part.seats.all.items) (λ part. part.workers.items)
-          (λ one. seat_at (g.D.Door.told one.door) (seat_ends one.session)) (λ one. one.door) (λ one. one.worker) (λ door. g.D.Door.told door) sizes may
-          (λ seat. refl) begun.doors begun.lanes begun.fresh
-          (zips_follow crew parts (λ part. (part.clock ≡ c.args.clock) × (part.sizes ≡ c.args.sizes)) _ _ (λ x y same did. rw (← same.0, ← same.1) did) begun.same (rw c.begin.ensures at c.in_ok-parts.ensures))
-          apart.seats apart.workers);
-    }
+    let seats = flat_map (λ part. part.seats.all.items) parts in
+    let workers = flat_map (λ part. part.workers.items) parts in
+    lanes_are sizes may (flat_map (λ part. part.seats.all.items) crew) seats (flat_map (λ part. part.workers.items) crew) workers c.args.doors.items []
+    (λ one. seat_at (g.D.Door.told one.door) (seat_ends one.session)) (λ one. one.door) (λ one. one.worker) (λ door. g.D.Door.told door)
+    (parts_joined crew parts seats workers c.args.doors.items [] (λ part. part.seats.all.items) (λ part. part.workers.items)
+    (λ one. seat_at (g.D.Door.told one.door) (seat_ends one.session)) (λ one. one.door) (λ one. one.worker) (λ door. g.D.Door.told door) sizes may
+    (λ seat. refl) begun.doors begun.lanes begun.fresh
+    (zips_follow crew parts (λ part. (part.clock ≡ c.args.clock) × (part.sizes ≡ c.args.sizes)) _ _ (λ x y same did. rw (← same.0, ← same.1) did) begun.same (rw c.begin.ensures at c.in_ok-parts.ensures))
+    refl refl)
 
 pub returns : goal.returns
 returns g c =
@@ -37,14 +33,13 @@ returns g c =
     let begun = c.in_default-started.ensures in
     let crew = c.start-started.new.crew in
     let parts = c.in_ok-parts.parts.items in
-    let seats = c.take_apart.new.seats.items in
-    let workers = c.take_apart.new.workers.items in
-    let apart = c.in_ok-take_apart.ensures in
+    let seats = flat_map (λ part. part.seats.all.items) parts in
+    let workers = flat_map (λ part. part.workers.items) parts in
     both c.settle.result _ _ _ (λ back tied doors. all_doors sizes may (flat_map (λ part. part.seats.all.items) crew) seats (flat_map (λ part. part.workers.items) crew) workers c.args.doors.items back.items
     (λ one. seat_at (g.D.Door.told one.door) (seat_ends one.session)) (λ one. one.door) (λ one. one.worker) (λ door. g.D.Door.told door)
     c.requires.sizes.lines.shards (parts_joined crew parts seats workers c.args.doors.items back.items (λ part. part.seats.all.items) (λ part. part.workers.items)
     (λ one. seat_at (g.D.Door.told one.door) (seat_ends one.session)) (λ one. one.door) (λ one. one.worker) (λ door. g.D.Door.told door) sizes may
     (λ seat. refl) begun.doors begun.lanes begun.fresh
     (zips_follow crew parts (λ part. (part.clock ≡ c.args.clock) × (part.sizes ≡ c.args.sizes)) _ _ (λ x y same did. rw (← same.0, ← same.1) did) begun.same (rw c.begin.ensures at c.in_ok-parts.ensures))
-    apart.seats apart.workers) tied doors)
+    refl refl) tied doors)
     c.settle.ensures.tied c.settle.ensures.doors

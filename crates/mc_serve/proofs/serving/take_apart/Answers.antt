@@ -2,7 +2,7 @@
 use Rattle.std.proofs.Common.{◌≡◌, length, [], ap, sym, ◌∙◌, rules, append-nil}
 use Rattle.std.specs.List.{flat_map}
 use Rattle.std.specs.Vec.Iter.{into_iter_items}
-use Rattle.mc_serve.proofs.One.{empty_when}
+use Rattle.mc_serve.proofs.Zipped.{empty_when}
 use Rattle.mc_serve.proofs.Parts.{flat_last, flat_next}
 use Rattle.mc_serve.proofs.serving.take_apart.Goals as goal
 

@@ -3,7 +3,7 @@ use Rattle.std.proofs.Common.{◌≡◌, ◌∙◌, ℕ, [], ap, length, map, ar
 use Rattle.std.specs.Vec.Iter.{into_iter_items}
 use Rattle.mc_doors.specs.Tcp.{gone_count, told_tcp}
 use Rattle.mc_serve.proofs.Connections.{count_all, count_more, gone_one}
-use Rattle.mc_serve.proofs.One.{empty_when}
+use Rattle.mc_serve.proofs.Zipped.{empty_when}
 use Rattle.mc_serve.proofs.tcp.count_ended.Goals as goal
 
 pub loop-door-preserved : goal.loop-door-preserved

@@ -1,0 +1,12 @@
+-- The seats and the workers are those of all parts.
+use Rattle.mc_serve.proofs.serving.Rooms.settle.Goals as goal
+
+pub settle-requires-clause-lanes : goal.settle-requires-clause-lanes
+settle-requires-clause-lanes g c =
+    let apart = c.in_ok-take_apart.ensures in
+    rw (apart.seats, apart.workers) c.requires
+
+pub returns-clause-tied : goal.returns-clause-tied
+returns-clause-tied g c =
+    let apart = c.in_ok-take_apart.ensures in
+    rw (apart.seats, apart.workers) at c.settle.ensures.tied
