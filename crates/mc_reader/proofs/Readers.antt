@@ -264,6 +264,15 @@ all_given_is rules reader fed ended given test says shut h = (forth, back) where
     | inr fails ↦ fails
   ]
 
+-- The state is the closed one exactly behind a last command.
+pub closed_is : (rules : Rules) (reader : Reader) (fed : List ℕ) (ended : Bool) (given : List Given) (test : Bool) → IsTrue test ↔ (reader.state ≡ state.Closed) → HasGiven reader rules fed ended given → IsTrue test ↔ IsClosedLine given
+closed_is rules reader fed ended given test says h = elim (cases_Bool (is_closed (entries_of given))) [
+  | inl over ↦ (λ _. over, λ _. says.1 (rw over at h.now))
+  | inr goes ↦
+      let now = rw goes at h.now in
+      (λ shut. absurd (rw (says.0 shut) at now.1), λ shut. absurd (false≢true (sym goes ∙ shut)))
+]
+
 -- Amid a line's skipped bytes no block is open.
 no_block : (rules : Rules) (at : State) (buffer unread line skipped : List ℕ) (discarded : Option (List ℕ)) (refusal : Refusal) (count : ℕ) → Holds rules at buffer unread → unread ≡ line ++ 10 ∷ skipped → HasNoEnd line → line_says rules line ≡ Skip discarded refusal count → held_in at ≡ 0
 no_block rules (state.Block block) buffer unread line skipped discarded refusal count h is none says =

@@ -34,8 +34,8 @@ take_block-requires-clause-small c =
     let small = data_small c.args.rules (words_of (without_return (take c.in-Line-Some.long c.args.buffer.now.bytes))) c.in-Data.command c.in-Data.count c.in-Data.ensures.says in
     omega (arith, small, c.requires.small)
 
-pub open_block-awaited-requires : goal.open_block-awaited-requires
-open_block-awaited-requires c =
+pub await_block-requires : goal.await_block-requires
+await_block-requires c =
     let small = data_small c.args.rules (words_of (without_return (take c.in-Line-Some.long c.args.buffer.now.bytes))) c.in-Data.command c.in-Data.count c.in-Data.ensures.says in
     omega (arith, small, c.requires.small)
 
@@ -46,6 +46,6 @@ returns-clause-none c unread h =
     let long = c.in-Line-Some.long in
     let line = take long c.args.buffer.now.bytes in
     elim c.match-take_line.branch [
-      | in-Data+else-has_block w ↦ rw (w.self-is, w.buffer-is, w.go_to.ensures) (read_head rules (Holds rules w.open_block-awaited.result w.open_block-awaited.new.buffer.bytes) c.args.self.now c.args.buffer.now.bytes c.take_line.new.buffer.bytes unread long is c.take_line.ensures.rest (λ none short. w.open_block-awaited.ensures.holds rules line none short w.in-Data.ensures.says) h)
-      | in-Skip w ↦ rw (w.self-is, w.buffer-is, w.go_to-in-Skip.ensures) (read_head rules (Holds rules w.open_skip-skipped.result w.open_skip-skipped.new.buffer.bytes) c.args.self.now c.args.buffer.now.bytes c.take_line.new.buffer.bytes unread long is c.take_line.ensures.rest (λ none short. w.open_skip-skipped.ensures.holds rules line none short w.in-Skip.ensures.says) h)
+      | in-Data+else-has_block w ↦ rw (w.self-is, w.buffer-is) (read_head rules (Holds rules w.await_block.new.self w.await_block.new.buffer.bytes) c.args.self.now c.args.buffer.now.bytes c.take_line.new.buffer.bytes unread long is c.take_line.ensures.rest (λ none short. w.await_block.ensures.holds rules line none short w.in-Data.ensures.says) h)
+      | in-Skip w ↦ rw (w.self-is, w.buffer-is) (read_head rules (Holds rules w.skip.new.self w.skip.new.buffer.bytes) c.args.self.now c.args.buffer.now.bytes c.take_line.new.buffer.bytes unread long is c.take_line.ensures.rest (λ none short. w.skip.ensures.holds rules line none short w.in-Skip.ensures.says) h)
     ]
