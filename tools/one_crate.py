@@ -1,12 +1,15 @@
 """Writes the program and the crates that it stands on as one crate, whose modules they are.
 
 Crate by crate the prover reads anew what lies below each, and a crate waits for all that it stands on. As one crate they are read
-once, and functions of all of them are proved side by side. Nothing changes but paths, the names of definitions and lemmas, and
-that all modules can be seen:
+once, and functions of all of them are proved side by side. Paths change, the names of definitions and lemmas, and all modules
+can be seen:
 
     crate::key::Key              becomes    crate::mc_wire::key::Key
     mc_wire::Key                            crate::mc_wire::Key
     Rattle.mc_wire.specs.Words              Rattle.mcd.specs.mc_wire.Words
+
+Some of what the program doesn't call is left out: worked rows, what serves lines in memory, and what types derive for tests. No
+body and no clause of anything else changes, and where the program calls what is left out, the one crate doesn't compile.
 """
 import re
 import shutil
