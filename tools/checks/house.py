@@ -1,13 +1,13 @@
 #!/usr/bin/env python3
-"""Checks three rules of the house: what a reader meets first in a contract, in a proof and in the documents.
+"""Checks five rules of the house: what a reader meets first in a contract, in a proof and in the documents.
 
     tools/checks/house.py            fails where a rule is broken, and names each place (the gate does this)
     tools/checks/house.py --counts   how many clauses and lemmas there are, crate by crate
 
 A clause (`requires`, `ensures`, or what a trait or type promises under `ghost`) has no line of more than 100 columns: a longer
 one goes on in further lines, broken at its arrows first. A lemma that another file cites has a comment directly above it, which
-says in a sentence what it says. A paragraph of the documents (a line that stands in no table and in no
-block of code) has at most 600 characters.
+says in a sentence what it says. Something cites each lemma, and no two say the same, but for worked rows, which stand for themselves.
+A paragraph of the documents (a line that stands in no table and in no block of code) has at most 600 characters.
 """
 import argparse
 import collections
@@ -23,6 +23,12 @@ CLAUSE = re.compile(r"(?:ensures\*?|requires\*?)\b|ghost (?!use\b)\w+(?: =|:) ")
 IMPORT = re.compile(r"^use (Rattle\.[\w.+]+?)\.\{(.*?)\}", re.M)
 TACTIC = re.compile(r"\bproofs(?:::\w+)*::([\w-]+)")
 LEMMA = re.compile(r" *pub (?:(?:unfoldable|abbrev) )?([^\s:(){}]+) :|(?:unfoldable|abbrev) pub ([^\s:(){}]+) :")
+HEAD = re.compile(r"^(?:unfoldable |abbrev )?(?:pub )?(?:unfoldable |abbrev )?([^\s:(){}]+) :", re.M)
+STATED = re.compile(r"^(?:pub )?([^\s:(){}]+) : (.*\n(?:[ \t]+.*\n)*)", re.M)
+BOUND = re.compile(r"[({]([^(){}:]+) :|λ ([^.()]+)\.")
+COMMENT = re.compile(r"--.*|//.*")
+SEPARATORS = re.compile(r"[\s(){}\[\],;.:]+")
+WORKED_ROWS = re.compile(r"Rows|Corners|Crossing")
 DOCUMENTS = ["docs/*.md", "README.md", "CONTRIBUTING.md", "tools/README.md"]
 # What the prover asks of one function stands in these: their names are its own.
 ANSWERS = {"Proof.antt", "Invariants.antt", "Answers.antt"}
@@ -71,6 +77,44 @@ def lemmas():
                     yield file, number + 1, name, number > 0 and lines[number - 1].lstrip().startswith("--")
 
 
+def is_of_lemmas(file):
+    return file.suffix == ".antt" and "specs" not in file.parts and file.name not in ANSWERS and not WORKED_ROWS.search(file.stem)
+
+
+def uncited():
+    """The lemmas that nothing cites, but for worked rows: the file, the line and the name."""
+    files = [*CRATES.glob("*/src/**/*.rt"), *CRATES.glob("*/specs/**/*.antt"), *CRATES.glob("*/proofs/**/*.antt")]
+    texts = {file: COMMENT.sub("", file.read_text(encoding="utf-8")) for file in sorted(files)}
+    words = collections.Counter(word for text in texts.values() for word in SEPARATORS.split(text))
+    for file, text in texts.items():
+        if not is_of_lemmas(file):
+            continue
+        # a lemma's own lines begin with its name, but for the first, which may say before it how it is seen
+        own = collections.Counter(re.findall(r"^(?:(?:pub|abbrev|unfoldable) )*([^\s:(){}]+)", text, re.M))
+        for found in HEAD.finditer(text):
+            if words[found[1]] <= own[found[1]]:
+                yield file, text.count("\n", 0, found.start()) + 1, found[1]
+
+
+def without_names(statement):
+    """What a lemma says, with numbers for the names that it gives to what it speaks of."""
+    names = dict.fromkeys(name for found in BOUND.finditer(statement) for name in (found[1] or found[2]).split())
+    for number, name in enumerate(names):
+        statement = re.sub(rf"(?<![\w.'-]){re.escape(name)}(?![\w'-])", f"#{number}", statement)
+    return " ".join(statement.split())
+
+
+def stated_twice():
+    """The lemmas that say what another one says: the file, the line, the name, and the other."""
+    said = {}
+    for file in filter(is_of_lemmas, sorted(CRATES.glob("*/proofs/**/*.antt"))):
+        text = COMMENT.sub("", file.read_text(encoding="utf-8"))
+        for found in STATED.finditer(text):
+            other = said.setdefault(without_names(found[2]), f"{found[1]} of {file.relative_to(CRATES)}")
+            if other != f"{found[1]} of {file.relative_to(CRATES)}":
+                yield file, text.count("\n", 0, found.start()) + 1, found[1], other
+
+
 def paragraphs():
     """The paragraphs of the documents: the file, the line, and the text."""
     for file in [file for pattern in DOCUMENTS for file in sorted(TOP.glob(pattern))]:
@@ -94,6 +138,10 @@ def findings():
         counts[file.relative_to(CRATES).parts[0]][1] += 1
         if not is_told:
             faults.append(f"{file.relative_to(TOP)}:{number}: {name} is cited elsewhere, and no sentence stands above it")
+    for file, number, name in uncited():
+        faults.append(f"{file.relative_to(TOP)}:{number}: nothing cites {name}")
+    for file, number, name, other in stated_twice():
+        faults.append(f"{file.relative_to(TOP)}:{number}: {name} says what {other} says")
     for file, number, line in paragraphs():
         if len(line) > CHARACTERS:
             faults.append(f"{file.relative_to(TOP)}:{number}: a paragraph of {len(line)} characters, of {CHARACTERS} at most")

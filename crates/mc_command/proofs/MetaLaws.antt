@@ -1,8 +1,7 @@
 -- Laws of the table of meta lines: which of them may be given up, and that none says that memory was short.
 use Rattle.std.proofs.Common.{◌≡◌, ℕ, ◌&&◌, ◌==◌, not, Bool, true, false, List, [], ◌∷◌, ◌++◌, Option, Some, None, is_some, refl, sym, ◌∙◌, Result, Ok, Err, cond, nat_lt, length}
 use Rattle.std.specs.Prelude.{IsTrue}
-use Rattle.std.specs.Option.{option_or, ok_or}
-use Rattle.std.specs.Result.{result_ok}
+use Rattle.std.specs.Option.{option_or}
 use Rattle.mc_wire.specs.Base64Key.{base64_key}
 use Rattle.mc_wire.specs.declared.TheConstants.{OPAQUE_LIMIT}
 use Rattle.mc_command.specs.declared.command.Command.{Command}
@@ -92,7 +91,3 @@ pub reads_command : (rules : Rules) (name : MetaKind) (word : List ℕ) (words :
     meta_key_of asked.flags.base64 word ≡ Ok key → read ≡ command_by rules name key asked → Reads (meta_command_of rules name word words) read
 reads_command rules name word words asked key read said spelled made =
     reads_same (meta_command_of rules name word words) read (made ∙ asked_then rules name word words asked key (flags_refusal rules name [] words) said spelled)
-
-pub result_ok-ok_or : (value : Option ℕ) (refusal : Refusal) → result_ok (ok_or value refusal) ≡ value
-result_ok-ok_or None refusal = refl
-result_ok-ok_or (Some value) refusal = refl

@@ -188,11 +188,6 @@ rest_whole conn told waiting none empty broken all tickets h =
           (same_number waiting 0).1 (omega (arith, forms, tickets, handed)),
     )
 
--- Where a test finds no value there is none.
-pub none_there : {X : Type 0} (value : Option X) → is_some value ≡ false → value ≡ None
-none_there None e = refl
-none_there (Some x) e = absurd cc
-
 -- A number is 0 where one that equals it was tested to be 0.
 pub empty_is : (len n : ℕ) → true ≡ (len == 0) → len ≡ n → n ≡ 0
 empty_is len n e same =

@@ -17,9 +17,10 @@ use Rattle.mc_conn.specs.History.{Taken, planned}
 use Rattle.mc_conn.specs.Due.{due, forms_of, lane, pieces, pieces_at, pieces_from, ticket_at}
 use Rattle.mc_join.specs.Expects.{Expects}
 use Rattle.mc_conn.specs.Fits.{Fits, IsReplyTo, ReceivesFromShard}
-use Rattle.mc_conn.proofs.Gets.{all_more, all_push, get_cases}
+use Rattle.mc_conn.proofs.Gets.{get_cases}
 use Rattle.mc_conn.proofs.Places.{lane_at, lane-append, one_place, piece_at}
 use Rattle.mc_conn.proofs.Forms.{form_at, kind_at, slot_at}
+use Rattle.mc_ring.proofs.Lists.{all_weaken, all_push, get_last}
 
 -- The answers fit on a new connection, which took no command and received no reply.
 pub fits_none : (shards : ℕ) → Fits shards [] [] (λ s. [])
@@ -56,7 +57,7 @@ fits_take shards taken one accepted received fits = record {
       omega (arith, within, longer, length-append (due shards s taken) (lane s (pieces_from shards (0 + length taken) (one ∷ []))));
   asked =
       let longer = length-append taken (one ∷ []) in
-      all_more (λ (reply : Shown). reply.ticket.0 < length taken) (λ (reply : Shown). reply.ticket.0 < length (taken ++ one ∷ [])) (λ reply below. omega (arith, below, longer)) accepted fits.asked;
+      all_weaken (λ (reply : Shown). reply.ticket.0 < length taken) (λ (reply : Shown). reply.ticket.0 < length (taken ++ one ∷ [])) (λ reply below. omega (arith, below, longer)) accepted fits.asked;
   answers = λ s i p here.
       let more = lane s (pieces_from shards (0 + length taken) (one ∷ [])) in
       let found : slice_get (due shards s taken ++ more) i ≡ Some p = ap (λ ps. slice_get ps i) (sym (due-append shards s taken (one ∷ []))) ∙ here in
@@ -70,11 +71,6 @@ fits_take shards taken one accepted received fits = record {
             ∙ sym (ap (λ o. option_map (λ (reply : Shown). reply.answer) o) (slice_get_past (received s) i (omega (arith, within, at))))
       ];
 }
-
--- an element more stands behind all others
-pub push_here : {X : Type 0} (xs : List X) (x : X) → slice_get (xs ++ x ∷ []) (length xs) ≡ Some x
-push_here [] x = refl
-push_here (y ∷ xs) x = push_here xs x
 
 push_other : {X : Type 0} (xs : List X) (x : X) (i : ℕ) → i ≢ length xs → slice_get (xs ++ x ∷ []) i ≡ slice_get xs i
 push_other [] x zero other = absurd (other refl)
@@ -149,7 +145,7 @@ next_fits shards s taken accepted old new p reply fits next to receives =
               ap (λ (x : Piece). answer_to (accepted ++ reply ∷ []) x.ticket x.part) (sym one)
               ∙ (answer_to-fresh accepted reply p.ticket p.part (is_to-same p.ticket p.part reply tickets to.part) none
               ∙ sym (ap (λ k. answer_at (slice_get (new k) i)) same ∙ (ap (λ k. answer_at (slice_get (new s) k)) at
-              ∙ (ap (λ xs. answer_at (slice_get xs (length (old s)))) receives.here ∙ ap answer_at (push_here (old s) reply)))))
+              ∙ (ap (λ xs. answer_at (slice_get xs (length (old s)))) receives.here ∙ ap answer_at (get_last (old s) reply)))))
           | inr apart ↦
               elsewhere t i q found (λ shard place. apart (sym place))
               ∙ (fits.answers t i q found

@@ -12,7 +12,7 @@ use Rattle.mc_split.proofs.Shards.{pieces_alike}
 use Rattle.mc_join.specs.Replies.{answer_to, slots_after}
 use Rattle.mc_conn.specs.History.{Taken, planned}
 use Rattle.mc_conn.specs.Due.{forms_from, ticket_at}
-use Rattle.mc_conn.proofs.Gets.{all_at}
+use Rattle.mc_ring.proofs.Lists.{all_at}
 
 -- The form of a command is of the kind of each of its pieces.
 pub kind_at : (shards : ℕ) (command : Command) (part : ℕ) (asked : ShardOp) → slice_get (pieces_of shards command) part ≡ Some asked → form_kind (pieces_of shards command) ≡ kind_of asked.op

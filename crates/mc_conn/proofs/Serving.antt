@@ -11,8 +11,9 @@ use Rattle.mc_conn.specs.History.{Taken}
 use Rattle.mc_conn.specs.Due.{Ran, due, forms_of, lane, pieces_from}
 use Rattle.mc_join.specs.Expects.{Expects}
 use Rattle.mc_conn.specs.Fits.{CameFrom, IsReplyTo, KeysFit, ReceivesFromShard, Serves, reply_of}
-use Rattle.mc_conn.proofs.Gets.{get_below, get_front}
-use Rattle.mc_conn.proofs.Fitting.{due-append, fits_none, fits_take, next_expected, next_fits, push_here, within_more}
+use Rattle.mc_conn.proofs.Gets.{get_front}
+use Rattle.mc_conn.proofs.Fitting.{due-append, fits_none, fits_take, next_expected, next_fits, within_more}
+use Rattle.mc_ring.proofs.Lists.{get_below, get_last}
 
 -- A new connection, which took no command and received no reply, has its answers in their places.
 pub serves_none : (shards : ℕ) → Serves shards [] [] (λ s. [])
@@ -44,7 +45,7 @@ kept old new s reply receives t i r came = elim (cases_eq t s) [
 pub next_of : (shards s : ℕ) (taken : List Taken) (old new : ℕ → List Shown) (reply : Shown) (p : Piece) → slice_get (due shards s taken) (length (old s)) ≡ Some p → ReceivesFromShard old s reply new → KeysFit shards taken new → KeysFit shards taken old × IsReplyTo p reply
 next_of shards s taken old new reply p next receives keys = (
   λ t i q r asked came. keys t i q r asked (kept old new s reply receives t i r came),
-  keys s (length (old s)) p reply next (ap (λ xs. slice_get xs (length (old s))) receives.here ∙ push_here (old s) reply),
+  keys s (length (old s)) p reply next (ap (λ xs. slice_get xs (length (old s))) receives.here ∙ get_last (old s) reply),
 )
 
 -- A reply accepted from a shard that owes one leaves the answers in their places, as long as the keys fit.

@@ -30,7 +30,7 @@ use Rattle.mc_conn.specs.Told.{Told, IsOver, all_forms, all_pieces, commands_of}
 use Rattle.mc_conn.proofs.Calls.{joiner_stays, waiting_is}
 use Rattle.mc_conn.proofs.Fitting.{pieces_from-append}
 use Rattle.mc_conn.proofs.Forms.{forms-push, length-forms}
-use Rattle.mc_conn.proofs.Gets.{all_push}
+use Rattle.mc_ring.proofs.Lists.{all_push}
 
 -- The connection is neither closed nor broken.
 abbrev pub GoesOn : Conn → Type 0

@@ -18,7 +18,7 @@ use Rattle.mc_join.proofs.Joins.{all_answered, handed_within}
 use Rattle.mc_join.proofs.Queues.{numbered_at, same_ticket}
 
 -- filled slots alone have no empty one
-none_empty : (answers : List Answer) (i : ℕ) → slice_get (map (λ answer. Some answer) answers) i ≡ Some None → ⊥
+pub none_empty : (answers : List Answer) (i : ℕ) → slice_get (map (λ answer. Some answer) answers) i ≡ Some None → ⊥
 none_empty [] i here = cc
 none_empty (answer ∷ answers) zero here = cc
 none_empty (answer ∷ answers) (suc i) here = none_empty answers i here

@@ -146,11 +146,6 @@ join_hand old new count passed all left opened accepted handed j =
       rest = rw (left, j.rest) (drop-drop count (length handed) forms ∙ ap (λ k. drop k forms) whole);
     }
 
--- nothing but the fault changes
-pub join_gone : (old new : Held) → new.handed ≡ old.handed → new.forms ≡ old.forms → (opened : List Form) (accepted : List Shown) (handed : List (List ℕ)) → IsJoiner old opened accepted handed → IsJoiner new opened accepted handed
-join_gone old new same_handed same_forms opened accepted handed j =
-    record { numbered = j.numbered; asked = j.asked; beginning = j.beginning; count = same_handed ∙ j.count; rest = same_forms ∙ j.rest }
-
 -- what is due are the replies that were not handed out yet
 pub due_unhanded : (held : Held) → held.gone ≡ false → (opened : List Form) (accepted : List Shown) (handed : List (List ℕ)) → IsJoiner held opened accepted handed → due_text held ≡ unhanded opened accepted handed
 due_unhanded held there opened accepted handed j =

@@ -4,8 +4,6 @@ use Rattle.std.specs.Prelude.{MatchBool}
 use Rattle.std.proofs.lemmas.Bool.{cases_eq, cases_lt}
 use Rattle.mc_sizes.specs.Sizes.{AreWithin}
 use Rattle.mc_sizes.specs.declared.sizes.Sizes.{Sizes}
-use Rattle.mc_conn.specs.Due.{due}
-use Rattle.mc_conn.proofs.Counting.{due_beyond}
 use Rattle.mc_model.specs.Log.{of_asker}
 use Rattle.mc_model.specs.World.{IsAt, IsLink, Link, World, empty_world, with_link}
 use Rattle.mc_model.specs.Rest.{IsAllReceived, IsAllSent, IsAllTaken}
@@ -20,8 +18,9 @@ use Rattle.mc_laws.specs.Fair.{ComesToRest, EndlessRun, HasNoInput, IsWorkOf, Is
 use Rattle.mc_model.proofs.Every.{event_kept}
 use Rattle.mc_model.proofs.Links.{ran_within}
 use Rattle.mc_model.proofs.Lists.{at_once, push_cases, set_cases}
-use Rattle.mc_laws.proofs.Measure.{all_replied, inside_lowers, left}
-use Rattle.mc_laws.proofs.Working.{rests_or_goes, sent_within}
+use Rattle.mc_laws.proofs.Measure.{all_replied, inside_lowers, left, there_is}
+use Rattle.mc_laws.proofs.Working.{rests_or_goes}
+use Rattle.mc_sim.proofs.Opening.{sent_within}
 
 -- Each connection's seat is there.
 abbrev pub AreSeated : Sizes → World → Type 0
@@ -75,13 +74,6 @@ at_seat sizes w seat k link seated at =
     let e = at.seat_is in
     omega (arith, below, e)
 
--- the shard of a piece that is due
-pub at_shard : (sizes : Sizes) (link : Link) (s : ℕ) → 0 < sizes.shards → 0 < length (due sizes.shards s link.taken) → s < sizes.shards
-at_shard sizes link s some due_there = elim (cases_lt s sizes.shards) [
-  | inl below ↦ below
-  | inr beyond ↦ let none = ap length (due_beyond sizes.shards s link.taken some beyond) in absurd (omega (arith, none, due_there))
-]
-
 -- Work that can be done names a seat and a shard that are there.
 pub enabled_in : (sizes : Sizes) (w : World) (event : Event) → 0 < sizes.shards → Law sizes w → AreSeated sizes w → Enabled sizes w event → IsWork event → IsWorkOf sizes event
 enabled_in sizes w (Open seat) some l seated e work = absurd work
@@ -91,17 +83,17 @@ enabled_in sizes w (Send seat) some l seated e work = at_seat sizes w seat e.0 e
 enabled_in sizes w (Pop shard seat) some l seated e work =
     let waits = e.2.2 in
     let sent = sent_within sizes e.1 shard in
-    (at_shard sizes e.1 shard some (omega (arith, waits, sent)), at_seat sizes w seat e.0 e.1 seated e.2.0)
+    (there_is sizes e.1 shard some (omega (arith, waits, sent)), at_seat sizes w seat e.0 e.1 seated e.2.0)
 enabled_in sizes w (Give shard) some l seated e work =
     let ungiven = e.2.1 in
     let within = ran_within sizes (of_asker e.0 w.log) e.1 (l.links e.0 e.1 e.2.0) shard in
-    at_shard sizes e.1 shard some (omega (arith, ungiven, within))
+    there_is sizes e.1 shard some (omega (arith, ungiven, within))
 enabled_in sizes w (Receive seat shard) some l seated e work =
     let own = l.links e.0 e.1 e.2.0.here in
     let waits = e.2.1 in
     let given = own.given shard in
     let within = ran_within sizes (of_asker e.0 w.log) e.1 own shard in
-    (at_seat sizes w seat e.0 e.1 seated e.2.0, at_shard sizes e.1 shard some (omega (arith, waits, given, within)))
+    (at_seat sizes w seat e.0 e.1 seated e.2.0, there_is sizes e.1 shard some (omega (arith, waits, given, within)))
 enabled_in sizes w (Hand seat) some l seated e work = at_seat sizes w seat e.0 e.1 seated e.2.0
 enabled_in sizes w (End seat) some l seated e work = absurd work
 enabled_in sizes w (Break seat) some l seated e work = absurd work

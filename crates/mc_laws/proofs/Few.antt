@@ -1,7 +1,7 @@
 -- How much the bytes of a connection ask for at most: 2 ^ 63 commands, and 8,388,608 pieces each.
-use Rattle.std.proofs.Common.{◌≡◌, ◌==◌, ◌||◌, ℕ, zero, suc, ◌+◌, ◌-◌, ◌*◌, ◌<◌, ◌≤◌, Bool, true, false, List, [], ◌∷◌, length, map, take, sym, ap, ◌∙◌, subst, arith, inl, inr, length-append, slice_index, Option, Some, None}
+use Rattle.std.proofs.Common.{◌≡◌, ◌==◌, ℕ, zero, suc, ◌+◌, ◌-◌, ◌*◌, ◌<◌, ◌≤◌, true, false, List, [], ◌∷◌, length, map, take, sym, ap, ◌∙◌, subst, arith, inl, inr, length-append, slice_index, Option, Some, None}
 use Rattle.std.specs.List.{slice_split}
-use Rattle.std.proofs.lemmas.Bool.{cases_Bool, cases_lt}
+use Rattle.std.proofs.lemmas.Bool.{cases_Bool, cases_lt, or_parts}
 use Rattle.std.proofs.lemmas.Bool.Decides.{eqb_tells}
 use Rattle.std.proofs.lemmas.List.{length-map}
 use Rattle.std.proofs.lemmas.List.FromFn.{length-map-range_with_len}
@@ -91,14 +91,10 @@ pieces_few most shards (command.Stats request.General) small room few = shards_f
 pieces_few most shards (command.Stats request.Reset) small room few = shards_few shards op.ResetStats small
 pieces_few most shards other small room few = omega arith
 
-or_second : (a b : Bool) → (a || b) ≡ false → b ≡ false
-or_second true b h = absurd cc
-or_second false b h = h
-
 -- Behind a command that isn't a last one there is room for another.
 not_yet : (before : ℕ) (entry : Command) → before < most_commands → is_last before entry ≡ false → before + 1 < most_commands
 not_yet before entry room goes = elim (eqb_tells (before + 1) most_commands) [
-  | inl here ↦ let never = or_second (closes entry) (before + 1 == most_commands) goes in absurd (let e : true ≡ false = sym here.0 ∙ never in cc)
+  | inl here ↦ let never = (or_parts (closes entry) (before + 1 == most_commands) goes).1 in absurd (let e : true ≡ false = sym here.0 ∙ never in cc)
   | inr other ↦ elim (cases_lt (before + 1) most_commands) [
     | inl less ↦ less
     | inr past ↦ absurd (other.1 (omega (arith, room, past)))

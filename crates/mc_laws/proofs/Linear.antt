@@ -15,7 +15,6 @@ use Rattle.mc_split.specs.Plan.{parts_from}
 use Rattle.mc_split.proofs.Shards.{pieces_name}
 use Rattle.mc_conn.specs.History.{Taken, planned}
 use Rattle.mc_conn.specs.Due.{due, lane, pieces, pieces_at, pieces_from, ticket_at}
-use Rattle.mc_conn.proofs.Gets.{all_at, get_below}
 use Rattle.mc_model.specs.Log.{Entry, of_asker, on_shard, pieces_in}
 use Rattle.mc_model.specs.World.{Link, World, empty_world}
 use Rattle.mc_model.specs.Events.{Event}
@@ -23,11 +22,12 @@ use Rattle.mc_model.specs.Schedule.{Schedule}
 use Rattle.mc_model.specs.Law.{Law, LinkLaw}
 use Rattle.mc_model.proofs.Every.{all_kept}
 use Rattle.mc_model.proofs.Follows.{headline}
-use Rattle.mc_model.proofs.Lists.{all_from, all_take, all_unmap}
+use Rattle.mc_model.proofs.Lists.{all_from, all_unmap}
 use Rattle.mc_model.proofs.Worlds.{at_begin}
 use Rattle.mc_laws.specs.Linear.{IsAtHome, IsLinearizable}
 use Rattle.mc_laws.specs.Order.{IsPieceOf, RunsBefore}
-use Rattle.mc_laws.proofs.Ordering.{all_both, all_mine, on_there, ran_first, was_run}
+use Rattle.mc_laws.proofs.Ordering.{all_mine, on_there, ran_first, was_run}
+use Rattle.mc_ring.proofs.Lists.{all_append, all_at, all_take, get_below}
 
 -- A piece that asks for a key goes to the key's shard.
 abbrev GoesHome : ℕ → ℕ → Piece → Type 0
@@ -40,7 +40,7 @@ parts_home shards part ticket moment (one ∷ asked) all = (all.0, parts_home sh
 pieces_home : (shards number : ℕ) (taken : List Taken) → AllByRecursion (λ (piece : ℕ × Piece). GoesHome shards piece.0 piece.1) (pieces_from shards number taken)
 pieces_home shards number [] = tt
 pieces_home shards number (one ∷ later) =
-    all_both (λ (piece : ℕ × Piece). GoesHome shards piece.0 piece.1) (pieces_at shards number one) (pieces_from shards (number + 1) later)
+    all_append (λ (piece : ℕ × Piece). GoesHome shards piece.0 piece.1) (pieces_at shards number one) (pieces_from shards (number + 1) later)
     (parts_home shards 0 (ticket_at number) one.moment (pieces_of shards (planned one)) (pieces_name shards (planned one)))
     (pieces_home shards (number + 1) later)
 

@@ -15,7 +15,6 @@ use Rattle.mc_conn.specs.History.{Taken, planned}
 use Rattle.mc_conn.specs.Due.{due, lane, pieces, pieces_at, pieces_from, ticket_at}
 use Rattle.mc_conn.proofs.Counting.{due_beyond}
 use Rattle.mc_conn.proofs.Fitting.{due-append, pieces_from-append}
-use Rattle.mc_conn.proofs.Places.{length-parts}
 use Rattle.mc_model.specs.Sized.{SpellAll}
 use Rattle.mc_model.specs.Log.{Entry, of_asker, on_shard}
 use Rattle.mc_model.specs.World.{IsLink, Link, World, entries, ran, with_entry, with_link}
@@ -34,6 +33,7 @@ use Rattle.mc_model.proofs.Links.{ran_within}
 use Rattle.mc_model.proofs.Logs.{of_asker-yes, on_shard-yes, ran_push}
 use Rattle.mc_laws.proofs.Summing.{at_point, over_lt, set_lowers, sum_none, sum_point, sum_le, sum_lt, sum_more, sum_over, sum_to}
 use Rattle.mc_laws.proofs.Working.{rests_or_goes}
+use Rattle.mc_split.proofs.Parts.{length-parts_from}
 
 -- the commands that the bytes fed spell and that are not taken
 abbrev untaken : Sizes → Link → List Command
@@ -81,7 +81,7 @@ planned_within shards entry moment false = omega arith
 
 pieces_within : (shards number : ℕ) (one : Taken) → length (pieces_at shards number one) ≤ length (pieces_of shards one.entry)
 pieces_within shards number one =
-    let same = length-parts 0 (ticket_at number) one.moment (pieces_of shards (planned one)) in
+    let same = length-parts_from 0 (ticket_at number) one.moment (pieces_of shards (planned one)) in
     let fewer = planned_within shards one.entry one.moment one.given_up in
     omega (arith, same, fewer)
 
@@ -129,7 +129,7 @@ hand_lowers : (sizes : Sizes) (own : List Entry) (link : Link) (count : ℕ) →
 hand_lowers sizes own link count more within = omega (arith, more, within)
 
 -- of what is due at a shard all is there
-there_is : (sizes : Sizes) (link : Link) (s : ℕ) → 0 < sizes.shards → 0 < length (due sizes.shards s link.taken) → s < sizes.shards
+pub there_is : (sizes : Sizes) (link : Link) (s : ℕ) → 0 < sizes.shards → 0 < length (due sizes.shards s link.taken) → s < sizes.shards
 there_is sizes link s some due_there = elim (cases_lt s sizes.shards) [
   | inl below ↦ below
   | inr beyond ↦ let none = ap length (due_beyond sizes.shards s link.taken some beyond) in absurd (omega (arith, none, due_there))

@@ -10,7 +10,7 @@ use Rattle.mc_split.specs.declared.plan.Piece.{Piece}
 use Rattle.mc_conn.specs.History.{Taken}
 use Rattle.mc_conn.specs.Due.{due, lane, pieces, pieces_from}
 use Rattle.mc_conn.proofs.Fitting.{due-append, pieces_from-append}
-use Rattle.mc_conn.proofs.Gets.{all_at, all_more, get_below, get_cases, get_front, take_get}
+use Rattle.mc_conn.proofs.Gets.{get_cases, get_front, take_get}
 use Rattle.mc_conn.proofs.Places.{lane_at, lane_there, piece_at}
 use Rattle.mc_model.specs.Log.{Entry, of_asker, on_shard, pieces_in, reply_to}
 use Rattle.mc_model.specs.World.{IsLink, Link, World, entries}
@@ -24,6 +24,7 @@ use Rattle.mc_laws.specs.Order.{IsHandedOut, IsNotYetAsked, RunsBefore, WasRun, 
 use Rattle.mc_model.proofs.Every.{all_kept, event_kept}
 use Rattle.mc_model.proofs.Growing.{all_grow}
 use Rattle.mc_model.proofs.Lists.{all_unmap, at_once}
+use Rattle.mc_ring.proofs.Lists.{all_weaken, all_append, all_at, get_below}
 
 -- The next piece due is of no command that was handed out.
 ticket_from : (sizes : Sizes) (own : List Entry) (link : Link) (s : ℕ) (p : Piece) → LinkLaw sizes own link → slice_get (due sizes.shards s link.taken) (length (on_shard s own)) ≡ Some p → link.handed ≤ p.ticket.0
@@ -88,11 +89,6 @@ event_adds sizes w event Done w' l h = done_adds sizes w event w' l h
 event_adds sizes w event Idle w' l h = adds_none w w' (ap (λ (v : World). v.log) h.1)
 event_adds sizes w event NoMemory w' l h = adds_none w w' (ap (λ (v : World). v.log) h.1)
 
--- What holds of each element of two lists holds of each where they are joined.
-pub all_both : {X : Type 0} (P : X → Type 0) (xs ys : List X) → AllByRecursion P xs → AllByRecursion P ys → AllByRecursion P (xs ++ ys)
-all_both P [] ys a b = b
-all_both P (x ∷ xs) ys a b = (a.0, all_both P xs ys a.1 b)
-
 all_add : (sizes : Sizes) (w : World) (events : List Event) (later : World) → 0 < sizes.shards → Law sizes w → Leads sizes w events later → Adds w later
 all_add sizes w [] later some l led = adds_none w later (ap (λ (v : World). v.log) led)
 all_add sizes w (event ∷ events) later some l led =
@@ -105,8 +101,8 @@ all_add sizes w (event ∷ events) later some l led =
       later = λ k link here.
           let grown = all_grow sizes w (event ∷ []) mid some l (led.0, mid, led.2, refl) k link here in
           let handed = grown.handed in
-          all_both (λ (entry : Entry). entry.asker ≡ k → link.handed ≤ entry.piece.ticket.0) one.more rest.more (one.later k link here)
-          (all_more (λ (entry : Entry). entry.asker ≡ k → grown.later.handed ≤ entry.piece.ticket.0) (λ (entry : Entry). entry.asker ≡ k → link.handed ≤ entry.piece.ticket.0) (λ entry from asks. let more = from asks in omega (arith, more, handed)) rest.more (rest.later k grown.later grown.here));
+          all_append (λ (entry : Entry). entry.asker ≡ k → link.handed ≤ entry.piece.ticket.0) one.more rest.more (one.later k link here)
+          (all_weaken (λ (entry : Entry). entry.asker ≡ k → grown.later.handed ≤ entry.piece.ticket.0) (λ (entry : Entry). entry.asker ≡ k → link.handed ≤ entry.piece.ticket.0) (λ entry from asks. let more = from asks in omega (arith, more, handed)) rest.more (rest.later k grown.later grown.here));
     }
 
 -- what holds of each entry of a connection

@@ -17,7 +17,7 @@ use Rattle.mc_conn.specs.Due.{due, lane, pieces, pieces_from}
 use Rattle.mc_conn.proofs.Fitting.{pieces_from-append}
 use Rattle.mc_conn.specs.Fits.{HasCome}
 use Rattle.mc_conn.proofs.Counting.{due_beyond}
-use Rattle.mc_conn.proofs.Gets.{get_below, get_front}
+use Rattle.mc_conn.proofs.Gets.{get_front}
 use Rattle.mc_model.specs.Sized.{SpellFirst}
 use Rattle.mc_model.specs.Log.{of_asker}
 use Rattle.mc_model.specs.World.{IsAt, IsLink, Link, World, entries, ran, sent_to, with_link}
@@ -30,12 +30,16 @@ use Rattle.mc_model.specs.declared.event.StepReply.TheVariants.{Done, Idle, NoMe
 use Rattle.mc_model.specs.Law.{Law}
 use Rattle.mc_laws.specs.Progress.{IsWork}
 use Rattle.mc_laws.specs.Fair.{EndlessRun, IsSameStep, IsFairToSeats, IsWorkOf, IsWeaklyFair, GetsReply, NoneWaitsForever}
-use Rattle.mc_laws.proofs.After.{IsMore, Later, event_later, lane_grows, later_same, later_then, sent_grows, sent_stays, set_here}
+use Rattle.mc_laws.proofs.After.{IsMore, Later, event_later, lane_grows, later_same, later_then, sent_grows, sent_stays}
 use Rattle.mc_model.proofs.Links.{ran_within}
 use Rattle.mc_model.proofs.Lists.{at_once, push_cases, set_cases}
-use Rattle.mc_laws.proofs.Measure.{ran_here}
-use Rattle.mc_laws.proofs.Fairness.{AreSeated, at_seat, at_shard, enabled_in, law_along, one_place}
-use Rattle.mc_laws.proofs.Working.{at_waiting, hand_or_empty, last_at, next_or_all, none_next, sent_within}
+use Rattle.mc_laws.proofs.Measure.{ran_here, there_is}
+use Rattle.mc_laws.proofs.Fairness.{AreSeated, at_seat, enabled_in, law_along, one_place}
+use Rattle.mc_laws.proofs.Working.{at_waiting, hand_or_empty, last_at, next_or_all}
+use Rattle.mc_model.proofs.Growing.{set_here}
+use Rattle.mc_sim.proofs.Opening.{sent_within}
+use Rattle.mc_sim.proofs.AtSeat.{not_one_more}
+use Rattle.mc_ring.proofs.Lists.{get_below}
 
 -- a run, and what holds at each of its places
 record Load (sizes : Sizes) (w : World) (run : EndlessRun sizes w) : Type 0 where
@@ -288,7 +292,7 @@ run_later sizes w run c n k s link here waits =
       | inr now ↦
           let due_there = sent_within sizes now.0 s in
           let some = now.2 in
-          let there = at_shard sizes now.0 s c.within.shards.0 (omega (arith, due_there, some)) in
+          let there = there_is sizes now.0 s c.within.shards.0 (omega (arith, due_there, some)) in
           by_seats sizes w run c G n s link.seat there (at_seat sizes (run.worlds n) link.seat k now.0 (c.seated n) now.1)
           (λ m after never. elim (still m after) [
             | inl grown ↦ grown
@@ -507,7 +511,7 @@ take_later sizes w run c n k number link commands here spelled less handed =
           | inr next ↦
               let places : 0 < sizes.window = c.within.window.0 in
               let window : HasWindow sizes x.link' = omega (arith, same, grows, handed, places) in
-              let at = last_at sizes (run.worlds m) k x.link' (c.law m) x.here (λ rest. none_next sizes x.link' next.0 (whole_rest sizes x.link' whole rest).0 next.1) in
+              let at = last_at sizes (run.worlds m) k x.link' (c.law m) x.here (λ rest. not_one_more sizes x.link' next.0 (whole_rest sizes x.link' whole rest).0 next.1) in
               inr (x.link', subst (λ seat. IsAt (run.worlds m) seat k x.link') x.more.seat at, (next, window, whole), omega (arith, long, longer))
         ]
       ]

@@ -17,32 +17,26 @@ use Rattle.mc_conn.specs.Due.{due, lane, pieces, pieces_from}
 use Rattle.mc_conn.specs.Fits.{HasCome}
 use Rattle.mc_conn.proofs.Counting.{due_beyond}
 use Rattle.mc_conn.proofs.Fitting.{due-append}
-use Rattle.mc_conn.proofs.Gets.{get_below}
-use Rattle.mc_conn.proofs.Places.{lane-append}
 use Rattle.mc_model.specs.Sized.{SpellAll, SpellFirst}
 use Rattle.mc_model.specs.Log.{Entry, of_asker}
 use Rattle.mc_model.specs.World.{IsAt, IsLink, Link, World, entries, ran, sent_to, with_entry, with_link}
 use Rattle.mc_model.specs.Rest.{AtRest, HasWindow, IsAllReceived, IsAllSent, IsAllTaken, IsNextCommand}
 use Rattle.mc_model.specs.Events.{IsEmptyHand, IsTurn, MaySend, RunsNext, TakesNext, one_more}
 use Rattle.mc_model.specs.Events.Event.{Take, Send, Pop, Give, Receive, Hand}
-use Rattle.mc_model.specs.Law.{Law, LinkLaw}
+use Rattle.mc_model.specs.Law.{Law}
 use Rattle.mc_laws.specs.Progress.{AllAtRest, HasWork}
 use Rattle.mc_model.specs.Alone.{outcome_at}
 use Rattle.mc_model.proofs.Links.{ran_within}
 use Rattle.mc_laws.proofs.Finding.{Below, Found, some_below, some_or_each}
 use Rattle.mc_command.specs.declared.rules.Rules.{Rules}
+use Rattle.mc_sim.proofs.Opening.{due_received, sent_within}
+use Rattle.mc_sim.proofs.AtSeat.{not_one_more}
+use Rattle.mc_ring.proofs.Lists.{get_below}
 
 -- what a shard answers where no memory is refused is a step
 step_there : (state : State) (piece : Piece) → IsStep state piece.op piece.moment (outcome_at state piece.op piece.moment).0 (outcome_at state piece.op piece.moment).1
 unfolding IsStep Answers
 step_there state piece = ((step_of (settle state (key_of piece.op) piece.moment) piece.op).1, inr refl, refl)
-
--- no more was sent to a shard than is due there
-pub sent_within : (sizes : Sizes) (link : Link) (s : ℕ) → sent_to sizes s link ≤ length (due sizes.shards s link.taken)
-sent_within sizes link s =
-    let all = pieces sizes.shards link.taken in
-    let whole = ap length (sym (lane-append s (take link.sent all) (drop link.sent all)) ∙ ap (λ ps. lane s ps) (take-append-drop link.sent all)) in
-    omega (arith, whole, length-append (lane s (take link.sent all)) (lane s (drop link.sent all)))
 
 -- what is due for the first commands is no more than for all
 pub due_within : (shards s count : ℕ) (taken : List Taken) → length (due shards s (take count taken)) ≤ length (due shards s taken)
@@ -50,18 +44,6 @@ due_within shards s count taken =
     let whole = ap (λ ts. length (due shards s ts)) (sym (take-append-drop count taken)) in
     let parts = ap length (due-append shards s (take count taken) (drop count taken)) in
     omega (arith, whole, parts, length-append (due shards s (take count taken)) (lane s (pieces_from shards (0 + length (take count taken)) (drop count taken))))
-
--- At rest every answer that is due was received.
-due_received : (sizes : Sizes) (own : List Entry) (link : Link) → LinkLaw sizes own link → AtRest sizes link → (s : ℕ) → length (due sizes.shards s link.taken) ≤ link.received s
-due_received sizes own link l rest s =
-    elim link.broken as (λ b. MatchBool b (IsAllSent sizes link × IsAllReceived sizes link) (IsAllTaken sizes link × IsAllSent sizes link × (link.handed ≡ length link.taken)) → length (due sizes.shards s link.taken) ≤ link.received s) [
-      | true ↦ λ r. let all = r.1 s in omega (arith, all)
-      | false ↦ λ r.
-          let handed = r.2 in
-          let all = ap (λ ts. length (due sizes.shards s ts)) (take_all link.handed link.taken (omega (arith, handed))) in
-          let come = l.come s in
-          omega (arith, all, come)
-    ] rest
 
 -- A connection that is not at rest is the last of its seat.
 pub last_at : (sizes : Sizes) (w : World) (k : ℕ) (link : Link) → Law sizes w → IsLink w k link → (AtRest sizes link → ⊥) → IsAt w link.seat k link
@@ -227,13 +209,6 @@ next_or_all sizes link some =
     let more = commands_begin (rules_of sizes) link.fed [] (entries link) all.0 some (rw append-nil all.1) in
     by_more sizes link all.0 more.0 all.1 more.1
 
--- Where all commands that the bytes fed spell are taken, there is no next one.
-pub none_next : (sizes : Sizes) (link : Link) (command : Command) → IsAllTaken sizes link → IsNextCommand sizes link command → ⊥
-none_next sizes link command all next =
-    let more = commands_begin (rules_of sizes) link.fed [] (entries link ++ command ∷ []) (entries link) next (rw append-nil all) in
-    let long = ap length more.1 in
-    absurd (omega (arith, long, length-append (entries link ++ command ∷ []) more.0, length-append (entries link) (command ∷ [])))
-
 -- of a broken connection whose pieces are all sent
 broken_goes : (sizes : Sizes) (w : World) (k : ℕ) (link : Link) → AreWithin sizes → Law sizes w → IsLink w k link → IsAllSent sizes link → ((s : ℕ) → sent_to sizes s link ≡ length (due sizes.shards s link.taken)) → HasWork sizes w ⊎ IsAllReceived sizes link
 broken_goes sizes w k link within l here sent to =
@@ -290,7 +265,7 @@ whole_goes sizes w k link within l here whole sent to =
                 let takes : TakesNext sizes link 0 one = record { next = next.1; moment_is = refl; may = λ never. absurd (cc) } in
                 let at = last_at sizes w k link l here (λ rest.
                 let r = subst (λ b. MatchBool b (IsAllSent sizes link × IsAllReceived sizes link) (IsAllTaken sizes link × IsAllSent sizes link × (link.handed ≡ length link.taken))) whole rest in
-                none_next sizes link next.0 r.0 next.1) in
+                not_one_more sizes link next.0 r.0 next.1) in
                 inl (record {
                   event = Take link.seat 0;
                   work = tt;

@@ -54,7 +54,8 @@ first_run old last entry log some run =
     let is = determined old entry.piece.op entry.piece.moment entry.answer run.0 some run.1 in
     (ap (λ o. o.0) is, let new : run.0 ≡ (outcome_at old entry.piece.op entry.piece.moment).1 = ap (λ o. o.1) is in rw (← new) run.2)
 
-self_equal : (n : ℕ) → (n == n) ≡ true
+-- Each number passes the test of being equal to itself.
+pub self_equal : (n : ℕ) → (n == n) ≡ true
 self_equal n = eq-eqb n n refl
 
 -- the pieces of one command: they were answered as they would be alone, and what is logged later goes on from there

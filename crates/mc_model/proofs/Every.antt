@@ -18,7 +18,8 @@ seat_kept : (sizes : Sizes) (w : World) (seat k : ℕ) (link new : Link) (w' : W
 seat_kept sizes w seat k link new w' l at kept same grows is =
     subst (λ v. Law sizes v) (sym is) (link_kept sizes w k link new l at.here kept same grows (at_unfollowed w seat k link at))
 
-one_more_grows : (counts : ℕ → ℕ) (shard s : ℕ) → counts s ≤ one_more counts shard s
+-- A count to which one is added for some shard is no less for any.
+pub one_more_grows : (counts : ℕ → ℕ) (shard s : ℕ) → counts s ≤ one_more counts shard s
 one_more_grows counts shard s = elim (eqb_tells s shard) [
   | inl here ↦ rw here.0 (omega arith)
   | inr other ↦ rw other.0 (omega arith)

@@ -14,7 +14,6 @@ use Rattle.mc_reader.specs.Spelling.{SpellsFront, is_last}
 use Rattle.mc_conn.specs.History.{IsAnswered, Taken, texts_of}
 use Rattle.mc_conn.specs.Due.{due, pieces}
 use Rattle.mc_conn.specs.Fits.{HasCome, Tells, counts}
-use Rattle.mc_conn.proofs.Gets.{all_at}
 use Rattle.mc_conn.proofs.Places.{piece_at}
 use Rattle.mc_conn.proofs.Counting.{count_from_come}
 use Rattle.mc_conn.proofs.Telling.{tells}
@@ -23,7 +22,8 @@ use Rattle.mc_model.specs.World.{Link, World, entries}
 use Rattle.mc_model.specs.Rest.{AtRest, IsAllReceived, IsAllSent, IsAllTaken}
 use Rattle.mc_model.specs.Headline.{AreAllReplies, AreReplies, Headline, IsLast, RanAsDue, handed_bytes, history}
 use Rattle.mc_model.specs.Law.{Law, LinkLaw}
-use Rattle.mc_model.proofs.Lists.{all_from, all_take, all_unmap}
+use Rattle.mc_model.proofs.Lists.{all_from, all_unmap}
+use Rattle.mc_ring.proofs.Lists.{all_at, all_take}
 
 abbrev answers : List Entry → ℕ → List Shown
 answers own s = replies_in (on_shard s own)

@@ -103,10 +103,12 @@ pub record IsLonger (w : World) (k : ℕ) (link : Link) (w' : World) : Type 0 wh
   pub answered : Lengthens (of_asker k w.log) (of_asker k w'.log)
   pub handed : link.handed ≤ later.handed
 
-stays : {X : Type 0} (xs : List X) → Lengthens xs xs
+-- A list lengthens itself.
+pub stays : {X : Type 0} (xs : List X) → Lengthens xs xs
 stays xs = ([], sym (append-nil xs))
 
-further : {X : Type 0} (xs ys zs : List X) → Lengthens xs ys → Lengthens ys zs → Lengthens xs zs
+-- A list that lengthens a longer one lengthens the first one too.
+pub further : {X : Type 0} (xs ys zs : List X) → Lengthens xs ys → Lengthens ys zs → Lengthens xs zs
 further xs ys zs a b = (a.0 ++ b.0, b.1 ∙ (ap (λ t. t ++ b.0) a.1 ∙ append_assoc xs a.0 b.0))
 
 same_longer : (w : World) (k : ℕ) (link : Link) → IsLink w k link → IsLonger w k link w
@@ -126,12 +128,14 @@ then_longer v w u k link a b =
       handed = omega (arith, more, more');
     }
 
-set_here : {X : Type 0} (xs : List X) (k : ℕ) (v x : X) → slice_get xs k ≡ Some x → slice_get (set xs k v) k ≡ Some v
+-- What is put in the place of an element of a list stands there.
+pub set_here : {X : Type 0} (xs : List X) (k : ℕ) (v x : X) → slice_get xs k ≡ Some x → slice_get (set xs k v) k ≡ Some v
 set_here [] k v x here = absurd (cc)
 set_here (y ∷ xs) zero v x here = refl
 set_here (y ∷ xs) (suc k) v x here = set_here xs k v x here
 
-set_other : {X : Type 0} (xs : List X) (k : ℕ) (v : X) (j : ℕ) → j ≢ k → slice_get (set xs k v) j ≡ slice_get xs j
+-- What is put in one place of a list leaves the other places as they are.
+pub set_other : {X : Type 0} (xs : List X) (k : ℕ) (v : X) (j : ℕ) → j ≢ k → slice_get (set xs k v) j ≡ slice_get xs j
 set_other [] k v j other = refl
 set_other (y ∷ xs) zero v zero other = absurd (other refl)
 set_other (y ∷ xs) zero v (suc j) other = refl

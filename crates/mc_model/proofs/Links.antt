@@ -13,7 +13,6 @@ use Rattle.mc_reader.proofs.Fronts.{begin_more}
 use Rattle.mc_conn.specs.History.{MayBeTaken, Taken}
 use Rattle.mc_conn.specs.Due.{due, lane, pieces, pieces_from}
 use Rattle.mc_conn.specs.Fits.{Fits, IsReplyTo, ReceivesFromShard}
-use Rattle.mc_conn.proofs.Gets.{all_push}
 use Rattle.mc_conn.proofs.Places.{lane-append, lane-no, lane-yes}
 use Rattle.mc_conn.proofs.Fitting.{due-append, fits_none, fits_take, next_fits, pieces_from-append}
 use Rattle.mc_model.specs.Sized.{SpellFirst}
@@ -24,6 +23,7 @@ use Rattle.mc_model.specs.Events.{IsTurn, one_more}
 use Rattle.mc_model.specs.Law.{LinkLaw}
 use Rattle.mc_model.proofs.Lists.{take_next}
 use Rattle.mc_model.proofs.Logs.{on_shard-no, on_shard-yes}
+use Rattle.mc_ring.proofs.Lists.{all_push}
 
 -- The law holds of a new connection for which nothing was run.
 pub new_kept : (sizes : Sizes) (seat : ℕ) → LinkLaw sizes [] (new_link seat)

@@ -1,6 +1,6 @@
 -- A worked row: one connection flushes one shard, ends and is renewed, and the next one breaks. Each of the ten kinds of
 -- event is done.
-use Rattle.std.proofs.Common.{◌≡◌, ℕ, zero, suc, ◌<◌, ◌≤◌, Bool, true, false, ◌||◌, inl, inr, List, [], ◌∷◌, length, Some, refl, arith, codes, pos, lit<, ◌==◌, subst}
+use Rattle.std.proofs.Common.{◌≡◌, ℕ, zero, suc, ◌<◌, ◌≤◌, true, false, inl, inr, List, [], ◌∷◌, length, Some, refl, arith, codes, pos, lit<, subst}
 use Rattle.std.specs.List.{slice_get}
 use Rattle.std.proofs.lemmas.Bool.Decides.{eqb_tells}
 use Rattle.mc_wire.specs.Number.{number_of}
@@ -20,7 +20,7 @@ use Rattle.mc_split.specs.declared.plan.Piece.{Piece}
 use Rattle.mc_split.specs.Pieces.{pieces_of}
 use Rattle.mc_reply.specs.Shape.{shape_of}
 use Rattle.mc_reply.specs.Text.{shape_text}
-use Rattle.mc_reader.specs.Spelling.{AreCommands, BeginCommands, HasNoEnd, Spells}
+use Rattle.mc_reader.specs.Spelling.{AreCommands, BeginCommands, Spells}
 use Rattle.mc_reader.proofs.Machine.{lined}
 use Rattle.mc_reader.proofs.Texts.{nothing_without_end}
 use Rattle.mc_store.specs.State.{State, empty_state}
@@ -36,6 +36,7 @@ use Rattle.mc_model.specs.Events.Event.{Open, Feed, Take, Send, Pop, Give, Recei
 use Rattle.mc_model.specs.Schedule.{Schedule}
 use Rattle.mc_model.specs.declared.event.StepReply.TheVariants.{Done}
 use Rattle.mc_model.specs.Headline.{handed_bytes}
+use Rattle.mc_reader.proofs.Rows.{no_end}
 
 -- a server of one seat and one shard, with one place on a ring and one open command
 abbrev pub one_each : Sizes
@@ -61,6 +62,7 @@ piece = record { ticket = ticket_at 0; part = 0; op = op.Flush (pos 0); moment =
 abbrev pub entry : Entry
 entry = record { shard = 0; asker = 0; piece = piece; answer = answer.Done }
 
+-- a count for the one shard
 abbrev pub counted : ℕ → ℕ
 counted = one_more (λ _. 0) 0
 
@@ -104,25 +106,15 @@ both link = record { log = entry ∷ []; links = ended ∷ link ∷ [] }
 abbrev pub broken : Link
 broken = record (new_link 0) { broken = true }
 
+-- One connection stands at the first place alone.
 pub only : (x y : Link) (j : ℕ) → 0 < j → slice_get (x ∷ []) j ≡ Some y → ⊥
 only x y zero less here = absurd (omega (arith, less))
 only x y (suc j) less here = absurd (cc)
 
-only_two : (x z y : Link) (j : ℕ) → 1 < j → slice_get (x ∷ z ∷ []) j ≡ Some y → ⊥
+-- Two connections stand at the first two places alone.
+pub only_two : (x z y : Link) (j : ℕ) → 1 < j → slice_get (x ∷ z ∷ []) j ≡ Some y → ⊥
 only_two x z y zero less here = absurd (omega (arith, less))
 only_two x z y (suc j) less here = only z y j (omega (arith, less)) here
-
-abbrev has_end : List ℕ → Bool
-has_end [] = false
-has_end (x ∷ xs) = (x == 10) || has_end xs
-
-both_false : (a b : Bool) → (a || b) ≡ false → (a ≡ false) × (b ≡ false)
-both_false false b e = (refl, e)
-both_false true b e = absurd cc
-
-no_end : (bytes : List ℕ) → has_end bytes ≡ false → HasNoEnd bytes
-no_end [] e = tt
-no_end (x ∷ xs) e = let parts = both_false (x == 10) (has_end xs) e in (parts.0, no_end xs parts.1)
 
 -- The line spells the command that removes all items.
 pub spells_flush : Spells (rules_of one_each) line flush
@@ -133,6 +125,7 @@ spells_flush = lined (rules_of one_each) (codes "flush_all\r") [] flush (no_end 
 pub begins : BeginCommands (rules_of one_each) line (flush ∷ [])
 begins = ([], (line, [], refl, spells_flush, refl))
 
+-- The bytes fed are the one command.
 pub all_taken : AreCommands (rules_of one_each) line (flush ∷ [])
 all_taken = ([], (line, [], refl, spells_flush, refl), nothing_without_end (rules_of one_each) [] tt (lit< tt))
 
@@ -160,6 +153,7 @@ runs = record {
   step = (at_flush, inr refl, refl);
 }
 
+-- The connection is at rest once its line has ended.
 pub at_rest : AtRest one_each ended
 unfolding pieces_of
 at_rest = (all_taken, refl, refl)

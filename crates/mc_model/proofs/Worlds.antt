@@ -7,7 +7,6 @@ use Rattle.std.proofs.lemmas.List.{length-set}
 use Rattle.std.proofs.lemmas.Option.{slice_get_within}
 use Rattle.mc_sizes.specs.declared.sizes.Sizes.{Sizes}
 use Rattle.mc_conn.specs.Due.{due}
-use Rattle.mc_conn.proofs.Gets.{all_more, all_push}
 use Rattle.mc_conn.proofs.Counting.{due_beyond}
 use Rattle.mc_model.specs.Sized.{empty_shard}
 use Rattle.mc_model.specs.Log.{Entry, Leaves, of_asker, on_shard}
@@ -18,6 +17,7 @@ use Rattle.mc_model.specs.Law.{Law, LinkLaw}
 use Rattle.mc_model.proofs.Lists.{at_once, push_cases, set_cases}
 use Rattle.mc_model.proofs.Logs.{none_of, of_asker-no, of_asker-yes, on_shard-no, on_shard-yes, ran_push, Run-push}
 use Rattle.mc_model.proofs.Links.{all_received, new_kept, pop_kept}
+use Rattle.mc_ring.proofs.Lists.{all_weaken, all_push}
 
 -- The law holds of the world in which nothing has happened.
 pub at_begin : (sizes : Sizes) → Law sizes empty_world
@@ -210,5 +210,5 @@ open_kept sizes w seat l free =
         ]
       ];
       lawful = l.lawful;
-      owned = all_more (λ (e : Entry). (e.shard < sizes.shards) × (e.asker < length w.links)) (λ (e : Entry). (e.shard < sizes.shards) × (e.asker < length (w.links ++ new ∷ []))) (λ e both. (both.0, let below = both.1 in omega (arith, below, long))) w.log l.owned;
+      owned = all_weaken (λ (e : Entry). (e.shard < sizes.shards) × (e.asker < length w.links)) (λ (e : Entry). (e.shard < sizes.shards) × (e.asker < length (w.links ++ new ∷ []))) (λ e both. (both.0, let below = both.1 in omega (arith, below, long))) w.log l.owned;
     }

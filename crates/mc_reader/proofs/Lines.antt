@@ -42,16 +42,6 @@ pub no_end_append : (a b : List ℕ) → HasNoEnd a → HasNoEnd b → HasNoEnd 
 no_end_append [] b p q = q
 no_end_append (x ∷ xs) b p q = (p.0, no_end_append xs b p.1 q)
 
--- a line that was found stays where it is
-pub ends_more : (bytes more : List ℕ) (long : ℕ) → IsFirstLine bytes long → IsFirstLine (bytes ++ more) long
-ends_more bytes more long first = record {
-  line = first.line;
-  rest = first.rest ++ more;
-  bytes_are = ap (λ xs. xs ++ more) first.bytes_are ∙ append_assoc first.line (10 ∷ first.rest) more;
-  no_end = first.no_end;
-  long_is = first.long_is;
-}
-
 -- what is found in a piece behind bytes without an end
 pub ends_behind : (bytes more : List ℕ) (long : ℕ) → HasNoEnd bytes → IsFirstLine more long → IsFirstLine (bytes ++ more) (length bytes + long)
 ends_behind bytes more long none first = record {

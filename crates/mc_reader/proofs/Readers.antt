@@ -119,7 +119,7 @@ closed_last (first ∷ entries) before entry goes_on =
     rw shut.0 (closed_last entries (before + 1) entry shut.1 ∙ ap (λ n. is_last n entry) place)
 
 -- what may be given up closes nothing
-goes_on_given_up : (entry : Command) → IsTrue (can_give_up entry) → closes entry ≡ false
+pub goes_on_given_up : (entry : Command) → IsTrue (can_give_up entry) → closes entry ≡ false
 goes_on_given_up command.Quit h = absurd cc
 goes_on_given_up (command.Refused LineTooLong) h = absurd cc
 goes_on_given_up other h = refl
@@ -263,15 +263,6 @@ all_given_is rules reader fed ended given test says shut h = (forth, back) where
         absurd (something rules last.text more.1.0 more.0 last.spelled (subst (λ (bytes : List ℕ). SpellsNothing rules bytes) rest nothing))
     | inr fails ↦ fails
   ]
-
--- The state is the closed one exactly behind a last command.
-pub closed_is : (rules : Rules) (reader : Reader) (fed : List ℕ) (ended : Bool) (given : List Given) (test : Bool) → IsTrue test ↔ (reader.state ≡ state.Closed) → HasGiven reader rules fed ended given → IsTrue test ↔ IsClosedLine given
-closed_is rules reader fed ended given test says h = elim (cases_Bool (is_closed (entries_of given))) [
-  | inl over ↦ (λ _. over, λ _. says.1 (rw over at h.now))
-  | inr goes ↦
-      let now = rw goes at h.now in
-      (λ shut. absurd (rw (says.0 shut) at now.1), λ shut. absurd (false≢true (sym goes ∙ shut)))
-]
 
 -- Amid a line's skipped bytes no block is open.
 no_block : (rules : Rules) (at : State) (buffer unread line skipped : List ℕ) (discarded : Option (List ℕ)) (refusal : Refusal) (count : ℕ) → Holds rules at buffer unread → unread ≡ line ++ 10 ∷ skipped → HasNoEnd line → line_says rules line ≡ Skip discarded refusal count → held_in at ≡ 0

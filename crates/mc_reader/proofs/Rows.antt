@@ -19,11 +19,13 @@ use Rattle.mc_reader.specs.Spelling.{AreCommands, HasNoEnd, Spells, line_says}
 use Rattle.mc_reader.proofs.Machine.{lined}
 use Rattle.mc_reader.proofs.Texts.{entry_after, nothing_without_end, nothing_yet}
 
-abbrev has_end : List ℕ → Bool
+-- whether a line feed is among these bytes
+abbrev pub has_end : List ℕ → Bool
 has_end [] = false
 has_end (x ∷ xs) = (x == 10) || has_end xs
 
-no_end : (bytes : List ℕ) → has_end bytes ≡ false → HasNoEnd bytes
+-- Bytes among which the test finds no line feed have none.
+pub no_end : (bytes : List ℕ) → has_end bytes ≡ false → HasNoEnd bytes
 no_end [] e = tt
 no_end (x ∷ xs) e = let parts = or_parts (x == 10) (has_end xs) e in (parts.0, no_end xs parts.1)
 

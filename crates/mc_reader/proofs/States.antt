@@ -9,7 +9,7 @@ use Rattle.mc_command.specs.declared.command.Command.{Command}
 use Rattle.mc_command.specs.declared.command.Command.TheVariants as command
 use Rattle.mc_command.specs.declared.refusal.Refusal.{Refusal}
 use Rattle.mc_command.specs.declared.refusal.Refusal.TheVariants.{LineTooLong}
-use Rattle.mc_command.specs.declared.line.Line.TheVariants.{Data, Skip}
+use Rattle.mc_command.specs.declared.line.Line.TheVariants.{Skip}
 use Rattle.mc_command.specs.Line.{Says, bytes_behind}
 use Rattle.mc_reader.specs.declared.block.OpenBlock.{OpenBlock}
 use Rattle.mc_reader.specs.declared.block.Skipped.{Skipped}
@@ -17,8 +17,8 @@ use Rattle.mc_reader.specs.declared.state.State.{State}
 use Rattle.mc_reader.specs.declared.state.State.TheVariants as state
 use Rattle.mc_reader.specs.Spelling.{HasNoEnd, SpellsNothing, block_entry, line_says, skip_entry}
 use Rattle.mc_reader.specs.internal.State.{Completes, EndsAt, Holds, IsFirstLine, IsInBlock, IsInSkip, IsWhole, SpellsSomething, Waits, is_opened}
-use Rattle.mc_reader.proofs.Lines.{at_line, line_in, ends_behind, ends_found, ends_more, no_end_append}
-use Rattle.mc_reader.proofs.Machine.{block_begun, block_fed, nothing_in_block, nothing_in_skip, skip_begun, skip_fed, whole_block, whole_long, whole_skip}
+use Rattle.mc_reader.proofs.Lines.{at_line, line_in, ends_behind, ends_found, no_end_append}
+use Rattle.mc_reader.proofs.Machine.{block_fed, nothing_in_block, nothing_in_skip, skip_begun, skip_fed, whole_block, whole_long, whole_skip}
 use Rattle.mc_reader.proofs.Texts.{nothing_without_end, nothing_yet, something, spelled_behind}
 use Rattle.mc_command.specs.declared.rules.Rules.{Rules}
 
@@ -68,11 +68,6 @@ pub none_in_piece : (bytes piece all : List ℕ) (long : Option ℕ) → is_some
 none_in_piece bytes piece all None new h found is = rw is (no_end_append bytes piece h (ends_found piece None found))
 none_in_piece bytes piece all (Some long) new h found is = absurd cc
 
--- None is sought, where one was found before.
-pub still_there : (bytes piece all : List ℕ) (long : Option ℕ) → is_some long ≡ true → EndsAt bytes long → all ≡ bytes ++ piece → EndsAt all long
-still_there bytes piece all None old h is = absurd cc
-still_there bytes piece all (Some long) old h is = rw is (ends_more bytes piece long h)
-
 -- What an open block takes of a piece, and then the buffer, comes behind all that was unread before.
 pub fed_block : (rules : Rules) (s : State) (old new : OpenBlock) (buffer after unread piece behind : List ℕ) (n m : ℕ) → s ≡ state.Block old → new.command ≡ old.command → new.count ≡ old.count → new.bytes.items ≡ old.bytes.items ++ take n piece →
     n ≡ min (old.count + 2 - length old.bytes.items) (length piece) → behind ≡ drop n piece → after ≡ buffer ++ take m behind → Holds rules s buffer unread → IsInBlock rules new.command new.count new.bytes.items after (unread ++ take (n + m) piece)
@@ -116,11 +111,6 @@ pub begun_skip : (rules : Rules) (new : Skipped) (discarded : Option (List ℕ))
     HasNoEnd line → length line < rules.line_limit → Says (line_says rules line) (Skip discarded refusal left) → IsInSkip rules new.discarded new.refusal new.left after (line ++ 10 ∷ buffer)
 begun_skip rules new discarded refusal left buffer after bytes line n same gone left_is n_is bytes_are after_is none short says =
     rw (same, gone, after_is) (skip_begun rules line discarded refusal left new.left buffer n none short says (rw bytes_are at n_is) left_is)
-
-pub begun_block : (rules : Rules) (new : OpenBlock) (asked : Command) (count : ℕ) (buffer after bytes line : List ℕ) (n : ℕ) → new.command ≡ asked → new.count ≡ count → new.bytes.items ≡ take n bytes → n ≡ min (count + 2 - 0) (length bytes) → bytes ≡ buffer → after ≡ drop n buffer →
-    HasNoEnd line → length line < rules.line_limit → line_says rules line ≡ Data asked count → IsInBlock rules new.command new.count new.bytes.items after (line ++ 10 ∷ buffer)
-begun_block rules new asked count buffer after bytes line n same same_count items_are n_is bytes_are after_is none short says =
-    rw (same, same_count, items_are, bytes_are, after_is) (block_begun rules line asked count buffer n none short says (rw bytes_are at n_is))
 
 shows : (rules : Rules) {shown : Command} {others unread bytes : List ℕ} → IsWhole rules shown others unread → bytes ≡ unread → SpellsSomething rules bytes
 shows rules {shown} {others} {unread} {bytes} w is = (w.text, others, w.one.entry, is ∙ w.unread_are, w.spelled)

@@ -1,5 +1,5 @@
 -- The loops that make the lanes.
-use Rattle.std.proofs.Common.{◌≡◌, ◌≢◌, ℕ, zero, suc, ◌<◌, ◌≤◌, ◌+◌, List, [], ◌∷◌, ◌++◌, ◌⊎◌, inl, inr, length, map, refl, ap, sym, subst, ◌∙◌, arith, slice_set, Some, length-append, take}
+use Rattle.std.proofs.Common.{◌≡◌, ◌≢◌, ℕ, zero, suc, ◌<◌, ◌≤◌, ◌+◌, List, [], ◌∷◌, ◌++◌, ◌⊎◌, inl, inr, length, map, refl, ap, sym, ◌∙◌, arith, slice_set, Some, length-append, take}
 use Rattle.std.specs.List.{AllByRecursion, slice_get}
 use Rattle.std.proofs.lemmas.Option.{slice_get_within, slice_get-map, same_Some}
 use Rattle.std.proofs.lemmas.List.{length-map, map-append}
@@ -9,6 +9,7 @@ use Rattle.mc_ring.specs.Ends.{Ends, lanes_of}
 use Rattle.mc_ring.specs.EndsLaws.{get-set_other, length-slice_set}
 use Rattle.mc_ring.specs.Made.{AreLanes, AreNewEnds, IsLane, IsUnused}
 use Rattle.mc_ring.specs.internal.Joined.{Joined, Joins}
+use Rattle.mc_ring.proofs.Lists.{all_at, all_push, get_below, get_last}
 
 -- The first shards have one lane more, the others have not.
 pub record JoinsFirst (capacity done : ℕ) (old new : List (Ends Far)) (row : List Near) : Type 0 where
@@ -25,20 +26,12 @@ pub record NewShards (count : ℕ) (far : List (Ends Far)) : Type 0 where
   pub each : (number : ℕ) (shard : Ends Far) → slice_get far number ≡ Some shard → shard ≡ record { number = number; lanes = [] }
 
 module _ {A : Type 0} where
-  pub every_push : (P : A → Type 0) (xs : List A) (x : A) → AllByRecursion P xs → P x → AllByRecursion P (xs ++ x ∷ [])
-  every_push P [] x all one = (one, tt)
-  every_push P (y ∷ xs) x all one = (all.0, every_push P xs x all.1 one)
-
   -- an element of a list with one more at its end
   pub get_push : (xs : List A) (x : A) (i : ℕ) (y : A) → slice_get (xs ++ x ∷ []) i ≡ Some y → (slice_get xs i ≡ Some y) ⊎ ((i ≡ length xs) × (x ≡ y))
   get_push [] x zero y here = inr (refl, cc)
   get_push [] x (suc i) y here = absurd (cc)
   get_push (z ∷ xs) x zero y here = inl here
   get_push (z ∷ xs) x (suc i) y here = elim (get_push xs x i y here) [ inl old ↦ inl old | inr last ↦ inr (ap suc last.0, last.1) ]
-
-  pub get-last : (xs : List A) (x : A) → slice_get (xs ++ x ∷ []) (length xs) ≡ Some x
-  get-last [] x = refl
-  get-last (y ∷ xs) x = get-last xs x
 
   pub get-before : (xs : List A) (x : A) (i : ℕ) (y : A) → slice_get xs i ≡ Some y → slice_get (xs ++ x ∷ []) i ≡ Some y
   get-before [] x i y here = absurd (cc)
@@ -52,17 +45,6 @@ module _ {A : Type 0} where
   get_set (z ∷ xs) zero x (suc j) y here = inl (omega arith, here)
   get_set (z ∷ xs) (suc i) x zero y here = inl (omega arith, here)
   get_set (z ∷ xs) (suc i) x (suc j) y here = elim (get_set xs i x j y here) [ inl other ↦ inl ((λ e. other.0 (omega arith)), other.1) | inr same ↦ inr (ap suc same.0, same.1) ]
-
-  -- a list that is long enough has an element
-  pub get_some : (xs : List A) (i : ℕ) → i < length xs → (x : A) × (slice_get xs i ≡ Some x)
-  get_some [] i within = absurd (omega arith)
-  get_some (x ∷ xs) zero within = (x, refl)
-  get_some (x ∷ xs) (suc i) within = get_some xs i (omega arith)
-
-pub every_get : {A : Type 0} (P : A → Type 0) (xs : List A) (i : ℕ) (x : A) → AllByRecursion P xs → slice_get xs i ≡ Some x → P x
-every_get P [] i x all here = absurd (cc)
-every_get P (y ∷ xs) zero x all here = subst P (same_Some y x here) all.0
-every_get P (y ∷ xs) (suc i) x all here = every_get P xs i x all.1 here
 
 length-lanes : {Out In : Type 0} (ends : Ends (Side Out In)) → length (lanes_of ends) ≡ length ends.lanes
 length-lanes {Out} {In} ends = length-map ends.lanes (λ (e : Side Out In). e.past.lane)
@@ -97,8 +79,8 @@ pub joins_next : (capacity done : ℕ) (old new : List (Ends Far)) (row : List N
 joins_next capacity done old new row was next near here first unused holds joined = record {
   count = length-slice_set new done next ∙ first.count;
   row_count = length-append row (near ∷ []) ∙ (let e = first.row_count in omega arith);
-  unused = every_push IsUnused row near first.unused unused;
-  holds = every_push (λ end. end.past.lane.capacity ≡ capacity) row near first.holds holds;
+  unused = all_push IsUnused row near first.unused unused;
+  holds = all_push (λ end. end.past.lane.capacity ≡ capacity) row near first.holds holds;
   each = λ s shard shard' end below is is' there.
       elim (get_set new done next s shard' is') [
         | inl other ↦
@@ -125,8 +107,8 @@ new_ends_more : {Out In : Type 0} (number count capacity : ℕ) (old new : Ends 
 new_ends_more {Out} {In} number count capacity old new end grown unused holds are = rw grown (record {
   number_is = are.number_is;
   counted = length-append old.lanes (end ∷ []) ∙ (let e = are.counted in omega arith);
-  unused = every_push IsUnused old.lanes end are.unused unused;
-  holds = rw (map-append (λ (e : Side Out In). e.past.lane) old.lanes (end ∷ [])) (every_push (λ lane. lane.capacity ≡ capacity) (lanes_of old) end.past.lane are.holds holds);
+  unused = all_push IsUnused old.lanes end are.unused unused;
+  holds = rw (map-append (λ (e : Side Out In). e.past.lane) old.lanes (end ∷ [])) (all_push (λ lane. lane.capacity ≡ capacity) (lanes_of old) end.past.lane are.holds holds);
 })
 
 lane_stays : (seat : Ends Near) (shard shard' : Ends Far) (near : Near) → Joined shard shard' near → IsLane seat shard → IsLane seat shard'
@@ -140,7 +122,7 @@ lane_made : (seat : Ends Near) (shard shard' : Ends Far) (near : Near) → Joine
 lane_made seat shard shard' near joined here last = rw joined.grown (record {
   lane = near.past.lane;
   near = slice_get-map (λ (e : Near). e.past.lane) seat.lanes shard.number ∙ rw here refl;
-  far = rw (map-append (λ (e : Far). e.past.lane) shard.lanes (joined.far ∷ []), last, ← joined.lane) (rw (← length-lanes shard) (get-last (lanes_of shard) joined.far.past.lane));
+  far = rw (map-append (λ (e : Far). e.past.lane) shard.lanes (joined.far ∷ []), last, ← joined.lane) (rw (← length-lanes shard) (get_last (lanes_of shard) joined.far.past.lane));
 })
 
 every_map : {A B : Type 0} (f : A → B) (P : B → Type 0) (xs : List A) → AllByRecursion (λ x. P (f x)) xs → AllByRecursion P (map f xs)
@@ -159,15 +141,15 @@ record Before (capacity s : ℕ) (old : List (Ends Far)) (row : List Near) (shar
 shard_before : {capacity : ℕ} {old new : List (Ends Far)} {row : List Near} (joins : Joins capacity old new row) (s : ℕ) (shard' : Ends Far) → slice_get new s ≡ Some shard' → Before capacity s old row shard'
 shard_before {capacity} {old} {new} {row} joins s shard' here' =
     let within : s < length new = slice_get_within new s shard' here' in
-    let was = get_some old s (let e = joins.count in omega arith) in
-    let there = get_some row s (let e = joins.count in let f = joins.row_count in omega arith) in
+    let was = get_below old s (let e = joins.count in omega arith) in
+    let there = get_below row s (let e = joins.count in let f = joins.row_count in omega arith) in
     record {
       shard = was.0;
       near = there.0;
       here = was.1;
       there = there.1;
       joined = joins.each s was.0 shard' there.0 was.1 here' there.1;
-      holds = every_get (λ (e : Near). e.past.lane.capacity ≡ capacity) row s there.0 joins.holds there.1;
+      holds = all_at (λ (e : Near). e.past.lane.capacity ≡ capacity) row s there.0 joins.holds there.1;
     }
 
 -- Once one seat more has a lane to each shard, there is a lane between each shard and each seat, that one too.

@@ -1,3 +1,4 @@
+pub mod Lists
 pub mod Prefixes
 pub mod SameEnds
 pub mod LaneLoops

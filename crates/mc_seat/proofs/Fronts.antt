@@ -1,6 +1,6 @@
 -- What the front of a stream spells, when more bytes come.
-use Rattle.std.proofs.Common.{◌≡◌, ℕ, ◌+◌, ◌<◌, ◌≤◌, ◌^◌, inl, inr, Bool, true, false, ◌||◌, ◌==◌, List, [], ◌∷◌, ◌++◌, length, MatchBool, ap, ◌∙◌, arith, append_assoc, lit<}
-use Rattle.std.proofs.lemmas.Bool.{cases_Bool, eqb-false}
+use Rattle.std.proofs.Common.{◌≡◌, ℕ, ◌+◌, ◌<◌, ◌≤◌, ◌^◌, inl, inr, Bool, true, false, ◌==◌, List, [], ◌∷◌, ◌++◌, length, MatchBool, ap, ◌∙◌, arith, append_assoc, lit<}
+use Rattle.std.proofs.lemmas.Bool.{cases_Bool, eqb-false, or_parts}
 use Rattle.mc_command.specs.declared.command.Command.{Command}
 use Rattle.mc_reader.specs.Spelling.{SpellsFront, BeginCommands, AreCommands, closes, is_closed, is_last}
 use Rattle.mc_command.specs.declared.rules.Rules.{Rules}
@@ -19,17 +19,9 @@ SpellsFront-more rules before input more (entry ∷ entries) rest h = (
   match_bool (is_last before entry) (λ l. (l.0, ap (λ xs. xs ++ more) l.1)) (λ l. SpellsFront-more rules (before + 1) h.1 more entries rest l) h.4,
 )
 
--- Commands that a stream begins with, it begins with still when more bytes have come.
-pub begins_more : (rules : Rules) (fed more : List ℕ) (entries : List Command) → BeginCommands rules fed entries → BeginCommands rules (fed ++ more) entries
-begins_more rules fed more entries h = (h.0 ++ more, SpellsFront-more rules 0 fed more entries h.0 h.1)
-
 -- bytes behind the last command change nothing
 pub closed_more : (rules : Rules) (fed more : List ℕ) (entries : List Command) → is_closed entries ≡ true → BeginCommands rules fed entries → AreCommands rules (fed ++ more) entries
 closed_more rules fed more entries closed h = (h.0 ++ more, SpellsFront-more rules 0 fed more entries h.0 h.1, rw closed tt)
-
-or_false : (a b : Bool) → (a || b) ≡ false → b ≡ false
-or_false true b h = absurd cc
-or_false false b h = h
 
 -- no more commands are spelled than a connection may have
 pub SpellsFront-length : (rules : Rules) (before : ℕ) (input : List ℕ) (entries : List Command) (rest : List ℕ) → before < 2 ^ 63 → SpellsFront rules before input entries rest → before + length entries ≤ 2 ^ 63
@@ -37,7 +29,7 @@ SpellsFront-length rules before input [] rest below h = omega arith
 SpellsFront-length rules before input (entry ∷ entries) rest below h = elim (cases_Bool (is_last before entry)) [
   | inl last ↦ let none = rw last at h.4 in rw none.0 (omega arith)
   | inr goes ↦
-      let apart = eqb-false (before + 1) (2 ^ 63) (or_false (closes entry) (before + 1 == 2 ^ 63) goes) in
+      let apart = eqb-false (before + 1) (2 ^ 63) (or_parts (closes entry) (before + 1 == 2 ^ 63) goes).1 in
       let bound = SpellsFront-length rules (before + 1) h.1 entries rest (omega arith) (rw goes at h.4) in
       omega arith
 ]

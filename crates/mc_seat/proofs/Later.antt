@@ -15,8 +15,8 @@ use Rattle.mc_conn.proofs.Staying.{is_sound}
 use Rattle.mc_seat.specs.Lines.{HasGrown}
 use Rattle.mc_seat.specs.internal.Stands.{Serving, handed_texts}
 use Rattle.mc_seat.specs.internal.Steps.{IsServed, all_handed}
-use Rattle.mc_seat.proofs.Fronts.{begins_more}
 use Rattle.mc_seat.proofs.Standing.{all_owed_later, commands-length}
+use Rattle.mc_reader.proofs.Fronts.{begin_more}
 
 -- of a line that has taken what it is said to have taken since it began
 pub grown_since : (begin now : Sight) (bytes : List ℕ) → now.taken ≡ with_bytes begin.taken bytes → HasGrown begin now
@@ -70,7 +70,7 @@ breaks_waiting received begin now waits unread told conn is failed grown serving
         written = take count text;
         read_is = serving.read_is;
         written_is = traces begin.taken now.taken waits text serving.taken_is grown;
-        covers = begins_more told.rules told.fed unread (commands_of told.taken) sound.begin;
+        covers = begin_more told.rules told.fed unread (commands_of told.taken) sound.begin;
         writes = (
           drop count text ++ concat rest,
           sym (append_assoc (take count text) (drop count text) (concat rest))

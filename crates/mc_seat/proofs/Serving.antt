@@ -15,7 +15,7 @@ use Rattle.mc_conn.specs.Fits.{KeysFit}
 use Rattle.mc_conn.specs.History.{Taken}
 use Rattle.mc_conn.specs.Told.{KeepsHanded, Told, all_texts, commands_of, told_nothing}
 use Rattle.mc_conn.proofs.Fitting.{due-append}
-use Rattle.mc_conn.proofs.Gets.{all_push, get_front}
+use Rattle.mc_conn.proofs.Gets.{get_front}
 use Rattle.mc_conn.proofs.Staying.{keeps_take}
 use Rattle.mc_seat.specs.declared.seat.Seat.{Seat}
 use Rattle.mc_seat.specs.declared.service.Service.{Service}
@@ -31,6 +31,7 @@ use Rattle.mc_seat.proofs.Later.{grown_since, hands_waiting}
 use Rattle.mc_seat.proofs.Standing.{stands_first, stands_over, stands_take}
 use Rattle.mc_seat.proofs.Turns.{hands}
 use Rattle.mc_command.specs.declared.rules.Rules.{Rules}
+use Rattle.mc_ring.proofs.Lists.{all_push}
 
 -- A line of which no replies wait is as it will be.
 pub nothing_waits : (waits : List ℕ) (now : Sight) → waits ≡ [] → took waits now ≡ now

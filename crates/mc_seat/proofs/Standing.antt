@@ -8,11 +8,11 @@ use Rattle.mc_command.specs.declared.command.Command.{Command}
 use Rattle.mc_reader.specs.Spelling.{AreCommands}
 use Rattle.mc_conn.specs.History.{Taken}
 use Rattle.mc_conn.specs.Told.{commands_of}
-use Rattle.mc_conn.proofs.Gets.{all_more, all_push}
 use Rattle.mc_wire.specs.Outlet.{Read, Sight, asked, with_reads}
 use Rattle.mc_seat.specs.Reads.{OwesNothing}
 use Rattle.mc_seat.specs.internal.Stands.{GaveAndTook}
 use Rattle.mc_command.specs.declared.rules.Rules.{Rules}
+use Rattle.mc_ring.proofs.Lists.{all_weaken, all_push}
 
 pub with_reads-nil : (reads : Option (List Read)) → with_reads reads [] ≡ reads
 with_reads-nil None = refl
@@ -37,7 +37,7 @@ stands_first rules fits now = record {
 -- more commands were taken, and more texts handed out
 pub all_owed_later : (rules : Rules) (begin : Sight) (commands more : List Command) (texts later : List (List ℕ)) (reads : List Read) → length texts ≤ length commands → AllByRecursion (OwesNothing rules begin commands texts) reads → AllByRecursion (OwesNothing rules begin (commands ++ more) (texts ++ later)) reads
 all_owed_later rules begin commands more texts later reads counted =
-    all_more (OwesNothing rules begin commands texts) (OwesNothing rules begin (commands ++ more) (texts ++ later)) (λ read owes.
+    all_weaken (OwesNothing rules begin commands texts) (OwesNothing rules begin (commands ++ more) (texts ++ later)) (λ read owes.
     let within = owes.within in
     record {
       count = owes.count;

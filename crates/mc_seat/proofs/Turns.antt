@@ -15,8 +15,9 @@ use Rattle.mc_conn.specs.Told.{IsAllTaken, IsClosed, IsOver, Told, all_texts, co
 use Rattle.mc_conn.proofs.Staying.{is_sound}
 use Rattle.mc_seat.specs.internal.Stands.{Serving, handed_texts}
 use Rattle.mc_seat.specs.internal.Steps.{GoesOn, IsServed, all_handed}
-use Rattle.mc_seat.proofs.Fronts.{begins_more, closed_more}
+use Rattle.mc_seat.proofs.Fronts.{closed_more}
 use Rattle.mc_seat.proofs.Standing.{all_owed_later, commands-length, stands_asked, stands_over}
+use Rattle.mc_reader.proofs.Fronts.{begin_more}
 
 handed_all : (told : Told) → handed_texts (all_handed told) ≡ all_texts told
 handed_all told = take_all (length (all_texts told)) (all_texts told) (omega arith)
@@ -97,7 +98,7 @@ breaks_hand received begin before now unread told conn is off serving =
         written = concat texts ++ take off.count waiting;
         read_is = ap (λ (s : Sight). s.given) off.sight ∙ serving.read_is;
         written_is = ap (λ (s : Sight). s.taken) off.sight ∙ (ap (λ t. with_bytes t (take off.count waiting)) serving.taken_is ∙ with_bytes-append begin.taken (concat texts) (take off.count waiting));
-        covers = begins_more told.rules told.fed unread (commands_of told.taken) sound.begin;
+        covers = begin_more told.rules told.fed unread (commands_of told.taken) sound.begin;
         writes = (
           drop off.count waiting,
           append_assoc (concat texts) (take off.count waiting) (drop off.count waiting)

@@ -17,10 +17,10 @@ use Rattle.mc_serve.specs.Asking.{AreTied, HasLanes}
 use Rattle.mc_serve.specs.Logs.{together}
 use Rattle.mc_threads.specs.Workers.{IsFresh, ends_of}
 use Rattle.mc_threads.specs.Working.{Finishes}
-use Rattle.mc_serve.proofs.Joined.{IsOwned, all_weaken, lawful, own_all}
+use Rattle.mc_serve.proofs.Joined.{IsOwned, lawful, own_all}
 use Rattle.mc_serve.proofs.Lanes.{map_map}
 use Rattle.mc_serve.proofs.Served.{IsJoined}
-use Rattle.mc_serve.proofs.Zipped.{all_at, all_map, get_map, met_at, zips_each, zips_length}
+use Rattle.mc_serve.proofs.Zipped.{all_map, met_at, zips_each, zips_length}
 use Rattle.mc_serve.proofs.WorkerLogs.{have_logs}
 use Rattle.mc_doors.specs.Told.{DoorTold}
 use Rattle.mc_serve.specs.Seats.{AllFit, SeatAt, SeatServes}
@@ -28,6 +28,7 @@ use Rattle.mc_serve.specs.Served.{ExplainsSeat, PassEach, ServesDoors}
 use Rattle.mc_serve.proofs.Chain.{lines_same}
 use Rattle.mc_serve.proofs.Segments.{IsSeatKnown, explains_seat}
 use Rattle.mc_command.specs.declared.rules.Rules.{Rules}
+use Rattle.mc_ring.proofs.Lists.{get_map, all_weaken, all_at}
 
 -- A seat of which more is known: the keys of all replies to its lines fit.
 record SeatFits (shards : ℕ) (rules : Rules) (may_answer : ℕ → Type 0) (sat rose : SeatAt) : Type 0 where

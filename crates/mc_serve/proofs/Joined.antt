@@ -5,13 +5,8 @@ use Rattle.std.proofs.lemmas.List.Elements.{filter-append}
 use Rattle.mc_sizes.specs.declared.sizes.Sizes.{Sizes}
 use Rattle.mc_model.specs.Log.{Entry, IsLawful, on_shard}
 use Rattle.mc_worker.specs.Desk.{Desk}
-use Rattle.mc_threads.proofs.Orders.{all_append}
 use Rattle.mc_serve.specs.Logs.{AreLogsFrom, IsLogOf, together}
-
--- Where one property follows from another, all elements of a list that have the other have the one.
-pub all_weaken : {A : Type 0} (P Q : A → Type 0) → ((x : A) → P x → Q x) → (xs : List A) → AllByRecursion P xs → AllByRecursion Q xs
-all_weaken P Q f [] h = tt
-all_weaken P Q f (x ∷ xs) h = (f x h.0, all_weaken P Q f xs h.1)
+use Rattle.mc_ring.proofs.Lists.{all_weaken, all_append}
 
 pub on_shard_mine : (shard : ℕ) (log : List Entry) → AllByRecursion (λ entry. entry.shard ≡ shard) log → on_shard shard log ≡ log
 on_shard_mine shard [] all = refl

@@ -169,9 +169,3 @@ pub map-slice_set : {A B : Type 0} (f : A → B) (xs : List A) (i : ℕ) (y : A)
 map-slice_set f [] i y = refl
 map-slice_set f (x ∷ xs) zero y = refl
 map-slice_set f (x ∷ xs) (suc i) y = ap (λ ys. f x ∷ ys) (map-slice_set f xs i y)
-
--- An element at a place, seen by a function.
-pub map_here : {A B : Type 0} (f : A → B) (xs : List A) (i : ℕ) (x : A) → slice_get xs i ≡ Some x → slice_get (map f xs) i ≡ Some (f x)
-map_here f [] i x here = absurd (cc)
-map_here f (y ∷ xs) zero x here = ap (λ z. Some (f z)) (same_Some y x here)
-map_here f (y ∷ xs) (suc i) x here = map_here f xs i x here

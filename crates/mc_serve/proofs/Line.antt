@@ -17,8 +17,9 @@ use Rattle.mc_ring.specs.Ends.{Ends}
 use Rattle.mc_ring.specs.Reply.{Shown}
 use Rattle.mc_serve.specs.Asking.{AreTied, HasAsked}
 use Rattle.mc_serve.specs.Logs.{AreLogsFrom, IsLogOf, together}
-use Rattle.mc_serve.proofs.Tying.{Agrees, lane_agrees, lane_came, none_came, ran_of}
+use Rattle.mc_serve.proofs.Tying.{Agrees, lane_agrees, lane_came, none_came}
 use Rattle.mc_serve.proofs.Joined.{worker_at}
+use Rattle.mc_model.proofs.Alone.{ran_of}
 
 -- What one shard ran for the line.
 pub shard_agrees : (sizes : Sizes) (shard : ℕ) (ends : Ends Near) (desks : List Desk) (logs : List (List Entry)) (taken : List Taken) (got : ℕ → List Shown)

@@ -1,5 +1,5 @@
 -- Lines that came in by a door each.
-use Rattle.std.proofs.Common.{◌≡◌, ℕ, suc, ◌<◌, true, List, [], ◌∷◌, ◌++◌, length, map, Some, None, refl, sym, ap, subst, ◌∙◌, append-nil, arith}
+use Rattle.std.proofs.Common.{◌≡◌, ℕ, suc, ◌<◌, true, List, [], ◌∷◌, ◌++◌, length, map, Some, None, refl, sym, ap, subst, ◌∙◌, append-nil}
 use Rattle.std.specs.List.{AllByRecursion, flat_map, slice_get}
 use Rattle.std.proofs.lemmas.List.{length-map}
 use Rattle.mc_wire.specs.Outlet.{Sight}
@@ -10,10 +10,11 @@ use Rattle.mc_wake.specs.Zips.{Zips}
 use Rattle.mc_seat.specs.Explains.{ExplainsLine, IsLogOfLines, LineTold, log_of}
 use Rattle.mc_serve.specs.Over.{CameBack, ServesAll, lines_told}
 use Rattle.mc_serve.proofs.Lanes.{map_map}
-use Rattle.mc_serve.proofs.Zipped.{get_map, zips_seen}
+use Rattle.mc_serve.proofs.Zipped.{zips_seen}
 use Rattle.mc_doors.specs.Told.{DoorTold, IsFree, TellsLines, closed}
 use Rattle.mc_serve.specs.Served.{ExplainsHistory, PassEach, PassesAll, ServesDoors}
 use Rattle.mc_doors.specs.One.{IsBack, waits}
+use Rattle.mc_ring.proofs.Lists.{get_map}
 
 -- the one line of a door that waited and was served
 one_line : (line : Sight) (lines : List LineTold) (door : DoorTold) (back : CameBack) → PassesAll (waits line) lines door → IsBack door back.line back.commands back.broke → lines ≡ record { begin = line; now = back.line; commands = back.commands; broke = back.broke } ∷ []

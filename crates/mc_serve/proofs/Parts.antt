@@ -17,13 +17,13 @@ use Rattle.mc_doors.specs.Told.{DoorTold}
 use Rattle.mc_serve.specs.declared.sitting.Phase.{Phase}
 use Rattle.mc_serve.specs.declared.sitting.Phase.TheVariants as phase
 use Rattle.mc_serve.specs.Seats.{CanStep, HasSatDown, SeatAt, SeatServes, SeatStands, seat_at}
-use Rattle.mc_threads.proofs.Orders.{all_append}
-use Rattle.mc_serve.proofs.Lanes.{map-slice_set, map_here}
+use Rattle.mc_serve.proofs.Lanes.{map-slice_set}
 use Rattle.mc_serve.proofs.Steps.{can_step, sits_first}
 use Rattle.mc_serve.proofs.Zipped.{met_at, zips_append, zips_each, zips_set}
 use Rattle.mc_serve.proofs.AtDoors.{AreJoined}
 use Rattle.mc_command.specs.declared.rules.Rules.{Rules}
 use Rattle.mc_threads.specs.Session.{seat_ends}
+use Rattle.mc_ring.proofs.Lists.{get_map, all_append}
 
 -- A seat stands, and how it is seen: by what is told of its door, its session and its phase.
 abbrev pub Stands : {S L : Type 0} → (L → Sight) → (S → DoorTold) → (S → Session) → (S → Phase L) → ℕ → Rules → (ℕ → Type 0) → SeatAt → S → Type 0
@@ -67,7 +67,7 @@ workers_begin (one ∷ workers) desk = (goes_refl (desk one), workers_begin work
 pub worker_turned : {W : Type 0} (workers : List W) (desk : W → Desk) (begun : List Desk) (place : ℕ) (old new : W) → slice_get workers place ≡ Some old → Goes (desk old) (desk new) → Zips Goes begun (map desk workers) → Zips Goes begun (map desk (slice_set workers place new))
 worker_turned workers desk begun place old new here goes zips =
     let Z : List Desk → Type 0 = λ desks. Zips Goes begun desks in
-    subst Z (sym (map-slice_set desk workers place new)) (zips_set Goes begun (map desk workers) place (desk old) (desk new) (map_here desk workers place old here) (λ first was. goes_trans first (desk old) (desk new) was goes) zips)
+    subst Z (sym (map-slice_set desk workers place new)) (zips_set Goes begun (map desk workers) place (desk old) (desk new) (get_map desk workers place old here) (λ first was. goes_trans first (desk old) (desk new) was goes) zips)
 
 -- All have ended.
 pub workers_end : {W : Type 0} (workers : List W) (desk : W → Desk) (begun : List Desk) → AllByRecursion (λ one. (first : Desk) → Goes first (desk one) → Finishes first (desk one)) workers → Zips Goes begun (map desk workers) → Zips Finishes begun (map desk workers)

@@ -32,10 +32,12 @@ use Rattle.mc_serve.specs.Logs.{IsLogOf, together}
 use Rattle.mc_serve.proofs.Joined.{worker_at}
 use Rattle.mc_serve.proofs.Line.{asked_by, entry_for, filter_keeps, map_on_shard, ran_shards, same_asker, shard_of}
 use Rattle.mc_serve.proofs.Served.{IsJoined, all_come, entries_same, moments_of, none_read}
-use Rattle.mc_serve.proofs.Tying.{as_many_replies, none_came, pieces_ran, ran_of, replies_ran, same_pieces, same_replies, to_end}
+use Rattle.mc_serve.proofs.Tying.{as_many_replies, none_came, same_pieces, same_replies, to_end}
 use Rattle.mc_serve.specs.Seats.{AllFit, SeatAt, SeatServes, ServesDoorLine, ServesLines}
 use Rattle.mc_serve.specs.Served.{ExplainsHistory, ExplainsSeat}
 use Rattle.mc_command.specs.declared.rules.Rules.{Rules}
+use Rattle.mc_ring.proofs.Lists.{all_take}
+use Rattle.mc_model.proofs.Alone.{ran_of, pieces_of_ran, replies_of_ran}
 
 -- What is known of a line that was served, by what its connection was told.
 pub record Core (may_answer : ℕ → Type 0) (line : LineTold) (before after : Ends Near) (told : Told) (received : ℕ → List Shown) : Type 0 where
@@ -191,11 +193,6 @@ cut (x ∷ xs) ys (g ∷ gs) hs (e ∷ log) many run =
       rest = less.rest;
     }
 
-all_take : {X : Type 0} (P : X → Type 0) (n : ℕ) (xs : List X) → AllByRecursion P xs → AllByRecursion P (take n xs)
-all_take P zero xs all = tt
-all_take P (suc n) [] all = tt
-all_take P (suc n) (x ∷ xs) all = (all.0, all_take P n xs all.1)
-
 all_drop : {X : Type 0} (P : X → Type 0) (n : ℕ) (xs : List X) → AllByRecursion P xs → AllByRecursion P (drop n xs)
 all_drop P zero xs all = all
 all_drop P (suc n) [] all = tt
@@ -227,8 +224,8 @@ run_came : (shards shard : ℕ) (taken : List Taken) (got : List Shown) (log : L
 run_came shards shard taken got log run = record {
   ran = map ran_of log;
   rest = [];
-  asked = run.pieces ∙ (sym (pieces_ran log) ∙ sym (append-nil (map (λ (ran : Ran). ran.piece) (map ran_of log))));
-  replies_are = run.replies ∙ sym (replies_ran log);
+  asked = run.pieces ∙ (sym (pieces_of_ran log) ∙ sym (append-nil (map (λ (ran : Ran). ran.piece) (map ran_of log))));
+  replies_are = run.replies ∙ sym (replies_of_ran log);
 }
 
 -- What a shard ran for a line is what the line's history tells.
@@ -236,8 +233,8 @@ run_told : (shards shard seat : ℕ) (taken : List Taken) (got : List Shown) (mi
     → due.on_shard shard (due.log_of shards history) ≡ ran_on shard (due.due shards shard taken) got → mine ≡ on_shard shard (log_of shards seat history)
 run_told shards shard seat taken got mine history run owned told =
     let these : ran_on shard (due.due shards shard taken) got ≡ map ran_of mine =
-    ap (λ ps. ran_on shard ps got) (run.pieces ∙ sym (pieces_ran mine))
-    ∙ (ap (λ rs. ran_on shard (map (λ (ran : Ran). ran.piece) (map ran_of mine)) rs) (run.replies ∙ sym (replies_ran mine))
+    ap (λ ps. ran_on shard ps got) (run.pieces ∙ sym (pieces_of_ran mine))
+    ∙ (ap (λ rs. ran_on shard (map (λ (ran : Ran). ran.piece) (map ran_of mine)) rs) (run.replies ∙ sym (replies_of_ran mine))
     ∙ ran_on-same shard (map ran_of mine) (ran_shards shard mine (all_shard shard seat mine owned))) in
     sym (map_on_shard shard seat (due.log_of shards history) ∙ (ap (λ rs. map (entry_for seat) rs) (told ∙ these) ∙ same_asker seat mine (all_asker shard seat mine owned)))
 

@@ -3,7 +3,7 @@ use Rattle.std.proofs.Common.{◌≡◌, ℕ, suc, ◌<◌, ◌≤◌, List, [],
 use Rattle.mc_sizes.specs.declared.sizes.Sizes.{Sizes}
 use Rattle.mc_conn.specs.History.{Taken}
 use Rattle.mc_conn.specs.Due.{Ran, due}
-use Rattle.mc_conn.specs.Fits.{CameFrom, reply_of}
+use Rattle.mc_conn.specs.Fits.{CameFrom}
 use Rattle.mc_conn.proofs.Counting.{due_beyond}
 use Rattle.mc_model.specs.Log.{Entry, of_asker, pieces_in, replies_in}
 use Rattle.mc_worker.specs.Desk.{Desk, end_come}
@@ -15,6 +15,8 @@ use Rattle.mc_ring.specs.Reply.{Shown}
 use Rattle.mc_split.specs.declared.plan.Piece.{Piece}
 use Rattle.mc_serve.specs.Asking.{HasAsked, IsTied}
 use Rattle.mc_serve.specs.Logs.{IsLogOf}
+use Rattle.mc_model.proofs.Alone.{ran_of, pieces_of_ran, replies_of_ran}
+use Rattle.mc_serve.proofs.Zipped.{empty_when}
 
 -- the parcels of these pieces, and then End
 abbrev pub to_end : List Piece → List Parcel
@@ -39,20 +41,6 @@ same_replies (x ∷ xs) (y ∷ ys) rest e h =
     let head : x ≡ y = cc in
     let tail : xs ≡ ys = same_replies xs ys rest (cc) (omega arith) in
     ap (λ z. z ∷ xs) head ∙ ap (λ zs. y ∷ zs) tail
-
--- an entry without who asked
-abbrev pub ran_of : Entry → Ran
-ran_of entry = record { shard = entry.shard; piece = entry.piece; answer = entry.answer }
-
--- The pieces of a log are the same where who asked is left out.
-pub pieces_ran : (log : List Entry) → map (λ (ran : Ran). ran.piece) (map ran_of log) ≡ pieces_in log
-pieces_ran [] = refl
-pieces_ran (entry ∷ log) = ap (λ ps. entry.piece ∷ ps) (pieces_ran log)
-
--- The replies of a log are the same where who asked is left out.
-pub replies_ran : (log : List Entry) → map reply_of (map ran_of log) ≡ replies_in log
-replies_ran [] = refl
-replies_ran (entry ∷ log) = ap (λ rs. reply_of (ran_of entry) ∷ rs) (replies_ran log)
 
 -- A log has as many replies as it has pieces.
 pub as_many_replies : (log : List Entry) → length (replies_in log) ≡ length (pieces_in log)
@@ -91,13 +79,9 @@ lane_came shards shard seat taken got log agrees =
     record {
       ran = map ran_of mine;
       rest = [];
-      asked = agrees.pieces ∙ (sym (pieces_ran mine) ∙ sym (append-nil (map (λ (ran : Ran). ran.piece) (map ran_of mine))));
-      replies_are = agrees.replies ∙ sym (replies_ran mine);
+      asked = agrees.pieces ∙ (sym (pieces_of_ran mine) ∙ sym (append-nil (map (λ (ran : Ran). ran.piece) (map ran_of mine))));
+      replies_are = agrees.replies ∙ sym (replies_of_ran mine);
     }
-
-empty_when : {A : Type 0} (xs : List A) → length xs ≡ 0 → xs ≡ []
-empty_when [] h = refl
-empty_when (x ∷ xs) h = absurd (omega arith)
 
 -- Nothing came from a shard that isn't there.
 pub none_came : (shards shard : ℕ) (taken : List Taken) (got : List Shown) → 0 < shards → shards ≤ shard → length got ≡ length (due shards shard taken) → CameFrom shards shard taken got

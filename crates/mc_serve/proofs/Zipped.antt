@@ -54,18 +54,6 @@ met_at R (x ∷ xs) [] i y zips here = absurd zips
 met_at R (x ∷ xs) (z ∷ ys) zero y zips here = record { one = x; here = refl; met = let P : _ → Type 0 = λ w. R x w in subst P (same_Some z y here) zips.0 }
 met_at R (x ∷ xs) (z ∷ ys) (suc i) y zips here = let rest = met_at R xs ys i y zips.1 here in record { one = rest.one; here = rest.here; met = rest.met }
 
--- What holds of all elements of a list holds of the one at a place.
-pub all_at : {X : Type 0} (P : X → Type 0) (xs : List X) (i : ℕ) (x : X) → AllByRecursion P xs → slice_get xs i ≡ Some x → P x
-all_at P [] i x all here = absurd (cc)
-all_at P (y ∷ xs) zero x all here = subst P (same_Some y x here) all.0
-all_at P (y ∷ xs) (suc i) x all here = all_at P xs i x all.1 here
-
--- Where an element stands in a list, the function's value of it stands in the list that the function makes.
-pub get_map : {A B : Type 0} (f : A → B) (xs : List A) (i : ℕ) (x : A) → slice_get xs i ≡ Some x → slice_get (map f xs) i ≡ Some (f x)
-get_map f [] i x here = absurd (cc)
-get_map f (y ∷ xs) zero x here = ap (λ z. Some (f z)) (same_Some y x here)
-get_map f (y ∷ xs) (suc i) x here = get_map f xs i x here
-
 -- What holds of a function's value at each element of a list holds of all values that it has there.
 pub all_map : {A B : Type 0} (P : B → Type 0) (f : A → B) (xs : List A) → AllByRecursion (λ x. P (f x)) xs → AllByRecursion P (map f xs)
 all_map P f [] all = tt

@@ -21,7 +21,6 @@ use Rattle.mc_conn.specs.Fits.{ReceivesFromShard}
 use Rattle.mc_conn.specs.Told.{Told, all_forms, all_pieces}
 use Rattle.mc_conn.proofs.Counting.{due_beyond}
 use Rattle.mc_conn.proofs.Fitting.{next_expected, next_fits}
-use Rattle.mc_conn.proofs.Gets.{all_push}
 use Rattle.mc_conn.proofs.Places.{lane_there}
 use Rattle.mc_conn.proofs.Staying.{is_sound, keeps_accept}
 use Rattle.mc_model.specs.Log.{Entry, on_shard, pieces_in, replies_in, reply_to}
@@ -30,6 +29,7 @@ use Rattle.mc_model.proofs.Logs.{on_shard-no, on_shard-yes}
 use Rattle.mc_server.specs.internal.Answering.{ShardsAnswered, AnswersMore, piece_in, replies_on}
 use Rattle.mc_server.proofs.Backing.{Backs-push}
 use Rattle.mc_seat.proofs.Along.{keeps_trans}
+use Rattle.mc_ring.proofs.Lists.{all_push}
 
 -- the entry of a piece that was run, and the reply to it
 abbrev pub entry_for : ℕ → Piece → Answer → Entry

@@ -4,12 +4,12 @@ use Rattle.std.specs.List.{slice_get}
 use Rattle.mc_sizes.specs.declared.sizes.Sizes.{Sizes}
 use Rattle.mc_store.specs.declared.shard.Shard.{Shard}
 use Rattle.mc_store.specs.Shard.{IsShard, Steps}
-use Rattle.mc_conn.proofs.Gets.{get_below}
 use Rattle.mc_model.specs.Sized.{empty_shard}
 use Rattle.mc_model.specs.Log.{Entry, IsLawful, on_shard}
 use Rattle.mc_model.proofs.Lists.{push_cases, set_cases}
 use Rattle.mc_model.proofs.Logs.{Run-push, on_shard-no, on_shard-yes}
 use Rattle.mc_server.specs.internal.Answering.{Backs}
+use Rattle.mc_ring.proofs.Lists.{get_below}
 
 -- Without shards, and with nothing run, each shard is what its part of the log leads to.
 pub Backs-none : (sizes : Sizes) → Backs sizes [] []

@@ -36,6 +36,7 @@ use Rattle.mc_seat.specs.Explains.{IsExplained, entry_of}
 use Rattle.mc_server.specs.internal.Answering.{ShardsAnswered, piece_in, replies_on}
 use Rattle.mc_server.proofs.Answering.{lane_ran}
 use Rattle.mc_server.proofs.Backing.{lawful}
+use Rattle.mc_ring.proofs.Lists.{all_append}
 
 -- all pieces that are due were run
 pub record RanAll (sizes : Sizes) (told : Told) (shards : List Shard) (log : List Entry) : Type 0 where
@@ -134,10 +135,6 @@ owned shards (entry ∷ log) there mine = let asker = mine.0 in ((there.0, omega
 parts_there : (shards part : ℕ) (ticket : Ticket) (moment : ℕ) (asked : List ShardOp) → AllByRecursion (λ (one : ShardOp). one.shard < shards) asked → AllByRecursion (λ (piece : ℕ × Piece). piece.0 < shards) (parts_from part ticket moment asked)
 parts_there shards part ticket moment [] all = tt
 parts_there shards part ticket moment (one ∷ asked) all = (all.0, parts_there shards (part + 1) ticket moment asked all.1)
-
-all_append : {X : Type 0} (P : X → Type 0) (xs ys : List X) → AllByRecursion P xs → AllByRecursion P ys → AllByRecursion P (xs ++ ys)
-all_append P [] ys one two = two
-all_append P (x ∷ xs) ys one two = (one.0, all_append P xs ys one.1 two)
 
 pieces_there : (shards number : ℕ) (taken : List Taken) → 0 < shards → AllByRecursion (λ (piece : ℕ × Piece). piece.0 < shards) (pieces_from shards number taken)
 pieces_there shards number [] some = tt

@@ -14,7 +14,6 @@ use Rattle.mc_conn.specs.Conn.{IsConn}
 use Rattle.mc_conn.specs.Told.{Told, all_pieces}
 use Rattle.mc_conn.specs.Due.{lane, pieces}
 use Rattle.mc_conn.proofs.Counting.{due_beyond}
-use Rattle.mc_conn.proofs.Gets.{get_below}
 use Rattle.mc_conn.proofs.Places.{lane-append, lane-no, lane-yes}
 use Rattle.mc_model.specs.declared.event.StepReply.TheVariants as replied
 use Rattle.mc_sim.specs.declared.sim.Seat.{Seat}
@@ -33,6 +32,7 @@ use Rattle.mc_model.proofs.Links.{ran_within}
 use Rattle.mc_sim.proofs.Changing.{at_same, hand_on, mirrors_on, one_at}
 use Rattle.mc_sim.proofs.Standing.{found, kept_same, seats_set, world_on}
 use Rattle.mc_sim.proofs.AtSeat.{Finds, get_index}
+use Rattle.mc_ring.proofs.Lists.{get_below}
 
 pub length_drop : {X : Type 0} (n : ℕ) (xs : List X) → n ≤ length xs → n + length (drop n xs) ≡ length xs
 length_drop zero [] le = omega arith

@@ -17,7 +17,6 @@ use Rattle.mc_conn.specs.Conn.{FillsWindow, IsConn, NeedsMore, TakesCommand}
 use Rattle.mc_conn.specs.Told.{IsOver, Told}
 use Rattle.mc_conn.specs.History.{Taken}
 use Rattle.mc_conn.specs.Due.{forms_from, forms_of, lane, pieces, pieces_from}
-use Rattle.mc_conn.proofs.Gets.{get_below}
 use Rattle.mc_conn.proofs.Fitting.{fits_take, pieces_from-append}
 use Rattle.mc_model.specs.declared.event.StepReply.TheVariants as replied
 use Rattle.mc_sim.specs.declared.sim.Connection.{Connection}
@@ -27,7 +26,6 @@ use Rattle.mc_model.specs.Log.{of_asker, replies_in}
 use Rattle.mc_model.specs.Sized.{SpellAll, SpellFirst}
 use Rattle.mc_model.specs.World.{IsAt, Link, World, entries, ran, with_link}
 use Rattle.mc_model.specs.Rest.{HasWindow, IsAllTaken, IsNextCommand}
-use Rattle.mc_model.specs.Events.{Event}
 use Rattle.mc_model.specs.Events.Event.{Take, End, Break}
 use Rattle.mc_model.specs.Schedule.{Happens}
 use Rattle.mc_model.specs.declared.event.StepReply.TheVariants.{Done}
@@ -41,6 +39,7 @@ use Rattle.mc_model.proofs.Follows.{are_replies}
 use Rattle.mc_model.proofs.Growing.{forms-append, replies_stay}
 use Rattle.mc_sim.proofs.Changing.{at_same, mirrors_stay, one_at}
 use Rattle.mc_sim.proofs.Standing.{KeptBut, found, kept_same, kept_set, seats_set, world_on}
+use Rattle.mc_ring.proofs.Lists.{get_below}
 
 -- What an event finds at a seat: its place, and the number of its connection.
 pub record Finds (sim : Sim) (c number : ℕ) (place : Seat) : Type 0 where
@@ -235,7 +234,7 @@ takes old new c number moment ticket place after finds below conn same differs c
     )
 
 -- one command more than all
-not_one_more : (sizes : Sizes) (link : Link) (command : Command) → IsAllTaken sizes link → IsNextCommand sizes link command → ⊥
+pub not_one_more : (sizes : Sizes) (link : Link) (command : Command) → IsAllTaken sizes link → IsNextCommand sizes link command → ⊥
 not_one_more sizes link command all next =
     let begun = commands_begin (rules_of sizes) link.fed [] (entries link ++ command ∷ []) (entries link) next (subst (λ bytes. SpellAll sizes bytes (entries link)) (sym (append-nil link.fed)) all) in
     let long = ap length begun.1 in

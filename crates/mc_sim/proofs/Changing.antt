@@ -1,5 +1,5 @@
 -- What stays of the places of connections, hands and rings where one connection of a world changes.
-use Rattle.std.proofs.Common.{◌≡◌, ◌≢◌, ℕ, zero, suc, ◌<◌, ◌⊎◌, inl, inr, Option, Some, None, List, [], ◌∷◌, set, refl, sym, ap, ◌∙◌, subst, arith}
+use Rattle.std.proofs.Common.{◌≡◌, ◌≢◌, ℕ, ◌<◌, ◌⊎◌, inl, inr, Option, Some, None, refl, sym, ap, ◌∙◌, subst, arith}
 use Rattle.std.specs.List.{slice_get}
 use Rattle.std.proofs.lemmas.Bool.{cases_eq, cases_lt}
 use Rattle.mc_sizes.specs.declared.sizes.Sizes.{Sizes}
@@ -10,18 +10,7 @@ use Rattle.mc_model.specs.Events.{IsUnusedSeat}
 use Rattle.mc_sim.specs.Rings.{Wires}
 use Rattle.mc_sim.specs.Stands.{HandIs, Mirrors, unreceived, unrun}
 use Rattle.mc_model.proofs.Lists.{at_once, set_cases}
-
-pub set_here : {X : Type 0} (xs : List X) (k : ℕ) (v x : X) → slice_get xs k ≡ Some x → slice_get (set xs k v) k ≡ Some v
-set_here [] k v x here = absurd (cc)
-set_here (y ∷ xs) zero v x here = refl
-set_here (y ∷ xs) (suc k) v x here = set_here xs k v x here
-
-pub set_other : {X : Type 0} (xs : List X) (k : ℕ) (v : X) (j : ℕ) → j ≢ k → slice_get (set xs k v) j ≡ slice_get xs j
-set_other [] k v j other = refl
-set_other (y ∷ xs) zero v zero other = absurd (other refl)
-set_other (y ∷ xs) zero v (suc j) other = refl
-set_other (y ∷ xs) (suc k) v zero other = refl
-set_other (y ∷ xs) (suc k) v (suc j) other = set_other xs k v j (λ e. other (ap suc e))
+use Rattle.mc_model.proofs.Growing.{set_here, set_other}
 
 abbrev seat_of : Link → ℕ
 seat_of link = link.seat

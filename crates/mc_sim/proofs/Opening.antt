@@ -15,7 +15,7 @@ use Rattle.mc_conn.specs.Told.{IsAtRest, IsOver, Told, all_texts, told_nothing}
 use Rattle.mc_conn.specs.Due.{due, lane, pieces}
 use Rattle.mc_conn.specs.Fits.{HasCome}
 use Rattle.mc_conn.proofs.Counting.{come_from_count, count_from_come}
-use Rattle.mc_conn.proofs.Fitting.{fits_none, push_here}
+use Rattle.mc_conn.proofs.Fitting.{fits_none}
 use Rattle.mc_conn.proofs.Gets.{get_front}
 use Rattle.mc_conn.proofs.Places.{lane-append}
 use Rattle.mc_conn.proofs.Staying.{is_sound}
@@ -41,6 +41,7 @@ use Rattle.mc_sim.specs.Stands.{HandIs, IsServing, IsWorld, KeepsLink, Mirrors, 
 use Rattle.mc_model.proofs.Links.{ran_within}
 use Rattle.mc_sim.proofs.AtSeat.{IsSame, world_stays}
 use Rattle.mc_sim.proofs.Handing.{come_back, come_on}
+use Rattle.mc_ring.proofs.Lists.{get_last}
 
 -- where all that is due was received, and only there, every command has its reply
 all_due : (sizes : Sizes) (own : List Entry) (link : Link) (conn : Conn) → LinkLaw sizes own link → (s : IsServing sizes own link conn) → length (all_texts (told_of sizes link s.lent s.accepted)) ≡ length link.taken → IsAllReceived sizes link
@@ -103,7 +104,7 @@ is_still_new old new true sizes is fresh same = fresh refl
 is_still_new old new false sizes is fresh same = subst (λ c. IsConn c (told_nothing sizes.shards (rules_of sizes) sizes.window)) (sym (same refl)) is
 
 -- all that was due at rest was received
-due_received : (sizes : Sizes) (own : List Entry) (link : Link) → LinkLaw sizes own link → AtRest sizes link → (s : ℕ) → length (due sizes.shards s link.taken) ≤ link.received s
+pub due_received : (sizes : Sizes) (own : List Entry) (link : Link) → LinkLaw sizes own link → AtRest sizes link → (s : ℕ) → length (due sizes.shards s link.taken) ≤ link.received s
 due_received sizes own link law rest s =
     elim link.broken as (λ b. MatchBool b (IsAllSent sizes link × IsAllReceived sizes link) (IsAllTaken sizes link × IsAllSent sizes link × (link.handed ≡ length link.taken)) → length (due sizes.shards s link.taken) ≤ link.received s) [
       | true ↦ λ r. let all = r.1 s in omega (arith, all)
@@ -115,7 +116,7 @@ due_received sizes own link law rest s =
     ] rest
 
 -- no more was sent than is due
-sent_within : (sizes : Sizes) (link : Link) (s : ℕ) → sent_to sizes s link ≤ length (due sizes.shards s link.taken)
+pub sent_within : (sizes : Sizes) (link : Link) (s : ℕ) → sent_to sizes s link ≤ length (due sizes.shards s link.taken)
 sent_within sizes link s =
     let all = pieces sizes.shards link.taken in
     let whole = ap length (sym (lane-append s (take link.sent all) (drop link.sent all)) ∙ ap (λ ps. lane s ps) (take-append-drop link.sent all)) in
@@ -183,7 +184,7 @@ opens old new c place after kept here free current set connections seat ended br
     let law = event_kept sizes w (Open c) Done w' world.within.shards.0 happens world.law in
     let long = length-append w.links (new_link c ∷ []) in
     let nothing : of_asker n w.log ≡ [] = none_of (λ (e : Entry). e.shard < sizes.shards) n n w.log world.law.owned (omega arith) in
-    let new_here : IsLink w' n (new_link c) = push_here w.links (new_link c) in
+    let new_here : IsLink w' n (new_link c) = get_last w.links (new_link c) in
     let new_at : IsAt w' c n (new_link c) = record {
       here = new_here;
       seat_is = refl;

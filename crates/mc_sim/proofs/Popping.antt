@@ -12,7 +12,6 @@ use Rattle.mc_conn.specs.declared.conn.Conn.{Conn}
 use Rattle.mc_conn.specs.Due.{due, forms_of, lane, pieces}
 use Rattle.mc_conn.specs.Fits.{Fits}
 use Rattle.mc_conn.proofs.Counting.{due_beyond}
-use Rattle.mc_conn.proofs.Fitting.{push_here}
 use Rattle.mc_conn.proofs.Gets.{get_front}
 use Rattle.mc_conn.proofs.Places.{lane-append}
 use Rattle.mc_model.specs.declared.event.StepReply.TheVariants as replied
@@ -39,6 +38,7 @@ use Rattle.mc_model.proofs.Every.{event_kept}
 use Rattle.mc_sim.proofs.Changing.{one_at}
 use Rattle.mc_sim.proofs.Standing.{found}
 use Rattle.mc_sim.proofs.AtRing.{drop_first, only_rings, shard_here, shard_not, waiting, with_far, with_here, with_not}
+use Rattle.mc_ring.proofs.Lists.{get_last}
 
 at_entry : (w : World) (entry : Entry) (c k : ℕ) (link : Link) → IsAt w c k link → IsAt (with_entry w entry) c k link
 at_entry w entry c k link at = record { here = at.here; seat_is = at.seat_is; last = at.last }
@@ -192,7 +192,7 @@ pops old new c number shard ran' f run seats connections log sizes w world =
       link = link;
       at = at_entry w entry c number link at;
       ungiven = omega (arith, given, one_more_run);
-      reply_is = ap (λ xs. slice_get xs (link.given shard)) grown ∙ (ap (λ n. slice_get (rs ++ reply_to entry ∷ []) n) place ∙ push_here rs (reply_to entry));
+      reply_is = ap (λ xs. slice_get xs (link.given shard)) grown ∙ (ap (λ n. slice_get (rs ++ reply_to entry ∷ []) n) place ∙ get_last rs (reply_to entry));
     } in
     let other_hand : (s : ℕ) (hand : Option (ℕ × Shown)) → s ≢ shard → HandIs w s hand → HandIs w' s hand = λ s hand other. elim hand as (λ h. HandIs w s h → HandIs w' s h) [
       | None ↦ λ empty k one at_k. let same = ran_same w entry k s (λ asks e. other (sym e)) in let bound = empty k one at_k in omega (arith, same, bound)

@@ -1,5 +1,5 @@
 -- A reply that was received leads a core on.
-use Rattle.std.proofs.Common.{◌≡◌, ℕ, zero, suc, ◌+◌, ◌<◌, inl, inr, Some, Result, Ok, Err, List, [], ◌∷◌, ◌++◌, length, map, take, drop, refl, sym, ap, ◌∙◌, subst, arith, slice_set}
+use Rattle.std.proofs.Common.{◌≡◌, ℕ, ◌+◌, ◌<◌, inl, inr, Some, Result, Ok, Err, List, [], ◌∷◌, ◌++◌, length, take, drop, refl, sym, ap, ◌∙◌, subst, arith, slice_set}
 use Rattle.std.specs.Prelude.{OnErr, OnOk}
 use Rattle.std.specs.List.{slice_get}
 use Rattle.std.proofs.lemmas.Bool.{cases_eq, cases_lt}
@@ -17,7 +17,7 @@ use Rattle.mc_conn.specs.Due.{due}
 use Rattle.mc_conn.specs.Fits.{IsReplyTo, ReceivesFromShard}
 use Rattle.mc_conn.proofs.Counting.{due_beyond}
 use Rattle.mc_conn.proofs.Fitting.{next_expected, next_fits}
-use Rattle.mc_conn.proofs.Gets.{get_below, get_take}
+use Rattle.mc_conn.proofs.Gets.{get_take}
 use Rattle.mc_model.specs.declared.event.StepReply.TheVariants as replied
 use Rattle.mc_sim.specs.declared.sim.Seat.{Seat}
 use Rattle.mc_sim.specs.declared.sim.Sim.{Sim}
@@ -37,11 +37,7 @@ use Rattle.mc_sim.proofs.Changing.{at_same, hand_on, mirrors_on}
 use Rattle.mc_sim.proofs.Standing.{found, kept_same, seats_set, world_on}
 use Rattle.mc_sim.proofs.AtSeat.{Finds}
 use Rattle.mc_sim.proofs.AtRing.{drop_first, more_here, more_not, only_rings, replies_wait, with_far, with_here, with_not}
-
-map_at : {X Y : Type 0} (f : X → Y) (xs : List X) (i : ℕ) (x : X) → slice_get xs i ≡ Some x → slice_get (map f xs) i ≡ Some (f x)
-map_at f [] i x here = absurd (cc)
-map_at f (y ∷ xs) zero x here = ap (λ z. Some (f z)) (same_Some y x here)
-map_at f (y ∷ xs) (suc i) x here = map_at f xs i x here
+use Rattle.mc_ring.proofs.Lists.{get_map, get_below}
 
 -- a reply that is expected is accepted
 pub accepts : (result : Result (Unit {0}) Stranger) (conn after : Conn) (reply : Shown) →
@@ -62,9 +58,9 @@ answers sizes own link shard reply law less here =
     let es = on_shard shard own in
     let given = law.given shard in
     let e = get_below es (link.received shard) (omega (arith, less, given)) in
-    let this : reply_to e.0 ≡ reply = same_Some (reply_to e.0) reply (sym (map_at reply_to es (link.received shard) e.0 e.1) ∙ here) in
+    let this : reply_to e.0 ≡ reply = same_Some (reply_to e.0) reply (sym (get_map reply_to es (link.received shard) e.0 e.1) ∙ here) in
     let first : slice_get (take (length es) (due sizes.shards shard link.taken)) (link.received shard) ≡ Some e.0.piece =
-    ap (λ ps. slice_get ps (link.received shard)) (sym (law.served shard)) ∙ map_at (λ (x : Entry). x.piece) es (link.received shard) e.0 e.1 in
+    ap (λ ps. slice_get ps (link.received shard)) (sym (law.served shard)) ∙ get_map (λ (x : Entry). x.piece) es (link.received shard) e.0 e.1 in
     let to : IsReplyTo e.0.piece (reply_to e.0) = record { ticket = refl; part = refl; kind = refl } in
     record {
       piece = e.0.piece;

@@ -20,7 +20,8 @@ use Rattle.mc_worker.specs.Turns.{GivesIt, RunsPiece, Turned}
 use Rattle.mc_sim.specs.Laid.{AreIn, AreLaid, Laid, LooksAt}
 use Rattle.mc_sim.specs.Rings.{AreThere, AreWired, GivesNone, GivesReply, HaveWires, KeepsPiece, ReceivesNone, ReceivesReply, RunsNone, RunsOldest, SendsPiece, TellsWaiting, Wires}
 use Rattle.mc_sim.proofs.RingsChange.{Seen, desk_after_here, looked_wired, seat_after_here, seen}
-use Rattle.mc_sim.proofs.RingsSteps.{desk_within, gave_wired, hand_at, hand_free, live_there, must_give, must_run, ran_first, ran_wired, received_first, received_none, received_wired, seat_within, sent_room, sent_wired}
+use Rattle.mc_sim.proofs.RingsSteps.{desk_within, gave_wired, hand_free, live_there, must_give, must_run, ran_first, ran_wired, received_first, received_none, received_wired, seat_within, sent_room, sent_wired}
+use Rattle.mc_worker.proofs.Marking.{at_holder}
 
 -- The seat and the shard aren't both there.
 
@@ -317,7 +318,7 @@ unfolding AreWired
 gives_reply old mid c s n m places before desk desk' look places_are room had held read gave sizes wires was =
     let now = looked_wired sizes old mid wires c s n m was look in
     let there = desk_read old mid c s n m desk look read in
-    let hand = hand_at before.hand c held in
+    let hand = at_holder before.hand c held in
     let hand_is : desk.hand ≡ Some (c, hand.0) = held_after old mid c s n m before desk look had there ∙ hand.1 in
     let count = (seen sizes old mid wires c s n m was look).reply_count in
     let ring = now.places in
@@ -337,7 +338,7 @@ unfolding AreWired
 gives_for_sure P old mid c s n m places before desk desk' turn look places_are room had held read turned other sizes wires was =
     let now = looked_wired sizes old mid wires c s n m was look in
     let there = desk_read old mid c s n m desk look read in
-    let hand = hand_at before.hand c held in
+    let hand = at_holder before.hand c held in
     let hand_is : desk.hand ≡ Some (c, hand.0) = held_after old mid c s n m before desk look had there ∙ hand.1 in
     let sees = at_both sizes old mid wires c s n m look.seat_after desk was look (seat_after_here old mid c s n m look) there in
     let ring = now.places in

@@ -17,7 +17,7 @@ use Rattle.mc_worker.specs.Desk.{Desk}
 use Rattle.mc_sim.specs.Laid.{AreLaid, Laid, LooksAt}
 use Rattle.mc_sim.specs.Rings.{HaveWires, IsSeatEnds, IsWire, IsWorker, Wires, parcels_of, with_lane, with_shard}
 use Rattle.mc_model.proofs.Lists.{set_cases}
-use Rattle.mc_worker.proofs.Turning.{eqb-refl}
+use Rattle.mc_model.proofs.Alone.{self_equal}
 
 -- One lane of a seat or a shard has changed, and is the same lane.
 pub record ChangesAt {Out In : Type 0} (place : ℕ) (old new : Ends (Side Out In)) : Type 0 where
@@ -81,7 +81,7 @@ IsOther c s j k = (j ≢ c) ⊎ (k ≢ s)
 
 -- The value that was put for a seat and a shard is the one found there.
 pub with_lane-here : {X : Type 0} (old : ℕ → ℕ → X) (c s : ℕ) (x : X) → with_lane old c s x c s ≡ x
-with_lane-here old c s x = rw (eqb-refl c, eqb-refl s) refl
+with_lane-here old c s x = rw (self_equal c, self_equal s) refl
 
 -- A value that was put for a seat and a shard leaves those of all other lanes as they were.
 pub with_lane-other : {X : Type 0} (old : ℕ → ℕ → X) (c s : ℕ) (x : X) (j k : ℕ) → IsOther c s j k → with_lane old c s x j k ≡ old j k
@@ -96,7 +96,7 @@ with_lane-other old c s x j k (inr shard) = elim (eqb_tells j c) [
 
 -- The value that was put for a shard is the one found there.
 pub with_shard-here : {X : Type 0} (old : ℕ → X) (s : ℕ) (x : X) → with_shard old s x s ≡ x
-with_shard-here old s x = rw (eqb-refl s) refl
+with_shard-here old s x = rw (self_equal s) refl
 
 -- A value that was put for a shard leaves those of all other shards as they were.
 pub with_shard-other : {X : Type 0} (old : ℕ → X) (s : ℕ) (x : X) (k : ℕ) → k ≢ s → with_shard old s x k ≡ old k

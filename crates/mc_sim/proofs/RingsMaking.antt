@@ -1,8 +1,7 @@
 -- The rings as they are made, with workers of empty shards.
-use Rattle.std.proofs.Common.{◌≡◌, ℕ, zero, suc, ◌<◌, ◌+◌, Some, List, [], ◌∷◌, ◌++◌, length, map, refl, ap, sym, ◌∙◌}
+use Rattle.std.proofs.Common.{◌≡◌, ℕ, zero, suc, ◌+◌, Some, List, [], ◌∷◌, ◌++◌, length, map, refl, ap, sym, ◌∙◌}
 use Rattle.std.specs.List.{AllByRecursion, slice_get}
 use Rattle.std.proofs.lemmas.List.{length-map}
-use Rattle.std.proofs.lemmas.Option.{same_Some}
 use Rattle.mc_sizes.specs.declared.sizes.Sizes.{Sizes}
 use Rattle.mc_ring.specs.Lane.{Far, Near, Side}
 use Rattle.mc_ring.specs.Ends.{Ends, list_at}
@@ -11,24 +10,11 @@ use Rattle.mc_store.specs.Shard.{ShardContents, Keeps}
 use Rattle.mc_model.specs.Sized.{empty_shard}
 use Rattle.mc_worker.specs.Desk.{Desk}
 use Rattle.mc_sim.specs.Rings.{HaveWires, IsStarted, ends_of, new_wires}
+use Rattle.mc_ring.proofs.Lists.{get_map, all_at}
 
 at_end : {A : Type 0} (xs : List A) (y : A) (zs : List A) → slice_get (xs ++ y ∷ zs) (length xs) ≡ Some y
 at_end [] y zs = refl
 at_end (x ∷ xs) y zs = at_end xs y zs
-
-get_map : {A B : Type 0} (f : A → B) (xs : List A) (i : ℕ) (x : A) → slice_get xs i ≡ Some x → slice_get (map f xs) i ≡ Some (f x)
-get_map f [] i x here = absurd (cc)
-get_map f (y ∷ xs) zero x here = ap (λ z. Some (f z)) (same_Some y x here)
-get_map f (y ∷ xs) (suc i) x here = get_map f xs i x here
-
-all_at : {A : Type 0} (P : A → Type 0) (xs : List A) (i : ℕ) (x : A) → AllByRecursion P xs → slice_get xs i ≡ Some x → P x
-all_at P [] i x all here = absurd (cc)
-all_at P (y ∷ xs) zero x all here = rw (← same_Some y x here) all.0
-all_at P (y ∷ xs) (suc i) x all here = all_at P xs i x all.1 here
-
-pub all_more : {A : Type 0} (P : A → Type 0) (xs : List A) (x : A) → AllByRecursion P xs → P x → AllByRecursion P (xs ++ x ∷ [])
-all_more P [] x all one = (one, tt)
-all_more P (y ∷ xs) x all one = (all.0, all_more P xs x all.1 one)
 
 -- one worker more, of the next ends
 

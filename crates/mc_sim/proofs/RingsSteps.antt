@@ -280,11 +280,6 @@ gave_wired sizes old wires c s desk desk' reply was here held gave =
     (record { pieces = λ j k other. refl; replies = with_lane-other wires.replies c s (replies ++ reply ∷ []) })
     (with_shard-other wires.hand s None) (λ k other. refl)
 
--- whose reply is in the hand
-pub hand_at : (hand : Option (ℕ × Shown)) (c : ℕ) → option_map (λ held. held.0) hand ≡ Some c → (reply : Shown) × (hand ≡ Some (c, reply))
-hand_at None c held = absurd (cc)
-hand_at (Some (seat, reply)) c held = (reply, ap (λ (k : ℕ). Some (k, reply)) (same_Some seat c held))
-
 -- A hand that holds a reply for no seat is empty.
 pub hand_free : (hand : Option (ℕ × Shown)) → option_map (λ held. held.0) hand ≡ None → hand ≡ None
 hand_free None none = refl

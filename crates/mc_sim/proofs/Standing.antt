@@ -11,9 +11,6 @@ use Rattle.mc_sim.specs.declared.sim.Seat.{Seat}
 use Rattle.mc_sim.specs.declared.sim.Sim.{Sim}
 use Rattle.mc_model.specs.Log.{of_asker}
 use Rattle.mc_model.specs.World.{IsAt, Link, World, with_link}
-use Rattle.mc_model.specs.Events.{Allows, Event}
-use Rattle.mc_model.specs.Schedule.{Happens}
-use Rattle.mc_model.specs.declared.event.StepReply.TheVariants.{Idle}
 use Rattle.mc_model.specs.Law.{Law}
 use Rattle.mc_sim.specs.Rings.{AreWired, Wires}
 use Rattle.mc_sim.specs.Stands.{IsServing, IsWorld, KeepsLink, Mirrors, SeatIs}
@@ -112,7 +109,3 @@ world_on sizes w c k link next old new wires world at seat law seats connections
 -- the connection of a seat, by its number
 pub found : (sizes : Sizes) (w : World) (sim : Sim) (c number : ℕ) (place : Seat) → IsWorld sizes sim w → slice_get sim.seats.items c ≡ Some place → place.current ≡ Some number → (link : Link) × IsAt w c number link × IsServing sizes (of_asker number w.log) link place.conn
 found sizes w sim c number place world here current = subst (λ o. SeatIs sizes w c place.conn o) current (world.each_seat c place here)
-
--- a seat without a connection, or one that isn't there
-pub none_there : (sizes : Sizes) (w : World) (event : Event) (c : ℕ) → ((k : ℕ) (link : Link) → Allows sizes w event k link → IsAt w c k link) → ((k : ℕ) (link : Link) → IsAt w c k link → ⊥) → Happens sizes w event Idle w
-none_there sizes w event c speaks none = (inl (λ e. none e.0 e.1 (speaks e.0 e.1 e.2)), refl)

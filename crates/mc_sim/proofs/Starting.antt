@@ -3,12 +3,12 @@ use Rattle.std.proofs.Common.{◌≡◌, None, Some, [], length, refl, sym, ap, 
 use Rattle.std.specs.List.{AllByRecursion}
 use Rattle.mc_sizes.specs.Sizes.{AreWithin}
 use Rattle.mc_sizes.specs.declared.sizes.Sizes.{Sizes}
-use Rattle.mc_conn.proofs.Gets.{all_at}
 use Rattle.mc_sim.specs.declared.sim.Sim.{Sim}
 use Rattle.mc_model.specs.World.{empty_world}
 use Rattle.mc_sim.specs.Rings.{AreWired, new_wires}
 use Rattle.mc_sim.specs.Stands.{IsNewSeat, IsWorld, SeatIs, Stands}
 use Rattle.mc_model.proofs.Worlds.{at_begin}
+use Rattle.mc_ring.proofs.Lists.{all_at}
 
 -- A new core, of sizes that a server may have, stands in the world in which nothing has happened.
 pub begins : (sizes : Sizes) (sim : Sim) → AreWithin sizes → length sim.seats.items ≡ sizes.seats → AllByRecursion (IsNewSeat sizes) sim.seats.items → sim.connections.items ≡ [] → sim.log.items ≡ [] → AreWired sizes sim.rings (new_wires sizes) → Stands sizes sim empty_world

@@ -43,6 +43,7 @@ parts_from-push part ticket moment (first ∷ done) asked =
     let next : part + length (first ∷ done) ≡ (part + 1) + length done = omega arith in
     rw next (ap (λ ps. numbered part ticket moment first ∷ ps) (parts_from-push (part + 1) ticket moment done asked))
 
+-- A command has one piece for each thing that it asks of a shard.
 pub length-parts_from : (part : ℕ) (ticket : Ticket) (moment : ℕ) (asked : List ShardOp) → length (parts_from part ticket moment asked) ≡ length asked
 length-parts_from part ticket moment [] = refl
 length-parts_from part ticket moment (one ∷ asked) = ap (λ n. suc n) (length-parts_from (part + 1) ticket moment asked)

@@ -62,10 +62,6 @@ settled_live held state key item h is = rw (meets held state key item h is).sett
 
 -- What is told by the item under the key and whether it is dead
 
-pub absent_none : (time : ℕ) (found : Option Item) → None ≡ found → None ≡ live time found
-absent_none time None is = refl
-absent_none time (Some item) is = absurd cc
-
 -- A dead item counts as none.
 pub dead_none : (time : ℕ) (item : Item) (found : Option Item) → Some item ≡ found → is_dead item.expiry time ≡ true → None ≡ live time found
 dead_none time item found is dead = rw (← is, dead) refl
@@ -78,7 +74,11 @@ live_some time item found is not_dead = rw (← is, not_dead) refl
 pub nothing_out : (held : ShardContents) (key : List ℕ) → None ≡ lookup (pointwise nat_eq key) held.entries → with_entries held (remove_entry (pointwise nat_eq key) held.entries) ≡ held
 nothing_out held key none = ap (with_entries held) (not_found held.entries key (sym none)).1
 
+-- Where no item is found, none is alive.
+pub none_of : (time : ℕ) (o : Option Item) → None ≡ o → None ≡ live time o
+none_of time o is = rw (← is)
+
 -- Where no item is under the key, a shard shows the settled state without any change.
 pub settled_absent : (held : ShardContents) (state : State) (key : List ℕ) → Keeps held state → None ≡ lookup (pointwise nat_eq key) held.entries → Keeps held (without_dead state (Some key))
 settled_absent held state key h none =
-    subst (λ now. Keeps now (without_dead state (Some key))) (nothing_out held key none) (settled_gone held state key h (absent_none held.time (lookup (pointwise nat_eq key) held.entries) none))
+    subst (λ now. Keeps now (without_dead state (Some key))) (nothing_out held key none) (settled_gone held state key h (none_of held.time (lookup (pointwise nat_eq key) held.entries) none))

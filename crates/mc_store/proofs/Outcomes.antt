@@ -99,7 +99,3 @@ live_of time o item is alive = rw (← is, alive)
 -- Where the item that is found is dead, it counts as none.
 pub dead_of : (time : ℕ) (o : Option Item) (item : Item) → Some item ≡ o → is_dead item.expiry time ≡ true → None ≡ live time o
 dead_of time o item is dead = rw (← is, dead)
-
--- Where no item is found, none is alive.
-pub none_of : (time : ℕ) (o : Option Item) → None ≡ o → None ≡ live time o
-none_of time o is = rw (← is)

@@ -1,23 +1,9 @@
 -- What making a product smaller keeps of it.
-use Rattle.std.proofs.Common.{◌≡◌, ℕ, ◌+◌, ◌-◌, ◌*◌, ◌/◌, ◌%◌, ◌^◌, ◌<◌, List, get_or, take, drop, arith, ap, sym, ◌∙◌}
+use Rattle.std.proofs.Common.{◌≡◌, ℕ, ◌+◌, ◌-◌, ◌*◌, ◌^◌, ◌<◌, List, get_or, take, drop, arith, ap, sym, ◌∙◌}
 use Rattle.std.specs.Prelude.{slice_index}
 use Rattle.std.specs.Int.{w64, from_le_bytes}
 use Rattle.std.proofs.lemmas.List.{get_or-take, get_or-drop}
-use Rattle.std.proofs.Math.Nat.{mul-add-mod_self_right}
-use Rattle.std.proofs.lemmas.Nat.{mul-lt}
-use Rattle.mc_store.specs.internal.Polynomial.{folded, read_u32, read_u64}
-
--- the same rest
-pub folded_rest : (n : ℕ) → folded n % (2 ^ 61 - 1) ≡ n % (2 ^ 61 - 1)
-folded_rest n =
-    let whole : n / 2 ^ 61 * (2 ^ 61 - 1) + folded n ≡ n = omega arith in
-    sym (mul-add-mod_self_right (n / 2 ^ 61) (2 ^ 61 - 1) (folded n)) ∙ ap (λ m. m % (2 ^ 61 - 1)) whole
-
--- a product of a number of 64 bits and a secret word
-pub product_room : (value word : ℕ) → value < 2 ^ 64 → word < 2 ^ 60 → value * word / 2 ^ 61 < 2 ^ 63
-product_room value word v w =
-    let all : value * word < 2 ^ 64 * 2 ^ 60 = mul-lt value word (2 ^ 64) (2 ^ 60) v w in
-    omega arith
+use Rattle.mc_store.specs.internal.Polynomial.{read_u32, read_u64}
 
 read_as_two : (a b c d e f g h : ℕ) → a + b * 256 ^ 1 + c * 256 ^ 2 + d * 256 ^ 3 + e * 256 ^ 4 + f * 256 ^ 5 + g * 256 ^ 6 + h * 256 ^ 7 ≡ (a + b * 256 + c * 65536 + d * 16777216) + (e + f * 256 + g * 65536 + h * 16777216) * 2 ^ 32
 read_as_two a b c d e f g h = omega arith

@@ -1,5 +1,5 @@
 -- A line that is served over lanes, turn by turn.
-use Rattle.std.proofs.Common.{◌≡◌, ℕ, ◌≤◌, ◌==◌, ◌&&◌, inl, inr, Bool, true, false, List, [], ◌∷◌, ◌++◌, length, map, take, refl, sym, ap, subst, ◌∙◌, arith, append-nil}
+use Rattle.std.proofs.Common.{◌≡◌, ℕ, ◌≤◌, ◌==◌, ◌&&◌, inl, inr, Bool, true, false, List, [], ◌∷◌, ◌++◌, length, map, refl, sym, ap, subst, ◌∙◌, arith, append-nil}
 use Rattle.std.specs.List.{list_all}
 use Rattle.std.proofs.lemmas.Bool.{cases_lt, eqb-true}
 use Rattle.std.proofs.lemmas.List.{take_all}
@@ -16,7 +16,6 @@ use Rattle.mc_conn.specs.Fits.{KeysFit, Serves}
 use Rattle.mc_conn.specs.History.{Taken}
 use Rattle.mc_conn.specs.Told.{IsAllTaken, IsAtRest, Told, all_pieces, all_texts, told_nothing}
 use Rattle.mc_conn.proofs.Counting.{count_from_come, due_beyond}
-use Rattle.mc_conn.proofs.Gets.{all_at, get_below}
 use Rattle.mc_conn.proofs.Serving.{serves_none, serves_take}
 use Rattle.mc_conn.proofs.Staying.{is_sound}
 use Rattle.mc_seat.specs.declared.service.Service.{Service}
@@ -33,6 +32,7 @@ use Rattle.mc_threads.specs.Serving.{IsIdle}
 use Rattle.mc_threads.specs.internal.Carrying.{AllOutWhere, Carries, CourierGoesOn, KeepsReceived, carried, sent_to}
 use Rattle.mc_threads.proofs.Carrying.{some_shards}
 use Rattle.mc_command.specs.declared.rules.Rules.{Rules}
+use Rattle.mc_ring.proofs.Lists.{all_at, get_below}
 
 -- all counts are 0
 pub all_zero : (counts : List ℕ) → list_all (λ count. count == 0) counts ≡ true → IsIdle counts

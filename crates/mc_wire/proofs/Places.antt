@@ -22,6 +22,3 @@ fold_parity (byte ∷ bytes) hash parity same = fold_parity bytes (fnv_step hash
 pub place_of_two : (key : List ℕ) → parity_of key ≡ place_of key 2
 unfolding fnv_of
 place_of_two key = sym (fold_parity key 2166136261 1 refl)
-
-pub place_of_one : (key : List ℕ) → 0 ≡ place_of key 1
-place_of_one key = omega arith

@@ -61,7 +61,8 @@ none_given (Ran ticket part moment) seat hand no_gift = refl
 pub marks_none : (old : Desk) (turn : Turn) (new : Desk) (marks : List Bool) → is_gave turn ≡ false → Gives old turn new → Marks old new marks marks
 marks_none old turn new marks no_gift gives seat = inl (gives seat ∙ rw (none_given turn seat old.hand no_gift) (append-nil (sent_on old.ends seat)), refl)
 
-at_holder : (hand : Option (ℕ × Shown)) (holder : ℕ) → option_map (λ held. held.0) hand ≡ Some holder → (reply : Shown) × (hand ≡ Some (holder, reply))
+-- Whose reply is in the hand.
+pub at_holder : (hand : Option (ℕ × Shown)) (holder : ℕ) → option_map (λ held. held.0) hand ≡ Some holder → (reply : Shown) × (hand ≡ Some (holder, reply))
 at_holder None holder held = absurd (cc)
 at_holder (Some (seat, reply)) holder held = (reply, ap (λ (k : ℕ). Some (k, reply)) (same_Some seat holder held))
 

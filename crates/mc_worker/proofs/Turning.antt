@@ -1,5 +1,5 @@
 -- What a turn of a worker does to the log of what it ran.
-use Rattle.std.proofs.Common.{◌≡◌, ◌≢◌, ℕ, zero, suc, ◌<◌, ◌==◌, Bool, true, false, Some, None, Ok, List, [], ◌∷◌, ◌++◌, length, refl, ap, sym, ◌∙◌, arith, append-nil, slice_set, ◌⊎◌, inl, inr}
+use Rattle.std.proofs.Common.{◌≡◌, ◌≢◌, ℕ, zero, suc, ◌<◌, Bool, true, false, Some, None, Ok, List, [], ◌∷◌, ◌++◌, length, refl, ap, sym, ◌∙◌, arith, append-nil, slice_set, ◌⊎◌, inl, inr}
 use Rattle.std.specs.List.{AllByRecursion, slice_get}
 use Rattle.std.proofs.lemmas.List.{map-append}
 use Rattle.std.proofs.lemmas.Bool.Decides.{eqb_tells}
@@ -16,6 +16,8 @@ use Rattle.mc_worker.specs.Desk.{Desk, Goes, IsWellMarked, RunsMore, RunsNoMore}
 use Rattle.mc_worker.specs.Turns.{FindsNothing, Gives, GivesIt, LogGrows, IsFull, RunsPiece, TakesEnd, Turned}
 use Rattle.mc_worker.specs.DeskLaws.{goes_none}
 use Rattle.mc_model.proofs.Logs.{Run-push, of_asker-no, of_asker-yes}
+use Rattle.mc_ring.proofs.Lists.{all_push}
+use Rattle.mc_model.proofs.Alone.{self_equal}
 
 -- whose entries they are
 
@@ -25,14 +27,6 @@ IsHere desk entry = (entry.shard ≡ desk.ends.number) × (entry.asker < length 
 all_here : (old new : Desk) (log : List Entry) → AreSameEnds old.ends new.ends → AllByRecursion (IsHere old) log → AllByRecursion (IsHere new) log
 all_here old new [] same all = tt
 all_here old new (entry ∷ log) same all = ((all.0.0 ∙ sym same.number, rw same.count all.0.1), all_here old new log same all.1)
-
-all_push : {A : Type 0} (P : A → Type 0) (xs : List A) (x : A) → AllByRecursion P xs → P x → AllByRecursion P (xs ++ x ∷ [])
-all_push P [] x all one = (one, tt)
-all_push P (y ∷ xs) x all one = (all.0, all_push P xs x all.1 one)
-
--- Each number passes the test of being equal to itself.
-pub eqb-refl : (n : ℕ) → (n == n) ≡ true
-eqb-refl n = elim (eqb_tells n n) [ inl at ↦ at.0 | inr other ↦ absurd (other.1 refl) ]
 
 -- a mark says one or the other
 pub mark_at : (live : List Bool) (seat : ℕ) → seat < length live → (slice_get live seat ≡ Some true) ⊎ (slice_get live seat ≡ Some false)
@@ -107,7 +101,7 @@ gave_none old new gave begin log had =
       kept = rw shard_is had.kept;
       taken = λ k. rw (kept k old.ends new.ends (λ x y s. ap (λ past. past.received) s.sent) gave.lane, live_is) (had.taken k);
       given = λ k. elim (eqb_tells gave.seat k) [
-        | inl at ↦ rw (← at.1, longer, hand_is, had.given gave.seat, gave.held, eqb-refl gave.seat) (simp append-nil refl)
+        | inl at ↦ rw (← at.1, longer, hand_is, had.given gave.seat, gave.held, self_equal gave.seat) (simp append-nil refl)
         | inr other ↦ rw (at_lane-other says sent_at gave.seat k old.ends new.ends gave.lane (λ e. other.1 (sym e)), hand_is, had.given k, gave.held, other.0) refl
       ];
       each = all_here old new log same had.each;
@@ -192,7 +186,7 @@ pub turned_gives : (old : Desk) (seat : ℕ) (turn : Turn) (new : Desk) → IsWe
 turned_gives old seat Gave new sound within turned k =
     let says = Sends shown turned.reply (Ok tt) in
     elim (eqb_tells turned.seat k) [
-      | inl at ↦ rw (← at.1, turned.held, eqb-refl turned.seat) (at_lane-longer says sent_at turned.seat (shown turned.reply ∷ []) old.ends new.ends (λ x y s. ap (λ past. past.sent) s.sent) turned.lane)
+      | inl at ↦ rw (← at.1, turned.held, self_equal turned.seat) (at_lane-longer says sent_at turned.seat (shown turned.reply ∷ []) old.ends new.ends (λ x y s. ap (λ past. past.sent) s.sent) turned.lane)
       | inr other ↦ rw (turned.held, other.0) (at_lane-other says sent_at turned.seat k old.ends new.ends turned.lane (λ e. other.1 (sym e)) ∙ sym (append-nil (sent_on old.ends k)))
     ]
 turned_gives old seat Blocked new sound within turned k = at_lane-kept IsFull sent_at turned.seat k old.ends new.ends (λ x y s. ap (λ past. past.sent) s.past) turned.lane ∙ sym (append-nil (sent_on old.ends k))

@@ -1,9 +1,10 @@
 use Rattle.std.proofs.Common.{sym}
 use Rattle.mc_item.specs.Kind.{key_of}
 use Rattle.mc_store.specs.Shard.{IsShard, held_of}
-use Rattle.mc_store.proofs.Outcomes.{live_of, dead_of, none_of}
+use Rattle.mc_store.proofs.Outcomes.{live_of, dead_of}
 use Rattle.mc_store.proofs.Deletes.{delete_miss, delete_hit}
 use Rattle.mc_store.proofs.shard.Shard.delete.Goals as goal
+use Rattle.mc_store.proofs.Changes.{none_of}
 
 pub returns-in_default-clause-acts : goal.returns-in_default-clause-acts
 unfolding IsShard key_of
