@@ -90,7 +90,7 @@ impl Drop for PlanOf {
     }
 }
 
-/// Splits a command over so many shards.
+/// Splits a command over this number of shards.
 fn planned(alloc: Global, command: Command, shards: usize) -> Result<PlanOf, NoMemory>
     requires { 0 < shards }
 {

@@ -11,7 +11,7 @@ use std::sync::{Arc, Wait};
 use std::time::Duration;
 use std::{io, net, slice, thread, time};
 
-/// After a fault of `accept` that passes, the thread waits so long, in milliseconds, before it tries again.
+/// Milliseconds that the thread waits after a fault of `accept` that passes, before it tries again.
 const PAUSE_MILLIS: u64 = 10;
 
 /// It sleeps at once where no seat is free.

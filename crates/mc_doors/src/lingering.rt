@@ -8,7 +8,7 @@ use std::net::Shutdown;
 use std::time;
 use std::time::{Duration, Instant};
 
-/// After its last write a connection waits at most so long, in milliseconds, for the end of its peer's bytes.
+/// Milliseconds that a connection waits at most, after its last write, for the end of its peer's bytes.
 const LINGER_MILLIS: u64 = 500;
 
 /// The most reads of its peer's bytes that are dropped.

@@ -7,10 +7,10 @@ use mc_watch::{CommandTotals, ShardTotals, Totals};
 use std::alloc::{AllocError, Global};
 use std::fmt;
 
-/// A sample is taken so often, in seconds.
+/// Seconds from one sample to the next.
 pub(crate) const SAMPLE_SECONDS: u64 = 5;
 
-/// So wide is a step of a curve, and so wide and high the whole of it, in units of the drawing.
+/// The width of a step of a curve, and the width and height of the whole of it, in units of the drawing.
 const STEP: usize = 5;
 
 const WIDTH: usize = STEP * (KEPT - 1);

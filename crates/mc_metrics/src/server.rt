@@ -18,7 +18,7 @@ const MOST_VISITORS: usize = 32;
 /// The most visitors that come in at a turn.
 const COMERS: usize = 64;
 
-/// The thread looks around so often, in milliseconds, where nobody asks anything.
+/// Milliseconds between two looks of the thread, where nobody asks anything.
 const LOOK_MILLIS: u64 = 200;
 
 /// Where visitors come in, and what tells that one has come or has something to say.

@@ -65,7 +65,7 @@ const OPTIONS: [Told<'static>; 18] = [
     (
         "connections",
         "N",
-        "Ends after so many connections, 1 to 4294967295",
+        "Ends after this many connections, 1 to 4294967295",
     ),
     (
         "drop-in",
@@ -76,7 +76,7 @@ const OPTIONS: [Told<'static>; 18] = [
     (
         "idle-timeout",
         "SECONDS",
-        "Closes what moves no byte for so long, 1 to 31536000",
+        "Closes what moves no byte for this long, 1 to 31536000",
     ),
     ("verbose", "", "Tells each connection on standard error"),
     (

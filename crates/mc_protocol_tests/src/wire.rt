@@ -12,7 +12,7 @@ use std::alloc::Global;
 use std::process::Abort;
 use std::test::Fail;
 
-/// Takes one byte a write, and fails once it was written to so often.
+/// Takes one byte a write, and fails after this number of writes.
 #[derive(Drop)]
 struct Dripping {
     store: Vec<u8>,
@@ -81,7 +81,7 @@ fn numbers_end_where_64_bits_end(rt: HostRuntime) {
     }
 }
 
-/// The place of the key of this word among so many.
+/// The place of the key of this word, among this number of places.
 fn place_of(alloc: Global, word: &[u8], places: usize) -> Result<usize, WireFault>
     requires { 0 < places }
 {

@@ -54,7 +54,7 @@ impl Row {
         }))
     }
 
-    /// How many values of more than so many bytes the output shows, where these are more than a reply's own words have: a value
+    /// How many values of more than this number of bytes the output shows, where these are more than a reply's own words have: a value
     /// stands on a line of its own, which ends by two bytes. One that holds such an end itself may not be counted.
     pub fn values_longer_than(&self, bytes: usize) -> usize {
         let mut values = 0usize;

@@ -11,13 +11,13 @@ use std::alloc::Global;
 #[derive(Clone, Copy, Debug, PartialEq, Eq)]
 pub(crate) enum Turn {
     /// Another turn.
-    Goes,
+    Continues,
     /// Another turn, once the line has more to give.
     Waits,
     /// Nothing: the line has ended, or was closed.
-    Ends,
+    Ended,
     /// Nothing: the line has failed.
-    Broke,
+    Failed,
 }
 
 /// What a seat keeps of the line that it serves: the bytes that its connection did not take yet.
@@ -59,8 +59,8 @@ impl Seat {
     {
         match stop {
             Taken::NeedMore => self.read_on(conn, line, rooms),
-            Taken::Closed => Turn::Ends,
-            Taken::Opened(_) | Taken::Full => Turn::Goes,
+            Taken::Closed => Turn::Ended,
+            Taken::Opened(_) | Taken::Full => Turn::Continues,
         }
     }
 
@@ -72,24 +72,24 @@ impl Seat {
     {
         if !self.unread.is_empty() {
             self.feed(conn, rooms);
-            return Turn::Goes;
+            return Turn::Continues;
         }
         match self.unread.refill(line, rooms) {
             Err(_fault) => {
                 conn.broken();
-                return Turn::Broke;
+                return Turn::Failed;
             }
             Ok(Refilled::Nothing) => return Turn::Waits,
-            Ok(Refilled::NoRoom) => return Turn::Goes,
+            Ok(Refilled::NoRoom) => return Turn::Continues,
             Ok(Refilled::Bytes) => {}
         }
         if self.unread.is_empty() {
             self.unread.give_back(rooms);
             conn.end();
-            return Turn::Goes;
+            return Turn::Continues;
         }
         self.feed(conn, rooms);
-        Turn::Goes
+        Turn::Continues
     }
 
     /// Feeds what was read to the connection, as far as it takes it.

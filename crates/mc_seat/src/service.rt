@@ -141,13 +141,13 @@ impl Service {
             (L.sight line.new) }
     {
         match self.seat.go_on(&mut self.conn, line, self.stop, rooms) {
-            Turn::Goes => {
+            Turn::Continues => {
                 self.take_all(clock);
                 Stepped::Did
             }
             Turn::Waits => Stepped::Waits,
-            Turn::Ends => self.ended(false),
-            Turn::Broke => self.ended(true),
+            Turn::Ended => self.ended(false),
+            Turn::Failed => self.ended(true),
         }
     }
 

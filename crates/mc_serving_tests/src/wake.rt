@@ -11,10 +11,10 @@ use std::test::Fail;
 use std::thread::Threads;
 use std::{io, net, thread};
 
-/// So often each of the threads waits for the other.
+/// How often each of the threads waits for the other.
 const ROUNDS: u64 = 20_000;
 
-/// So often a thread rouses a seat before it waits until that was seen.
+/// How often a thread rouses a seat before it waits until that was seen.
 const BATCH: u64 = 8;
 
 /// No thread looks again before it sleeps.

@@ -22,11 +22,11 @@ pub struct Working<G> {
     pub worker: Worker,
     gate: Arc<G, Global>,
     seats: Wakers,
-    /// Of each seat, whether its lane may hold more.
+    /// Per seat: its lane may hold more pieces.
     waiting: Vec<bool>,
-    /// Of each block, whether the lane of one of its seats may hold more.
+    /// Per block: the lane of one of its seats may hold more pieces.
     blocks: Vec<bool>,
-    /// Of each seat, whether a reply was given to it since it was roused last.
+    /// Per seat: a reply was given to it since it was last roused.
     given: Vec<bool>,
     alloc: Global,
     ghost each_seat: { length given.items ≡ length worker.ends.lanes },

@@ -6,7 +6,7 @@ use std::sync::Arc;
 use std::sync::atomic::{AtomicU64, Ordering};
 use std::thread;
 
-/// A shard that waits looks so often at most whether the other one has come.
+/// How often at most a shard that waits looks whether the other one has come.
 pub const LOOKS: u64 = 1_000_000;
 
 /// How often a shard saw the other one at the gate.
@@ -15,8 +15,8 @@ pub type Met = Arc<AtomicU64, Global>;
 /// What lines and gates count together: how many have come to their first read or to the gate, or the moments of a history.
 pub type Come = Arc<AtomicU64, Global>;
 
-/// Two shards wait at the gate for each other: of each piece a shard says that it has come so often, and waits until the other one
-/// has come as often. One that has waited in vain says so, and from then on none waits or meets.
+/// Two shards wait at the gate for each other: with each piece a shard counts that it has come, and waits until the other one has
+/// come as often. One that has waited in vain says so, and from then on none waits or meets.
 #[derive(Drop)]
 pub struct Meeting {
     /// How often the first shard has come, and the second.
@@ -38,7 +38,7 @@ impl Meeting {
         })
     }
 
-    /// Whether the other shard has come so often, after as many looks as are made.
+    /// Whether the other shard has come that often, after at most [`LOOKS`] looks.
     fn sees(&self, other: &AtomicU64, often: u64) -> bool {
         for _ in 0..LOOKS {
             if self.missed.load(Ordering::SeqCst) > 0 {

@@ -107,10 +107,10 @@ const ADDED: [&[u8]; 2] = [b"STORED", b"NOT_STORED"];
 /// A line that fails makes no more reads, and no more writes, than this.
 const MOST_CALLS: usize = 200;
 
-/// So often each of two lines counts up.
+/// How often each of two lines counts up.
 const COUNTS: u64 = 1_000;
 
-/// So often the shards must meet at the gate.
+/// How often the shards must meet at the gate.
 const MEETINGS: u64 = 100;
 
 /// A line that sends behind another one's piece waits until both lines and the piece at the gate have come.
@@ -282,8 +282,8 @@ impl<R: Threads + Wait + RandomSource + Copy + Send + Drop + 'static> Server<R> 
         Ok(is_right)
     }
 
-    /// Whether the shards meet at the gate where a line asks one of them so often, and then the other, while the first is held up
-    /// by what another line asked it before; none where the replies aren't what they must be.
+    /// Whether the shards meet at the gate where a line asks one of them `before` times, and then the other, while the first is
+    /// held up by what another line asked it; none where the replies aren't what they must be.
     fn meets_behind(&self, before: u64, sizes: Sizes) -> Result<Option<bool>, AllocError> {
         let arrived: Come = Arc::new(self.alloc, AtomicU64::new(0))?;
         let met: Met = Arc::new(self.alloc, AtomicU64::new(0))?;
@@ -453,7 +453,7 @@ impl<R: Threads + Wait + RandomSource + Copy + Send + Drop + 'static> Server<R> 
     }
 }
 
-/// Adds the text to the others, so often.
+/// Adds the text to the others, `times` times.
 fn add_times(texts: &mut Vec<u8>, text: &[u8], times: u64) -> Result<(), AllocError> {
     for _ in 0..times {
         texts.extend_from_slice(text)?;

@@ -4,19 +4,19 @@ ghost use Rattle.std.specs.Prelude.{◌≡◌, ◌≤◌, ◌<◌};
 use std::thread;
 use std::thread::Threads;
 
-/// So often a thread looks again at once, where each thread has a core of its own. A look takes some nanoseconds, to sleep
-/// and wake some microseconds.
+/// Busy polls before yielding, where each thread has a core of its own. A poll takes some nanoseconds, to sleep and wake some
+/// microseconds.
 const LOOKS: usize = 1_000;
 
-/// So often it then lets other threads run before it looks again.
+/// Yields before sleeping, each with a poll behind it.
 const YIELDS: usize = 2;
 
 /// How often a thread looks in vain before it sleeps: at first at once, then after it let other threads run.
 #[derive(Clone, Copy)]
 pub struct Patience {
-    /// So often it looks again at once.
+    /// Busy polls before yielding.
     pub looks: usize,
-    /// So often it then lets other threads run and looks again.
+    /// Yields before sleeping, each with a poll behind it.
     pub yields: usize,
 }
 

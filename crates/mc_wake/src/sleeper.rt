@@ -15,7 +15,7 @@ use std::sync::{Arc, Wait};
 use std::time::Duration;
 use std::{hint, io, thread};
 
-/// Where seats want to be roused again in a while, the thread sleeps at most so long, in milliseconds.
+/// Milliseconds that the thread sleeps at most, where seats want to be roused again in a while.
 const REMINDER_MILLIS: u64 = 50;
 
 /// The number of looks at the sockets after which they are roused too, however busy the thread is.
@@ -37,11 +37,11 @@ pub struct Sleeper {
     bed: Bed,
     waker: Arc<Waker, Global>,
     patience: Patience,
-    /// How often the thread has looked in vain since it last found something.
+    /// Empty polls since work was last found.
     vain: usize,
-    /// How often it has found something since it last looked at its sockets.
+    /// Polls that found work since the sockets were last looked at.
     turns: u32,
-    /// How often it has looked at its sockets since it last roused those that want to be roused again.
+    /// Looks at the sockets since those that want to be roused again were last roused.
     looks: u32,
     callers: usize,
     places: usize,
@@ -257,7 +257,7 @@ impl Sleeper {
         }
     }
 
-    /// Waits at most so long, or for good, until a socket has something or the thread is woken.
+    /// Waits until a socket has something or the thread is woken, or the time is out, where there is one.
     fn look(&mut self, timeout: Option<Duration>)
         ensures same { self.new ≡ self.old }
     {

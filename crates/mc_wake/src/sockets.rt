@@ -63,8 +63,8 @@ impl Sockets {
         Ok(Alarm::Sockets { waker, registry })
     }
 
-    /// Waits at most so long, or for good, until a socket has something or the thread is woken. The places that it is told of are
-    /// marked as roused. Whether it was told anything.
+    /// Waits until a socket has something or the thread is woken, or the time is out, where there is one. The places that it is
+    /// told of are marked as roused. Whether it was told anything.
     pub(crate) fn look(&mut self, timeout: Option<Duration>, roused: &Board) -> bool {
         if self.poll.poll(&mut self.events, timeout).is_err() {
             return false;

@@ -33,7 +33,7 @@ impl Dismissal {
         self.is_said.load(Ordering::SeqCst)
     }
 
-    /// The thread waits for so long, or less, and not much longer than until it is told to end. Whether it is.
+    /// The thread waits for this time or less, and not much longer than until it is told to end. Whether it is.
     pub fn wait<R: Wait>(&self, rt: &R, time: Duration) -> bool {
         if !self.is_said() {
             self.parker.park_timeout(rt, time);

@@ -13,7 +13,7 @@ use std::time::Duration;
 /// The most events of one reporter that wait.
 const ROOM: usize = 8;
 
-/// What happened is looked for so often, in milliseconds.
+/// Milliseconds from one look for what happened to the next.
 const LOOK_MILLIS: u64 = 20;
 
 /// What is told at a time.

@@ -8,7 +8,7 @@ use Rattle.mc_ring.specs.Reply.{Shown}
 use Rattle.mc_conn.specs.Fits.{KeysFit}
 use Rattle.mc_conn.specs.Told.{Told, IsAllTaken, IsOver, all_texts, commands_of}
 use Rattle.mc_seat.specs.declared.seat.Turn.{Turn}
-use Rattle.mc_seat.specs.declared.seat.Turn.TheVariants.{Goes, Waits, Ends, Broke}
+use Rattle.mc_seat.specs.declared.seat.Turn.TheVariants.{Continues, Waits, Ended, Failed}
 use Rattle.mc_wire.specs.Outlet.{Sight}
 use Rattle.mc_seat.specs.internal.Stands.{IsComplete, Serving}
 use Rattle.mc_seat.specs.Reads.{ReadsOwingNothing}
@@ -48,10 +48,10 @@ pub record IsServed (received : ℕ → List Shown) (begin now : Sight) (told : 
   pub reads : KeysFit told.shards told.taken received → ReadsOwingNothing told.rules begin now (commands_of told.taken) (all_texts told)
 
 abbrev pub TurnSays : Turn → (ℕ → List Shown) → Sight → Sight → Told → Conn → List ℕ → Type 0
-TurnSays Goes received begin now told conn unread = GoesOn received begin now told conn unread
+TurnSays Continues received begin now told conn unread = GoesOn received begin now told conn unread
 TurnSays Waits received begin now told conn unread = Rests received begin now told conn unread
-TurnSays Ends received begin now told conn unread = IsServed received begin now told false conn
-TurnSays Broke received begin now told conn unread = IsServed received begin now told true conn
+TurnSays Ended received begin now told conn unread = IsServed received begin now told false conn
+TurnSays Failed received begin now told conn unread = IsServed received begin now told true conn
 
 -- What going on does, once all replies to the commands taken are handed out.
 abbrev pub HandedSays : Turn → Took → Conn → List ℕ → Sight → Conn → List ℕ → Sight → Type 0
