@@ -2,7 +2,7 @@
 """Loads of lines in memory, served by real threads and by a single one: commands a second, and processor time a command.
 
     tools/bench/lines.py [ROUNDS]         the figures, medians of ROUNDS rounds (5 where none is said)
-    tools/bench/lines.py --check [ROUNDS] 8 lines of 125,000 commands each, so often (20 where none is said): each line must take just
+    tools/bench/lines.py --check [ROUNDS] 8 lines of 125,000 commands each, ROUNDS times (or 20): each line must take just
                                     its replies, and each round must end; then the trials that the program has, on one core
 
 The program is crates/mc_trials/out/mc_trials, as `rt ci` or `cd crates/mc_trials && rt run` builds it. Nine of ten commands

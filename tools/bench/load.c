@@ -1,6 +1,6 @@
 /* load: sends memcached commands over TCP, checks every reply, and prints rates and latencies as one line of JSON.
 
-   A thread drives its connections by epoll. Each connection keeps so many requests under way (--pipeline); a request
+   A thread drives its connections by epoll. Each connection keeps --pipeline requests under way; a request
    is a get of one key or of several (--multiget), a set, or with --meta an mg or ms. The value of a key follows from
    the key alone, so each hit is checked byte by byte, and each reply must be the one of the oldest request that is
    still open. Latency counts from the moment at which a request was put into the send buffer; with --rate it counts

@@ -22,7 +22,7 @@ sys.path.insert(0, str(pathlib.Path(__file__).resolve().parent.parent))
 from served import MIB, Line, Server, Tally, bounded, equal, needs_program, set_of  # noqa: E402
 from soak_checker import Checker  # noqa: E402
 
-# Memory is read so often a second.
+# How often a second memory is read.
 LOOKS = 10
 
 # Those beside the checkers.
