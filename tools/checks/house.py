@@ -6,8 +6,9 @@
 
 A clause (`requires`, `ensures`, or what a trait or type promises under `ghost`) has no line of more than 100 columns: a longer
 one goes on in further lines, broken at its arrows first. A lemma that another file cites has a comment directly above it, which
-says in a sentence what it says. Something cites each lemma, and no two say the same, but for worked rows, which stand for themselves.
-A paragraph of the documents (a line that stands in no table and in no block of code) has at most 600 characters.
+says in a sentence what it says. Something cites each lemma, and no two say the same: worked rows aside, which stand for themselves,
+and those inside a block (`module _ .. where`), which aren't looked at. A paragraph of the documents (a line that stands in no
+table and in no block of code) has at most 600 characters.
 """
 import argparse
 import collections
@@ -78,6 +79,7 @@ def lemmas():
 
 
 def is_of_lemmas(file):
+    """Whether a file has lemmas that are stated for others: not answers to the prover, and not worked rows."""
     return file.suffix == ".antt" and "specs" not in file.parts and file.name not in ANSWERS and not WORKED_ROWS.search(file.stem)
 
 
