@@ -23,10 +23,11 @@ PARTS = {"src": (".rt", "lib.rt"), "specs": (".antt", "Lib.antt"), "proofs": (".
 # How the root of a crate says by which tactic its goals are proved; that of the program says it for all.
 TACTIC = "#![tactic(auto)]\n"
 
-# Files that the program doesn't need, by the beginnings of their names: worked rows, and what serves lines in memory.
-UNUSED = re.compile(r"(\w+/proofs/(\w*Rows\w*|Corners)|mc_model/proofs/Crossing|mc_serve/(src/over|specs/Over|proofs/(over|One))|mc_doors/(src/one_door|specs/One|proofs/(one_door|Sent)))\b")
+# Files that the program doesn't need, by the beginnings of their names: worked rows, what runs a list of operations on a shard,
+# and what serves lines in memory.
+UNUSED = re.compile(r"(\w+/proofs/(\w*Rows\w*|Corners)|mc_model/proofs/Crossing|mc_store/(src/shard/running|proofs/shard/Shard/run_all)|mc_serve/(src/over|specs/Over|proofs/(over|One))|mc_doors/(src/one_door|specs/One|proofs/(one_door|Sent)))\b")
 
-# A line of a crate's root, or of its definitions or lemmas, that declares a module or passes on what it has.
+# A line of a source file, or of a root of definitions or lemmas, that declares a module or passes on what it has.
 NAMED = re.compile(r"^(?:pub )?(?:mod|use) (\w+)(?:::.*)?;?\n", re.M)
 
 # What is derived for tests and for other users of a crate, and the types of which the program compares or shows values.
@@ -94,8 +95,8 @@ class OneCrate:
                     if is_unused(crate, part, place):
                         continue
                     text = file.read_text(encoding="utf-8")
-                    if str(place) == root:
-                        text = NAMED.sub(lambda found: "" if is_unused(crate, part, found[1]) else found[0], text)
+                    below_it = "" if str(place) == root else f"{place.with_suffix('')}/"
+                    text = NAMED.sub(lambda found: "" if is_unused(crate, part, below_it + found[1]) else found[0], text)
                     text = self.code(text, crate) if part == "src" else self.names(text)
                     if crate == self.program:
                         yield f"{part}/{place}", text

@@ -137,12 +137,13 @@ def table(found):
 
 
 def plot(found, folder):
-    """Bars of the ratio of CPU a request, by gnuplot where it is installed."""
+    """Bars of the ratios of CPU a request and of requests a second, by gnuplot where it is installed."""
     if not shutil.which("gnuplot"):
         return
     data = "\n".join(f'"{workload}" {rate:.3f} {cpu:.3f}' for workload, _, _, rate, cpu in rows(found))
     script = f"""
-        set terminal svg size 900,480 font "sans,12" background rgb "white"
+        set terminal svg size 940,480 font "sans,12" background rgb "white"
+        set rmargin at screen 0.84
         set output "{folder}/side-by-side.svg"
         set style data histograms
         set style fill solid 0.8
