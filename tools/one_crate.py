@@ -8,7 +8,7 @@ can be seen:
     mc_wire::Key                            crate::mc_wire::Key
     Rattle.mc_wire.specs.Words              Rattle.mcd.specs.mc_wire.Words
 
-Some of what the program doesn't call is left out: worked rows, what serves lines in memory, and what types derive for tests. No
+Some of what the program doesn't call is left out: worked rows, what serves lines in memory, and what is there for tests. No
 body and no clause of anything else changes, and where the program calls what is left out, the one crate doesn't compile.
 """
 import re
@@ -25,7 +25,15 @@ TACTIC = "#![tactic(auto)]\n"
 
 # Files that the program doesn't need, by the beginnings of their names: worked rows, what runs a list of operations on a shard,
 # and what serves lines in memory.
-UNUSED = re.compile(r"(\w+/proofs/(\w*Rows\w*|Corners)|mc_model/proofs/Crossing|mc_store/(src/shard/running|proofs/shard/Shard/run_all)|mc_serve/(src/over|specs/Over|proofs/(over|One))|mc_doors/(src/one_door|specs/One|proofs/(one_door|Sent)))\b")
+UNUSED = re.compile(
+    r"""(
+      \w+/proofs/(\w*Rows\w*|Corners) | mc_model/proofs/Crossing
+    | mc_store/(src/shard/running | proofs/shard/Shard/run_all)
+    | mc_serve/(src/over | specs/Over | proofs/(over|One))
+    | mc_doors/(src/one_door | specs/One | proofs/(one_door|Sent))
+    )\b""",
+    re.X,
+)
 
 # A line of a source file, or of a root of definitions or lemmas, that declares a module or passes on what it has.
 NAMED = re.compile(r"^(?:pub )?(?:mod|use) (\w+)(?:::.*)?;?\n", re.M)

@@ -9,10 +9,12 @@ The last line is `memcached's tests: N passed, M failed, K answered otherwise`.
 Each test starts the server as `memcached-debug`, by memcached's options. Here that is this program, which starts mcd with those
 that have a counterpart and leaves out the others. What moves memcached's clock waits instead.
 
-OTHERWISE has the assertions that mcd doesn't fulfil, with the reason; docs/PROTOCOL.md has these differences. One of them that
-holds is a failure too, so that the list stays true. Not run are the tests of what mcd doesn't have: the binary protocol, TLS,
-SASL, UDP, sockets of Unix, storage on disk, the proxy, `watch`, `slabs`, `lru_crawler`, `shutdown`, and a memory limit that
-changes or refuses; and those that read little else than `stats` of memcached's own memory, threads and connections.
+OTHERWISE has the assertions that mcd doesn't fulfil, with the reason; docs/PROTOCOL.md has those differences that a client sees.
+One of them that holds is a failure too, so that the list stays true. Not run are the tests of what mcd doesn't have: the binary
+protocol, TLS, SASL, UDP, sockets of Unix, storage on disk, the proxy, `watch`, `slabs`, `lru_crawler`, `shutdown`, and a memory
+limit that changes or refuses; and those that read little else than `stats` of memcached's own memory, threads and connections.
+
+Without `--drop-in` two of six files that were tried failed, as they should: `cas` and `metaget`.
 """
 import concurrent.futures
 import contextlib
@@ -41,7 +43,7 @@ FETCH_SECONDS, TEST_SECONDS, ALL_SECONDS = 30, 120, 500
 TESTS = """
     getset chunked-items expirations idle-timeout issue_41 flush-all issue_14 evictions issue_22 issue_163 metaget cas issue_183
     touch getandtouch lru bogus-commands flags incrdecr issue_104 issue_108 issue_152 issue_192 issue_3 issue_42 issue_61 issue_68
-    issue_70 multiversioning noreply quit strtol-testing
+    issue_70 malicious-commands multiversioning noreply quit strtol-testing
 """.split()
 
 TEXT = "what stands behind CLIENT_ERROR"
@@ -56,6 +58,7 @@ OTHERWISE = {
     "issue_3": {2: TEXT},
     "issue_42": {11: "stats slabs"},
     "issue_61": {7: STATS},
+    "malicious-commands": {1: "HTTP is closed by a reset", 2: "the same", 3: "DELETE with no path behind it is read as a line"},
     "metaget": {3: "me", 4: "me", 123: "the flag I of ms"},
     "strtol-testing": {2: "slabs reassign"},
 }
