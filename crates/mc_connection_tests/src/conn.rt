@@ -3,7 +3,7 @@
 ghost use Rattle.std.specs.Prelude.{◌<◌};
 
 use crate::asserting::{equal, holds};
-use crate::outlet::{Memory, outlet, outlet_over};
+use crate::outlet::{MemoryOutlet, outlet, outlet_over};
 use crate::stranger::stranger_of;
 use mc_command::Rules;
 use mc_conn::{Conn, Taken};
@@ -48,7 +48,7 @@ fn accepts(rt: &impl Abort, conn: &mut Conn, reply: Reply) {
 }
 
 /// Asserts that the replies of `count` commands go out.
-fn hands(rt: &impl Abort, conn: &mut Conn, out: &mut Memory, count: u64) {
+fn hands(rt: &impl Abort, conn: &mut Conn, out: &mut MemoryOutlet, count: u64) {
     holds(rt, conn.hand(out) == Ok(count));
 }
 
@@ -97,7 +97,7 @@ fn answer_all(rt: &impl Abort, conn: &mut Conn) {
 }
 
 /// Takes, answers and hands out until no more commands are whole or none comes.
-fn serve(rt: &impl Abort, alloc: Global, conn: &mut Conn, out: &mut Memory) -> Taken {
+fn serve(rt: &impl Abort, alloc: Global, conn: &mut Conn, out: &mut MemoryOutlet) -> Taken {
     for _ in 0..CONVERSATION.len() {
         let taken = take_all(alloc, conn);
         answer_all(rt, conn);

@@ -4,7 +4,7 @@ ghost use Rattle.mc_wire.specs.Outlet.{Listed, Untold, sight_out};
 ghost use Rattle.mc_join.specs.Held.{opened_count};
 
 use crate::asserting::{equal, holds};
-use crate::outlet::{Memory, outlet};
+use crate::outlet::{MemoryOutlet, outlet};
 use crate::stranger::stranger_of;
 use mc_command::{Command, Keys, Retrieval};
 use mc_item::{Answer, Kind, Value};
@@ -477,13 +477,13 @@ const LONG_KEY: &[u8] = b"a:key:of:39:bytes:lies:in:its:own:block";
 
 /// Counts its writes, those of at least `LARGE` bytes by themselves, and keeps nothing.
 #[derive(Drop)]
-struct Tally {
+struct WriteTally {
     small: u64,
     large: u64,
     bytes: u64,
 }
 
-impl Outlet for Tally {
+impl Outlet for WriteTally {
     ghost sight = { λ _. sight_out Untold false };
 
     fn write(&mut self, bytes: &[u8]) -> Result<usize, OutFault> {
@@ -534,7 +534,7 @@ fn a_hit_copies_no_value(rt: HostRuntime) {
     };
     let found = reply(&rt, 0, 0, Kind::Fetch, found);
     holds(&rt, takes(&mut joiner, found));
-    let mut out = Tally {
+    let mut out = WriteTally {
         small: 0,
         large: 0,
         bytes: 0,

@@ -6,14 +6,14 @@ use std::alloc::Global;
 
 /// Counts the writes, takes `left` bytes more, and fails after them.
 #[derive(Drop)]
-pub struct Memory {
+pub struct MemoryOutlet {
     pub taken: Vec<u8>,
     pub writes: u64,
     left: usize,
     failed: bool,
 }
 
-impl Outlet for Memory {
+impl Outlet for MemoryOutlet {
     ghost sight = { λ out. sight_out (Listed out.taken.items) out.failed };
 
     fn write(&mut self, bytes: &[u8]) -> Result<usize, OutFault> {
@@ -33,7 +33,7 @@ impl Outlet for Memory {
     }
 }
 
-impl Memory {
+impl MemoryOutlet {
     /// It goes on after a fault, and takes `left` bytes more.
     pub fn allow(&mut self, left: usize) {
         self.left = left;
@@ -42,13 +42,13 @@ impl Memory {
 }
 
 /// An outlet that takes `left` bytes.
-pub fn outlet(alloc: Global, left: usize) -> Memory {
+pub fn outlet(alloc: Global, left: usize) -> MemoryOutlet {
     outlet_over(Vec::new(alloc), left)
 }
 
 /// The same, which puts them behind these.
-pub fn outlet_over(taken: Vec<u8>, left: usize) -> Memory {
-    Memory {
+pub fn outlet_over(taken: Vec<u8>, left: usize) -> MemoryOutlet {
+    MemoryOutlet {
         taken,
         writes: 0,
         left,

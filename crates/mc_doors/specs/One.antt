@@ -3,7 +3,7 @@ use Rattle.std.specs.Prelude.{ℕ, ◌≡◌, Bool, false, [], ◌∷◌, Option
 use Rattle.mc_wire.specs.Outlet.{Sight}
 use Rattle.mc_seat.specs.Explains.{LineTold}
 use Rattle.mc_doors.specs.declared.one_door.OneDoor.{OneDoor}
-use Rattle.mc_doors.specs.declared.one_door.Returned.{Returned}
+use Rattle.mc_doors.specs.declared.one_door.ReturnedLine.{ReturnedLine}
 use Rattle.std.specs.declared.snapshot.Snapshot.{Snapshot}
 use Rattle.mc_doors.specs.Told.{DoorTold, TellsLines}
 
@@ -16,7 +16,7 @@ abbrev pub served : LineTold → Bool → DoorTold
 served line over = TellsLines (Some []) None (line ∷ []) over
 
 -- wherever it is: it came back, is out, or waits
-abbrev pub told_one : {L : Type 0} → (L → Sight) → Option L → Option (Snapshot L) → Option (Returned L) → Bool → DoorTold
+abbrev pub told_one : {L : Type 0} → (L → Sight) → Option L → Option (Snapshot L) → Option (ReturnedLine L) → Bool → DoorTold
 told_one sight line out (Some one) over = served (record { begin = sight one.begin.value; now = sight one.served.line; commands = one.served.commands; broke = one.served.broke }) over
 told_one sight line (Some begin) None over = TellsLines (Some []) (Some (sight begin.value)) [] over
 told_one sight (Some line) None None over = TellsLines (Some (sight line ∷ [])) None [] over

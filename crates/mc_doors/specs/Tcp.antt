@@ -3,7 +3,7 @@ use Rattle.std.specs.Prelude.{ℕ, ◌≡◌, ◌+◌, Bool, true, false, List, 
 use Rattle.mc_wire.specs.Outlet.{Listed, Read, Sight}
 use Rattle.mc_seat.specs.Explains.{LineTold}
 use Rattle.mc_doors.specs.Told.{DoorTold, TellsLines, TellsNothing}
-use Rattle.mc_doors.specs.declared.tcp_door.Gone.{Gone}
+use Rattle.mc_doors.specs.declared.tcp_door.ClosedConnection.{ClosedConnection}
 use Rattle.mc_doors.specs.declared.tcp_line.TcpLine.{TcpLine}
 use Rattle.std.specs.Io.KnownBytes.{Appends, Consumes, Keeps}
 
@@ -38,7 +38,7 @@ TellsWrite (Err why) (Ok told) = told ≡ 0
 TellsWrite (Err why) (Err fault) = Unit {0}
 
 -- one that is gone: what its reads gave and its writes took
-abbrev pub gone_line : Gone → LineTold
+abbrev pub gone_line : ClosedConnection → LineTold
 gone_line gone = record {
   begin = new_line;
   now = sight_of gone.line.value;
@@ -47,7 +47,7 @@ gone_line gone = record {
 }
 
 -- what is told of the door of a seat: whether a connection is out, those that are gone, and whether it said that no more come
-abbrev pub told_tcp : Bool → List (Gone × Unit {0}) → Bool → DoorTold
+abbrev pub told_tcp : Bool → List (ClosedConnection × Unit {0}) → Bool → DoorTold
 told_tcp true gone over = TellsLines None (Some new_line) (map (λ one. gone_line one.0) gone) over
 told_tcp false gone over = TellsLines None None (map (λ one. gone_line one.0) gone) over
 

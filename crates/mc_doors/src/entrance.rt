@@ -104,7 +104,7 @@ impl Bell {
 
 /// A connection that has come in, and whose it is.
 #[derive(Drop)]
-pub(crate) struct Caller {
+pub(crate) struct NewConnection {
     pub(crate) stream: TcpStream,
     pub(crate) peer: SocketAddr,
 }
@@ -114,7 +114,7 @@ pub struct Way {
     /// The number of the seat.
     pub(crate) seat: usize,
     /// The connection that comes next.
-    pub(crate) come: Consumer<Caller>,
+    pub(crate) come: Consumer<NewConnection>,
     pub(crate) bell: Bell,
     /// What wakes the seats.
     pub(crate) seats: Wakers,
@@ -145,7 +145,7 @@ pub struct Entrance {
     bell: Bell,
     free: FreeSeats,
     /// The way to each seat.
-    ways: Vec<Producer<Caller>>,
+    ways: Vec<Producer<NewConnection>>,
     seats: Wakers,
     watch: EntranceWatch,
 }
@@ -225,11 +225,11 @@ impl Entrance {
             if !self.may_take() || !self.wait_for_seat(rt) {
                 return;
             }
-            let Ok(caller) = self.accept(rt) else {
+            let Ok(connection) = self.accept(rt) else {
                 self.bell.closing.has_failed.store(true, Ordering::SeqCst);
                 return;
             };
-            self.hand_over(caller);
+            self.hand_over(connection);
         }
     }
 
@@ -272,13 +272,13 @@ impl Entrance {
 
     /// Waits for a connection. A fault that passes, as too many open files or a peer that went away, is waited out. What is
     /// written to the connection goes out at once (TCP_NODELAY).
-    fn accept<R: time::Clock>(&mut self, rt: &R) -> io::Result<Caller> {
+    fn accept<R: time::Clock>(&mut self, rt: &R) -> io::Result<NewConnection> {
         for _ in 0..u64::MAX {
             match self.listener.accept() {
                 Ok((stream, peer)) => {
                     if let Some(stream) = prepared(stream) {
                         self.watch.accepted();
-                        return Ok(Caller { stream, peer });
+                        return Ok(NewConnection { stream, peer });
                     }
                 }
                 Err(fault) => {
@@ -294,14 +294,14 @@ impl Entrance {
     }
 
     /// Hands the connection to a free seat of the thread that has the most.
-    fn hand_over(&mut self, caller: Caller) {
+    fn hand_over(&mut self, connection: NewConnection) {
         self.note_free();
         let Some(seat) = self.free.take() else {
             return;
         };
         if let Some(way) = self.ways.get_mut(seat) {
             // A seat that is free has taken what came before.
-            let _ = way.push(caller);
+            let _ = way.push(connection);
         }
         self.seats.rouse(seat);
     }

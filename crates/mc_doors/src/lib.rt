@@ -16,9 +16,9 @@ mod vectored;
 
 pub use door::{Arrival, Door};
 pub use entrance::{Bell, Entrance, Way};
-pub use one_door::{OneDoor, Returned, ServedLine};
+pub use one_door::{OneDoor, ReturnedLine, ServedLine};
 pub use peek::Peek;
-pub use tcp_door::{Gone, TcpDoor};
+pub use tcp_door::{ClosedConnection, TcpDoor};
 pub use tcp_line::TcpLine;
 pub use trail::Trail;
 pub use vectored::VectoredWrite;

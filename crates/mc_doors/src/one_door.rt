@@ -18,16 +18,16 @@ pub struct ServedLine<L> {
 
 /// A line that was served, and how it was seen when it came in.
 #[derive(Drop)]
-pub struct Returned<L> {
+pub struct ReturnedLine<L> {
     begin: Snapshot<L>,
     served: ServedLine<L>,
 }
 
-impl<L: Drop> Returned<L> {
+impl<L: Drop> ReturnedLine<L> {
     fn into_served(self) -> ServedLine<L>
         ensures { result ≡ self.served }
     {
-        let Returned { served, .. } = self;
+        let ReturnedLine { served, .. } = self;
         served
     }
 }
@@ -38,7 +38,7 @@ pub struct OneDoor<L> {
     waits: Option<L>,
     /// The line that is out, as it was seen when it came in.
     out: Option<Snapshot<L>>,
-    back: Option<Returned<L>>,
+    back: Option<ReturnedLine<L>>,
     /// It has said that no more lines come.
     over: bool,
 }
@@ -102,6 +102,6 @@ impl<L: Line + Drop> Door for OneDoor<L> {
             commands,
             broke,
         };
-        self.back = Some(Returned { begin, served });
+        self.back = Some(ReturnedLine { begin, served });
     }
 }

@@ -4,7 +4,7 @@ ghost use Rattle.mc_doors.specs.Tcp.{new_line, sight_of, told_tcp};
 ghost use Rattle.mc_doors.specs.Told.{TellsLines};
 
 use crate::door::{Arrival, Door};
-use crate::entrance::{Caller, Way};
+use crate::entrance::{NewConnection, Way};
 use crate::lingering::{Lingering, Lingers};
 use crate::tcp_line::TcpLine;
 use http_server::Log;
@@ -14,7 +14,7 @@ use std::time;
 
 /// A connection that was served and closed, as contracts see it: what it was just before it was closed.
 #[derive(Drop)]
-pub struct Gone {
+pub struct ClosedConnection {
     line: Snapshot<TcpLine<TcpStream>>,
     commands: u64,
     broke: bool,
@@ -33,7 +33,7 @@ pub struct TcpDoor<R> {
     lingering: Option<Lingering>,
     /// A connection came in and did not go back yet.
     is_out: bool,
-    gone: Log<Gone, ()>,
+    gone: Log<ClosedConnection, ()>,
     /// It has said that no more connections come.
     is_over: bool,
     /// How many of its connections have ended, a count that stays at its greatest value.
@@ -108,7 +108,7 @@ impl<R: time::Clock> TcpDoor<R> {
         ensures told { told_tcp self.new.is_out self.new.gone.items self.new.is_over ≡
             told_tcp self.old.is_out self.old.gone.items self.old.is_over }
     {
-        let Caller { mut stream, peer } = self.way.come.pop().ok()?;
+        let NewConnection { mut stream, peer } = self.way.come.pop().ok()?;
         self.told_free = false;
         if self.way.seats.register(self.way.seat, &mut stream).is_err() {
             // It could never be read from: it is closed at once.
@@ -157,7 +157,7 @@ impl<R: time::Clock> Door for TcpDoor<R> {
 
     fn give_back(&mut self, line: TcpLine<TcpStream>, commands: u64, broke: bool) {
         if self.is_out {
-            let gone = Gone {
+            let gone = ClosedConnection {
                 line: Snapshot::of(&line),
                 commands,
                 broke,

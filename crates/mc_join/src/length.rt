@@ -6,26 +6,26 @@ use mc_wire::{OutFault, Outlet};
 
 /// An outlet that counts the bytes that it takes, and keeps none. It has no room for more than `u64::MAX`.
 #[derive(Drop)]
-pub(crate) struct Counter {
+pub(crate) struct ByteCounter {
     pub(crate) count: u64,
     full: bool,
     ghost within: { count < 2 ^ 64 },
     ghost is_full: { IsTrue full → count ≡ 2 ^ 64 - 1 },
 }
 
-impl Counter {
+impl ByteCounter {
     /// A counter that has taken nothing.
-    pub(crate) fn new() -> Counter
-        ensures sight { ⟦<Counter as Outlet>⟧.sight result ≡ sight_out (Counted 0) false }
+    pub(crate) fn new() -> ByteCounter
+        ensures sight { ⟦<ByteCounter as Outlet>⟧.sight result ≡ sight_out (Counted 0) false }
     {
-        Counter {
+        ByteCounter {
             count: 0,
             full: false,
         }
     }
 }
 
-impl Outlet for Counter {
+impl Outlet for ByteCounter {
     ghost sight = { λ counter. sight_out (Counted counter.count) counter.full };
 
     fn write(&mut self, bytes: &[u8]) -> Result<usize, OutFault> {

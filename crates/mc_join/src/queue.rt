@@ -9,7 +9,7 @@ ghost use Rattle.mc_join.specs.Length.{capped};
 ghost use Rattle.mc_join.specs.Replies.{complete, form_text, is_answered};
 
 use crate::gathering::{Gathering, Start};
-use crate::length::Counter;
+use crate::length::ByteCounter;
 use crate::room::Room;
 use circular_buffer::HeapCircularBuffer;
 use mc_item::Answer;
@@ -143,7 +143,7 @@ pub(crate) fn drop_first(forms: &mut HeapCircularBuffer<Form>, count: usize)
 pub(crate) fn texts_len(forms: &HeapCircularBuffer<Form>) -> u64
     ensures { result ≡ capped (length (concat (map form_text (complete forms.now.items)))) }
 {
-    let mut counter = Counter::new();
+    let mut counter = ByteCounter::new();
     // A counter that is full tells the greatest number.
     let _ = put_each(&mut counter, forms);
     counter.count

@@ -5,8 +5,8 @@ use Rattle.std.specs.List.{concat}
 use Rattle.mc_watch.specs.declared.shard_counts.CommandTotals.{CommandTotals}
 use Rattle.mc_watch.specs.declared.shard_counts.ShardTotals.{ShardTotals}
 use Rattle.mc_metrics.specs.declared.reading.Reading.{Reading}
-use Rattle.mc_metrics.specs.declared.text.Command.{Command}
-use Rattle.mc_metrics.specs.declared.text.Command.TheVariants.{Get, Set, Cas, Touch, Delete, Incr, Decr, Flush}
+use Rattle.mc_metrics.specs.declared.text.CommandKind.{CommandKind}
+use Rattle.mc_metrics.specs.declared.text.CommandKind.TheVariants.{Get, Set, Cas, Touch, Delete, Incr, Decr, Flush}
 use Rattle.mc_metrics.specs.declared.text.Metric.{Metric}
 use Rattle.mc_metrics.specs.declared.text.Number.{Number}
 use Rattle.mc_metrics.specs.declared.text.Number.TheVariants.{Up, Uptime, LimitBytes, Shards, Seats, Open, Waiting, Accepted, Broken, Failed, Commands, Read, Written, Items, Bytes, Evicted, OutOfMemory}
@@ -112,7 +112,7 @@ number_of OutOfMemory reading = reading.totals.shards.out_of_memory
 abbrev pub told_text : Reading → Metric → List ℕ
 told_text reading metric = metric_text metric.kind.now metric.name.now metric.help.now (number_of metric.number reading)
 
-abbrev pub command_name : Command → List ℕ
+abbrev pub command_name : CommandKind → List ℕ
 command_name Get = codes "get"
 command_name Set = codes "set"
 command_name Cas = codes "cas"
@@ -122,7 +122,7 @@ command_name Incr = codes "incr"
 command_name Decr = codes "decr"
 command_name Flush = codes "flush"
 
-abbrev pub totals_of : Command → ShardTotals → CommandTotals
+abbrev pub totals_of : CommandKind → ShardTotals → CommandTotals
 totals_of Get shards = shards.get
 totals_of Set shards = shards.set
 totals_of Cas shards = shards.cas
@@ -133,5 +133,5 @@ totals_of Decr shards = shards.decr
 totals_of Flush shards = shards.flush
 
 -- what is told of a kind of command
-abbrev pub asked_text : ShardTotals → Command → List ℕ
+abbrev pub asked_text : ShardTotals → CommandKind → List ℕ
 asked_text shards command = command_text (command_name command) (totals_of command shards)

@@ -13,7 +13,7 @@ reporter_count is_told seats = if is_told then min (seats + 1) (2 ^ 64 - 1) else
 -- A server of these sizes is watched as is wished.
 pub record AreFollowed (wishes : Wishes) (sizes : Sizes) (watch : Watch Counter) : Type 0 where
   -- A connection may be idle for as many seconds as is said, or for ever.
-  pub idle : option_map (λ patience. patience.limit) watch.patience ≡ wishes.idle_timeout
+  pub idle : option_map (λ idle_limit. idle_limit.limit) watch.idle_limit ≡ wishes.idle_timeout
   -- Connections are told on standard error, or not.
   pub told : length watch.reporters.items ≡ reporter_count wishes.verbose sizes.seats
   -- Where the metrics are told somewhere, each shard's thread counts.

@@ -39,7 +39,7 @@ enum Number {
 
 /// A kind of command that shards are asked.
 #[derive(Clone, Copy)]
-enum Command {
+enum CommandKind {
     Get,
     Set,
     Cas,
@@ -162,15 +162,15 @@ const METRICS: [Metric; 17] = [
 ];
 
 /// All kinds of commands, in the order in which they are told.
-const COMMANDS: [Command; 8] = [
-    Command::Get,
-    Command::Set,
-    Command::Cas,
-    Command::Touch,
-    Command::Delete,
-    Command::Incr,
-    Command::Decr,
-    Command::Flush,
+const COMMANDS: [CommandKind; 8] = [
+    CommandKind::Get,
+    CommandKind::Set,
+    CommandKind::Cas,
+    CommandKind::Touch,
+    CommandKind::Delete,
+    CommandKind::Incr,
+    CommandKind::Decr,
+    CommandKind::Flush,
 ];
 
 /// What comes before the lines of the kinds of commands.
@@ -237,7 +237,7 @@ fn push_commands(text: &mut String, shards: &ShardTotals) -> Result<(), AllocErr
 /// The kinds of commands, one after another.
 fn push_each_command(
     text: &mut String,
-    commands: &[Command],
+    commands: &[CommandKind],
     shards: &ShardTotals,
 ) -> Result<(), AllocError>
     ensures { OnOk result (string_bytes text.new ≡
@@ -297,19 +297,19 @@ impl Number {
     }
 }
 
-impl Command {
+impl CommandKind {
     fn name(self) -> &'static str
         ensures { result.now ≡ command_name self }
     {
         match self {
-            Command::Get => "get",
-            Command::Set => "set",
-            Command::Cas => "cas",
-            Command::Touch => "touch",
-            Command::Delete => "delete",
-            Command::Incr => "incr",
-            Command::Decr => "decr",
-            Command::Flush => "flush",
+            CommandKind::Get => "get",
+            CommandKind::Set => "set",
+            CommandKind::Cas => "cas",
+            CommandKind::Touch => "touch",
+            CommandKind::Delete => "delete",
+            CommandKind::Incr => "incr",
+            CommandKind::Decr => "decr",
+            CommandKind::Flush => "flush",
         }
     }
 
@@ -317,14 +317,14 @@ impl Command {
         ensures { result.now ≡ totals_of self shards.now }
     {
         match self {
-            Command::Get => &shards.get,
-            Command::Set => &shards.set,
-            Command::Cas => &shards.cas,
-            Command::Touch => &shards.touch,
-            Command::Delete => &shards.delete,
-            Command::Incr => &shards.incr,
-            Command::Decr => &shards.decr,
-            Command::Flush => &shards.flush,
+            CommandKind::Get => &shards.get,
+            CommandKind::Set => &shards.set,
+            CommandKind::Cas => &shards.cas,
+            CommandKind::Touch => &shards.touch,
+            CommandKind::Delete => &shards.delete,
+            CommandKind::Incr => &shards.incr,
+            CommandKind::Decr => &shards.decr,
+            CommandKind::Flush => &shards.flush,
         }
     }
 }

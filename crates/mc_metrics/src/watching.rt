@@ -8,7 +8,7 @@ use crate::pages::Pages;
 use crate::reading::Facts;
 use crate::server::MetricsServer;
 use mc_sizes::Sizes;
-use mc_watch::{Counts, Dismissal, Patience, Reporter, Reports, Seconds, Watch, reporters};
+use mc_watch::{Counts, Dismissal, IdleLimit, Reporter, Reports, Seconds, Watch, reporters};
 use std::alloc::{AllocError, Global};
 use std::fs::File;
 use std::io::Eprint;
@@ -126,7 +126,7 @@ impl Watching {
     {
         let facts = facts_of(version, port, sizes);
         Ok(Watch {
-            patience: patience_of(rt.alloc(), wishes.idle_timeout)?,
+            idle_limit: idle_limit_of(rt.alloc(), wishes.idle_timeout)?,
             reporters: self.reporters(rt, wishes.verbose, sizes.seats)?,
             counts: self.counts(rt, wishes.metrics, facts, sizes.shards)?,
         })
@@ -251,15 +251,15 @@ impl Watching {
 }
 
 /// How long a connection may be idle, where that is limited.
-fn patience_of(alloc: Global, limit: Option<u64>) -> Result<Option<Patience>, AllocError>
+fn idle_limit_of(alloc: Global, limit: Option<u64>) -> Result<Option<IdleLimit>, AllocError>
     ensures { IfOk result
-        (λ patience. option_map (λ one. one.limit) patience ≡ limit) }
+        (λ idle_limit. option_map (λ one. one.limit) idle_limit ≡ limit) }
 {
     let Some(limit) = limit else {
         return Ok(None);
     };
     let seconds = Seconds::new(alloc)?;
-    Ok(Some(Patience { seconds, limit }))
+    Ok(Some(IdleLimit { seconds, limit }))
 }
 
 /// What is told of the server beside what it counts.

@@ -7,8 +7,8 @@ use Rattle.mc_conn.specs.Conn.{IsConn}
 use Rattle.mc_conn.specs.History.{Taken}
 use Rattle.mc_conn.specs.Told.{Told, told_nothing}
 use Rattle.mc_seat.specs.declared.service.Service.{Service}
-use Rattle.mc_seat.specs.declared.service.Stepped.{Stepped}
-use Rattle.mc_seat.specs.declared.service.Stepped.TheVariants as stepped
+use Rattle.mc_seat.specs.declared.service.LineStep.{LineStep}
+use Rattle.mc_seat.specs.declared.service.LineStep.TheVariants as stepped
 use Rattle.mc_seat.specs.Later.{text_in}
 use Rattle.mc_seat.specs.Lines.{HasGrown}
 use Rattle.mc_seat.specs.internal.Stands.{IsComplete, Serving}
@@ -57,7 +57,7 @@ pub record WasServed (received : ℕ → List Shown) (begin now : Sight) (told :
   pub counted : commands ≡ length told.taken
 
 -- What a step says of the line.
-abbrev pub ServiceSays : Stepped → (ℕ → List Shown) → (ℕ → Type 0) → Sight → Sight → Told → Service → Type 0
+abbrev pub ServiceSays : LineStep → (ℕ → List Shown) → (ℕ → Type 0) → Sight → Sight → Told → Service → Type 0
 ServiceSays stepped.Did received may_answer begin now told service = ServesOn received may_answer begin now told service
 ServiceSays stepped.Waits received may_answer begin now told service = ServesOn received may_answer begin now told service
 ServiceSays (stepped.Ended served) received may_answer begin now told service = WasServed received begin now told served.broke served.commands service
@@ -68,6 +68,6 @@ TakesFor may_answer old new =
     (received : ℕ → List Shown) (begin now : Sight) (told : Told) → IsServing received may_answer begin now told old → ServesOn received may_answer begin now told new
 
 -- What going on does, once all commands taken are answered.
-abbrev pub GoOnSays : Stepped → (ℕ → Type 0) → Service → Sight → Service → Sight → Type 0
+abbrev pub GoOnSays : LineStep → (ℕ → Type 0) → Service → Sight → Service → Sight → Type 0
 GoOnSays did may_answer old before new now =
     (received : ℕ → List Shown) (begin : Sight) (told : Told) → HasStopped received may_answer begin before told old → IsComplete received told → ServiceSays did received may_answer begin now told new

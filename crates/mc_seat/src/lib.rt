@@ -10,5 +10,5 @@ mod unwritten;
 
 pub use lines::{Clock, Line, LineFault, Ready};
 pub use rooms::Rooms;
-pub use service::{Served, Service, Stepped};
+pub use service::{LineStep, Served, Service};
 pub use unwritten::Unwritten;

@@ -9,7 +9,7 @@ use std::alloc::Global;
 
 /// What comes after a turn.
 #[derive(Clone, Copy, Debug, PartialEq, Eq)]
-pub(crate) enum Turn {
+pub(crate) enum AfterTurn {
     /// Another turn.
     Continues,
     /// Another turn, once the line has more to give.
@@ -53,43 +53,43 @@ impl Seat {
         line: &mut L,
         stop: Taken,
         rooms: &mut Rooms,
-    ) -> Turn
+    ) -> AfterTurn
         ensures { HandedSays result stop conn.old self.old.unread (L.sight line.old) conn.new
             self.new.unread (L.sight line.new) }
     {
         match stop {
             Taken::NeedMore => self.read_on(conn, line, rooms),
-            Taken::Closed => Turn::Ended,
-            Taken::Opened(_) | Taken::Full => Turn::Continues,
+            Taken::Closed => AfterTurn::Ended,
+            Taken::Opened(_) | Taken::Full => AfterTurn::Continues,
         }
     }
 
     /// Reads on, once all replies are handed out: what was read is fed to the connection as far as it takes it, and where all
     /// of it was fed, more is read first.
-    fn read_on<L: Line>(&mut self, conn: &mut Conn, line: &mut L, rooms: &mut Rooms) -> Turn
+    fn read_on<L: Line>(&mut self, conn: &mut Conn, line: &mut L, rooms: &mut Rooms) -> AfterTurn
         ensures { ReadOnSays result conn.old self.old.unread (L.sight line.old) conn.new
             self.new.unread (L.sight line.new) }
     {
         if !self.unread.is_empty() {
             self.feed(conn, rooms);
-            return Turn::Continues;
+            return AfterTurn::Continues;
         }
         match self.unread.refill(line, rooms) {
             Err(_fault) => {
                 conn.broken();
-                return Turn::Failed;
+                return AfterTurn::Failed;
             }
-            Ok(Refilled::Nothing) => return Turn::Waits,
-            Ok(Refilled::NoRoom) => return Turn::Continues,
+            Ok(Refilled::Nothing) => return AfterTurn::Waits,
+            Ok(Refilled::NoRoom) => return AfterTurn::Continues,
             Ok(Refilled::Bytes) => {}
         }
         if self.unread.is_empty() {
             self.unread.give_back(rooms);
             conn.end();
-            return Turn::Continues;
+            return AfterTurn::Continues;
         }
         self.feed(conn, rooms);
-        Turn::Continues
+        AfterTurn::Continues
     }
 
     /// Feeds what was read to the connection, as far as it takes it.

@@ -4,7 +4,7 @@ ghost use Rattle.mc_sizes.specs.Sizes.{SuitLines, rules_of};
 
 use crate::lines::{Clock, Line};
 use crate::rooms::Rooms;
-use crate::seat::{Seat, Turn};
+use crate::seat::{AfterTurn, Seat};
 use crate::unwritten::Unwritten;
 use mc_conn::{Conn, Taken};
 use mc_sizes::Sizes;
@@ -21,7 +21,7 @@ pub struct Served {
 
 /// What a step did.
 #[derive(Clone, Copy)]
-pub enum Stepped {
+pub enum LineStep {
     /// Something: the next step may follow at once.
     Did,
     /// Nothing: replies of a shard or bytes of the line have to come first, or the line has to take replies that wait.
@@ -108,7 +108,7 @@ impl Service {
         line: &mut L,
         clock: &K,
         rooms: &mut Rooms,
-    ) -> Stepped
+    ) -> LineStep
         ensures { GoOnSays result (K.may_answer clock.now) self.old (L.sight line.old) self.new
             (L.sight line.new) }
     {
@@ -122,7 +122,7 @@ impl Service {
                 self.unwritten.return_room(rooms);
                 self.go_on_reading(line, clock, rooms)
             }
-            Ok(false) => Stepped::Waits,
+            Ok(false) => LineStep::Waits,
             Err(_fault) => {
                 self.conn.broken();
                 self.ended(true)
@@ -136,26 +136,26 @@ impl Service {
         line: &mut L,
         clock: &K,
         rooms: &mut Rooms,
-    ) -> Stepped
+    ) -> LineStep
         ensures { ReadingSays result (K.may_answer clock.now) self.old (L.sight line.old) self.new
             (L.sight line.new) }
     {
         match self.seat.go_on(&mut self.conn, line, self.stop, rooms) {
-            Turn::Continues => {
+            AfterTurn::Continues => {
                 self.take_all(clock);
-                Stepped::Did
+                LineStep::Did
             }
-            Turn::Waits => Stepped::Waits,
-            Turn::Ended => self.ended(false),
-            Turn::Failed => self.ended(true),
+            AfterTurn::Waits => LineStep::Waits,
+            AfterTurn::Ended => self.ended(false),
+            AfterTurn::Failed => self.ended(true),
         }
     }
 
     /// What became of the line.
-    fn ended(&self, broke: bool) -> Stepped
-        ensures { result ≡ Stepped.Ended (record { commands = self.now.commands; broke = broke }) }
+    fn ended(&self, broke: bool) -> LineStep
+        ensures { result ≡ LineStep.Ended (record { commands = self.now.commands; broke = broke }) }
     {
-        Stepped::Ended(Served {
+        LineStep::Ended(Served {
             commands: self.commands,
             broke,
         })

@@ -9,7 +9,7 @@ use Rattle.mc_doors.specs.Told.{DoorTold, IsFree, TellsLines, TellsNothing, clos
 use Rattle.mc_serve.specs.Served.{PassEach, PassesAll, ServesDoors}
 use Rattle.mc_doors.specs.Tcp.{gone_count, gone_line, new_line, told_tcp}
 use Rattle.mc_serve.specs.Connections.{ServesConnections, how_many}
-use Rattle.mc_doors.specs.declared.tcp_door.Gone.{Gone}
+use Rattle.mc_doors.specs.declared.tcp_door.ClosedConnection.{ClosedConnection}
 
 -- a door by which nothing came in yet
 abbrev pub new_door : DoorTold
@@ -20,19 +20,19 @@ abbrev pub BeginsNew : DoorTold → Type 0
 BeginsNew TellsNothing = Unit {0}
 BeginsNew (TellsLines coming out back over) = AllByRecursion (λ line. line.begin ≡ new_line) back
 
-lines_new : (gone : List (Gone × Unit {0})) → AllByRecursion (λ line. line.begin ≡ new_line) (map (λ one. gone_line one.0) gone)
+lines_new : (gone : List (ClosedConnection × Unit {0})) → AllByRecursion (λ line. line.begin ≡ new_line) (map (λ one. gone_line one.0) gone)
 lines_new [] = tt
 lines_new (one ∷ gone) = (refl, lines_new gone)
 
 -- Each connection that went back to a seat's door over TCP was new when it came in.
-pub tcp_new : (out : Bool) (gone : List (Gone × Unit {0})) (over : Bool) → BeginsNew (told_tcp out gone over)
+pub tcp_new : (out : Bool) (gone : List (ClosedConnection × Unit {0})) (over : Bool) → BeginsNew (told_tcp out gone over)
 tcp_new true gone over = lines_new gone
 tcp_new false gone over = lines_new gone
 
 -- how many went back to the door
-pub gone_one : (out : Bool) (gone : List (Gone × Unit {0})) (over : Bool) (rest : List DoorTold) → gone_count (told_tcp out gone over ∷ rest) ≡ length gone + gone_count rest
-gone_one true gone over rest = ap (λ n. n + gone_count rest) (length-map gone (λ (one : Gone × Unit {0}). gone_line one.0))
-gone_one false gone over rest = ap (λ n. n + gone_count rest) (length-map gone (λ (one : Gone × Unit {0}). gone_line one.0))
+pub gone_one : (out : Bool) (gone : List (ClosedConnection × Unit {0})) (over : Bool) (rest : List DoorTold) → gone_count (told_tcp out gone over ∷ rest) ≡ length gone + gone_count rest
+gone_one true gone over rest = ap (λ n. n + gone_count rest) (length-map gone (λ (one : ClosedConnection × Unit {0}). gone_line one.0))
+gone_one false gone over rest = ap (λ n. n + gone_count rest) (length-map gone (λ (one : ClosedConnection × Unit {0}). gone_line one.0))
 
 -- what came in by a new door is what went back
 record IsAllBack (lines : List LineTold) (after : DoorTold) : Type 0 where

@@ -90,7 +90,7 @@ where
         (map (λ door. D.told door) back.items)) }
 {
     let mut crew = Crew::new(alloc, sleepers.len())?;
-    let rooms = Rooms::new(alloc, doors.len(), sizes.shards)?;
+    let rooms = ReturnRoom::new(alloc, doors.len(), sizes.shards)?;
     let Ok(gate) = Arc::new(alloc, gate) else {
         return Err(CrewRefusal::Memory);
     };
@@ -106,7 +106,7 @@ where
 
 /// The room for what the threads hand back. It comes before they start: nothing is lost once the lines were served.
 #[derive(Drop)]
-struct Rooms<D: Door, G> {
+struct ReturnRoom<D: Door, G> {
     seats: Vec<Sitting<D>>,
     workers: Vec<Working<G>>,
     doors: Vec<D>,
@@ -115,10 +115,10 @@ struct Rooms<D: Door, G> {
     ghost no_doors: { doors.items ≡ [] },
 }
 
-impl<D: Door + Drop, G: Gate + Drop> Rooms<D, G> {
+impl<D: Door + Drop, G: Gate + Drop> ReturnRoom<D, G> {
     /// The room for as many seats and workers.
-    fn new(alloc: Global, seats: usize, workers: usize) -> Result<Rooms<D, G>, AllocError> {
-        Ok(Rooms {
+    fn new(alloc: Global, seats: usize, workers: usize) -> Result<ReturnRoom<D, G>, AllocError> {
+        Ok(ReturnRoom {
             seats: Vec::with_capacity(alloc, seats)?,
             workers: Vec::with_capacity(alloc, workers)?,
             doors: Vec::with_capacity(alloc, seats)?,
@@ -139,7 +139,7 @@ impl<D: Door + Drop, G: Gate + Drop> Rooms<D, G> {
         ensures doors { IfOk result (λ doors. doors.items ≡
             map (λ sitting. sitting.door) (flat_map (λ part. part.seats.all.items) parts.items)) }
     {
-        let Rooms {
+        let ReturnRoom {
             mut seats,
             mut workers,
             doors,

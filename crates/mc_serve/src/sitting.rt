@@ -11,7 +11,7 @@ ghost use Rattle.mc_serve.specs.declared.sitting.Phase.TheVariants as phase;
 
 use mc_doors::{Arrival, Door};
 use mc_ring::SeatEnds;
-use mc_seat::{Clock, Line, Ready, Rooms, Stepped as LineStep};
+use mc_seat::{Clock, Line, LineStep, Ready, Rooms};
 use mc_sizes::Sizes;
 use mc_threads::Session;
 use mc_wake::Wakers;

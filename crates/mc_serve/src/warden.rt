@@ -31,12 +31,12 @@ impl Warden {
         watch: &Watch,
         sleepers: &[Sleeper],
     ) -> Result<Warden, ServeRefusal> {
-        let Some(patience) = &watch.patience else {
+        let Some(idle_limit) = &watch.idle_limit else {
             return Ok(Warden { working: None });
         };
         let dismissal = Dismissal::new(alloc)?;
         let rounds = Rounds {
-            seconds: patience.seconds.share()?,
+            seconds: idle_limit.seconds.share()?,
             seats: Wakers::of(alloc, sleepers)?,
             count: places(sleepers),
             dismissal: Arc::try_clone(&dismissal)?,

@@ -12,7 +12,7 @@ use Rattle.mc_conn.proofs.Fitting.{fits_none, fits_take}
 use Rattle.mc_conn.proofs.Staying.{is_sound}
 use Rattle.mc_model.specs.Log.{Entry}
 use Rattle.mc_seat.specs.declared.service.Service.{Service}
-use Rattle.mc_seat.specs.declared.service.Stepped.{Stepped}
+use Rattle.mc_seat.specs.declared.service.LineStep.{LineStep}
 use Rattle.mc_seat.specs.Explains.{IsExplained}
 use Rattle.mc_seat.specs.Service.{GoOnSays, IsNew, ServesOn, ServiceSays, TakesFor, WasServed, told_on}
 use Rattle.mc_seat.proofs.More.{out_more, with_more}
@@ -77,7 +77,7 @@ answers_stop sizes may_answer begin now service conn shards after all turns =
     }
 
 -- What going on says of a turn whose commands were all answered.
-pub turn_said : (sizes : Sizes) (may_answer : ℕ → Type 0) (begin before now : Sight) (service new : Service) (shards : List Shard) (did : Stepped) → (answered : Answered sizes may_answer begin before service shards) → GoOnSays did may_answer service before new now → ServiceSays did (replies_on answered.turns.log) may_answer begin now answered.turns.told new
+pub turn_said : (sizes : Sizes) (may_answer : ℕ → Type 0) (begin before now : Sight) (service new : Service) (shards : List Shard) (did : LineStep) → (answered : Answered sizes may_answer begin before service shards) → GoOnSays did may_answer service before new now → ServiceSays did (replies_on answered.turns.log) may_answer begin now answered.turns.told new
 turn_said sizes may_answer begin before now service new shards did answered says =
     let turns = answered.turns in
     says (replies_on turns.log) begin turns.told turns.stopped (λ _. all_complete sizes turns.told shards turns.log service.conn turns.stopped.serves.conn_is answered.ran)

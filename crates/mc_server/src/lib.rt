@@ -5,4 +5,4 @@ mod clocks;
 mod serve;
 
 pub use clocks::{MachineClock, StillClock};
-pub use serve::{ServeRefusal, serve_one};
+pub use serve::{LineRefusal, serve_one};

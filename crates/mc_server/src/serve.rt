@@ -6,7 +6,7 @@ ghost use Rattle.mc_server.specs.internal.Answering.{AnswersAll, Backs, CanAnswe
 
 use mc_conn::Conn;
 use mc_ring::Reply;
-use mc_seat::{Clock, Line, Rooms, Served, Service, Stepped};
+use mc_seat::{Clock, Line, LineStep, Rooms, Served, Service};
 use mc_sizes::Sizes;
 use mc_store::Shard;
 use std::alloc::{AllocError, Global};
@@ -17,7 +17,7 @@ use thiserror::Error;
 
 /// Why a line was not served. Nothing was read of it nor written to it.
 #[derive(Clone, Copy, Debug, Error)]
-pub enum ServeRefusal {
+pub enum LineRefusal {
     /// There is no memory for the shards or the connection, or the system gives no random bytes for a hash.
     #[error("out of memory for the shards or the connection, or no random bytes from the system")]
     Memory,
@@ -66,7 +66,7 @@ pub fn serve_one<R: Wait + RandomSource, L: Line, K: Clock>(
     line: &mut L,
     sizes: Sizes,
     clock: &K,
-) -> Result<Served, ServeRefusal>
+) -> Result<Served, LineRefusal>
     requires shards { SuitShards sizes }
     requires lines { SuitLines sizes }
     // One log explains what was read, what was written and what the shards did.
@@ -85,15 +85,15 @@ pub fn serve_one<R: Wait + RandomSource, L: Line, K: Clock>(
         Service::new(alloc, sizes),
         Rooms::new(alloc),
     ) else {
-        return Err(ServeRefusal::Memory);
+        return Err(LineRefusal::Memory);
     };
     service.take_all(clock);
     for _ in rt.forever() {
         answer(alloc, &mut service.conn, &mut shards);
         match service.go_on(line, clock, &mut rooms) {
-            Stepped::Did => {}
-            Stepped::Waits => thread::yield_now(),
-            Stepped::Ended(served) => return Ok(served),
+            LineStep::Did => {}
+            LineStep::Waits => thread::yield_now(),
+            LineStep::Ended(served) => return Ok(served),
         }
     }
     unreachable!()

@@ -4,7 +4,7 @@ use crate::asserting::{equal, holds};
 use crate::memory_line::MemoryLine;
 use crate::sizes::SMALL;
 use mc_seat::Clock;
-use mc_server::{ServeRefusal, StillClock, serve_one};
+use mc_server::{LineRefusal, StillClock, serve_one};
 use mc_sizes::Sizes;
 use std::alloc::Global;
 use std::cell::Cell;
@@ -23,7 +23,7 @@ fn serve<R: RandomSource + Wait, C: Clock>(
     alloc: Global,
     line: &mut MemoryLine,
     clock: &C,
-) -> Result<(u64, bool), ServeRefusal> {
+) -> Result<(u64, bool), LineRefusal> {
     let served = serve_one(rt, alloc, line, SIZES, clock)?;
     Ok((served.commands, served.broke))
 }
@@ -105,7 +105,7 @@ fn a_refused_allocation(rt: HostRuntime) -> Result<(), Fail> {
         return Ok(());
     };
     match serve(&rt, rt.alloc(), &mut line, &StillClock(1000)) {
-        Err(ServeRefusal::Memory) => equal(&rt, line.calls, 0),
+        Err(LineRefusal::Memory) => equal(&rt, line.calls, 0),
         Ok(served) => {
             equal(&rt, served, (10, false));
             holds(

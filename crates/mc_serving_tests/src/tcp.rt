@@ -6,7 +6,7 @@ use crate::sizes::SMALL;
 use mc_serve::serve_tcp;
 use mc_server::StillClock;
 use mc_sizes::Sizes;
-use mc_watch::{Counts, Patience, Seconds, ShardTotals, Totals, Watch};
+use mc_watch::{Counts, IdleLimit, Seconds, ShardTotals, Totals, Watch};
 use std::alloc::Global;
 use std::io::{Read, Write};
 use std::net::{Net, SocketAddr, TcpListener, TcpStream};
@@ -138,7 +138,7 @@ fn serve_idle<
     let counts = Counts::new(alloc, 2)?;
     let mut watch = Watch::nothing(alloc);
     watch.counts = Some(counts.share(alloc)?);
-    watch.patience = Some(Patience {
+    watch.idle_limit = Some(IdleLimit {
         seconds: Seconds::new(alloc)?,
         limit: 1,
     });

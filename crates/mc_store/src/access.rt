@@ -9,7 +9,7 @@ use mc_wire::LATEST_MOMENT;
 
 /// Which command reads an item.
 #[derive(Clone, Copy)]
-pub enum Reader {
+pub enum FetchKind {
     /// `get`, `gets`, `gat`, `gats`.
     Classic,
     /// `mg`, with the token of its `R`.
@@ -23,7 +23,7 @@ pub struct Access {
     pub time: u64,
     /// The exptime that it sets.
     pub touch: Option<i64>,
-    pub reader: Reader,
+    pub kind: FetchKind,
 }
 
 /// What an item becomes when it is made the most recently used one in its place.
@@ -64,14 +64,14 @@ pub fn is_won(item: &Item, recache: Option<i64>, time: u64) -> bool
     !item.sent && (item.stale || has_fewer_left(item.expiry.seconds_left(time), recache))
 }
 
-impl Reader {
+impl FetchKind {
     /// Whether a client was told to recompute the item, once it was read.
     fn is_sent_after(self, item: &Item, time: u64) -> bool
         ensures { result ≡ is_sent_after self item.now time }
     {
         match self {
-            Reader::Classic => item.sent,
-            Reader::Meta(recache) => item.sent || is_won(item, recache, time),
+            FetchKind::Classic => item.sent,
+            FetchKind::Meta(recache) => item.sent || is_won(item, recache, time),
         }
     }
 }
@@ -85,14 +85,14 @@ impl Access {
               time = self.time;
               expiry = expiry_from self.touch item.now.expiry self.time;
               fetched = true;
-              sent = is_sent_after self.reader item.now self.time;
+              sent = is_sent_after self.kind item.now self.time;
             } }
     {
         Use {
             time: self.time,
             expiry: expiry_from(self.touch, item.expiry, self.time),
             fetched: true,
-            sent: self.reader.is_sent_after(item, self.time),
+            sent: self.kind.is_sent_after(item, self.time),
         }
     }
 }

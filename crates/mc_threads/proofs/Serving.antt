@@ -19,8 +19,8 @@ use Rattle.mc_conn.proofs.Counting.{count_from_come, due_beyond}
 use Rattle.mc_conn.proofs.Serving.{serves_none, serves_take}
 use Rattle.mc_conn.proofs.Staying.{is_sound}
 use Rattle.mc_seat.specs.declared.service.Service.{Service}
-use Rattle.mc_seat.specs.declared.service.Stepped.{Stepped}
-use Rattle.mc_seat.specs.declared.service.Stepped.TheVariants as stepped
+use Rattle.mc_seat.specs.declared.service.LineStep.{LineStep}
+use Rattle.mc_seat.specs.declared.service.LineStep.TheVariants as stepped
 use Rattle.mc_seat.specs.LineServed.{LineServed}
 use Rattle.mc_seat.specs.Service.{IsNew, ServesOn, ServiceSays, TakesFor, WasServed, told_on}
 use Rattle.mc_seat.specs.internal.Stands.{IsComplete}
@@ -214,7 +214,7 @@ serves_ended shards rules may_answer begin now after before courier service last
     }
 
 -- Where all commands taken are settled, what going on says of the line is so over the lanes.
-pub settled_says : (did : Stepped) (shards : ℕ) (rules : Rules) (may_answer : ℕ → Type 0) (begin now after : Sight) (before : Ends Near) (courier : Courier) (service last : Service) → (settled : Settled shards rules may_answer begin now before courier service) →
+pub settled_says : (did : LineStep) (shards : ℕ) (rules : Rules) (may_answer : ℕ → Type 0) (begin now after : Sight) (before : Ends Near) (courier : Courier) (service last : Service) → (settled : Settled shards rules may_answer begin now before courier service) →
     ServiceSays did settled.serves.received may_answer begin after settled.serves.told last → LineSays did shards rules may_answer begin after before courier last
 settled_says stepped.Did shards rules may_answer begin now after before courier service last settled says = settled_on shards rules may_answer begin now after before courier service last settled says
 settled_says stepped.Waits shards rules may_answer begin now after before courier service last settled says = settled_on shards rules may_answer begin now after before courier service last settled says

@@ -7,8 +7,8 @@ use Rattle.mc_ring.specs.Ends.{Ends}
 use Rattle.mc_threads.specs.declared.courier.Courier.{Courier}
 use Rattle.mc_threads.specs.declared.session.Session.{Session}
 use Rattle.mc_seat.specs.declared.service.Service.{Service}
-use Rattle.mc_seat.specs.declared.service.Stepped.{Stepped}
-use Rattle.mc_seat.specs.declared.service.Stepped.TheVariants as stepped
+use Rattle.mc_seat.specs.declared.service.LineStep.{LineStep}
+use Rattle.mc_seat.specs.declared.service.LineStep.TheVariants as stepped
 use Rattle.mc_threads.specs.Service.{IsServedBy, LineSays, ServesSomeLine, WasServedBy}
 use Rattle.mc_threads.specs.Session.{StepSays}
 use Rattle.mc_command.specs.declared.rules.Rules.{Rules}
@@ -32,7 +32,7 @@ pub some_is : {A : Type 0} (o : Option A) (x : A) (P : A → Type 0) → o ≡ S
 some_is {A} o x P is holds = let S : Option A → Type 0 = λ it. IsSomeAnd it P in subst S is holds
 
 -- What a step says of the line is so of the session.
-pub steps_on : (did : Stepped) (shards : ℕ) (rules : Rules) (may_answer : ℕ → Type 0) (begin now : Sight) (before : Ends Near) (session : Session) (service : Service) → session.service ≡ Some service → LineSays did shards rules may_answer begin now before session.courier service → StepSays did shards rules may_answer begin now before session
+pub steps_on : (did : LineStep) (shards : ℕ) (rules : Rules) (may_answer : ℕ → Type 0) (begin now : Sight) (before : Ends Near) (session : Session) (service : Service) → session.service ≡ Some service → LineSays did shards rules may_answer begin now before session.courier service → StepSays did shards rules may_answer begin now before session
 steps_on stepped.Did shards rules may_answer begin now before session service is says = some_so session.service service (IsServedBy shards rules may_answer begin now before session.courier) is says
 steps_on stepped.Waits shards rules may_answer begin now before session service is says = some_so session.service service (IsServedBy shards rules may_answer begin now before session.courier) is says
 steps_on (stepped.Ended served) shards rules may_answer begin now before session service is says =

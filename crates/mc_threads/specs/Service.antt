@@ -6,8 +6,8 @@ use Rattle.mc_ring.specs.Lane.{Near}
 use Rattle.mc_ring.specs.Ends.{Ends}
 use Rattle.mc_conn.specs.Told.{Told}
 use Rattle.mc_seat.specs.declared.service.Service.{Service}
-use Rattle.mc_seat.specs.declared.service.Stepped.{Stepped}
-use Rattle.mc_seat.specs.declared.service.Stepped.TheVariants as stepped
+use Rattle.mc_seat.specs.declared.service.LineStep.{LineStep}
+use Rattle.mc_seat.specs.declared.service.LineStep.TheVariants as stepped
 use Rattle.mc_seat.specs.LineServed.{LineServed}
 use Rattle.mc_seat.specs.Service.{HasStopped}
 use Rattle.mc_threads.specs.declared.courier.Courier.{Courier}
@@ -30,7 +30,7 @@ pub record WasServedBy (shards : ℕ) (rules : Rules) (may_answer : ℕ → Type
   pub idle : IsIdle courier.under_way.items
 
 -- What a step says of the line.
-abbrev pub LineSays : Stepped → ℕ → Rules → (ℕ → Type 0) → Sight → Sight → Ends Near → Courier → Service → Type 0
+abbrev pub LineSays : LineStep → ℕ → Rules → (ℕ → Type 0) → Sight → Sight → Ends Near → Courier → Service → Type 0
 LineSays stepped.Did shards rules may_answer begin now before courier service = IsServedBy shards rules may_answer begin now before courier service
 LineSays stepped.Waits shards rules may_answer begin now before courier service = IsServedBy shards rules may_answer begin now before courier service
 LineSays (stepped.Ended served) shards rules may_answer begin now before courier service = WasServedBy shards rules may_answer begin now before courier service served.commands served.broke

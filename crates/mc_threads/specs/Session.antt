@@ -5,8 +5,8 @@ use Rattle.mc_sizes.specs.Sizes.{rules_of}
 use Rattle.mc_ring.specs.Lane.{Near}
 use Rattle.mc_ring.specs.Ends.{Ends}
 use Rattle.mc_seat.specs.declared.service.Service.{Service}
-use Rattle.mc_seat.specs.declared.service.Stepped.{Stepped}
-use Rattle.mc_seat.specs.declared.service.Stepped.TheVariants as stepped
+use Rattle.mc_seat.specs.declared.service.LineStep.{LineStep}
+use Rattle.mc_seat.specs.declared.service.LineStep.TheVariants as stepped
 use Rattle.mc_seat.specs.Service.{IsNew}
 use Rattle.mc_threads.specs.declared.session.Session.{Session}
 use Rattle.mc_threads.specs.Serving.{IsIdle}
@@ -37,7 +37,7 @@ HasServed shards rules may_answer begin now before session commands broke =
     IsSomeAnd session.service (λ service. WasServedBy shards rules may_answer begin now before session.courier service commands broke)
 
 -- What a step says of the line.
-abbrev pub StepSays : Stepped → ℕ → Rules → (ℕ → Type 0) → Sight → Sight → Ends Near → Session → Type 0
+abbrev pub StepSays : LineStep → ℕ → Rules → (ℕ → Type 0) → Sight → Sight → Ends Near → Session → Type 0
 StepSays stepped.Did shards rules may_answer begin now before session = IsServingLine shards rules may_answer begin now before session
 StepSays stepped.Waits shards rules may_answer begin now before session = IsServingLine shards rules may_answer begin now before session
 StepSays (stepped.Ended served) shards rules may_answer begin now before session = HasServed shards rules may_answer begin now before session served.commands served.broke

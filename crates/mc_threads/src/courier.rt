@@ -7,7 +7,7 @@ ghost use Rattle.mc_threads.specs.Serving.{AreCalled};
 
 use mc_conn::Conn;
 use mc_ring::{Parcel, SeatEnds};
-use mc_seat::{Clock, Line, Rooms, Service, Stepped};
+use mc_seat::{Clock, Line, LineStep, Rooms, Service};
 use mc_wake::{Caller, Wakers};
 use std::alloc::{AllocError, Global};
 
@@ -239,7 +239,7 @@ impl Courier {
         line: &mut L,
         clock: &K,
         rooms: &mut Rooms,
-    ) -> Stepped
+    ) -> LineStep
         requires { ServesSomeLine self.old service.old }
         ensures says { (shards : ℕ) (rules : Rules) (begin : Sight) (before : Ends Near) →
             IsServedBy shards rules (K.may_answer clock.now) begin (L.sight line.old) before
@@ -247,14 +247,14 @@ impl Courier {
             LineSays result shards rules (K.may_answer clock.now) begin (L.sight line.new) before
             self.new service.new }
         // Where it waits, each shard of which replies are awaited was called after the last piece was sent.
-        ensures called { result ≡ Stepped.Waits →
+        ensures called { result ≡ LineStep.Waits →
             AreCalled self.new.shards self.new.under_way.items }
     {
         if self.carry(&mut service.conn) {
-            return Stepped::Did;
+            return LineStep::Did;
         }
         if !self.is_settled() {
-            return Stepped::Waits;
+            return LineStep::Waits;
         }
         service.go_on(line, clock, rooms)
     }

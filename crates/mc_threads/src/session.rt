@@ -6,7 +6,7 @@ ghost use Rattle.mc_sizes.specs.Sizes.{SuitLines, rules_of};
 
 use crate::courier::Courier;
 use mc_ring::SeatEnds;
-use mc_seat::{Clock, Line, Rooms, Service, Stepped};
+use mc_seat::{Clock, Line, LineStep, Rooms, Service};
 use mc_sizes::Sizes;
 use mc_wake::Wakers;
 use std::alloc::{AllocError, Global};
@@ -99,7 +99,12 @@ impl Session {
     }
 
     /// Serves the line a step further, as [`Courier::step`] does.
-    pub fn step<L: Line, K: Clock>(&mut self, line: &mut L, clock: &K, rooms: &mut Rooms) -> Stepped
+    pub fn step<L: Line, K: Clock>(
+        &mut self,
+        line: &mut L,
+        clock: &K,
+        rooms: &mut Rooms,
+    ) -> LineStep
         requires { MayStep self.old }
         ensures says { (shards : ℕ) (rules : Rules) (begin : Sight) (before : Ends Near) →
             IsServingLine shards rules (K.may_answer clock.now) begin (L.sight line.old) before
@@ -107,7 +112,7 @@ impl Session {
             StepSays result shards rules (K.may_answer clock.now) begin (L.sight line.new) before
             self.new }
         // Where it waits, each shard of which replies are awaited was called after the last piece was sent.
-        ensures called { result ≡ Stepped.Waits →
+        ensures called { result ≡ LineStep.Waits →
             AreCalled self.new.courier.shards self.new.courier.under_way.items }
     {
         let Some(service) = &mut self.service else {

@@ -11,7 +11,7 @@ const KEYS: usize = 16;
 
 /// What is asked of a key.
 #[derive(Clone, Copy, Debug, PartialEq, Eq)]
-enum Kind {
+enum KeyCommand {
     Get,
     Gets,
     Set,
@@ -34,7 +34,7 @@ pub struct Chooser {
     /// The cas unique that the line saw last, of each key.
     uniques: [Option<u64>; KEYS],
     /// What was chosen last, and its key.
-    kind: Kind,
+    kind: KeyCommand,
     key: usize,
 }
 
@@ -47,7 +47,7 @@ impl Chooser {
             values: 0,
             state: seed.wrapping_mul(1_000_003).wrapping_add(line),
             uniques: [None; KEYS],
-            kind: Kind::Get,
+            kind: KeyCommand::Get,
             key: 0,
         };
         for _ in 0..10 {
@@ -92,22 +92,22 @@ impl Chooser {
     fn spell(&mut self) -> Result<String, AllocError> {
         let key = self.key;
         match self.kind {
-            Kind::Get => format!(in self.alloc; "get linear-{key}\r\n"),
-            Kind::Gets => format!(in self.alloc; "gets linear-{key}\r\n"),
-            Kind::Set => self.storage("set", ""),
-            Kind::Add => self.storage("add", ""),
-            Kind::Delete => format!(in self.alloc; "delete linear-{key}\r\n"),
-            Kind::Incr => {
+            KeyCommand::Get => format!(in self.alloc; "get linear-{key}\r\n"),
+            KeyCommand::Gets => format!(in self.alloc; "gets linear-{key}\r\n"),
+            KeyCommand::Set => self.storage("set", ""),
+            KeyCommand::Add => self.storage("add", ""),
+            KeyCommand::Delete => format!(in self.alloc; "delete linear-{key}\r\n"),
+            KeyCommand::Incr => {
                 let by = self.chance(999).wrapping_add(1);
                 format!(in self.alloc; "incr linear-{key} {by}\r\n")
             }
-            Kind::Cas => match self.uniques.get(key) {
+            KeyCommand::Cas => match self.uniques.get(key) {
                 Some(Some(unique)) => {
                     let unique = format!(in self.alloc; " {unique}")?;
                     self.storage("cas", unique.as_str())
                 }
                 _ => {
-                    self.kind = Kind::Gets;
+                    self.kind = KeyCommand::Gets;
                     format!(in self.alloc; "gets linear-{key}\r\n")
                 }
             },
@@ -124,14 +124,14 @@ impl Chooser {
     /// Whether the reply to the command that was chosen last has come as a whole.
     pub fn is_whole(&self, reply: &[u8]) -> bool {
         match self.kind {
-            Kind::Get | Kind::Gets => reply.ends_with(b"END\r\n"),
+            KeyCommand::Get | KeyCommand::Gets => reply.ends_with(b"END\r\n"),
             _ => reply.ends_with(b"\r\n"),
         }
     }
 
     /// Keeps the unique that the reply to the command that was chosen last tells.
     pub fn hears(&mut self, reply: &[u8]) {
-        if self.kind != Kind::Gets {
+        if self.kind != KeyCommand::Gets {
             return;
         }
         if let (Some(unique), Some(kept)) = (unique_of(reply), self.uniques.get_mut(self.key)) {
@@ -141,25 +141,25 @@ impl Chooser {
 }
 
 /// Which of 22 chances is which command on a register.
-fn of_register(chance: u64) -> Kind {
+fn of_register(chance: u64) -> KeyCommand {
     match chance {
-        0..=5 => Kind::Get,
-        6..=9 => Kind::Gets,
-        10..=13 => Kind::Set,
-        14..=17 => Kind::Cas,
-        18..=19 => Kind::Add,
-        _ => Kind::Delete,
+        0..=5 => KeyCommand::Get,
+        6..=9 => KeyCommand::Gets,
+        10..=13 => KeyCommand::Set,
+        14..=17 => KeyCommand::Cas,
+        18..=19 => KeyCommand::Add,
+        _ => KeyCommand::Delete,
     }
 }
 
 /// Which of 22 chances is which command on a counter.
-fn of_counter(chance: u64) -> Kind {
+fn of_counter(chance: u64) -> KeyCommand {
     match chance {
-        0..=6 => Kind::Get,
-        7..=15 => Kind::Incr,
-        16..=17 => Kind::Set,
-        18..=20 => Kind::Add,
-        _ => Kind::Delete,
+        0..=6 => KeyCommand::Get,
+        7..=15 => KeyCommand::Incr,
+        16..=17 => KeyCommand::Set,
+        18..=20 => KeyCommand::Add,
+        _ => KeyCommand::Delete,
     }
 }
 

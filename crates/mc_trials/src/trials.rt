@@ -52,16 +52,16 @@ const CONVERSATIONS: [Conversation; 4] = [
 
 /// How many lines, over rings and windows of which sizes, and how they are cut.
 #[derive(Clone, Copy)]
-struct Shape {
+struct Setup {
     lines: usize,
     ring: usize,
     window: usize,
     cutting: Cutting,
 }
 
-impl Shape {
-    fn new(lines: usize, ring: usize, window: usize, cutting: Cutting) -> Shape {
-        Shape {
+impl Setup {
+    fn new(lines: usize, ring: usize, window: usize, cutting: Cutting) -> Setup {
+        Setup {
             lines,
             ring,
             window,
@@ -71,16 +71,16 @@ impl Shape {
 }
 
 /// In which shapes lines are served side by side.
-fn shapes() -> [Shape; 8] {
+fn shapes() -> [Setup; 8] {
     [
-        Shape::new(1, 1, 1, Cutting::NONE),
-        Shape::new(3, 64, 256, Cutting::NONE),
-        Shape::new(8, 1, 256, Cutting::ONE_BYTE_A_WRITE),
-        Shape::new(8, 64, 1, Cutting::SEVEN_BYTES_A_READ),
-        Shape::new(8, 1, 1, Cutting::ONE_BYTE_A_CALL),
-        Shape::new(64, 64, 256, Cutting::NONE),
-        Shape::new(64, 1, 1, Cutting::NONE),
-        Shape::new(64, 1, 256, Cutting::ONE_BYTE_A_CALL),
+        Setup::new(1, 1, 1, Cutting::NONE),
+        Setup::new(3, 64, 256, Cutting::NONE),
+        Setup::new(8, 1, 256, Cutting::ONE_BYTE_A_WRITE),
+        Setup::new(8, 64, 1, Cutting::SEVEN_BYTES_A_READ),
+        Setup::new(8, 1, 1, Cutting::ONE_BYTE_A_CALL),
+        Setup::new(64, 64, 256, Cutting::NONE),
+        Setup::new(64, 1, 1, Cutting::NONE),
+        Setup::new(64, 1, 256, Cutting::ONE_BYTE_A_CALL),
     ]
 }
 

@@ -1,7 +1,7 @@
 -- What is told of a connection that is served no more.
 use Rattle.std.specs.Prelude.{ℕ, ◌≡◌, Bool, true, false}
 use Rattle.std.specs.declared.net.socket_addr.SocketAddr.{SocketAddr}
-use Rattle.mc_watch.specs.declared.event.Event.TheVariants.{Closed}
+use Rattle.mc_watch.specs.declared.event.ConnectionEvent.TheVariants.{Closed}
 use Rattle.mc_watch.specs.declared.event.Manner.{Manner}
 use Rattle.mc_watch.specs.declared.event.Manner.TheVariants.{Ended, Broke, Idle}
 use Rattle.mc_watch.specs.declared.meter.Meter.{Meter}

@@ -3,16 +3,16 @@ use Rattle.std.specs.Prelude.{ℕ, ◌≡◌, ◌-◌, ◌<◌, ◌↔◌, Bool,
 use Rattle.std.specs.Arc.{arc_value}
 use Rattle.mc_watch.specs.declared.pulse.Pulse.{Pulse}
 use Rattle.mc_watch.specs.declared.pulse.Seconds.{Seconds}
-use Rattle.mc_watch.specs.declared.watch.Patience.{Patience}
+use Rattle.mc_watch.specs.declared.watch.IdleLimit.{IdleLimit}
 
 -- what counts the seconds
 abbrev pub clock_of : {C : Type 0} → Seconds C → C
 clock_of seconds = arc_value seconds.passed
 
 -- for how many seconds connections may be idle, and by which clock, where this is said
-abbrev pub patience_of : {C : Type 0} → Option (Patience C) → Option (C × ℕ)
-patience_of None = None
-patience_of (Some patience) = Some (clock_of patience.seconds, patience.limit)
+abbrev pub idle_limit_of : {C : Type 0} → Option (IdleLimit C) → Option (C × ℕ)
+idle_limit_of None = None
+idle_limit_of (Some idle_limit) = Some (clock_of idle_limit.seconds, idle_limit.limit)
 
 -- for how many seconds a connection may be idle, and by which clock, if it may not for good
 abbrev pub pulse_of : {C : Type 0} → Option (Pulse C) → Option (C × ℕ)

@@ -15,7 +15,7 @@ pub enum Manner {
 
 /// What happened.
 #[derive(Clone, Copy)]
-pub enum Event {
+pub enum ConnectionEvent {
     /// A connection is served from now on.
     Opened {
         peer: SocketAddr,
@@ -54,15 +54,15 @@ impl fmt::Display for Manner {
     }
 }
 
-impl fmt::Display for Event {
+impl fmt::Display for ConnectionEvent {
     ghost use Rattle.mc_watch.specs.EventText.{event_text};
 
     ghost output = { event_text };
 
     fn fmt<W: fmt::Write>(&self, f: &mut fmt::Formatter<W>) -> fmt::Result {
         match self {
-            Event::Opened { peer, seat } => write!(f, "{peer} on seat {seat}: opened"),
-            Event::Closed {
+            ConnectionEvent::Opened { peer, seat } => write!(f, "{peer} on seat {seat}: opened"),
+            ConnectionEvent::Closed {
                 peer,
                 seat,
                 manner,
@@ -73,10 +73,10 @@ impl fmt::Display for Event {
                 f,
                 "{peer} on seat {seat}: {manner}; {commands} commands, {read} bytes read, {written} bytes written"
             ),
-            Event::NotAccepted { fault: Some(fault) } => {
+            ConnectionEvent::NotAccepted { fault: Some(fault) } => {
                 write!(f, "accept failed: {}", io::Error::from_raw_os_error(*fault))
             }
-            Event::NotAccepted { fault: None } => write!(f, "accept failed"),
+            ConnectionEvent::NotAccepted { fault: None } => write!(f, "accept failed"),
         }
     }
 }

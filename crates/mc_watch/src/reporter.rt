@@ -3,7 +3,7 @@ ghost use Rattle.std.specs.Prelude.{◌≡◌, None, IfOk, length};
 ghost use Rattle.mc_watch.specs.Reports.{AreHeard, Tells};
 
 use crate::dismissal::Dismissal;
-use crate::event::Event;
+use crate::event::ConnectionEvent;
 use rtrb::{Consumer, Producer, RingBuffer};
 use std::alloc::{AllocError, Global};
 use std::io::Eprint;
@@ -18,8 +18,8 @@ const LOOK_MILLIS: u64 = 20;
 
 /// What is told at a time.
 #[derive(Clone, Copy)]
-struct Report {
-    event: Event,
+struct Record {
+    event: ConnectionEvent,
     /// Events before it that found no room.
     dropped: u64,
 }
@@ -28,13 +28,13 @@ struct Report {
 /// tells nothing.
 #[derive(Drop)]
 pub struct Reporter {
-    queue: Option<Producer<Report>>,
+    queue: Option<Producer<Record>>,
     dropped: u64,
 }
 
 /// What was told by all reporters.
 pub struct Reports {
-    queues: Vec<Consumer<Report>>,
+    queues: Vec<Consumer<Record>>,
 }
 
 impl Drop for Reports {
@@ -75,13 +75,13 @@ impl Reporter {
     }
 
     /// Tells what happened.
-    pub fn tell(&mut self, event: Event)
+    pub fn tell(&mut self, event: ConnectionEvent)
         ensures { Tells self.old event self.new }
     {
         let Some(queue) = &mut self.queue else {
             return;
         };
-        let report = Report {
+        let report = Record {
             event,
             dropped: self.dropped,
         };
@@ -125,7 +125,7 @@ impl Reports {
 }
 
 /// Writes one event. Where standard error takes nothing, nobody reads it.
-fn write<R: Eprint>(rt: &R, report: Report) {
+fn write<R: Eprint>(rt: &R, report: Record) {
     let event = report.event;
     if report.dropped > 0 {
         let dropped = report.dropped;

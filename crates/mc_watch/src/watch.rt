@@ -2,13 +2,13 @@
 ghost use Rattle.std.specs.Prelude.{◌≡◌, ◌∷◌, ◌++◌, ◌<◌, [], None, Some, IfNone, IfOk, IfSome, OnErr, option_map, vec_len};
 ghost use Rattle.mc_watch.specs.Closing.{IsManner, TellsClosed};
 ghost use Rattle.mc_watch.specs.Counts.{CountsEnd, CountsUnserved, entrance_of, shards_of, shared_value, shared_values, thread_of};
-ghost use Rattle.mc_watch.specs.Pulse.{clock_of, patience_of, pulse_of};
+ghost use Rattle.mc_watch.specs.Pulse.{clock_of, idle_limit_of, pulse_of};
 ghost use Rattle.mc_watch.specs.Reports.{Tells};
-ghost use Rattle.mc_watch.specs.declared.event.Event.TheVariants.{NotAccepted, Opened};
+ghost use Rattle.mc_watch.specs.declared.event.ConnectionEvent.TheVariants.{NotAccepted, Opened};
 
 use crate::counter::{Count, Counter};
 use crate::counts::{Counts, EntranceCounts, SeatCounts};
-use crate::event::{Event, Manner};
+use crate::event::{ConnectionEvent, Manner};
 use crate::meter::Meter;
 use crate::pulse::{Pulse, Seconds};
 use crate::reporter::Reporter;
@@ -20,7 +20,7 @@ use std::sync::Arc;
 
 /// How long a connection may be idle.
 #[derive(Drop)]
-pub struct Patience<C = Counter> {
+pub struct IdleLimit<C = Counter> {
     /// The seconds since the server began.
     pub seconds: Seconds<C>,
     /// The most seconds for which a connection may move no byte.
@@ -30,7 +30,7 @@ pub struct Patience<C = Counter> {
 /// What is watched of the connections of a server.
 pub struct Watch<C = Counter> {
     /// How long a connection may be idle; none is given up where nothing is said.
-    pub patience: Option<Patience<C>>,
+    pub idle_limit: Option<IdleLimit<C>>,
     /// Where the threads count, if they count.
     pub counts: Option<Counts<C>>,
     /// Where the seats tell what happens, each by one of them. Where there are none left a seat tells nothing.
@@ -41,7 +41,7 @@ impl<C: Drop> Drop for Watch<C> {
     /// By hand, so that to let one go is one call for whoever holds it (docs/DECISIONS.md).
     fn drop(self) {
         let Watch {
-            patience: _patience,
+            idle_limit: _idle_limit,
             counts: _counts,
             reporters: _reporters,
         } = self;
@@ -52,7 +52,7 @@ impl<C: Drop> Drop for Watch<C> {
 pub struct SeatWatch<C = Counter> {
     seat: usize,
     counts: Option<Arc<CachePadded<SeatCounts<C>>, Global>>,
-    patience: Option<Patience<C>>,
+    idle_limit: Option<IdleLimit<C>>,
     reporter: Reporter,
     /// Who the last connection came from.
     peer: Option<SocketAddr>,
@@ -64,7 +64,7 @@ impl<C: Drop> Drop for SeatWatch<C> {
         let SeatWatch {
             seat: _seat,
             counts: _counts,
-            patience: _patience,
+            idle_limit: _idle_limit,
             reporter: _reporter,
             peer: _peer,
         } = self;
@@ -87,14 +87,14 @@ impl<C: Drop> Drop for EntranceWatch<C> {
     }
 }
 
-impl<C: Count> Patience<C> {
+impl<C: Count> IdleLimit<C> {
     /// The same, for one more.
-    pub fn share(&self) -> Result<Patience<C>, AllocError>
+    pub fn share(&self) -> Result<IdleLimit<C>, AllocError>
         ensures limit { IfOk result (λ shared. shared.limit ≡ self.now.limit) }
         ensures clock { IfOk result
             (λ shared. clock_of shared.seconds ≡ clock_of self.now.seconds) }
     {
-        Ok(Patience {
+        Ok(IdleLimit {
             seconds: self.seconds.share()?,
             limit: self.limit,
         })
@@ -104,12 +104,12 @@ impl<C: Count> Patience<C> {
 impl<C: Count> Watch<C> {
     /// Nothing is watched.
     pub fn nothing(alloc: Global) -> Watch<C>
-        ensures timeless { result.patience ≡ None }
+        ensures timeless { result.idle_limit ≡ None }
         ensures uncounted { result.counts ≡ None }
         ensures unheard { result.reporters.items ≡ [] }
     {
         Watch {
-            patience: None,
+            idle_limit: None,
             counts: None,
             reporters: Vec::new(alloc),
         }
@@ -120,7 +120,7 @@ impl<C: Count> Watch<C> {
         ensures seat { IfOk result (λ watch. watch.seat ≡ seat) }
         ensures nobody { IfOk result (λ watch. watch.peer ≡ None) }
         ensures limit { IfOk result
-            (λ watch. patience_of watch.patience ≡ patience_of self.old.patience) }
+            (λ watch. idle_limit_of watch.idle_limit ≡ idle_limit_of self.old.idle_limit) }
         ensures counted { IfOk result
             (λ watch. option_map shared_value watch.counts ≡ thread_of self.old.counts thread) }
         ensures heard { IfOk result (λ watch.
@@ -129,11 +129,11 @@ impl<C: Count> Watch<C> {
         ensures unheard { IfOk result (λ watch.
             self.old.reporters.items ≡ [] → watch.reporter.queue ≡ None) }
         ensures err { OnErr result (self.new ≡ self.old) }
-        ensures patience { self.new.patience ≡ self.old.patience }
+        ensures idle_limit { self.new.idle_limit ≡ self.old.idle_limit }
         ensures counts { self.new.counts ≡ self.old.counts }
     {
-        let patience = match &self.patience {
-            Some(patience) => Some(patience.share()?),
+        let idle_limit = match &self.idle_limit {
+            Some(idle_limit) => Some(idle_limit.share()?),
             None => None,
         };
         let counts = match &self.counts {
@@ -143,7 +143,7 @@ impl<C: Count> Watch<C> {
         Ok(SeatWatch {
             seat,
             counts,
-            patience,
+            idle_limit,
             reporter: self.reporter(),
             peer: None,
         })
@@ -174,7 +174,7 @@ impl<C: Count> Watch<C> {
         ensures unheard { IfOk result (λ watch.
             self.old.reporters.items ≡ [] → watch.reporter.queue ≡ None) }
         ensures err { OnErr result (self.new ≡ self.old) }
-        ensures patience { self.new.patience ≡ self.old.patience }
+        ensures idle_limit { self.new.idle_limit ≡ self.old.idle_limit }
         ensures counts { self.new.counts ≡ self.old.counts }
     {
         let counts = match &self.counts {
@@ -192,7 +192,7 @@ impl<C: Count> Watch<C> {
         ensures heard { 0 < vec_len self.old.reporters →
             self.old.reporters.items ≡ self.new.reporters.items ++ result ∷ [] }
         ensures unheard { self.old.reporters.items ≡ [] → result.queue ≡ None }
-        ensures patience { self.new.patience ≡ self.old.patience }
+        ensures idle_limit { self.new.idle_limit ≡ self.old.idle_limit }
         ensures counts { self.new.counts ≡ self.old.counts }
     {
         match self.reporters.pop() {
@@ -208,20 +208,20 @@ impl<C: Count> SeatWatch<C> {
         ensures read { result.read ≡ 0 }
         ensures written { result.written ≡ 0 }
         // Where nobody says how long a connection may be idle, it may be for good.
-        ensures timeless { self.old.patience ≡ None → result.pulse ≡ None }
+        ensures timeless { self.old.idle_limit ≡ None → result.pulse ≡ None }
         ensures limit { IfSome result.pulse
-            (λ pulse. pulse_of (Some pulse) ≡ patience_of self.old.patience) }
+            (λ pulse. pulse_of (Some pulse) ≡ idle_limit_of self.old.idle_limit) }
         ensures counted { IfSome result.counts
             (λ counts. option_map shared_value self.old.counts ≡ Some (shared_value counts)) }
         ensures told { Tells self.old.reporter (Opened peer self.old.seat) self.new.reporter }
         ensures peer { self.new.peer ≡ Some peer }
         ensures seat { self.new.seat ≡ self.old.seat }
-        ensures patience { self.new.patience ≡ self.old.patience }
+        ensures idle_limit { self.new.idle_limit ≡ self.old.idle_limit }
         ensures counts { self.new.counts ≡ self.old.counts }
     {
         let seat = self.seat;
         self.peer = Some(peer);
-        self.reporter.tell(Event::Opened { peer, seat });
+        self.reporter.tell(ConnectionEvent::Opened { peer, seat });
         Meter::begin(self.counts(), self.pulse())
     }
 
@@ -235,7 +235,7 @@ impl<C: Count> SeatWatch<C> {
         ensures silent { IfNone self.old.peer (self.new.reporter ≡ self.old.reporter) }
         ensures nobody { self.new.peer ≡ None }
         ensures seat { self.new.seat ≡ self.old.seat }
-        ensures patience { self.new.patience ≡ self.old.patience }
+        ensures idle_limit { self.new.idle_limit ≡ self.old.idle_limit }
         ensures counts { self.new.counts ≡ self.old.counts }
     {
         if let Some(counts) = &self.counts {
@@ -270,12 +270,12 @@ impl<C: Count> SeatWatch<C> {
     }
 
     fn pulse(&self) -> Option<Pulse<C>>
-        ensures timeless { self.now.patience ≡ None → result ≡ None }
+        ensures timeless { self.now.idle_limit ≡ None → result ≡ None }
         ensures limit { IfSome result
-            (λ pulse. pulse_of (Some pulse) ≡ patience_of self.now.patience) }
+            (λ pulse. pulse_of (Some pulse) ≡ idle_limit_of self.now.idle_limit) }
     {
-        let patience = self.patience.as_ref()?;
-        Some(Pulse::begin(patience.seconds.share().ok()?, patience.limit))
+        let idle_limit = self.idle_limit.as_ref()?;
+        Some(Pulse::begin(idle_limit.seconds.share().ok()?, idle_limit.limit))
     }
 }
 
@@ -301,7 +301,7 @@ impl<C: Count> EntranceWatch<C> {
         if let Some(counts) = &self.counts {
             counts.failed.add(1);
         }
-        self.reporter.tell(Event::NotAccepted { fault });
+        self.reporter.tell(ConnectionEvent::NotAccepted { fault });
     }
 }
 
@@ -312,10 +312,11 @@ fn closed<C: Count>(
     manner: Manner,
     commands: u64,
     meter: &Meter<C>,
-) -> Event
-    ensures { result ≡ Event.Closed peer seat manner commands meter.now.read meter.now.written }
+) -> ConnectionEvent
+    ensures { result ≡
+        ConnectionEvent.Closed peer seat manner commands meter.now.read meter.now.written }
 {
-    Event::Closed {
+    ConnectionEvent::Closed {
         peer,
         seat,
         manner,

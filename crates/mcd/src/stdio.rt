@@ -5,7 +5,7 @@ ghost use Rattle.mc_seat.specs.Explains.{IsExplained};
 ghost use Rattle.mcd.specs.Served.{MayBe};
 
 use mc_seat::{Clock, Line, Served};
-use mc_server::{MachineClock, ServeRefusal, StillClock, serve_one};
+use mc_server::{LineRefusal, MachineClock, StillClock, serve_one};
 use mc_sizes::Sizes;
 use std::alloc::Global;
 use std::random::RandomSource;
@@ -18,7 +18,7 @@ pub fn serve_line<R: Wait + RandomSource + time::Clock + Alloc<A = Global>, L: L
     line: &mut L,
     at: Option<u64>,
     sizes: Sizes,
-) -> Result<Served, ServeRefusal>
+) -> Result<Served, LineRefusal>
     requires { AreWithin sizes }
     // A server of these sizes explains what was read and written, at such moments.
     ensures explained { IfOk result (λ served.
@@ -42,7 +42,7 @@ fn serve_by<R: Wait + RandomSource + Alloc<A = Global>, L: Line, K: Clock>(
     line: &mut L,
     sizes: Sizes,
     clock: &K,
-) -> Result<Served, ServeRefusal>
+) -> Result<Served, LineRefusal>
     requires { AreWithin sizes }
     ensures explained { IfOk result (λ served.
         IsExplained (record sizes { seats = 1 }) (K.may_answer clock.now)

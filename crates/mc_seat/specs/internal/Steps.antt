@@ -7,8 +7,8 @@ use Rattle.mc_conn.specs.Conn.{IsConn}
 use Rattle.mc_ring.specs.Reply.{Shown}
 use Rattle.mc_conn.specs.Fits.{KeysFit}
 use Rattle.mc_conn.specs.Told.{Told, IsAllTaken, IsOver, all_texts, commands_of}
-use Rattle.mc_seat.specs.declared.seat.Turn.{Turn}
-use Rattle.mc_seat.specs.declared.seat.Turn.TheVariants.{Continues, Waits, Ended, Failed}
+use Rattle.mc_seat.specs.declared.seat.AfterTurn.{AfterTurn}
+use Rattle.mc_seat.specs.declared.seat.AfterTurn.TheVariants.{Continues, Waits, Ended, Failed}
 use Rattle.mc_wire.specs.Outlet.{Sight}
 use Rattle.mc_seat.specs.internal.Stands.{IsComplete, Serving}
 use Rattle.mc_seat.specs.Reads.{ReadsOwingNothing}
@@ -47,14 +47,14 @@ pub record IsServed (received : ℕ → List Shown) (begin now : Sight) (told : 
   pub story : Story told.rules begin now broke told.taken (all_texts told)
   pub reads : KeysFit told.shards told.taken received → ReadsOwingNothing told.rules begin now (commands_of told.taken) (all_texts told)
 
-abbrev pub TurnSays : Turn → (ℕ → List Shown) → Sight → Sight → Told → Conn → List ℕ → Type 0
+abbrev pub TurnSays : AfterTurn → (ℕ → List Shown) → Sight → Sight → Told → Conn → List ℕ → Type 0
 TurnSays Continues received begin now told conn unread = GoesOn received begin now told conn unread
 TurnSays Waits received begin now told conn unread = Rests received begin now told conn unread
 TurnSays Ended received begin now told conn unread = IsServed received begin now told false conn
 TurnSays Failed received begin now told conn unread = IsServed received begin now told true conn
 
 -- What going on does, once all replies to the commands taken are handed out.
-abbrev pub HandedSays : Turn → Took → Conn → List ℕ → Sight → Conn → List ℕ → Sight → Type 0
+abbrev pub HandedSays : AfterTurn → Took → Conn → List ℕ → Sight → Conn → List ℕ → Sight → Type 0
 HandedSays turn stop old unread before new left now =
     (received : ℕ → List Shown) (begin : Sight) (told : Told) →
     IsConn old (all_handed told) → Serving received begin before unread (all_handed told) → told.broken ≡ false → StopsAt stop told →
@@ -62,7 +62,7 @@ HandedSays turn stop old unread before new left now =
     TurnSays turn received begin now told new left
 
 -- What reading on does, once all replies are handed out and more bytes are needed.
-abbrev pub ReadOnSays : Turn → Conn → List ℕ → Sight → Conn → List ℕ → Sight → Type 0
+abbrev pub ReadOnSays : AfterTurn → Conn → List ℕ → Sight → Conn → List ℕ → Sight → Type 0
 ReadOnSays turn old unread before new left now =
     (received : ℕ → List Shown) (begin : Sight) (told : Told) →
     IsConn old (all_handed told) → Serving received begin before unread (all_handed told) → IsAllTaken told → told.ended ≡ false →

@@ -5,25 +5,25 @@ use Rattle.lru.specs.LruCache.{promoted}
 use Rattle.mc_wire.specs.SameKey.{same_key}
 use Rattle.mc_item.specs.declared.item.Item.{Item}
 use Rattle.mc_store.specs.declared.access.Access.{Access}
-use Rattle.mc_store.specs.declared.access.Reader.{Reader}
-use Rattle.mc_store.specs.declared.access.Reader.TheVariants.{Classic, Meta}
+use Rattle.mc_store.specs.declared.access.FetchKind.{FetchKind}
+use Rattle.mc_store.specs.declared.access.FetchKind.TheVariants.{Classic, Meta}
 use Rattle.mc_store.specs.Rows.{expiry_from, is_won}
 use Rattle.mc_store.specs.Shelf.{Shelf}
 use Rattle.mc_store.specs.internal.Found.{live}
 use Rattle.mc_store.specs.internal.Listed.{ListedItem}
 
 -- whether a client was told to recompute the item, once it was read
-abbrev pub is_sent_after : Reader → Item → ℕ → Bool
+abbrev pub is_sent_after : FetchKind → Item → ℕ → Bool
 is_sent_after Classic item time = item.sent
 is_sent_after (Meta recache) item time = item.sent || is_won item recache time
 
 -- the item once it was read
 abbrev pub read_item : Access → Item → Item
-read_item access item = record item { last_access = access.time; expiry = expiry_from access.touch item.expiry access.time; fetched = true; sent = is_sent_after access.reader item access.time }
+read_item access item = record item { last_access = access.time; expiry = expiry_from access.touch item.expiry access.time; fetched = true; sent = is_sent_after access.kind item access.time }
 
 -- the item once it was looked at, which notes no use
 abbrev pub seen_item : Access → Item → Item
-seen_item access item = record item { expiry = expiry_from access.touch item.expiry access.time; sent = is_sent_after access.reader item access.time }
+seen_item access item = record item { expiry = expiry_from access.touch item.expiry access.time; sent = is_sent_after access.kind item access.time }
 
 -- the item that is met under the key, unless it is dead
 abbrev pub met : Access → List ℕ → List ListedItem → Option Item

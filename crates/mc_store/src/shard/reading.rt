@@ -5,7 +5,7 @@ ghost use Rattle.mc_item.specs.declared.op.Op.TheVariants as op;
 ghost use Rattle.mc_store.specs.Rows.{hit_of, marks_of};
 ghost use Rattle.mc_wire.specs.declared.TheConstants.{LATEST_MOMENT};
 
-use crate::access::{Access, Reader, Use, expiry_from, is_won};
+use crate::access::{Access, FetchKind, Use, expiry_from, is_won};
 use crate::shard::Shard;
 use mc_command::MetaFetch;
 use mc_item::{Answer, Item, Kind, Marks, MetaHit, PackedExpiry, Value};
@@ -111,13 +111,13 @@ impl Shard {
     ghost use Rattle.mc_store.specs.internal.Parts.{Acts, Does};
 
     /// An access now.
-    fn access(&self, touch: Option<i64>, reader: Reader) -> Access
-        ensures { result ≡ record { time = self.now.time; touch = touch; reader = reader } }
+    fn access(&self, touch: Option<i64>, kind: FetchKind) -> Access
+        ensures { result ≡ record { time = self.now.time; touch = touch; kind = kind } }
     {
         Access {
             time: self.time,
             touch,
-            reader,
+            kind,
         }
     }
 
@@ -127,7 +127,7 @@ impl Shard {
         ensures acts { Acts self.old (op.Fetch key.now touch) result self.new }
         ensures lawful { is_lawful Kind.Fetch result ≡ true }
     {
-        let access = self.access(touch, Reader::Classic);
+        let access = self.access(touch, FetchKind::Classic);
         let Ok(found) = self.items.read(key, access) else {
             return Answer::NoMemory;
         };
@@ -166,7 +166,7 @@ impl Shard {
         if asked.unnoted {
             return self.meta_see(asked);
         }
-        let access = self.access(asked.touch, Reader::Meta(asked.recache));
+        let access = self.access(asked.touch, FetchKind::Meta(asked.recache));
         let Ok(found) = self.items.read(&asked.key, access) else {
             return Answer::NoMemory;
         };
@@ -183,7 +183,7 @@ impl Shard {
         ensures acts { Acts self.old (op.MetaGet asked) result self.new }
         ensures lawful { is_lawful Kind.MetaGet result ≡ true }
     {
-        let look = self.access(asked.touch, Reader::Meta(asked.recache));
+        let look = self.access(asked.touch, FetchKind::Meta(asked.recache));
         let Ok(found) = self.items.see(&asked.key, look) else {
             return Answer::NoMemory;
         };

@@ -1,5 +1,5 @@
 -- Each turn answers all commands that were taken, and goes on.
-use Rattle.mc_seat.specs.declared.service.Stepped.TheVariants.{Did, Waits, Ended}
+use Rattle.mc_seat.specs.declared.service.LineStep.TheVariants.{Did, Waits, Ended}
 use Rattle.mc_server.proofs.Turning.{answers_stop, turn_ends, turn_said, turns_first, turns_go}
 use Rattle.mc_server.proofs.serve.serve_one.Goals as goal
 

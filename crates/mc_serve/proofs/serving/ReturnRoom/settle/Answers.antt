@@ -1,5 +1,5 @@
 -- The seats and the workers are those of all parts.
-use Rattle.mc_serve.proofs.serving.Rooms.settle.Goals as goal
+use Rattle.mc_serve.proofs.serving.ReturnRoom.settle.Goals as goal
 
 pub settle-requires-clause-lanes : goal.settle-requires-clause-lanes
 settle-requires-clause-lanes g c =
