@@ -33,13 +33,23 @@ pub(crate) enum Lingers {
 
 /// A connection whose output was ended, and of which what comes is dropped for a while: to close with bytes unread would reset
 /// the connection, and the peer could lose the last reply (RFC 1122, section 4.2.2.13).
-#[derive(Drop)]
 pub(crate) struct Lingering {
     stream: TcpStream,
     /// Reads of it that may still be dropped.
     reads: u32,
     /// It lingers no longer.
     until: Instant,
+}
+
+impl Drop for Lingering {
+    /// By hand, so that to let one go is one call for whoever holds it (docs/DECISIONS.md).
+    fn drop(self) {
+        let Lingering {
+            stream: _stream,
+            reads: _reads,
+            until: _until,
+        } = self;
+    }
 }
 
 impl Lingering {

@@ -26,9 +26,16 @@ enum Held {
 }
 
 /// The bytes that a client stored: at most `GREATEST_VALUE_LIMIT`.
-#[derive(Drop)]
 pub struct Value {
     held: Held,
+}
+
+impl Drop for Value {
+    /// By hand, so that to let one go is one call for whoever holds it (docs/DECISIONS.md).
+    #[inline(always)]
+    fn drop(self) {
+        let Value { held: _held } = self;
+    }
 }
 
 /// A value takes 16 bytes of its item.

@@ -178,7 +178,8 @@ impl Joiner {
         let Some(place) = self.awaiting(&reply) else {
             return Err(Stranger { reply });
         };
-        fill(&mut self.forms, place, reply.part, reply.answer);
+        let part = reply.part;
+        fill(&mut self.forms, place, part, reply.into_answer());
         Ok(())
     }
 

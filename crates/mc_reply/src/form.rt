@@ -59,11 +59,21 @@ pub enum Fixed {
 }
 
 /// The answers of a command's parts, as far as they have come. One part takes no room of its own.
-#[derive(Drop)]
 pub struct Slots {
     kept: Kept,
     /// How many answers have not come yet.
     missing: usize,
+}
+
+impl Drop for Slots {
+    /// By hand, so that to let one go is one call for whoever holds it (docs/DECISIONS.md).
+    #[inline(always)]
+    fn drop(self) {
+        let Slots {
+            kept: _kept,
+            missing: _missing,
+        } = self;
+    }
 }
 
 /// What the slots are kept in.
@@ -157,13 +167,25 @@ impl Slots {
 }
 
 /// The form of a reply, with a slot for the answer of each part.
-#[derive(Drop)]
 pub struct Form {
     pub ticket: Ticket,
     /// The kind of the command's pieces; of no meaning where it has none.
     pub kind: Kind,
     pub shape: Shape,
     pub slots: Slots,
+}
+
+impl Drop for Form {
+    /// By hand, so that to let one go is one call for whoever holds it (docs/DECISIONS.md).
+    #[inline(always)]
+    fn drop(self) {
+        let Form {
+            ticket: _ticket,
+            kind: _kind,
+            shape: _shape,
+            slots: _slots,
+        } = self;
+    }
 }
 
 impl Form {

@@ -6,7 +6,6 @@ use mc_item::{Answer, Kind};
 use mc_reply::Ticket;
 
 /// The answer to one piece. Whoever receives it knows that the answer is lawful for the piece's kind.
-#[derive(Drop)]
 pub struct Reply {
     /// The piece's ticket.
     pub ticket: Ticket,
@@ -16,6 +15,19 @@ pub struct Reply {
     pub kind: Kind,
     pub answer: Answer,
     pub ghost lawful: { is_lawful kind answer ≡ true },
+}
+
+impl Drop for Reply {
+    /// By hand, so that to let one go is one call for whoever holds it (docs/DECISIONS.md).
+    #[inline(always)]
+    fn drop(self) {
+        let Reply {
+            ticket: _ticket,
+            part: _part,
+            kind: _kind,
+            answer: _answer,
+        } = self;
+    }
 }
 
 impl Reply {
@@ -33,5 +45,19 @@ impl Reply {
             kind,
             answer,
         }
+    }
+
+    /// What the shard answers.
+    #[inline(always)]
+    pub fn into_answer(self) -> Answer
+        ensures { result ≡ self.answer }
+    {
+        let Reply {
+            ticket: _ticket,
+            part: _part,
+            kind: _kind,
+            answer: given,
+        } = self;
+        given
     }
 }

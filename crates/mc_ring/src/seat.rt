@@ -70,10 +70,19 @@ impl SeatLane {
 }
 
 /// A seat's ends of its lanes, one to each shard.
-#[derive(Drop)]
 pub struct SeatEnds {
     number: usize,
     pub(crate) lanes: Vec<SeatLane>,
+}
+
+impl Drop for SeatEnds {
+    /// By hand, so that to let one go is one call for whoever holds it (docs/DECISIONS.md).
+    fn drop(self) {
+        let SeatEnds {
+            number: _number,
+            lanes: _lanes,
+        } = self;
+    }
 }
 
 impl Model for SeatEnds {

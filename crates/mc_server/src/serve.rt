@@ -49,10 +49,12 @@ fn answer(alloc: Global, conn: &mut Conn, shards: &mut Vec<Shard>)
     ensures { AnswersAll conn.old shards.old.items conn.new shards.new.items }
 {
     while let Some((place, piece)) = conn.next_piece() {
-        let kind = piece.op.kind();
+        let (ticket, part, moment) = (piece.ticket, piece.part, piece.moment);
+        let op = piece.into_op();
+        let kind = op.kind();
         let shard = &mut shards[place];
-        let answer = shard.run(alloc, piece.op, piece.moment);
-        let reply = Reply::new(piece.ticket, piece.part, kind, answer);
+        let answer = shard.run(alloc, op, moment);
+        let reply = Reply::new(ticket, part, kind, answer);
         let Ok(()) = conn.accept(reply) else {
             unreachable!()
         };

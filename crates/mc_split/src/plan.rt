@@ -12,7 +12,6 @@ use std::alloc::Global;
 use std::collections::VecDeque;
 
 /// One part of a command, for one shard.
-#[derive(Drop)]
 pub struct Piece {
     pub ticket: Ticket,
     /// The place of the part in the command's pieces, from 0.
@@ -20,6 +19,35 @@ pub struct Piece {
     pub op: Op,
     /// The moment at which the command was taken, in seconds since 1970.
     pub moment: u64,
+}
+
+impl Drop for Piece {
+    /// By hand, so that to let one go is one call for whoever holds it (docs/DECISIONS.md).
+    #[inline(always)]
+    fn drop(self) {
+        let Piece {
+            ticket: _ticket,
+            part: _part,
+            op: _op,
+            moment: _moment,
+        } = self;
+    }
+}
+
+impl Piece {
+    /// What the shard is asked.
+    #[inline(always)]
+    pub fn into_op(self) -> Op
+        ensures { result ≡ self.op }
+    {
+        let Piece {
+            ticket: _ticket,
+            part: _part,
+            op: asked,
+            moment: _moment,
+        } = self;
+        asked
+    }
 }
 
 /// What becomes of a command: the form of its reply, and its pieces with their shards, in order.

@@ -18,7 +18,6 @@ use crate::gate::Gate;
 use mc_reply::Ticket;
 use mc_ring::{Parcel, Reply, SeatEnds, ShardEnds, beside};
 use mc_sizes::Sizes;
-use mc_split::Piece;
 use mc_store::Shard;
 use std::alloc::{AllocError, Global};
 use std::marker::Model;
@@ -268,12 +267,8 @@ impl Worker {
             self.live[seat] = false;
             return Turn::Ended;
         };
-        let Piece {
-            ticket,
-            part,
-            op,
-            moment,
-        } = piece;
+        let (ticket, part, moment) = (piece.ticket, piece.part, piece.moment);
+        let op = piece.into_op();
         gate.before(self.ends.number(), ticket);
         let kind = op.kind();
         let answer = self.shard.run(alloc, op, moment);

@@ -27,14 +27,14 @@ loop-place-preserved c sizes told log is answers =
     let shards = c.loop-place.shards.items in
     let below : c.in-Some.place < length shards = place_there _ _ _ _ _ _ _ next in
     let got = slice_get_read shards (length shards) c.in-Some.place c.index_mut-shard.result.now refl below c.index_mut-shard.ensures.value in
-    let reply = reply_is c.in-Some.place c.in-Some.piece c.run-answer.result _ _ c.new-reply.ensures c.kind-kind.ensures in
-    more_step _ _ _ _ _ _ _ _ _ _ _ _ next got c.run-answer.ensures.step reply (λ sent_is. c.in-Ok.ensures.ok _ sent_is)
+    let reply = reply_is c.in-Some.place c.in-Some.piece c.run-answer.result _ _ c.new-reply.ensures (rw c.into_op-op.ensures at c.kind-kind.ensures) in
+    more_step _ _ _ _ _ _ _ _ _ _ _ _ next got (rw c.into_op-op.ensures at c.run-answer.ensures.step) reply (λ sent_is. c.in-Ok.ensures.ok _ sent_is)
 
 pub unreachable-requires : goal.unreachable-requires
 unreachable-requires c =
     let can = c.requires in
     let next = is_next _ _ _ _ _ _ _ (c.loop-place.invariant can.sizes can.told can.log can.conn_is can.answers) c.in-Some.ensures.some in
-    let reply = reply_is c.in-Some.place c.in-Some.piece c.run-answer.result _ _ c.new-reply.ensures c.kind-kind.ensures in
+    let reply = reply_is c.in-Some.place c.in-Some.piece c.run-answer.result _ _ c.new-reply.ensures (rw c.into_op-op.ensures at c.kind-kind.ensures) in
     never_strange _ _ _ _ _ _ _ _ _ next reply (λ sent_is. (c.in_default-accept.ensures.err _ sent_is).0)
 
 pub returns : goal.returns

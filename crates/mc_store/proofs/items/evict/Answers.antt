@@ -15,12 +15,6 @@ loop-left-preserved c =
     let cost : c.cost_of-left.result ≡ entry_cost (c.in-Some.key, c.in-Some.item) = rw (c.cost_of-left.ensures, c.bytes.ensures.value, c.len.ensures.value) in
     rw (cost, c.in-Some.ensures.entries) (one.1, c.loop-left.invariant.1, refl)
 
-pub loop-left-preserved-in-Some : goal.loop-left-preserved-in-Some
-loop-left-preserved-in-Some c =
-    let one = evicting_one c.args.cache.now.entries c.loop-left.cache.entries c.args.budget c.loop-left.left (c.in-Some.key, c.in-Some.item) c.loop-left.invariant.0 c.loop-left-test.true (sym c.in-Some.ensures.value) in
-    let cost : c.cost_of-left.result ≡ entry_cost (c.in-Some.key, c.in-Some.item) = rw (c.cost_of-left.ensures, c.bytes.ensures.value, c.len.ensures.value) in
-    rw (cost, c.in-Some.ensures.entries) (one.1, c.loop-left.invariant.1, refl)
-
 pub returns-after-loop-left : goal.returns-after-loop-left
 returns-after-loop-left c =
     let all = evicting_all c.args.cache.now.entries c.loop-left.cache.entries c.args.budget c.loop-left.left c.loop-left.invariant.0 c.loop-left-test.false in

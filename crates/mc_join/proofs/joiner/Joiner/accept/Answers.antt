@@ -12,7 +12,7 @@ invariant_of-self c =
 
 pub returns-clause-joined : goal.returns-clause-joined
 returns-clause-joined c =
-    rw (← c.self.view_is) (join_accept _ _ (shown c.args.reply) c.in-Some.place (rw (← c.self.view_is) at c.in-Some.ensures.some) c.fill.ensures.items refl c.self.invariant.0)
+    rw (← c.self.view_is) (join_accept _ _ (shown c.args.reply) c.in-Some.place (rw (← c.self.view_is) at c.in-Some.ensures.some) (rw c.into_answer.ensures at c.fill.ensures.items) refl c.self.invariant.0)
 
 pub returns-clause-expected : goal.returns-clause-expected
 returns-clause-expected c = λ opened accepted handed joined. expects_from c.args.self.now opened accepted handed (shown c.args.reply) joined (c.in-Some.place, c.in-Some.ensures.some)

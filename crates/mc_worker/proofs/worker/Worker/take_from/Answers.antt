@@ -20,6 +20,6 @@ returns g c =
       free = ap (λ (desk : Desk). desk.hand) c.self.view_is ∙ c.requires.free;
       live = live;
       lane = rw c.in-Piece.is at c.in-Some.ensures.lane;
-      step = steps_keep _ _ _ _ _ c.run-answer.ensures.step;
-      rest = rw (c.new-reply.ensures, c.kind-kind.ensures) refl;
+      step = steps_keep _ _ _ _ _ (rw c.into_op-op.ensures at c.run-answer.ensures.step);
+      rest = rw (c.new-reply.ensures, c.kind-kind.ensures, c.into_op-op.ensures) refl;
     })
