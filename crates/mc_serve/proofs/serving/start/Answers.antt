@@ -41,3 +41,12 @@ returns-then-is_empty g c =
       doors = rw seats was.doors;
       same = was.same;
     }
+
+pub new-requires : goal.new-requires
+new-requires g c = record { sizes = c.requires.sizes; seats = c.requires.seats; free = c.requires.free }
+
+pub next_part-requires : goal.next_part-requires
+next_part-requires g c = record { begin = c.loop-sleeper.invariant.begin }
+
+pub returns : goal.returns
+returns g c = record { lanes = tt; fresh = tt; doors = tt; same = tt }

@@ -1,10 +1,12 @@
--- The lanes of one seat more are tied.
-use Rattle.std.proofs.Common.{◌≡◌, List, [], ◌∷◌, ◌++◌, map, ap, subst, sym, ◌∙◌, append_assoc}
+-- The lanes of one seat more are tied, at last those of all.
+use Rattle.std.proofs.Common.{◌≡◌, List, [], ◌∷◌, ◌++◌, map, ap, subst, sym, refl, ◌∙◌, append_assoc, append-nil}
+use Rattle.std.specs.Vec.Iter.{into_iter_items}
 use Rattle.mc_ring.specs.Lane.{Near}
 use Rattle.mc_ring.specs.Ends.{Ends}
 use Rattle.mc_worker.specs.Desk.{Desk}
 use Rattle.mc_serve.specs.Asking.{AreTied, HasLanes}
 use Rattle.mc_serve.proofs.Lanes.{all_lanes, all_tied}
+use Rattle.mc_serve.proofs.Zipped.{empty_when}
 use Rattle.mc_threads.proofs.Orders.{all_first, all_join, all_rest}
 use Rattle.mc_threads.specs.Session.{seat_ends}
 use Rattle.mc_serve.proofs.settling.settle.Goals as goal
@@ -35,4 +37,26 @@ loop-sitting-preserved g c =
       same = c.tie.ensures.same ∙ was.same;
       tied = λ others. was.tied (all_join (λ sitting. AreTied (seat_ends sitting.session) begun) _ c.in-Some.sitting _ step.0 this others);
       doors = one_more c.loop-sitting.doors.items _ c.rise-ends.result.1 c.in-Some.sitting.door _ _ c.in-Ok.ensures.items c.rise-ends.ensures.door (rw step.0 at was.doors);
+    }
+
+pub loop-sitting-init : goal.loop-sitting-init
+loop-sitting-init g c =
+    let given = c.into_iter-sitting-iterator.ensures.into_iter_gives.0 in
+    record {
+      lanes = rw given c.requires.lanes;
+      same = refl;
+      tied = λ all. rw given at all;
+      doors = rw (c.requires.none, given);
+    }
+
+pub returns-in_default : goal.returns-in_default
+returns-in_default g c = record { tied = tt; doors = tt }
+
+pub returns : goal.returns
+returns g c =
+    let was = c.loop-sitting.invariant in
+    let none : into_iter_items c.loop-sitting.sitting-iterator ≡ [] = empty_when _ (sym c.loop-sitting.sitting-iterator.rest.ok.0 ∙ c.in-None.ensures.steps.0) in
+    record {
+      tied = was.tied (rw none tt);
+      doors = sym (append-nil c.loop-sitting.doors.items) ∙ rw none at was.doors;
     }

@@ -18,3 +18,7 @@ pub returns : goal.returns
 returns g c received begin told is serving all open_is complete =
     let more = reads_more received begin _ _ _ c.refill.new.self told all complete open_is (c.in-Ok-Bytes.ensures.bytes c.in-Ok-Bytes.field-0-is) (sym c.if-not-is_empty.ensures) serving in
     c.feed-2.ensures received begin _ told is more open_is
+
+pub returns-then-not-is_empty : goal.returns-then-not-is_empty
+returns-then-not-is_empty g c received begin told is serving all open_is complete =
+    c.feed.ensures received begin _ told is serving open_is

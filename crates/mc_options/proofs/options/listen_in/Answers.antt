@@ -1,0 +1,58 @@
+-- The call is the one that is given, or the first thing that is wrong with it is told.
+use Rattle.std.proofs.Common.{◌≡◌, ℕ, List, Option, Some, None, Bor, option_map, ap, sym, ◌∙◌}
+use Rattle.std.specs.Prelude.{unwrap_or}
+use Rattle.clap.proofs.TakesLemmas.{passed_up}
+use Rattle.mc_options.specs.Wrong.{NotOfTcp}
+use Rattle.mc_options.proofs.Behind.{start, step}
+use Rattle.mc_options.proofs.options.listen_in.Goals as goal
+
+-- the text is that of what is found, or the other
+text_is : (found : Option (Bor (List ℕ))) (other text : Bor (List ℕ)) (said : Option (List ℕ)) → text ≡ unwrap_or found other → option_map (λ word. word.now) found ≡ said
+    → text.now ≡ unwrap_or said other.now
+text_is None other text said is same = ap (λ (word : Bor (List ℕ)). word.now) is ∙ ap (λ (word : Option (List ℕ)). unwrap_or word other.now) same
+text_is (Some found) other text said is same = ap (λ (word : Bor (List ℕ)). word.now) is ∙ ap (λ (word : Option (List ℕ)). unwrap_or word other.now) same
+
+pub returns-in-Some-clause-refused : goal.returns-in-Some-clause-refused
+returns-in-Some-clause-refused c = (tt, start NotOfTcp _ _ _ (sym c.first_given.ensures ∙ ap (option_map (λ name. name.now)) c.in-Some.is))
+
+pub returns-in_err-seats-clause-refused : goal.returns-in_err-seats-clause-refused
+returns-in_err-seats-clause-refused c =
+    let none = sym c.first_given.ensures ∙ ap (option_map (λ name. name.now)) c.in_default.is in
+    passed_up c.from_residual.result c.in_err-seats.field-0.0 _ c.from_residual.ensures.1
+    (c.in_err-seats.ensures.refused.0, start NotOfTcp _ _ _ none ∙ step _ _ _ c.in_err-seats.ensures.refused.1)
+
+pub returns-in_err-connections-clause-refused : goal.returns-in_err-connections-clause-refused
+returns-in_err-connections-clause-refused c =
+    let none = sym c.first_given.ensures ∙ ap (option_map (λ name. name.now)) c.in_default.is in
+    passed_up c.from_residual-in_err-connections.result c.in_err-connections.field-0.0 _ c.from_residual-in_err-connections.ensures.1
+    (c.in_err-connections.ensures.refused.0, start NotOfTcp _ _ _ none ∙ (step _ _ _ c.in_ok-seats.ensures.given ∙ step _ _ _ c.in_err-connections.ensures.refused.1))
+
+pub returns-in_err-idle_timeout-clause-refused : goal.returns-in_err-idle_timeout-clause-refused
+returns-in_err-idle_timeout-clause-refused c =
+    let none = sym c.first_given.ensures ∙ ap (option_map (λ name. name.now)) c.in_default.is in
+    passed_up c.from_residual-in_err-idle_timeout.result c.in_err-idle_timeout.field-0.0 _ c.from_residual-in_err-idle_timeout.ensures.1 (
+      c.in_err-idle_timeout.ensures.refused.0,
+      start NotOfTcp _ _ _ none ∙ (step _ _ _ c.in_ok-seats.ensures.given ∙ (step _ _ _ c.in_ok-connections.ensures.given ∙ step _ _ _ c.in_err-idle_timeout.ensures.refused.1)),
+    )
+
+pub returns-in_err-sizes-clause-refused : goal.returns-in_err-sizes-clause-refused
+returns-in_err-sizes-clause-refused c =
+    let none = sym c.first_given.ensures ∙ ap (option_map (λ name. name.now)) c.in_default.is in
+    passed_up c.from_residual-in_err-sizes.result c.in_err-sizes.field-0.0 _ c.from_residual-in_err-sizes.ensures.1 (
+      c.in_err-sizes.ensures.refused.0,
+      start NotOfTcp _ _ _ none
+          ∙ (step _ _ _ c.in_ok-seats.ensures.given
+          ∙ (step _ _ _ c.in_ok-connections.ensures.given ∙ (step _ _ _ c.in_ok-idle_timeout.ensures.given ∙ step _ _ _ c.in_err-sizes.ensures.refused.1))),
+    )
+
+pub returns-clause-given : goal.returns-clause-given
+returns-clause-given c =
+    let none = sym c.first_given.ensures ∙ ap (option_map (λ name. name.now)) c.in_default.is in
+    let address = text_is c.get_str.result _ _ _ c.unwrap_or-address.ensures c.get_str.ensures in
+    rw (address, c.is_flag.ensures, c.get_str-2.ensures)
+    (start NotOfTcp _ _ _ none
+    ∙ (step _ _ _ c.in_ok-seats.ensures.given
+    ∙ (step _ _ _ c.in_ok-connections.ensures.given ∙ (step _ _ _ c.in_ok-idle_timeout.ensures.given ∙ step _ _ _ c.in_ok-sizes.ensures.given))))
+
+pub returns-clause-within : goal.returns-clause-within
+returns-clause-within c = c.in_ok-sizes.ensures.within
