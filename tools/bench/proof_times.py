@@ -8,6 +8,9 @@ A check by one process writes a file for each part of a function as soon as it h
 (Mir, Code), that form and contract belong together (Tie), its layout, its proof. So a part took the time since the file before.
 A small file after a long time begins a batch, which first reads what it needs; that is counted as reading. Named are the functions
 whose proofs took longest: there a goal is searched for long, and an answer written out takes next to nothing.
+
+`rt check` takes over what another copy of the repository on this machine has proved. Where there is one, use `rattle check` with an
+`--incremental` folder of its own. An answer's own time is counted as Answers; after a run over few changes the times mean little.
 """
 import argparse
 import collections
