@@ -5,6 +5,7 @@
     tools/checks/wrong_bodies.py [CRATE ..]          tries all edits of these crates, or of all; CRATE/FOLDER/EDIT is one edit of a crate
     tools/checks/wrong_bodies.py --gate [CRATE ..]   tries what .ci/run tries beside `rt ci`: the classic faults, and one other edit
                                                      for each function
+    tools/checks/wrong_bodies.py --minutes N ..      begins no check after N minutes; what is left then is counted as not tried
     tools/checks/wrong_bodies.py --counts            what is known so far, and nothing tried
 
 `rt ci` tries each edit of must-fail/ by itself, over the whole crate, which it proves once more for them. That costs some 60
@@ -45,6 +46,7 @@ import subprocess
 import sys
 import tempfile
 import threading
+import time
 
 sys.path.insert(0, str(pathlib.Path(__file__).resolve().parent.parent))
 
@@ -327,10 +329,12 @@ class Copy:
         told = [it[:400] for it in words.splitlines() if OPEN_GOAL.match(it) or ": error" in it or ": no proof" in it]
         return {"digest": digest(edit), "kind": kind, "said": told[:12]}
 
-    def tried(self, edits):
-        """Each edit with what was found of it."""
+    def tried(self, edits, until):
+        """Each edit with what was found of it, of those whose check began in time."""
         source, left = Source(self.crate), list(edits)
         for group in groups_of(edits, source):
+            if time.monotonic() > until:
+                return
             words = self.check(group["texts"], group["of"])
             for edit, function in group["of"].values():
                 found = self.result(edit, said_of(words, function), source)
@@ -338,6 +342,8 @@ class Copy:
                     left.remove(edit)
                     yield edit, found
         for edit in left:
+            if time.monotonic() > until:
+                return
             yield edit, self.alone(edit, source)
 
     def alone(self, edit, source):
@@ -365,14 +371,14 @@ def report(edits, known):
 
 def try_all(edits, known, given):
     """Tries the edits that aren't known yet, crate by crate, and keeps what is found of each."""
-    keeping = threading.Lock()
+    keeping, until = threading.Lock(), time.monotonic() + 60 * given.minutes
 
     def of_crate(name, room):
         own = [it for it in edits if it.parent.parent.name == name and known.get(name_of(it), {}).get("digest") != digest(it)]
-        if not own:
+        if not own or time.monotonic() > until:
             return
         with Copy(room, name) as copy:
-            for edit, found in copy.tried(own):
+            for edit, found in copy.tried(own, until):
                 with keeping:
                     known[name_of(edit)] = found
                     given.kept.parent.mkdir(exist_ok=True)
@@ -410,6 +416,7 @@ def arguments():
     reader.add_argument("names", nargs="*")
     for word in ("--applies", "--gate", "--counts"):
         reader.add_argument(word, action="store_true")
+    reader.add_argument("--minutes", type=float, default=float("inf"))
     reader.add_argument("--kept", type=pathlib.Path, default=TOP / "out/wrong-bodies.json")
     memory = os.sysconf("SC_PAGE_SIZE") * os.sysconf("SC_PHYS_PAGES")
     reader.add_argument("--jobs", type=int, default=max(1, min(len(os.sched_getaffinity(0)), memory // BYTES_A_CHECK)))
