@@ -1,14 +1,15 @@
 -- Laws of the table of meta lines: which of them may be given up, and that none says that memory was short.
-use Rattle.std.proofs.Common.{◌≡◌, ℕ, ◌&&◌, ◌==◌, not, Bool, true, false, List, [], ◌∷◌, ◌++◌, Option, Some, None, is_some, refl, sym, ◌∙◌, Result, Ok, Err, cond, nat_lt, length}
+use Rattle.std.proofs.Common.{◌≡◌, ◌≢◌, ℕ, ◌&&◌, ◌==◌, not, Bool, true, false, List, [], ◌∷◌, ◌++◌, Option, Some, None, is_some, refl, sym, ◌∙◌, Result, Ok, Err, cond, nat_lt, length}
 use Rattle.std.specs.Prelude.{IsTrue}
 use Rattle.std.specs.Option.{option_or}
+use Rattle.std.specs.Result.{IsErrAnd}
 use Rattle.mc_wire.specs.Base64Key.{base64_key}
 use Rattle.mc_wire.specs.declared.TheConstants.{OPAQUE_LIMIT}
 use Rattle.mc_command.specs.declared.command.Command.{Command}
 use Rattle.mc_command.specs.declared.meta.MetaKind.{MetaKind}
 use Rattle.mc_command.specs.declared.meta.MetaKind.TheVariants.{Get, Set, Delete, Arithmetic}
 use Rattle.mc_command.specs.declared.refusal.Refusal.{Refusal}
-use Rattle.mc_command.specs.declared.refusal.Refusal.TheVariants.{BadKey}
+use Rattle.mc_command.specs.declared.refusal.Refusal.TheVariants.{BadKey, Memory}
 use Rattle.mc_command.specs.Blocks.{MayBeGivenUp}
 use Rattle.mc_command.proofs.Lines.{Yields, may_then, yields_key, yields_or}
 use Rattle.mc_command.specs.Command.{refusal_takes_memory}
@@ -91,3 +92,33 @@ pub reads_command : (rules : Rules) (name : MetaKind) (word : List ℕ) (words :
     meta_key_of asked.flags.base64 word ≡ Ok key → read ≡ command_by rules name key asked → Reads (meta_command_of rules name word words) read
 reads_command rules name word words asked key read said spelled made =
     reads_same (meta_command_of rules name word words) read (made ∙ asked_then rules name word words asked key (flags_refusal rules name [] words) said spelled)
+
+-- A refusal that is passed up as it is, and refuses the line unless memory ran out, is what reading the line gives.
+pub reads_refused : {A : Type 0} (asked : Result Command Refusal) (shown : Result A Refusal → Result Command Refusal) (passed : Result A Refusal) (refusal : Refusal) →
+    ((e : Refusal) → shown (Err e) ≡ Err e) → IsErrAnd passed (λ e. e ≡ refusal) → (refusal ≢ Memory → asked ≡ Err refusal) → Reads asked (shown passed)
+reads_refused asked shown (Ok value) refusal errs is said = absurd is
+reads_refused asked shown (Err e) refusal errs is said = rw (is, errs refusal) said
+
+-- What refuses one thing refuses another too.
+refuses_both : (found : Option Refusal) (asked : FlagsRead) (refusal : Refusal) (rest : Result Command Refusal) → Err refusal ≡ unless found (Ok asked) → unless found rest ≡ Err refusal
+refuses_both (Some other) asked refusal rest said = cc
+refuses_both None asked refusal rest said = absurd cc
+
+-- Flags that are refused refuse the line.
+pub flags_refused : (rules : Rules) (name : MetaKind) (word : List ℕ) (words : List (List ℕ)) (refusal : Refusal) →
+    Err refusal ≡ unless (flags_refusal rules name [] words) (Ok (asked_of rules name words)) → meta_command_of rules name word words ≡ Err refusal
+flags_refused rules name word words refusal said = refuses_both (flags_refusal rules name [] words) (asked_of rules name words) refusal _ said
+
+-- What is asked where nothing refuses it has the flag `b` of the words, so a key that can't be read by it refuses the line.
+key_then : (rules : Rules) (name : MetaKind) (word : List ℕ) (words : List (List ℕ)) (asked : FlagsRead) (refusal : Refusal) (found : Option Refusal) →
+    Ok asked ≡ unless found (Ok (asked_of rules name words)) → meta_key_of asked.flags.base64 word ≡ Err refusal →
+    unless found (then_of (meta_key_of (has_flag 98 words) word) (λ key. keyed_command rules name key words)) ≡ Err refusal
+key_then rules name word words asked refusal (Some other) said spelled = absurd cc
+key_then rules name word words asked refusal None said spelled =
+    let same : asked ≡ asked_of rules name words = cc in
+    rw (rw same at spelled) refl
+
+-- A key that is refused refuses the line, where its flags are not.
+pub key_refused : (rules : Rules) (name : MetaKind) (word : List ℕ) (words : List (List ℕ)) (asked : FlagsRead) (refusal : Refusal) →
+    Ok asked ≡ unless (flags_refusal rules name [] words) (Ok (asked_of rules name words)) → meta_key_of asked.flags.base64 word ≡ Err refusal → meta_command_of rules name word words ≡ Err refusal
+key_refused rules name word words asked refusal said spelled = key_then rules name word words asked refusal (flags_refusal rules name [] words) said spelled

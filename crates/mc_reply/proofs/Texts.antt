@@ -1,6 +1,6 @@
 -- Texts written one part after another, and texts over slots that are all filled.
 use Rattle.std.proofs.Common.{◌≡◌, ℕ, Bool, true, false, List, [], ◌∷◌, ◌++◌, length, map, Option, Some, refl, sym, ap, ◌∙◌, append_assoc, append-nil, arith, ◌<◌, ◌≤◌, ◌+◌, take, drop, get_or, ◌^◌}
-use Rattle.std.specs.Prelude.{◌%◌, codes, decimal, ◌||◌, Result, Ok, Err}
+use Rattle.std.specs.Prelude.{◌%◌, codes, decimal, ◌||◌, Result, Ok, Err, if◌then◌else◌}
 use Rattle.std.specs.List.{concat, list_any, sum_by, zip, flat_map}
 use Rattle.std.proofs.lemmas.List.Folds.{fold-map}
 use Rattle.std.proofs.lemmas.List.{at_drop_all, at_drop_more, length-map}
@@ -15,6 +15,7 @@ use Rattle.mc_reply.specs.Text.{coded_text, flags_text, marks_text, release, sha
 use Rattle.mc_command.specs.declared.meta.MetaFlags.{MetaFlags}
 use Rattle.mc_command.specs.declared.meta.MetaKind.{MetaKind}
 use Rattle.mc_item.specs.declared.answer.Answer.TheVariants as answers
+use Rattle.mc_item.specs.declared.answer.Answer.TheVariants.{Hit}
 use Rattle.mc_item.specs.declared.answer.MetaDone.{MetaDone}
 use Rattle.mc_item.specs.declared.answer.MetaHit.{MetaHit}
 use Rattle.std.proofs.lemmas.List.Sums.{sum_by_more}
@@ -43,6 +44,25 @@ wrote_all {old} all = all.sight ∙ ap (λ xs. took xs old) (sym (all.parts ∙ 
 pub part_breaks : {whole : List ℕ} {old mid new : Sight} (bytes rest : List ℕ) → WroteBut whole (bytes ++ rest) old mid → BreaksOff bytes mid new → BreaksOff whole old new
 part_breaks bytes rest so_far off =
     rw so_far.parts (breaks_later _ _ _ so_far.front (bytes ++ rest) so_far.sight (breaks_first _ _ bytes rest off))
+
+-- Ten parts are one text, however they are put together.
+ten : (a b c d e f g h i : List ℕ) → concat (a ∷ b ∷ c ∷ d ∷ e ∷ f ∷ g ∷ h ∷ i ∷ h ∷ []) ≡ (concat (a ∷ b ∷ c ∷ d ∷ e ∷ f ∷ []) ++ (g ++ h)) ++ (i ++ h)
+ten a b c d e f g h i = simp (append_assoc, append-nil)
+
+-- The text of an item is its line, with the size of the value, and its block behind that.
+pub item-line_block : (with_unique : Bool) (key : List ℕ) (flags unique size : ℕ) (value front line : List ℕ) → size ≡ length value
+    → front ≡ concat (codes "VALUE " ∷ key ∷ codes " " ∷ decimal flags ∷ codes " " ∷ decimal size ∷ []) → line ≡ front ++ ((if with_unique then codes " " ++ decimal unique else []) ++ codes "\r\n")
+    → item_text with_unique key (Hit flags unique value) ≡ line ++ (value ++ codes "\r\n")
+item-line_block with_unique key flags unique size value front line sized begins is =
+    rw (is, begins, sized) (ten (codes "VALUE ") key (codes " ") (decimal flags) (codes " ") (decimal (length value)) (if with_unique then codes " " ++ decimal unique else []) (codes "\r\n") value)
+
+-- A line with its block behind it, put together in two steps.
+pub line_block : (line value more whole : List ℕ) → more ≡ line ++ value → whole ≡ more ++ codes "\r\n" → line ++ (value ++ codes "\r\n") ≡ whole
+line_block line value more whole is ends = rw (ends, is) (sym (append_assoc line value (codes "\r\n")))
+
+-- What was written of one text was written of the same text in other words.
+pub writes_same : {X E : Type 0} {text other : List ℕ} (old new : Sight) (result : Result X E) → text ≡ other → Writes other result old new → Writes text result old new
+writes_same old new result same written = rw same written
 
 abbrev pub filled : List Answer → List (Option Answer)
 filled answers = map (λ answer. Some answer) answers

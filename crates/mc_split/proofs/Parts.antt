@@ -34,6 +34,7 @@ pub record Queued (old now : List (ℕ × Piece)) (ticket : Ticket) (moment : �
   pub so_far : now ≡ old ++ parts_from 0 ticket moment done
   pub together : done ++ rest ≡ whole
 
+-- Where nothing was queued yet, all of the pieces are left.
 pub queued_none : (old : List (ℕ × Piece)) (ticket : Ticket) (moment : ℕ) (whole : List ShardOp) → Queued old old ticket moment whole whole
 queued_none old ticket moment whole = record { done = []; so_far = sym (append-nil old); together = refl }
 

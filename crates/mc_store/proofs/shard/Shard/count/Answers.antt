@@ -1,11 +1,22 @@
-use Rattle.std.proofs.Common.{◌≡◌, sym}
+-- What is counted is the step of the item that is found, or of none, and what is refused is lawful.
+use Rattle.std.proofs.Common.{◌≡◌, ℕ, true, Option, Some, None, refl, sym, inl}
+use Rattle.std.proofs.lemmas.Bool.{false≢true}
+use Rattle.mc_item.specs.Kind.{is_lawful}
+use Rattle.mc_item.specs.declared.answer.Kind.TheVariants as kind
 use Rattle.mc_item.specs.declared.item.Item.{Item}
 use Rattle.mc_store.specs.Rows.{counted_item}
 use Rattle.mc_store.specs.Shard.{IsShard, held_of}
+use Rattle.mc_store.specs.Step.{is_other}
 use Rattle.mc_store.specs.internal.Parts.{answered}
 use Rattle.mc_store.proofs.Outcomes.{lacks_as}
+use Rattle.mc_store.proofs.Refusals.{lawful_refusal}
 use Rattle.mc_store.proofs.Counts.{count_misses, count_exists, count_fails, counted_by}
 use Rattle.mc_store.proofs.shard.Shard.count.Goals as goal
+
+-- Where no unique is asked for, the item's is no other.
+none_other : (compare : Option ℕ) (unique : ℕ) → true ≡ is_other compare unique → compare ≡ None → ⊥
+none_other None unique other none = false≢true (sym other)
+none_other (Some asked) unique other none = cc
 
 pub returns-in_default-clause-does : goal.returns-in_default-clause-does
 unfolding IsShard
@@ -39,3 +50,43 @@ returns-clause-does c = λ reply state h.
     counted_by (held_of c.args.self.now) state item c.args.asked reply c.in-Some-number.number number new_item
     (answered reply c.write_done.result) (held_of c.write_done.new.self) h c.in-Some.ensures
     (sym c.if-is_other.ensures) c.in-Some-number.ensures c.counted-number.ensures made (c.write_done.ensures.does reply state h)
+
+pub returns-in_default-clause-refused : goal.returns-in_default-clause-refused
+returns-in_default-clause-refused c = λ _. c.count_absent.ensures.refused
+
+pub returns-in_default-clause-meta_refused : goal.returns-in_default-clause-meta_refused
+returns-in_default-clause-meta_refused c = c.count_absent.ensures.meta_refused
+
+pub returns-then-is_other-clause-refused : goal.returns-then-is_other-clause-refused
+returns-then-is_other-clause-refused c = λ none. absurd (none_other c.args.asked.compare c.in-Some.item.now.unique c.if-is_other.ensures none)
+
+pub returns-then-is_other-clause-meta_refused : goal.returns-then-is_other-clause-meta_refused
+unfolding is_lawful
+returns-then-is_other-clause-meta_refused c = refl
+
+pub returns-in_default-number-clause-refused : goal.returns-in_default-number-clause-refused
+unfolding is_lawful
+returns-in_default-number-clause-refused c = λ _. refl
+
+pub returns-in_default-number-clause-meta_refused : goal.returns-in_default-number-clause-meta_refused
+unfolding is_lawful
+returns-in_default-number-clause-meta_refused c = refl
+
+pub returns-in_default-of_number-clause-refused : goal.returns-in_default-of_number-clause-refused
+unfolding is_lawful
+returns-in_default-of_number-clause-refused c = λ _. refl
+
+pub returns-in_default-of_number-clause-meta_refused : goal.returns-in_default-of_number-clause-meta_refused
+unfolding is_lawful
+returns-in_default-of_number-clause-meta_refused c = refl
+
+pub write_done-requires : goal.write_done-requires
+write_done-requires c = record { fits = inl c.in-Ok.ensures.short }
+
+pub returns-clause-refused : goal.returns-clause-refused
+unfolding is_lawful
+returns-clause-refused c = λ _. lawful_refusal kind.Count c.write_done.result refl refl c.write_done.ensures.refused
+
+pub returns-clause-meta_refused : goal.returns-clause-meta_refused
+unfolding is_lawful
+returns-clause-meta_refused c = lawful_refusal kind.MetaCount c.write_done.result refl refl c.write_done.ensures.refused

@@ -1,12 +1,16 @@
+-- What is made of a miss is the step of none, and what is refused is lawful.
 use Rattle.std.proofs.Common.{◌≡◌, ap, sym, inl, inr, refl, Some, w64, rules}
 use Rattle.std.proofs.lemmas.Int.{to_z-of_z}
 use Rattle.mc_item.specs.Expiry.{expiry_of}
+use Rattle.mc_item.specs.Kind.{is_lawful}
+use Rattle.mc_item.specs.declared.answer.Kind.TheVariants as kind
 use Rattle.mc_item.specs.Value.{number_text}
 use Rattle.mc_store.specs.State.{without_dead}
 use Rattle.mc_store.specs.Step.{absent_count}
 use Rattle.mc_store.specs.Shard.{IsShard, held_of}
 use Rattle.mc_store.specs.internal.Parts.{answered}
 use Rattle.mc_store.proofs.Stores.{fresh_of}
+use Rattle.mc_store.proofs.Refusals.{lawful_refusal}
 use Rattle.mc_store.proofs.Counts.{counter_as, vivified_as}
 use Rattle.mc_store.proofs.shard.Shard.count_absent.Goals as goal
 
@@ -30,3 +34,27 @@ returns-clause-does c = λ reply state h.
     rw (← expiry, ← c.in-Ok.ensures.text) c.fresh_item-item.ensures in
     vivified_as settled c.args.key c.args.token c.args.vivify made reply (answered reply c.write_done.result) (held_of c.write_done.new.self) c.in-Some.is
     (counter_as (held_of c.args.self.now) state c.args.key c.args.token made c.fresh_item-item.result reply (answered reply c.write_done.result) (held_of c.write_done.new.self) h is (c.write_done.ensures.does reply state h))
+
+pub returns-in_default-clause-refused : goal.returns-in_default-clause-refused
+unfolding is_lawful
+returns-in_default-clause-refused c = refl
+
+pub returns-in_default-clause-meta_refused : goal.returns-in_default-clause-meta_refused
+unfolding is_lawful
+returns-in_default-clause-meta_refused c = refl
+
+pub returns-in_default-of_number-clause-refused : goal.returns-in_default-of_number-clause-refused
+unfolding is_lawful
+returns-in_default-of_number-clause-refused c = refl
+
+pub returns-in_default-of_number-clause-meta_refused : goal.returns-in_default-of_number-clause-meta_refused
+unfolding is_lawful
+returns-in_default-of_number-clause-meta_refused c = refl
+
+pub returns-clause-refused : goal.returns-clause-refused
+unfolding is_lawful
+returns-clause-refused c = lawful_refusal kind.Count c.write_done.result refl refl c.write_done.ensures.refused
+
+pub returns-clause-meta_refused : goal.returns-clause-meta_refused
+unfolding is_lawful
+returns-clause-meta_refused c = lawful_refusal kind.MetaCount c.write_done.result refl refl c.write_done.ensures.refused

@@ -1,3 +1,6 @@
+-- What is written has the unique that was asked for or is next, where the items took it; else nothing but a dead item goes.
+use Rattle.std.proofs.Common.{refl, inl, inr}
+use Rattle.std.proofs.lemmas.Bool.{false≢true}
 use Rattle.mc_store.specs.State.{entered}
 use Rattle.mc_store.specs.Step.{numbered}
 use Rattle.mc_store.specs.Shard.{IsShard, held_of}
@@ -16,4 +19,24 @@ returns-clause-does c = λ reply state h.
 pub returns-in_default-put-clause-does : goal.returns-in_default-put-clause-does
 unfolding IsShard
 returns-in_default-put-clause-does c = λ reply state h.
-    rw c.in_default-put.ensures.err (write_failed (held_of c.args.self.now) state c.args.key (numbered _ c.args.token (λ unique after. (reply unique, entered after c.args.key (record c.args.item { unique = unique })))) h (λ there. absurd (let e = c.in_default-put.ensures.succeeds there in cc)))
+    rw c.in_default-put.ensures.err
+    (write_failed (held_of c.args.self.now) state c.args.key (numbered _ c.args.token (λ unique after. (reply unique, entered after c.args.key (record c.args.item { unique = unique })))) h
+    (λ there. false≢true (c.in_default-put.ensures.succeeds there)))
+
+pub returns-in_default-clause-refused : goal.returns-in_default-clause-refused
+returns-in_default-clause-refused c = inl refl
+
+pub put-requires : goal.put-requires
+put-requires c = c.requires
+
+pub invariant_of-self : goal.invariant_of-self
+invariant_of-self c = record { limited = c.args.self.now.limited; timely = c.args.self.now.timely; place = c.args.self.now.place }
+
+pub returns-in_default-put-clause-refused : goal.returns-in_default-put-clause-refused
+returns-in_default-put-clause-refused c = inr refl
+
+pub count_given-requires : goal.count_given-requires
+count_given-requires c = λ none. c.in-Some.ensures.room refl none
+
+pub returns-clause-refused : goal.returns-clause-refused
+returns-clause-refused c = tt
