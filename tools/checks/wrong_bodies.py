@@ -5,7 +5,8 @@
     tools/checks/wrong_bodies.py [CRATE ..]          tries all edits of these crates, or of all; CRATE/FOLDER/EDIT is one edit of a crate
     tools/checks/wrong_bodies.py --gate [CRATE ..]   tries what .ci/run tries beside `rt ci`: the classic faults, and one other edit
                                                      for each function
-    tools/checks/wrong_bodies.py --minutes N ..      begins no check after N minutes; what is left then is counted as not tried
+    tools/checks/wrong_bodies.py --minutes N --least M ..   once N minutes are over and M edits tried, begins no further group of
+                                                     edits; what is left then is counted as not tried
     tools/checks/wrong_bodies.py --counts            what is known so far, and nothing tried
 
 `rt ci` tries each edit of must-fail/ by itself, over the whole crate, which it proves once more for them. That costs some 60
@@ -329,12 +330,14 @@ class Copy:
         told = [it[:400] for it in words.splitlines() if OPEN_GOAL.match(it) or ": error" in it or ": no proof" in it]
         return {"digest": digest(edit), "kind": kind, "said": told[:12]}
 
-    def tried(self, edits, until):
-        """Each edit with what was found of it, of those whose check began in time."""
-        source, left = Source(self.crate), list(edits)
+    def tried(self, edits, is_over):
+        """Each edit with what was found of it, until it is said to be over. One that isn't refused among others is tried by itself
+        all the same: it may be the one that a contract lets through."""
+        source, left, looked_at = Source(self.crate), list(edits), []
         for group in groups_of(edits, source):
-            if time.monotonic() > until:
-                return
+            if is_over():
+                break
+            looked_at += [edit for edit, _ in group["of"].values()]
             words = self.check(group["texts"], group["of"])
             for edit, function in group["of"].values():
                 found = self.result(edit, said_of(words, function), source)
@@ -342,9 +345,8 @@ class Copy:
                     left.remove(edit)
                     yield edit, found
         for edit in left:
-            if time.monotonic() > until:
-                return
-            yield edit, self.alone(edit, source)
+            if edit in looked_at or not is_over():
+                yield edit, self.alone(edit, source)
 
     def alone(self, edit, source):
         """What is found of an edit by itself: of the edited function alone, and of the whole crate where that is proved."""
@@ -371,15 +373,19 @@ def report(edits, known):
 
 def try_all(edits, known, given):
     """Tries the edits that aren't known yet, crate by crate, and keeps what is found of each."""
-    keeping, until = threading.Lock(), time.monotonic() + 60 * given.minutes
+    keeping, until, tried = threading.Lock(), time.monotonic() + 60 * given.minutes, []
+
+    def is_over():
+        return time.monotonic() > until and len(tried) >= given.least
 
     def of_crate(name, room):
         own = [it for it in edits if it.parent.parent.name == name and known.get(name_of(it), {}).get("digest") != digest(it)]
-        if not own or time.monotonic() > until:
+        if not own or is_over():
             return
         with Copy(room, name) as copy:
-            for edit, found in copy.tried(own, until):
+            for edit, found in copy.tried(own, is_over):
                 with keeping:
+                    tried.append(edit)
                     known[name_of(edit)] = found
                     given.kept.parent.mkdir(exist_ok=True)
                     given.kept.write_text(json.dumps(known, indent=1))
@@ -417,6 +423,7 @@ def arguments():
     for word in ("--applies", "--gate", "--counts"):
         reader.add_argument(word, action="store_true")
     reader.add_argument("--minutes", type=float, default=float("inf"))
+    reader.add_argument("--least", type=int, default=0)
     reader.add_argument("--kept", type=pathlib.Path, default=TOP / "out/wrong-bodies.json")
     memory = os.sysconf("SC_PAGE_SIZE") * os.sysconf("SC_PHYS_PAGES")
     reader.add_argument("--jobs", type=int, default=max(1, min(len(os.sched_getaffinity(0)), memory // BYTES_A_CHECK)))
