@@ -4,10 +4,10 @@
     tools/start.py [--jobs N] [-- OPTION ..]   the options are mcd's: -- --listen 127.0.0.1:11211, say
     tools/start.py --try                       compiles it before any proof, and shows its version
 
-All is proved in one run, as the modules of one crate (one_crate.py), by N processes: one for each core, and for 4 GiB of memory,
-where nothing is said. A line tells how many functions of how many are checked. What was checked is kept, so one that was
-stopped goes on where it was. Nothing is built that isn't proved: where something isn't, what the prover says is shown, and nothing
-starts. The program then lies at crates/mcd/out/mcd, and while no file changes a later start begins at once.
+All is proved as the modules of two crates, a library and the program (two_crates.py), by N processes: one for each core, and for
+4 GiB of memory, where nothing is said. A line tells how many functions of how many of a crate are checked. What was checked is
+kept, so one that was stopped goes on where it was. Nothing is built that isn't proved: where something isn't, what the prover says
+is shown, and nothing starts. The program then lies at crates/mcd/out/mcd, and while no file changes a later start begins at once.
 """
 import argparse
 import contextlib
@@ -20,11 +20,11 @@ import sys
 import time
 
 from listed_crates import LIST, TOP
-from one_crate import OneCrate
+from two_crates import TwoCrates
 
 PROGRAM = "mcd"
 OUT = TOP / "crates" / PROGRAM / "out"
-ASIDE = OUT / "one"
+ASIDE = OUT / "two"
 MADE = ASIDE / "made"
 BYTES_A_PROCESS = 4 * 1024**3
 
@@ -40,11 +40,12 @@ def room():
     return max(1, min(len(os.sched_getaffinity(0)), memory // BYTES_A_PROCESS))
 
 
-def sum_of(crate):
+def sum_of(crates):
     """A sum of all that the program is made of: the toolchain and each file."""
     total = hashlib.sha256(subprocess.run(["rt", "version"], capture_output=True, check=True).stdout)
-    for place, text in crate.files():
-        total.update(f"{place}\n{len(text)}\n{text}".encode())
+    for name in crates.names:
+        for place, text in crates.files(name).items():
+            total.update(f"{name}/{place}\n{len(text)}\n{text}".encode())
     return total.hexdigest()
 
 
@@ -53,29 +54,38 @@ def minutes(seconds):
 
 
 @contextlib.contextmanager
-def written(crate):
-    """The folder of the crate, written aside. Its list of crates goes again: `rt ci` wants no second one in the repository."""
+def written(crates):
+    """The folders of the crates, written aside. Their list of crates goes again: `rt ci` wants no second one in the repository."""
     try:
-        yield crate.write(ASIDE)
+        yield crates.write(ASIDE)
     finally:
         (ASIDE / LIST).unlink(missing_ok=True)
 
 
-def build(crate, folder, jobs):
-    """Proves and builds the program; whether it is built."""
-    begun, said = time.monotonic(), []
-    print(f"{PROGRAM} and the {len(crate.crates)} crates below it are proved as one, by {jobs} processes", flush=True)
-    words = ["rt", "run", "--jobs", str(jobs), "--", "--version"]
+def run(words, folder, begun, told):
+    """Runs `rt` in the folder of a crate, and tells how far it is; whether it succeeded. Where it didn't, what it said is shown."""
+    said = []
     with subprocess.Popen(words, cwd=folder, stdout=subprocess.PIPE, stderr=subprocess.STDOUT, text=True, errors="replace") as rt:
         for line in map(str.rstrip, rt.stdout):
             said.append(line)
             if line.startswith(SO_FAR) and line.endswith(CHECKED):
-                print(f"{minutes(time.monotonic() - begun)} {line.removeprefix(SO_FAR)}", flush=True)
+                print(f"{minutes(time.monotonic() - begun)} {told}: {line.removeprefix(SO_FAR)}", flush=True)
     if rt.returncode:
         faults = [it for it in said if FAULT.search(it)] or said
         print(*faults[-SHOWN:], f"{PROGRAM} is not proved and built, so nothing starts", sep="\n")
-        return False
-    (folder / "out" / PROGRAM).replace(OUT / PROGRAM)
+    return rt.returncode == 0
+
+
+def build(folders, jobs):
+    """Proves the crates and builds the program; whether it is built."""
+    begun = time.monotonic()
+    for number, folder in enumerate(folders, 1):
+        told = f"{folder.name}, crate {number} of {len(folders)}"
+        print(f"{minutes(time.monotonic() - begun)} {told}, is proved by {jobs} processes", flush=True)
+        words = ["run", "--jobs", str(jobs), "--", "--version"] if folder.name == PROGRAM else ["lib", "--jobs", str(jobs)]
+        if not run(["rt", *words], folder, begun, told):
+            return False
+    (folders[-1] / "out" / PROGRAM).replace(OUT / PROGRAM)
     print(f"{minutes(time.monotonic() - begun)} all is proved, and {PROGRAM} is built", flush=True)
     return True
 
@@ -88,14 +98,14 @@ def main():
     asked = parser.parse_args()
     if not shutil.which("rt"):
         sys.exit("there is no `rt` here, the command of the Rattle toolchain")
-    crate = OneCrate(PROGRAM)
+    crates = TwoCrates(PROGRAM)
     if asked.tries:
-        with written(crate) as folder:
-            return subprocess.run(["rt", "try", "--", "--version"], cwd=folder).returncode
-    made = sum_of(crate)
+        with written(crates) as folders:
+            return subprocess.run(["rt", "try", "--", "--version"], cwd=folders[-1]).returncode
+    made = sum_of(crates)
     if not (OUT / PROGRAM).exists() or not MADE.exists() or MADE.read_text(encoding="utf-8") != made:
-        with written(crate) as folder:
-            if not build(crate, folder, asked.jobs):
+        with written(crates) as folders:
+            if not build(folders, asked.jobs):
                 return 1
         MADE.write_text(made, encoding="utf-8")
     os.execv(OUT / PROGRAM, [PROGRAM, *asked.options])
