@@ -1,5 +1,5 @@
 #!/usr/bin/env python3
-"""Checks five rules of the house: what a reader meets first in a contract, in a proof and in the documents.
+"""Checks six rules of the house: what a reader meets first in a contract, in a proof and in the documents.
 
     tools/checks/house.py            fails where a rule is broken, and names each place (the gate does this)
     tools/checks/house.py --counts   how many clauses and lemmas there are, crate by crate
@@ -7,8 +7,8 @@
 A clause (`requires`, `ensures`, or what a trait or type promises under `ghost`) has no line of more than 100 columns: a longer
 one goes on in further lines, broken at its arrows first. A lemma that another file cites has a comment directly above it, which
 says in a sentence what it says. Something cites each lemma, and no two say the same: worked rows aside, which stand for themselves,
-and those inside a block (`module _ .. where`), which aren't looked at. A paragraph of the documents (a line that stands in no
-table and in no block of code) has at most 600 characters.
+and those inside a block (`module _ .. where`), which aren't looked at. A file uses each name that it imports for definitions and
+lemmas. A paragraph of the documents (a line that stands in no table and in no block of code) has at most 600 characters.
 """
 import argparse
 import collections
@@ -28,6 +28,9 @@ HEAD = re.compile(r"^(?:unfoldable |abbrev )?(?:pub )?(?:unfoldable |abbrev )?([
 STATED = re.compile(r"^(?:pub )?([^\s:(){}]+) : (.*\n(?:[ \t]+.*\n)*)", re.M)
 BOUND = re.compile(r"[({]([^(){}:]+) :|λ ([^.()]+)\.")
 COMMENT = re.compile(r"--.*|//.*")
+# A line that imports something, and the names that one imports for definitions and lemmas: in a list, or after `as`.
+IMPORTING = re.compile(r"^(?:pub(?:\(\w+\))? )?(?:ghost )?use [^;\n]*?(?:;|\n|\{[^}]*\};?)", re.M)
+TAKEN_IN = re.compile(r"^(?:ghost )?use (Rattle\.[^\s{;]+)(?:\.\{([^}]*)\}| as (\S+?));?$", re.M)
 SEPARATORS = re.compile(r"[\s(){}\[\],;.:]+")
 WORKED_ROWS = re.compile(r"Rows|Corners|Crossing")
 DOCUMENTS = ["docs/*.md", "README.md", "CONTRIBUTING.md", "tools/README.md"]
@@ -117,6 +120,25 @@ def stated_twice():
                 yield file, text.count("\n", 0, found.start()) + 1, found[1], other
 
 
+def is_used(name, text):
+    """Whether a text has a name; of an operator, the signs that stand between what it joins."""
+    if "◌" in name or name == "[]":
+        return all(part in text for part in name.split("◌"))
+    return bool(re.search(rf"(?<![\w'-]){re.escape(name)}(?![\w'-])", text))
+
+
+def unused_imports():
+    """The names that a file imports for definitions and lemmas, and doesn't use: the file, the line and the name."""
+    for file in sorted([*CRATES.glob("*/src/**/*.rt"), *CRATES.glob("*/specs/**/*.antt"), *CRATES.glob("*/proofs/**/*.antt")]):
+        text = file.read_text(encoding="utf-8")
+        rest = COMMENT.sub("", IMPORTING.sub("", text))
+        for found in TAKEN_IN.finditer(text):
+            for name in (found[2] or found[3]).split(","):
+                name = name.split(" as ")[-1].strip()
+                if name and not is_used(name, rest):
+                    yield file, text.count("\n", 0, found.start()) + 1, name
+
+
 def paragraphs():
     """The paragraphs of the documents: the file, the line, and the text."""
     for file in [file for pattern in DOCUMENTS for file in sorted(TOP.glob(pattern))]:
@@ -144,6 +166,8 @@ def findings():
         faults.append(f"{file.relative_to(TOP)}:{number}: nothing cites {name}")
     for file, number, name, other in stated_twice():
         faults.append(f"{file.relative_to(TOP)}:{number}: {name} says what {other} says")
+    for file, number, name in unused_imports():
+        faults.append(f"{file.relative_to(TOP)}:{number}: imports {name}, which nothing there uses")
     for file, number, line in paragraphs():
         if len(line) > CHARACTERS:
             faults.append(f"{file.relative_to(TOP)}:{number}: a paragraph of {len(line)} characters, of {CHARACTERS} at most")

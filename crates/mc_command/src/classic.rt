@@ -1,6 +1,5 @@
 //! The classic lines that no block follows: retrieval, deletion, arithmetic, touch, flush and verbosity.
-ghost use Rattle.std.specs.Prelude.{◌≡◌, ◌∷◌};
-ghost use Rattle.std.specs.Option.{option_copied};
+ghost use Rattle.std.specs.Prelude.{◌≡◌};
 ghost use Rattle.mc_wire.specs.Words.{words_left};
 ghost use Rattle.mc_command.specs.Field.{Reads};
 ghost use Rattle.mc_command.specs.Classic as spec;

@@ -1,6 +1,5 @@
 //! Which faults are hidden (protocol.txt, "Commands": "noreply" instructs the server to not send the reply).
-ghost use Rattle.std.specs.Prelude.{◌≡◌, codes};
-ghost use Rattle.std.specs.Str.{bytes_eq};
+ghost use Rattle.std.specs.Prelude.{◌≡◌};
 ghost use Rattle.mc_wire.specs.Words.{words_left, words_of};
 ghost use Rattle.mc_command.specs.Field.{is_noreply};
 ghost use Rattle.mc_command.specs.Hiding.{ends_in_noreply, hides_faults, shown_line, shown_refusal, takes_noreply};

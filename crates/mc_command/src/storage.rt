@@ -1,8 +1,7 @@
 //! The classic storage lines, each with the count of the block behind it.
-ghost use Rattle.std.specs.Prelude.{◌≡◌, ◌^◌};
-ghost use Rattle.std.specs.Option.{option_copied, option_and_then};
+ghost use Rattle.std.specs.Prelude.{◌≡◌};
+ghost use Rattle.std.specs.Option.{option_copied};
 ghost use Rattle.mc_wire.specs.Words.{words_left};
-ghost use Rattle.mc_wire.specs.Number.{number_of};
 ghost use Rattle.mc_command.specs.Blocks as blocks;
 ghost use Rattle.mc_command.specs.Field.{Reads, word_count_refusal};
 ghost use Rattle.mc_command.specs.Line.{Says};

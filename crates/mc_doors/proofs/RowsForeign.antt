@@ -1,5 +1,5 @@
 -- Connections by how they begin: those that speak another protocol, and those that don't.
-use Rattle.std.proofs.Common.{◌≡◌, ℕ, true, false, List, [], ◌∷◌, ◌++◌, refl, codes}
+use Rattle.std.proofs.Common.{◌≡◌, ℕ, true, false, List, [], ◌∷◌, refl, codes}
 use Rattle.std.specs.List.{list_all, list_any}
 use Rattle.mc_doors.specs.Foreign.{is_foreign, is_http}
 

@@ -1,5 +1,4 @@
 //! A connection that is closed while its peer may still be sending.
-ghost use Rattle.std.specs.Prelude.{◌≤◌};
 
 use crate::tcp_line::read_some;
 use mio::net::TcpStream;

@@ -1,5 +1,5 @@
 //! Streams whose next bytes can be looked at.
-ghost use Rattle.std.specs.Prelude.{◌≡◌, IfOk, length};
+ghost use Rattle.std.specs.Prelude.{IfOk};
 ghost use Rattle.std.specs.Io.{ReadsAtMost};
 ghost use Rattle.mc_doors.specs.Foreign.{ShowsNext};
 

@@ -1,5 +1,5 @@
 //! How often a shard was asked for what, and what came of it: what who runs the server sees of its commands.
-ghost use Rattle.std.specs.Prelude.{◌≡◌, ◌<◌, replicate};
+ghost use Rattle.std.specs.Prelude.{◌≡◌, ◌<◌};
 ghost use Rattle.mc_item.specs.Tally.{asked_of, counted, counter, counting, no_counts, noted, status_of};
 
 use crate::answer::Answer;

@@ -1,5 +1,5 @@
 //! Holds the answers that come back early until their turn.
-ghost use Rattle.std.specs.Prelude.{◌≡◌, ◌≢◌, ◌<◌, ◌≤◌, ◌+◌, ◌^◌, ◌-◌, ◌∷◌, ◌++◌, [], ℕ, List, true, false, IsTrue, IsOk, IfOk, IfErr, IfSome, IfNone, OnOk, OnErr, Ok, length, min, drop};
+ghost use Rattle.std.specs.Prelude.{◌≡◌, ◌≢◌, ◌<◌, ◌≤◌, ◌+◌, ◌^◌, ◌-◌, ◌∷◌, ◌++◌, [], ℕ, List, true, false, IsTrue, IsOk, IfOk, IfErr, IfSome, IfNone, OnOk, OnErr, Ok, length, drop};
 ghost use Rattle.mc_ring.specs.Reply.{Shown, shown};
 ghost use Rattle.mc_reply.specs.declared.form.Form.{Form};
 ghost use Rattle.mc_wire.specs.Outlet.{Writes};

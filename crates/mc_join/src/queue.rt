@@ -1,5 +1,5 @@
 //! The forms of the open tickets, in order.
-ghost use Rattle.std.specs.Prelude.{◌≡◌, ◌<◌, ◌≤◌, ℕ, List, [], ◌∷◌, ◌++◌, IsTrue, false, IfOk, OnOk, OnErr, Some, None, drop, length, map, take, slice_get, IfSome, ◌↔◌};
+ghost use Rattle.std.specs.Prelude.{◌≡◌, ◌<◌, ◌≤◌, [], ◌∷◌, ◌++◌, IsTrue, false, Some, None, drop, length, map, ◌↔◌};
 ghost use Rattle.std.specs.List.{concat, prefix_len};
 ghost use Rattle.mc_ring.specs.Reply.{shown};
 ghost use Rattle.mc_reply.specs.declared.form.Form.{Form};

@@ -1,5 +1,5 @@
 //! The calls of the program, with the sizes that they give.
-ghost use Rattle.std.specs.Prelude.{◌≡◌, ◌≤◌, ◌^◌, [], ok_or, codes, Ok, Err, IfOk, IfErr, IfSome, OnOk, map, option_map, string_bytes};
+ghost use Rattle.std.specs.Prelude.{◌≡◌, ◌≤◌, [], Ok, Err, IfOk, IfErr, IfSome, OnOk, map, option_map, string_bytes};
 ghost use Rattle.clap.specs.Words.{FailsBy, first_value, found_of, rows_of};
 ghost use Rattle.mc_sizes.specs.Sizes.{AreWithin};
 ghost use Rattle.mc_options.specs.Program.{rows_in, word_faults};

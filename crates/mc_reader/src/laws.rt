@@ -4,7 +4,7 @@ ghost use Rattle.std.specs.List.{AllByRecursion};
 ghost use Rattle.mc_command.specs.declared.command.Command.{Command};
 ghost use Rattle.mc_command.specs.declared.rules.Rules.{Rules};
 ghost use Rattle.mc_reader.specs.Reader.{IfReader};
-ghost use Rattle.mc_reader.specs.Spelling.{AreCommands, BeginCommands, Begins, Given, MayBeGiven, Spells, entries_of, is_closed};
+ghost use Rattle.mc_reader.specs.Spelling.{AreCommands, BeginCommands, Begins, MayBeGiven, Spells, entries_of, is_closed};
 ghost use Rattle.mc_reader.specs.declared.reader.Reader.{Reader};
 
 /// No text that spells begins another, and what a text spells is one thing.

@@ -1,5 +1,5 @@
 //! Runs a schedule, and tells what became of it.
-ghost use Rattle.std.specs.Prelude.{◌≡◌, ◌++◌, ◌+◌, ℕ, IfOk, OnOk, map};
+ghost use Rattle.std.specs.Prelude.{◌≡◌, ◌++◌, ◌+◌, IfOk, OnOk, map};
 ghost use Rattle.std.specs.List.{flat_map};
 ghost use Rattle.mc_sizes.specs.declared.sizes.Sizes.{Sizes};
 ghost use Rattle.mc_model.specs.World.{IsLink, Link, World};

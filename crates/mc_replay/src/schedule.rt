@@ -1,6 +1,6 @@
 //! Reads a whole replay file.
 ghost use Rattle.std.specs.Prelude.{◌≡◌};
-ghost use Rattle.mc_replay.specs.Text.{lines_of, without_last_end};
+ghost use Rattle.mc_replay.specs.Text.{without_last_end};
 ghost use Rattle.mc_replay.specs.Schedule.{SpellsSchedule, SpellsEvents};
 ghost use Rattle.mc_replay.specs.internal.Parts.{parts_left};
 ghost use Rattle.mc_replay.specs.declared.schedule.ScheduleFault.TheVariants.{Memory};

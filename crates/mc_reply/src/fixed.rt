@@ -1,5 +1,5 @@
 //! The replies that no answer changes.
-ghost use Rattle.std.specs.Prelude.{◌≡◌, IsTrue, OnOk, OnErr};
+ghost use Rattle.std.specs.Prelude.{◌≡◌};
 ghost use Rattle.mc_wire.specs.Outlet.{Writes};
 ghost use Rattle.mc_reply.specs.Text.{refusal_line, fixed_text, memory_line};
 

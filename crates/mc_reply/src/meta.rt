@@ -3,7 +3,6 @@ ghost use Rattle.std.specs.Prelude.{◌≡◌, ◌∷◌, ◌++◌, [], codes, d
 ghost use Rattle.std.specs.List.{concat};
 ghost use Rattle.mc_item.specs.declared.answer.Answer.TheVariants as answers;
 ghost use Rattle.mc_command.specs.declared.meta.MetaKind.{MetaKind};
-ghost use Rattle.mc_wire.specs.Base64Key.{base64_of};
 ghost use Rattle.mc_wire.specs.Outlet.{Writes};
 ghost use Rattle.mc_reply.specs.Text.{meta_text, coded_text, failed_flag, failed_text, head_text, told, flags_text, flag_text, item_flag, key_flag, left_flag};
 ghost use Rattle.mc_reply.specs.Text as spec;

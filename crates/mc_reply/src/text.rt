@@ -1,5 +1,5 @@
 //! Writes the text of one reply.
-ghost use Rattle.std.specs.Prelude.{◌≡◌, List, IsTrue, OnOk, OnErr, Some, map, Option};
+ghost use Rattle.std.specs.Prelude.{◌≡◌, List, Some, map, Option};
 ghost use Rattle.mc_item.specs.declared.answer.Answer.{Answer};
 ghost use Rattle.mc_wire.specs.Outlet.{Writes};
 ghost use Rattle.mc_reply.specs.Text.{shape_text};

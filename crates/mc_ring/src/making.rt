@@ -1,5 +1,5 @@
 //! Making the lanes between seats and shards.
-ghost use Rattle.std.specs.Prelude.{◌≡◌, ◌≢◌, ◌↔◌, ◌≤◌, ℕ, [], IfOk, IsErrOf, IsTrue, Err};
+ghost use Rattle.std.specs.Prelude.{◌≡◌, ◌≢◌, ◌↔◌, ℕ, [], IfOk, IsErrOf, IsTrue, Err};
 ghost use Rattle.mc_sizes.specs.Sizes.{SuitLanes};
 ghost use Rattle.mc_ring.specs.Made.{AreLanes, IsUnused};
 ghost use Rattle.mc_ring.specs.internal.Joined.{Joins};

@@ -1,5 +1,5 @@
 -- What a client gets, by the definitions alone: the command table, the protocol's step and the texts of replies.
-use Rattle.std.specs.Prelude.{ℕ, false, List, map, Option, None}
+use Rattle.std.specs.Prelude.{ℕ, false, List, map, Option}
 use Rattle.std.specs.FinMap.{get}
 use Rattle.std.specs.Option.{option_and_then}
 use Rattle.mc_wire.specs.declared.TheConstants.{DEFAULT_LINE_LIMIT, DEFAULT_VALUE_LIMIT}

@@ -1,5 +1,5 @@
 -- When one log explains what was read of the lines, what they took and what the shards did.
-use Rattle.std.specs.Prelude.{ℕ, ◌≡◌, ◌<◌, ◌≢◌, Bool, false, List, length, map, Some}
+use Rattle.std.specs.Prelude.{ℕ, ◌≡◌, ◌<◌, Bool, false, List, length, map, Some}
 use Rattle.std.specs.List.{AllByRecursion, slice_get}
 use Rattle.mc_wire.specs.Outlet.{Sight}
 use Rattle.mc_sizes.specs.Sizes.{rules_of}

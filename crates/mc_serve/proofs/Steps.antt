@@ -1,6 +1,6 @@
 -- A seat's steps, one by one.
-use Rattle.std.proofs.Common.{◌≡◌, ℕ, ◌+◌, Bool, true, false, List, [], length, Some, refl, sym, subst, ◌∙◌, arith}
-use Rattle.std.specs.Prelude.{◌↔◌, ◌≤◌, IsTrue}
+use Rattle.std.proofs.Common.{◌≡◌, ℕ, Bool, true, false, [], length, Some, refl, sym, subst, ◌∙◌}
+use Rattle.std.specs.Prelude.{◌↔◌, IsTrue}
 use Rattle.mc_wire.specs.Outlet.{Sight}
 use Rattle.mc_ring.specs.Lane.{Near}
 use Rattle.mc_ring.specs.Ends.{Ends}
@@ -11,16 +11,16 @@ use Rattle.mc_seat.specs.LineServed.{LineServed}
 use Rattle.mc_seat.specs.Explains.{LineTold}
 use Rattle.mc_seat.specs.declared.service.Service.{Service}
 use Rattle.mc_threads.specs.declared.session.Session.{Session}
-use Rattle.mc_threads.specs.Serving.{EndsAll, IsIdle}
-use Rattle.mc_threads.specs.Ending.{EndsFirst, EndsOne, StandsStill}
+use Rattle.mc_threads.specs.Serving.{IsIdle}
+use Rattle.mc_threads.specs.Ending.{EndsFirst}
 use Rattle.mc_threads.specs.Service.{WasServedBy}
-use Rattle.mc_threads.specs.Session.{HasServed, IsServingLine, IsVacant, MayStep, seat_ends}
-use Rattle.mc_threads.proofs.Ending.{ends_all, ends_next, ends_none, ends_still}
+use Rattle.mc_threads.specs.Session.{HasServed, IsServingLine, IsVacant, seat_ends}
+use Rattle.mc_threads.proofs.Ending.{ends_none}
 use Rattle.mc_threads.proofs.Sessions.{SomeAnd, may_serve, some_and}
 use Rattle.mc_doors.specs.Told.{DoorTold, IsDone, IsFree, IsNext, closed, let_in, took_back}
 use Rattle.mc_serve.specs.declared.sitting.Phase.{Phase}
 use Rattle.mc_serve.specs.declared.sitting.Phase.TheVariants as phase
-use Rattle.mc_serve.specs.Seats.{CanStep, ClosesOn, LineFits, SeatAt, SeatServes, SeatStands, ServesDoor, ServesDoorLine, SitsBeginning, SitsClosing, SitsFree, SitsServing, seat_at}
+use Rattle.mc_serve.specs.Seats.{CanStep, ClosesOn, SeatAt, SeatStands, ServesDoorLine, SitsBeginning, SitsClosing, SitsFree, SitsServing, seat_at}
 use Rattle.mc_serve.proofs.Chain.{OneMore, one_more, passes_none}
 use Rattle.mc_command.specs.declared.rules.Rules.{Rules}
 

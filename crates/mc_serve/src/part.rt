@@ -1,7 +1,6 @@
 //! What one thread serves.
 ghost use Rattle.mc_sizes.specs.Sizes.{rules_of};
-ghost use Rattle.std.specs.Prelude.{◌≡◌, ℕ, List, IfOk, IsTrue, map};
-ghost use Rattle.std.specs.Bool.{OnTrue};
+ghost use Rattle.std.specs.Prelude.{◌≡◌, List, IfOk, IsTrue, map};
 ghost use Rattle.std.specs.List.{AllByRecursion};
 ghost use Rattle.mc_threads.specs.Session.{seat_ends};
 ghost use Rattle.mc_worker.specs.Desk.{Desk, Goes};

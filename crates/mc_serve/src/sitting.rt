@@ -1,7 +1,7 @@
 //! A seat that serves the lines of a door, one after another, by steps of which none waits.
 ghost use Rattle.mc_sizes.specs.Sizes.{SuitLines, rules_of};
 ghost use Rattle.mc_command.specs.declared.rules.Rules.{Rules};
-ghost use Rattle.std.specs.Prelude.{◌≡◌, ◌<◌, ◌≤◌, ℕ, IfOk, IsTrue, length};
+ghost use Rattle.std.specs.Prelude.{◌≡◌, ◌<◌, ℕ, IfOk, IsTrue, length};
 ghost use Rattle.mc_ring.specs.Ends.{Ends};
 ghost use Rattle.mc_ring.specs.Lane.{Near};
 ghost use Rattle.mc_threads.specs.Ending.{EndsFirst};

@@ -1,5 +1,5 @@
 //! Serves one line, over shards of its own.
-ghost use Rattle.std.specs.Prelude.{◌≡◌, ◌+◌, ℕ, List, [], IfOk, OnErr, IsTrue, true, length};
+ghost use Rattle.std.specs.Prelude.{◌≡◌, ◌+◌, [], IfOk, OnErr, length};
 ghost use Rattle.mc_sizes.specs.Sizes.{SuitLines, SuitShards};
 ghost use Rattle.mc_seat.specs.Explains.{IsExplained};
 ghost use Rattle.mc_server.specs.internal.Answering.{AnswersAll, Backs, CanAnswer};

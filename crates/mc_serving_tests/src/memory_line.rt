@@ -1,5 +1,5 @@
 //! A line over memory, which tells what it gave and took.
-ghost use Rattle.std.specs.Prelude.{◌≡◌, ◌≤◌, None, length, take};
+ghost use Rattle.std.specs.Prelude.{◌≤◌, None, length, take};
 
 use mc_seat::{Line, LineFault};
 use mc_wire::{OutFault, Outlet};

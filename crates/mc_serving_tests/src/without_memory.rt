@@ -1,6 +1,6 @@
 //! The calls that take no memory, each made once all that it needs was made. The tests hold whichever allocation is refused,
 //! alone or with all that follow it: where something that a call needs can't be made, its test ends.
-ghost use Rattle.std.specs.Prelude.{◌<◌, ◌≤◌};
+ghost use Rattle.std.specs.Prelude.{◌<◌};
 
 use crate::asserting::{equal, holds};
 use crate::memory_line::MemoryLine;

@@ -7,7 +7,6 @@ use Rattle.mc_item.specs.Kind.{key_of, kind_of, is_lawful}
 use Rattle.mc_reply.specs.declared.ticket.Ticket.{Ticket}
 use Rattle.mc_split.specs.Pieces.{ShardOp, pieces_of}
 use Rattle.mc_split.specs.Plan.{form_of, parts_from}
-use Rattle.mc_command.specs.declared.command.Command.TheVariants as command
 use Rattle.mc_command.specs.declared.meta.ReturnFlag.{ReturnFlag}
 use Rattle.mc_command.specs.FlagOrder.{with_returned}
 use Rattle.mc_item.specs.declared.answer.Answer.{Answer}

@@ -1,5 +1,5 @@
 //! From a command to its pieces.
-ghost use Rattle.std.specs.Prelude.{◌≡◌, ◌<◌, ◌++◌, IfOk, IsTrue, OnOk, OnErr, length};
+ghost use Rattle.std.specs.Prelude.{◌≡◌, ◌<◌, IfOk, IsTrue, OnErr, length};
 ghost use Rattle.mc_command.specs.Command.{can_give_up};
 ghost use Rattle.mc_split.specs.Pieces.{pieces_of};
 ghost use Rattle.mc_split.specs.Plan.{SplitsInto, form_of, parts_from};

@@ -1,5 +1,5 @@
 -- The outcomes of storing: which row of the table a look-up leads to.
-use Rattle.std.proofs.Common.{◌≡◌, ℕ, ◌+◌, ℤ, ◌⊎◌, Bool, true, false, List, length, Option, Some, None, is_some, refl, sym, ap, ◌∙◌, inl, inr, arith, nat_eq, subst, length-append}
+use Rattle.std.proofs.Common.{◌≡◌, ℕ, ◌+◌, ◌⊎◌, Bool, true, false, List, length, Option, Some, None, is_some, refl, sym, ◌∙◌, inl, inr, arith, nat_eq, subst, length-append}
 use Rattle.std.specs.Cmp.Lexicographic.{pointwise}
 use Rattle.std.specs.Prelude.{◌||◌, nat_lt}
 use Rattle.std.specs.FinMap.{get}

@@ -3,7 +3,7 @@
 use Rattle.std.specs.Prelude.{ℕ, ◌≡◌, ◌+◌, ◌-◌, ◌%◌, ◌^◌, Bool, true, false, not, IsTrue, ◌||◌, ℤ, ◌⊎◌, ◌++◌, List, length, Option, Some, None, nat_le, nat_lt, ◌==◌, if◌then◌else◌}
 use Rattle.std.specs.FinMap.{get, insert, remove, len}
 use Rattle.mc_command.specs.declared.command.StoreMode.{StoreMode}
-use Rattle.mc_command.specs.declared.command.StoreMode.TheVariants.{Set, Add, Replace, Append, Prepend}
+use Rattle.mc_command.specs.declared.command.StoreMode.TheVariants.{Set, Add, Append, Prepend}
 use Rattle.mc_command.specs.declared.command.StoreRequest.{StoreRequest}
 use Rattle.mc_command.specs.declared.command.Direction.{Direction}
 use Rattle.mc_command.specs.declared.command.Direction.TheVariants.{Increment, Decrement}

@@ -1,5 +1,5 @@
 -- The shards that a seat calls, one after another.
-use Rattle.std.proofs.Common.{◌≡◌, ◌==◌, ◌+◌, ◌<◌, ◌≤◌, ◌||◌, ℕ, Bool, true, false, List, [], ◌∷◌, ◌++◌, length, Some, IsTrue, ap, sym, refl, ◌∙◌, arith, inl, inr, slice_set}
+use Rattle.std.proofs.Common.{◌≡◌, ◌==◌, ◌+◌, ◌<◌, ◌≤◌, ◌||◌, ℕ, true, false, List, [], ◌∷◌, ◌++◌, length, Some, IsTrue, ap, sym, refl, ◌∙◌, arith, inl, inr, slice_set}
 use Rattle.std.specs.List.{list_any, slice_get}
 use Rattle.std.proofs.lemmas.Bool.{cases_eq, cases_lt, eq-eqb, or_left}
 use Rattle.std.proofs.lemmas.List.Folds.{list_any-append}

@@ -25,7 +25,7 @@ use Rattle.mc_conn.proofs.Places.{lane-append, lane-no, lane-yes, lane_there}
 use Rattle.mc_conn.proofs.Serving.{serves_accept, serves_stranger}
 use Rattle.mc_conn.proofs.Staying.{is_sound, keeps_accept}
 use Rattle.mc_model.proofs.Lists.{take_next}
-use Rattle.mc_threads.specs.internal.Carrying.{AllOut, AllOutWhere, AnyOut, Carries, CarriesOn, KeepsReceived, MayCarry, MovesOn, NoneOut, carried, sent_to}
+use Rattle.mc_threads.specs.internal.Carrying.{AllOutWhere, AnyOut, Carries, CarriesOn, KeepsReceived, MayCarry, MovesOn, NoneOut, carried, sent_to}
 use Rattle.mc_threads.specs.Ending.{StandsStill}
 use Rattle.mc_seat.proofs.Along.{keeps_trans}
 

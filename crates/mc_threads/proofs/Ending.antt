@@ -1,7 +1,6 @@
 -- End is sent on one lane after another.
 use Rattle.std.proofs.Common.{ℕ, ◌+◌, ◌≤◌, inl, inr, [], ◌∷◌, ◌++◌, length, refl, ap, ◌∙◌, arith}
 use Rattle.std.proofs.lemmas.Bool.{cases_eq}
-use Rattle.mc_ring.specs.declared.parcel.Parcel.{Parcel}
 use Rattle.mc_ring.specs.declared.parcel.Parcel.TheVariants as parcel
 use Rattle.mc_ring.specs.Lane.{Near}
 use Rattle.mc_ring.specs.Ends.{Ends}

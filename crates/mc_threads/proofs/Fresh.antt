@@ -1,5 +1,5 @@
 -- The ends of new lanes are as workers and seats want them.
-use Rattle.std.proofs.Common.{◌≡◌, ℕ, ◌<◌, List, [], ◌∷◌, length, arith, subst, sym}
+use Rattle.std.proofs.Common.{◌≡◌, ℕ, ◌<◌, List, [], length, arith, subst, sym}
 use Rattle.std.specs.List.{AllByRecursion}
 use Rattle.std.proofs.lemmas.Option.{slice_get_within}
 use Rattle.mc_model.proofs.Lists.{all_from}
@@ -20,14 +20,6 @@ all_fresh seats shards capacity near far lanes =
     let count = lanes.shard_count in
     let within : i < length far = slice_get_within far i ends here in
     (omega (arith, number, count, within), new.unused))
-
--- the first of them, and the others
-pub first_fresh : (shards : ℕ) (all : List (Ends Far)) (ends : Ends Far) (rest : List (Ends Far)) → all ≡ ends ∷ rest → AllByRecursion (AreFresh shards) all → AreFresh shards ends
-first_fresh shards all ends rest is fresh = (subst (λ (xs : List (Ends Far)). AllByRecursion (AreFresh shards) xs) is fresh).0
-
--- Where the ends of all shards are fresh, so are those of all but the first.
-pub rest_fresh : (shards : ℕ) (all : List (Ends Far)) (ends : Ends Far) (rest : List (Ends Far)) → all ≡ ends ∷ rest → AllByRecursion (AreFresh shards) all → AllByRecursion (AreFresh shards) rest
-rest_fresh shards all ends rest is fresh = (subst (λ (xs : List (Ends Far)). AllByRecursion (AreFresh shards) xs) is fresh).1
 
 -- A worker that has run nothing, over an empty shard of the number of these ends, is fresh where they are its own.
 pub fresh_by_ends : (sizes : Sizes) (desk : Desk) (ends : Ends Far) → desk.ends ≡ ends → HasRun (empty_shard sizes ends.number) desk [] → IsFresh sizes desk

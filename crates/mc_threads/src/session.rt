@@ -1,6 +1,6 @@
 //! A seat serves lines step by step, one after another.
 ghost use Rattle.mc_command.specs.declared.rules.Rules.{Rules};
-ghost use Rattle.std.specs.Prelude.{◌≡◌, ◌<◌, ◌≤◌, ◌↔◌, ℕ, Some, IfOk, IsTrue, OnErr, OnOk, length};
+ghost use Rattle.std.specs.Prelude.{◌≡◌, ◌<◌, ◌↔◌, ℕ, Some, IfOk, IsTrue, OnErr, OnOk, length};
 ghost use Rattle.std.specs.Bool.{OnFalse, OnTrue};
 ghost use Rattle.mc_sizes.specs.Sizes.{SuitLines, rules_of};
 

@@ -11,7 +11,6 @@ use std::alloc::{AllocError, Global};
 use std::random::RandomSource;
 
 /// A worker for the ends of each shard, over an empty shard.
-#[tactic(auto, using(crate::proofs::Fresh::first_fresh, crate::proofs::Fresh::rest_fresh))]
 pub fn make_workers<R: RandomSource>(
     rt: &R,
     alloc: Global,

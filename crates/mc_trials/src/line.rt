@@ -1,5 +1,5 @@
 //! A line over memory: it gives its input in pieces, takes its output in portions, and may fail.
-ghost use Rattle.std.specs.Prelude.{◌≡◌, ◌≤◌, None, length, take};
+ghost use Rattle.std.specs.Prelude.{◌≤◌, None, length, take};
 
 use mc_seat::{Line, LineFault};
 use mc_wire::{OutFault, Outlet};

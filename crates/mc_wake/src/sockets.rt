@@ -1,5 +1,4 @@
 //! The sockets of the seats of one thread, and the poll in which the thread sleeps.
-ghost use Rattle.std.specs.Prelude.{◌≡◌, IfOk, length};
 
 use crate::board::Board;
 use crate::waker::Alarm;

@@ -1,6 +1,6 @@
 //! What the threads of a server count.
 ghost use Rattle.std.specs.Prelude.{◌≡◌, ◌-◌, IfOk, length, option_map, slice_get};
-ghost use Rattle.mc_watch.specs.Counts.{AddsThread, AreTotals, SameCounts, entrance_of, shard_count, shared_value, shared_values, shards_of, thread_of};
+ghost use Rattle.mc_watch.specs.Counts.{AddsThread, AreTotals, SameCounts, shard_count, shared_value, shared_values, shards_of};
 
 use crate::counter::{Count, Counter};
 use crate::shard_counts::{ShardCounts, ShardTotals};

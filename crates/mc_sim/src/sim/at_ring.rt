@@ -1,5 +1,4 @@
 //! The events of the rings: pieces go to the shards and are run there, replies come back.
-ghost use Rattle.std.specs.Prelude.{◌≡◌};
 ghost use Rattle.mc_sim.specs.Stands.{StepsByEvent};
 ghost use Rattle.mc_model.specs.Events.Event.{Send, Pop, Give, Receive};
 

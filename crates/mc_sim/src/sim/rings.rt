@@ -8,7 +8,6 @@ ghost use Rattle.mc_ring.specs.Lane.{Far};
 ghost use Rattle.mc_ring.specs.Ends.{Ends};
 ghost use Rattle.mc_ring.specs.Made.{AreNewEnds, IsUnused};
 ghost use Rattle.mc_ring.specs.Reply.{shown};
-ghost use Rattle.mc_model.specs.Sized.{empty_shard};
 ghost use Rattle.mc_sim.specs.Laid.{AreIn, LooksAt};
 ghost use Rattle.mc_sim.specs.Rings.{AreWired, GivesNone, GivesReply, KeepsPiece, ReceivesNone, ReceivesReply, RunsNone, RunsOldest, IsStarted, SendsPiece, TellsWaiting, Wires, ends_of, new_wires};
 

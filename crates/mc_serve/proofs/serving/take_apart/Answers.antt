@@ -1,6 +1,5 @@
 -- One part more is taken apart.
-use Rattle.std.proofs.Common.{◌≡◌, length, [], ap, sym, ◌∙◌, rules, append-nil}
-use Rattle.std.specs.List.{flat_map}
+use Rattle.std.proofs.Common.{◌≡◌, [], ap, rules}
 use Rattle.std.specs.Vec.Iter.{into_iter_items}
 use Rattle.mc_serve.proofs.Zipped.{empty_when}
 use Rattle.mc_serve.proofs.Parts.{flat_last, flat_next}

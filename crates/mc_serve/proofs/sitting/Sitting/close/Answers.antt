@@ -1,5 +1,5 @@
 -- One lane more, or none, or all were closed.
-use Rattle.std.proofs.Common.{◌≤◌, length, arith, ◌∙◌, sym}
+use Rattle.std.proofs.Common.{◌≤◌, length, arith}
 use Rattle.mc_threads.proofs.Ending.{ends_all, ends_next, ends_still}
 use Rattle.mc_threads.specs.Session.{seat_ends}
 use Rattle.mc_serve.proofs.sitting.Sitting.close.Goals as goal

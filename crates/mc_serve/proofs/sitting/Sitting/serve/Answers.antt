@@ -1,5 +1,4 @@
 -- The line is served on, or it was served and goes back.
-use Rattle.std.proofs.Common.{refl}
 use Rattle.mc_serve.proofs.Steps.{serves_another, serves_no_more, serves_on}
 use Rattle.mc_serve.proofs.sitting.Sitting.serve.Goals as goal
 

@@ -1,5 +1,5 @@
 -- The workers made so far have the first ends, and the ends that are left first are new.
-use Rattle.std.proofs.Common.{◌≡◌, ◌<◌, ◌∙◌, ℕ, List, ◌∷◌, ◌++◌, Some, length, map, refl, sym, ap, arith, append_assoc, append-nil, length-append}
+use Rattle.std.proofs.Common.{◌≡◌, ◌<◌, ◌∙◌, ℕ, List, ◌∷◌, ◌++◌, Some, length, map, sym, ap, arith, append_assoc, append-nil, length-append}
 use Rattle.std.specs.List.{AllByRecursion, slice_get}
 use Rattle.std.proofs.lemmas.List.{map-append, nil_from_length}
 use Rattle.mc_sizes.specs.declared.sizes.Sizes.{Sizes}

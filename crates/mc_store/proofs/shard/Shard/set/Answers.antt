@@ -1,4 +1,4 @@
-use Rattle.std.proofs.Common.{◌≡◌, ◌+◌, sym, ◌∙◌, Some, None, true, false, inr, length, w64, rules}
+use Rattle.std.proofs.Common.{◌≡◌, ◌+◌, sym, ◌∙◌, Some, true, false, inr, length, w64, rules}
 use Rattle.std.proofs.lemmas.Int.{to_z-of_z}
 use Rattle.mc_item.specs.declared.answer.Answer.TheVariants.{Stored}
 use Rattle.mc_item.specs.Expiry.{expiry_of}

@@ -1,5 +1,5 @@
 -- Each write takes a further piece of the block.
-use Rattle.std.proofs.Common.{sym, refl, ◌+◌, ◌∙◌, ap, drop, length, arith, length-drop}
+use Rattle.std.proofs.Common.{sym, ◌+◌, ◌∙◌, ap, drop, length, arith, length-drop}
 use Rattle.std.specs.Arc.{arc_slice_items}
 use Rattle.std.proofs.lemmas.List.{drop-drop}
 use Rattle.mc_wire.proofs.Outlets.{breaks, took-nil, took_more}
