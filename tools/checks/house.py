@@ -7,8 +7,8 @@
 A clause (`requires`, `ensures`, or what a trait or type promises under `ghost`) has no line of more than 100 columns: a longer
 one goes on in further lines, broken at its arrows first. A lemma that another file cites has a comment directly above it, which
 says in a sentence what it says. Something cites each lemma, and no two say the same: worked rows aside, which stand for themselves,
-and those inside a block (`module _ .. where`), which aren't looked at. A file uses each name that it imports for definitions and
-lemmas. A paragraph of the documents (a line that stands in no table and in no block of code) has at most 600 characters.
+and those inside a block (`module _ .. where`), which aren't looked at. A file uses each definition and lemma that it imports. A
+paragraph of the documents (a line that stands in no table and in no block of code) has at most 600 characters.
 """
 import argparse
 import collections
@@ -28,7 +28,7 @@ HEAD = re.compile(r"^(?:unfoldable |abbrev )?(?:pub )?(?:unfoldable |abbrev )?([
 STATED = re.compile(r"^(?:pub )?([^\s:(){}]+) : (.*\n(?:[ \t]+.*\n)*)", re.M)
 BOUND = re.compile(r"[({]([^(){}:]+) :|λ ([^.()]+)\.")
 COMMENT = re.compile(r"--.*|//.*")
-# A line that imports something, and the names that one imports for definitions and lemmas: in a list, or after `as`.
+# A line that imports anything, and one that imports definitions or lemmas, with their names: in a list, or after `as`.
 IMPORTING = re.compile(r"^(?:pub(?:\(\w+\))? )?(?:ghost )?use [^;\n]*?(?:;|\n|\{[^}]*\};?)", re.M)
 TAKEN_IN = re.compile(r"^(?:ghost )?use (Rattle\.[^\s{;]+)(?:\.\{([^}]*)\}| as (\S+?));?$", re.M)
 SEPARATORS = re.compile(r"[\s(){}\[\],;.:]+")
@@ -128,7 +128,7 @@ def is_used(name, text):
 
 
 def unused_imports():
-    """The names that a file imports for definitions and lemmas, and doesn't use: the file, the line and the name."""
+    """The definitions and lemmas that a file imports and doesn't use: the file, the line and the name."""
     for file in sorted([*CRATES.glob("*/src/**/*.rt"), *CRATES.glob("*/specs/**/*.antt"), *CRATES.glob("*/proofs/**/*.antt")]):
         text = file.read_text(encoding="utf-8")
         rest = COMMENT.sub("", IMPORTING.sub("", text))
