@@ -2,7 +2,7 @@
 
 Crate by crate the prover reads anew what lies below each, and a crate waits for all that it stands on. As one crate, what is proved
 late reads the whole proofs of all that it calls, with all that these read; of a library below it reads a part. So two are proved
-in less time than one or many (docs/PROOF_TIMES.md). Paths change, the names of definitions and lemmas, and all modules can be seen.
+in less time than one crate or many (docs/DECISIONS.md). Paths change, the names of definitions and lemmas, and all modules can be seen.
 What mc_wire itself says, and what others say of it:
 
     crate::key::Key              becomes    crate::mc_wire::key::Key

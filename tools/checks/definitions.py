@@ -3,8 +3,8 @@
 the constants, each with the lines that a reader has to check.
 
     tools/checks/definitions.py            prints the tables
-    tools/checks/definitions.py --write    puts them into docs/PROOFS.md
-    tools/checks/definitions.py --check    fails where docs/PROOFS.md has others, or where a contract that README.md or docs/PROOFS.md
+    tools/checks/definitions.py --write    puts them into docs/TRUSTED.md
+    tools/checks/definitions.py --check    fails where docs/TRUSTED.md has others, or where a contract that README.md or docs/PROOFS.md
                                       quotes is not the one in the code (the gate does this)
 
 A definition is counted where a theorem reaches it, through others or alone, and stands behind those that it stands on; so is a
@@ -18,8 +18,8 @@ import sys
 
 TOP = pathlib.Path(__file__).resolve().parent.parent.parent
 CRATES = TOP / "crates"
-PAGE = TOP / "docs/PROOFS.md"
-QUOTING = [TOP / "README.md", PAGE]
+PAGE = TOP / "docs/TRUSTED.md"
+QUOTING = [TOP / "README.md", TOP / "docs/PROOFS.md"]
 BEGIN, END = "<!-- tools/checks/definitions.py -->\n", "<!-- end -->\n"
 
 # The functions whose contracts are the theorems: the headline, the laws of progress and order, what ties the simulator to
@@ -276,7 +276,7 @@ def main():
         PAGE.write_text(front + BEGIN + found + END + back, encoding="utf-8")
         return 0
     if there != found:
-        print("docs/PROOFS.md has other tables of what the theorems rest on: run tools/checks/definitions.py --write, and read what changed")
+        print("docs/TRUSTED.md has other tables of what the theorems rest on: run tools/checks/definitions.py --write, and read what changed")
     wrong = misquoted()
     for page, quote in wrong:
         print(f"{page.relative_to(TOP)} quotes a contract that the code doesn't have: {quote:.80}")
