@@ -105,11 +105,21 @@ def brought(text):
             yield alias, (crate, path, "*")
 
 
+def of_the_kit(text):
+    """The words of the standard library and the kit's crates that a file brings in, each with its crate."""
+    for place, names, alias in IMPORT.findall(text):
+        if not place.startswith("Rattle.mc_"):
+            crate = place.split(".")[1]
+            for name in [*(re.split(r", *", names) if names else [place.rpartition(".")[2]]), alias]:
+                if here := name.rpartition(" as ")[2]:
+                    yield here, (crate, name.partition(" as ")[0])
+
+
 class Reached:
-    """What the theorems reach: definitions and types as (file, name), constants by name."""
+    """What the theorems reach: definitions and types as (file, name), constants and the kit's words by name."""
 
     def __init__(self):
-        self.contracts, self.definitions, self.types, self.constants, self.files = {}, {}, {}, {}, {}
+        self.contracts, self.definitions, self.types, self.constants, self.files, self.kit = {}, {}, {}, {}, {}, set()
 
     # ---- definitions
 
@@ -118,7 +128,7 @@ class Reached:
         if file not in self.files:
             lines_of, owner, name = {}, {}, None
             for line in text_of(file).splitlines():
-                if found := re.match(r"(?:abbrev |pub |record |data )*([^\s:(]+)", line):
+                if found := re.match(r"(?:abbrev |pub |record |data |unfoldable )*([^\s:(]+)", line):
                     name = None if line.startswith(("use ", "pub use ", "--", "mod ", "pub mod ", "module ")) else found[1]
                     is_data = " data " in f" {line}"
                 if name and line.strip() and not line.strip().startswith("--"):
@@ -141,8 +151,10 @@ class Reached:
 
     def names_in(self, said, file):
         """Reaches what a piece of a file of definitions, or a clause, names."""
-        there = dict(brought(text_of(file)))
+        there, kit = dict(brought(text_of(file))), dict(of_the_kit(text_of(file)))
         for name in WORD.findall(re.sub(r"--.*", "", said)):
+            if name in kit:
+                self.kit.add(kit[name])
             if name in there:
                 self.reach(*there[name], said, name)
             elif file.endswith(".antt"):
@@ -231,14 +243,26 @@ def by_file(found):
     return {file: ([name for name, _ in files[file]], sum(lines for _, lines in files[file])) for file in files}
 
 
-def tables():
-    """The tables, as they stand in the page."""
+def reached_by(theorems):
     reached = Reached()
-    for file, names in THEOREMS:
+    for file, names in theorems:
         for name in names:
             reached.theorem(file, name)
-    said = ["| contracts of the theorems | lines |", "|---|---|"]
-    said += [f"| `{file}`: {', '.join(f'`{it}`' for it in names)} | {sum(names.values())} |" for file, names in reached.contracts.items()]
+    return reached
+
+
+def by_theorem():
+    """For each file of theorems, how many lines its contracts have, and how many of definitions and types they rest on."""
+    for file, names in sorted(THEOREMS, key=lambda it: it[0] != "mc_serve/src/tcp.rt"):
+        alone = reached_by([(file, names)])
+        lines = [sum(it.values()) for it in (alone.contracts[file], alone.definitions, alone.types)]
+        yield f"| `{file}`: {', '.join(f'`{it}`' for it in names)} | {' | '.join(map(str, lines))} |"
+
+
+def tables():
+    """The tables, as they are in the page."""
+    reached = reached_by(THEOREMS)
+    said = ["| contracts of the theorems | lines | of definitions behind them | of types |", "|---|---|---|---|", *by_theorem()]
     said += ["", "| definitions | lines | what for |", "|---|---|---|"]
     definitions, types = by_file(reached.definitions), by_file(reached.types)
     said += [f"| `{file}` | {definitions[file][1]} | {what_for(file)} |" for file in in_order(definitions)]
@@ -247,9 +271,12 @@ def tables():
     said += [f"| `{file}`: {', '.join(f'`{it}`' for it in sorted(types[file][0]))} | {types[file][1]} |" for file in order]
     said += ["", "| constants | value |", "|---|---|"]
     said += [f"| `{name}` (`{file}`) | {value_of(name)} |" for name, file in sorted(reached.constants.items())]
+    said += ["", "| words of the kit | |", "|---|---|"]
+    for crate in sorted({it for it, _ in reached.kit}, key=lambda it: (it != "std", it)):
+        said.append(f"| `{crate}` | {', '.join(f'`{name}`' for it, name in sorted(reached.kit) if it == crate)} |")
     counted = [sum(sum(it.values()) for it in reached.contracts.values()), sum(reached.definitions.values()), sum(reached.types.values())]
     said += ["", f"In all {counted[0]} lines of contracts, {counted[1]} of definitions in {len(definitions)} files, {counted[2]} of"
-             f" {len(reached.types)} types, and {len(reached.constants)} constants.", ""]
+             f" {len(reached.types)} types, and {len(reached.constants)} constants; {len(reached.kit)} words of the kit.", ""]
     return "\n".join(said)
 
 
