@@ -6,7 +6,7 @@
 Calls that serve connections go through a proxy of this process, so what a check reads of the memory of the server is its.
 """
 import os
-import pathlib
+import re
 import signal
 import socket
 import struct
@@ -15,9 +15,7 @@ import sys
 import threading
 import time
 
-sys.path.insert(0, str(pathlib.Path(__file__).resolve().parent.parent))
-
-from served import MIB, WITH_US, started  # noqa: E402
+from served import MIB, WITH_US, started
 
 # Memory that is never given back.
 KEPT = []
@@ -148,16 +146,6 @@ class StoresTornBlocks(Honest):
         super().client_ends()
 
 
-class TakesForWhatIsOpen(Honest):
-    """Takes 4 MiB more where a piece ends within a line or a block, once for each connection."""
-
-    def up(self, got):
-        if not self.sent and not got.endswith(b"\n"):
-            KEPT.append(b"x" * (4 * MIB))
-            self.sent += b"seen"
-        super().up(got)
-
-
 class SlowForChosenKeys(Honest):
     def up(self, got):
         if b"cqhmya" in got:
@@ -194,7 +182,7 @@ LINES = {
     "slow for chosen keys": SlowForChosenKeys, "keeps its port": Honest, "takes 64 MiB": takes(0, 64),
     "takes 1 MiB a connection": takes(1), "takes 4 MiB a connection": takes(4), "takes 16 MiB a connection": takes(16),
     "takes 64 MiB a connection": takes(64), "takes 4 KiB a connection": takes(1 / 256), "counts a connection twice": Honest,
-    "takes 4 MiB for what is open": TakesForWhatIsOpen, "spins": Spins,
+    "spins": Spins,
 }
 
 
@@ -213,10 +201,10 @@ def serve(fault, program, words):
     front.bind((host, int(port)))
     front.listen(128)
     real = started([program, *words[:at], "127.0.0.1:0", *words[at + 1 :]], stderr=subprocess.PIPE)
-    said, _, behind = real.stderr.readline().decode().rpartition(":")
+    behind = int(re.search(rb":(\d+)\n", real.stderr.readline())[1])
     KEPT.append(b"x" * (LINES[fault].at_start * MIB))
-    print(f"{said}:{front.getsockname()[1]}", file=sys.stderr, flush=True)
-    threading.Thread(target=accept_all, args=(LINES[fault], front, int(behind)), daemon=True).start()
+    print(f"listening {host}:{front.getsockname()[1]}", file=sys.stderr, flush=True)
+    threading.Thread(target=accept_all, args=(LINES[fault], front, behind), daemon=True).start()
     return real.wait()
 
 

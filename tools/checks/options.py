@@ -6,10 +6,8 @@
 What is expected follows from the rules of docs/PROTOCOL.md: what an item costs, on which shard a key lies, which cas uniques
 a shard gives. Each row gives another output where its option is ignored. The last line is `options: N passed, M failed`.
 """
-import os
 import pathlib
 import random
-import socket
 import subprocess
 import sys
 import tempfile
@@ -19,7 +17,7 @@ sys.path.insert(0, str(pathlib.Path(__file__).resolve().parent.parent))
 
 from hostile_bytes import rows, spoken  # noqa: E402
 from replay_model import place  # noqa: E402
-from served import MCD, MIB, TOP, Line, Server, equal, hit_of, run_checks, set_of, started  # noqa: E402
+from served import MCD, MIB, Line, Server, equal, hit_of, run_checks, set_of, started  # noqa: E402
 
 LIMIT_SECONDS = 300
 TOO_LARGE = b"SERVER_ERROR object too large for cache\r\n"
@@ -202,70 +200,6 @@ def each_number_of_shards():
         row(f"--shards {shards}", given, len(keys) * STORED + wanted)
 
 
-# In a network of its own, where nothing else listens; who isn't root becomes it there.
-ALONE = ["unshare", "--net", *([] if os.geteuid() == 0 else ["--map-root-user"]), "sh", "-c", 'ip link set lo up; exec "$0" "$@"']
-
-
-def socket_address(found):
-    """Of IPv4, as /proc/net/tcp writes it: the bytes of the address from last to first, and the port."""
-    host, port = found.split(":")
-    return f"{socket.inet_ntoa(bytes.fromhex(host)[::-1])}:{int(port, 16)}"
-
-
-def listened_at(process):
-    """Where sockets listen in the network of the process, as the system tells it: those of IPv6 are no address of IPv4."""
-    tables = [pathlib.Path(f"/proc/{process.pid}/net/{name}").read_text().splitlines()[1:] for name in ("tcp", "tcp6")]
-    there, sixes = ([row.split()[1] for row in table if row.split()[3] == "0A"] for table in tables)
-    return sorted(map(socket_address, there)) + sixes
-
-
-def one_listens_at(words, said, wanted):
-    """The program with these words says where it listens, and listens there alone."""
-    process = started([*ALONE, MCD, *words], stderr=subprocess.PIPE)
-    try:
-        for line in said:
-            equal(process.stderr.readline().decode().rstrip("\n").rpartition(", ")[2], line)
-        equal(listened_at(process), sorted(wanted))
-    finally:
-        process.kill()
-        process.wait()
-        process.stderr.close()
-
-
-def it_listens_where_it_is_told_alone():
-    """At the address that is given, or where none is at 127.0.0.1:11211; and the metrics at theirs."""
-    if subprocess.run([*ALONE, "true"], capture_output=True).returncode != 0:
-        return "left out: no network of its own is to be had here"
-    default, given = "127.0.0.1:11211", "127.0.0.2:11311"
-    one_listens_at([], [f"listening on {default}"], [default])
-    one_listens_at(["--drop-in", "--seats", "4"], [f"listening on {default}"], [default])
-    one_listens_at(["--listen", given], [f"listening on {given}"], [given])
-    one_listens_at(["--listen", "0.0.0.0:11311"], ["listening on 0.0.0.0:11311"], ["0.0.0.0:11311"])
-    for word, metrics in (("11212", "127.0.0.1:11212"), ("127.0.0.3:11213", "127.0.0.3:11213")):
-        one_listens_at(["--metrics", word], [f"metrics {metrics}", f"listening on {default}"], [default, metrics])
-    return None
-
-
-def each_moment():
-    """What a time that is given as a second since 1970 leaves of an item: `--at` says which second it is."""
-    given = b"set a 0 4000000100 1\r\nx\r\nmg a t\r\n"
-    for at, left in ((1000, 3_999_999_100), (4_000_000_000, 100), (4_000_000_099, 1)):
-        ran = subprocess.run([MCD, "--stdio", "--at", str(at)], input=given, capture_output=True, timeout=30)
-        equal((at, ran.returncode, ran.stdout), (at, 0, STORED + b"HD t%d\r\n" % left))
-
-
-def so_many_connections():
-    """The program ends with the last of as many connections as are given, and takes no further one."""
-    for count in (1, 3):
-        with Server("--connections", count) as server:
-            for number in range(count):
-                equal((number, server.is_running()), (number, True))
-                with Line(server.port) as line:
-                    line.ask(b"mn\r\nquit\r\n", b"MN\r\n")
-                    equal(line.rest(), b"")
-            equal(server.process.wait(timeout=30), 0)
-
-
 def two_seats():
     """The third client waits until one of the two seats is free."""
     with Server("--seats", 2) as server:
@@ -350,73 +284,38 @@ def the_clock_tells_the_year():
     equal((ran.returncode, ran.stdout), (0, 2 * STORED + hit_of(b"a", b"x") + b"END\r\n"))
 
 
-def a_wall_clock_that_is_set_moves_no_expiry():
-    """Neither an hour forward nor two back ends an item with a life of a minute, nor keeps one with a life of a second."""
-    with tempfile.TemporaryDirectory() as folder:
-        shim, offset = pathlib.Path(folder) / "set_wall.so", pathlib.Path(folder) / "offset"
-        subprocess.run(["cc", "-O1", "-shared", "-fPIC", "-o", shim, TOP / "tools/checks/set_wall.c", "-ldl"], check=True)
-        offset.write_text("0")
-        moved = {**os.environ, "LD_PRELOAD": str(shim), "WALL_OFFSET": str(offset)}
-        process = started([MCD, "--stdio"], stdin=subprocess.PIPE, stdout=subprocess.PIPE, env=moved)
-
-        def ask(sent, wanted):
-            process.stdin.write(sent)
-            process.stdin.flush()
-            found = process.stdout.readline()
-            while found.startswith(b"VALUE") and not found.endswith(b"END\r\n"):
-                found += process.stdout.readline()
-            equal(found, wanted)
-
-        try:
-            ask(b"set long 0 60 1\r\nx\r\n", STORED)
-            offset.write_text("3600")
-            ask(b"get long\r\n", hit_of(b"long", b"x"))
-            ask(b"set short 0 1 1\r\ny\r\n", STORED)
-            offset.write_text("-3600")
-            time.sleep(2.1)
-            ask(b"get short\r\n", b"END\r\n")
-            ask(b"get long\r\n", hit_of(b"long", b"x"))
-        finally:
-            process.kill()
-            process.wait()
-            process.stdin.close()
-            process.stdout.close()
-
-
 def ended(words, **streams):
     ran = subprocess.run([MCD, *words], **{"stdin": subprocess.DEVNULL, "stdout": subprocess.PIPE, **streams}, stderr=subprocess.PIPE, timeout=30)
     return ran.returncode, ran.stdout, ran.stderr.decode()
 
 
-WITH_STDIO = "--stdio, which takes --at, --shards, --bytes, --memory, --memory-limit, --value-limit, --line-limit, --window and --drop-in"
+WITH_STDIO = "--stdio, which takes --at, --shards, --bytes, --memory, --value-limit, --line-limit, --window and --drop-in"
 NUMBER = "takes a number from {0} to {1}, not '{2}'"
-SIZE = "takes a number of bytes from {0} to {1}, or a size such as 64k, 64m or 4g, not '{2}'"
-TWO_BUDGETS = "--bytes, --memory and --memory-limit don't go together: --bytes is for each shard, the others for all of them"
+SIZE = "takes a number of bytes from {0} to {1}, or one of k, m and g (1024 each) behind a number, not '{2}'"
 ITEMS = "there is no option --items: --bytes says what the items of a shard may cost together"
 
 # Calls, and what is told of them behind `mcd: `.
 FAULTS = [
     ("--items 5", ITEMS), ("--items 5 --replay x --shards 2", ITEMS),
     *((f"--replay x --{name} 2", f"--{name} doesn't go with --replay, which takes no other option")
-      for name in ("at", "listen", "shards", "seats", "bytes", "memory", "value-limit", "line-limit", "window", "connections", "idle-timeout", "metrics", "port", "memory-limit", "udp-port", "user", "pidfile")),
-    *((f"--replay x --{name}", f"--{name} doesn't go with --replay, which takes no other option") for name in ("stdio", "verbose", "drop-in", "plan", "daemon")),
-    *((f"--stdio --{name} 2", f"--{name} doesn't go with {WITH_STDIO}") for name in ("listen", "seats", "connections", "idle-timeout", "metrics", "port", "udp-port", "user", "pidfile")),
-    *((f"--stdio --{name}", f"--{name} doesn't go with {WITH_STDIO}") for name in ("verbose", "plan", "daemon")),
-    ("--at 5", "--at goes with --stdio alone"), ("--at 5 --seats 65537", "--at goes with --stdio alone"),
-    ("--bytes 64k --memory 1m", TWO_BUDGETS),
-    ("--seats 65537", "--seats " + NUMBER.format(1, 65536, "65537")), ("--seats 2k", "--seats " + NUMBER.format(1, 65536, "2k")),
-    ("--shards 0", "--shards " + NUMBER.format(1, 64, "0")), ("--window 4097", "--window " + NUMBER.format(1, 4096, "4097")),
+      for name in ("at", "listen", "shards", "seats", "bytes", "memory", "value-limit", "line-limit", "window", "connections", "idle-timeout", "metrics")),
+    *((f"--replay x --{name}", f"--{name} doesn't go with --replay, which takes no other option") for name in ("stdio", "verbose", "drop-in")),
+    *((f"--stdio --{name} 2", f"--{name} doesn't go with {WITH_STDIO}") for name in ("listen", "seats", "connections", "idle-timeout", "metrics")),
+    ("--stdio --verbose", f"--verbose doesn't go with {WITH_STDIO}"),
+    ("--at 5", "--at goes with --stdio alone"), ("--at 5 --seats 4097", "--at goes with --stdio alone"),
+    ("--bytes 64k --memory 1m", "--bytes and --memory don't go together: --bytes is for each shard, --memory for all of them"),
+    ("--seats 4097", "--seats " + NUMBER.format(1, 4096, "4097")), ("--seats 2k", "--seats " + NUMBER.format(1, 4096, "2k")),
+    ("--shards 0", "--shards " + NUMBER.format(1, 16, "0")), ("--window 4097", "--window " + NUMBER.format(1, 4096, "4097")),
     ("--connections 0", "--connections " + NUMBER.format(1, 4294967295, "0")),
     ("--idle-timeout 0", "--idle-timeout " + NUMBER.format(1, 31536000, "0")),
     ("--idle-timeout 31536001", "--idle-timeout " + NUMBER.format(1, 31536000, "31536001")),
     ("--stdio --at x", "--at " + NUMBER.format(0, 18446744073709551615, "x")),
-    ("--bytes 1023", "--bytes " + SIZE.format(1024, 68719476736, "1023")),
-    ("--bytes 65g", "--bytes " + SIZE.format(1024, 68719476736, "65g")),
-    ("--bytes 1kk", "--bytes " + SIZE.format(1024, 68719476736, "1kk")),
-    ("--bytes 18014398509481985k", "--bytes " + SIZE.format(1024, 68719476736, "18014398509481985k")),
-    ("--memory 2047", "--memory " + SIZE.format(2048, 4398046511104, "2047")),
-    ("--memory 4097g", "--memory " + SIZE.format(2048, 4398046511104, "4097g")),
-    ("--memory 193g --shards 3", "--memory " + SIZE.format(3072, 206158430208, "193g")),
+    ("--bytes 1023", "--bytes " + SIZE.format(1024, 1073741824, "1023")),
+    ("--bytes 2g", "--bytes " + SIZE.format(1024, 1073741824, "2g")),
+    ("--bytes 1kk", "--bytes " + SIZE.format(1024, 1073741824, "1kk")),
+    ("--bytes 18014398509481985k", "--bytes " + SIZE.format(1024, 1073741824, "18014398509481985k")),
+    ("--memory 2047", "--memory " + SIZE.format(2048, 2147483648, "2047")),
+    ("--memory 4g --shards 3", "--memory " + SIZE.format(3072, 3221225472, "4g")),
     ("--value-limit 9m", "--value-limit " + SIZE.format(1024, 8388608, "9m")),
     ("--line-limit 2047", "--line-limit " + SIZE.format(2048, 8388608, "2047")),
     ("--line-limit 8388609", "--line-limit " + SIZE.format(2048, 8388608, "8388609")),
@@ -478,7 +377,7 @@ def few_open_files_are_told():
     process = started(limited("-n 20", "--seats", "30"), stderr=subprocess.PIPE)
     try:
         port = int(process.stderr.readline().rpartition(b":")[2])
-        equal(process.stderr.readline(), b"mcd: --seats 30 needs 42 open files, and 20 are allowed (ulimit -n)\n")
+        equal(process.stderr.readline(), b"mcd: --seats 30 needs 41 open files, and 20 are allowed (ulimit -n)\n")
         with Line(port) as line:
             line.ask(b"mn\r\n", b"MN\r\n")
     finally:
@@ -502,9 +401,8 @@ def what_the_system_refuses_is_told():
 
 
 CHECKS = [
-    memcacheds_rules, another_protocol, the_worked_rows_by_memcacheds_rules, a_value_limit_of_1024, values_of_2_mib, the_longest_line, a_budget_of_1024, a_budget_of_1_mib, each_number_of_shards, it_listens_where_it_is_told_alone,
-    each_moment, so_many_connections, two_seats, each_window, the_clock_goes_on, the_clock_tells_the_year, a_wall_clock_that_is_set_moves_no_expiry,
-    each_fault_of_the_command_line, each_fault_of_a_word,
+    memcacheds_rules, another_protocol, the_worked_rows_by_memcacheds_rules, a_value_limit_of_1024, values_of_2_mib, the_longest_line, a_budget_of_1024, a_budget_of_1_mib, each_number_of_shards, two_seats,
+    each_window, the_clock_goes_on, the_clock_tells_the_year, each_fault_of_the_command_line, each_fault_of_a_word,
     what_cannot_be_read_is_told, what_cannot_be_written_is_told, a_taken_address_is_told, few_open_files_are_told,
     what_the_system_refuses_is_told,
 ]

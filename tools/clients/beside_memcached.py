@@ -1,20 +1,15 @@
 #!/usr/bin/env python3
 """Sends the same random commands to mcd and to memcached 1.6, and compares their replies one by one.
 
-    tools/clients/beside_memcached.py [--drop-in] [--seed N ..] [--commands N] [--as-installed]
+    tools/clients/beside_memcached.py [--drop-in] [--seed N] [--commands N] [--as-installed]
 
 Classic and meta commands on a few keys, well formed and not, each followed by a `mg` of a key that nothing lies under, so that
 the end of its reply is known. A difference that docs/PROTOCOL.md names is counted under its name there, and its keys are removed
 on both servers, so that it has no later effect. Any other difference is shown, and fails: forty commands of a stream of 3,000
 did, before their differences stood on that page. With `--drop-in` mcd is started so, what the page says is gone then is no
 difference that it names, and the commands have more of what memcached takes. Uniques count differently on the two servers and are
-compared by whether they are there; seconds may differ by one, since the servers' clocks don't tick together.
-
-With `--drop-in` what `stats` counts is compared too, command by command: how much each counter grew that both servers have. A
-difference that the section "Statistics" names is counted under its name. Where replies differ, counters aren't compared.
-
-memcached's own replies to a stream differ now and then from run to run. So a stream that shows a difference is sent once more, to
-new servers, and one fails that shows it at the same command twice.
+compared by whether they are there; seconds may differ by one, since the servers' clocks don't tick together. It isn't part of
+the gate, since memcached's own replies to a stream differ now and then from run to run.
 
 memcached is Debian's package; where it isn't there and can't be had, nothing is compared, and the last line says so.
 """
@@ -36,15 +31,11 @@ TOO_LARGE = 1024 * 1024 + 1
 FENCE, FENCE_REPLY = b"mg nothing Othe-end\r\n", b"EN Othe-end\r\n"
 # Flags for a proxy, which memcached takes with each meta command.
 FOR_A_PROXY = [b"P", b"L"]
-ALL_SECONDS = 560
-
-
-# What `stats` counts by itself on one of the servers: what is held, when memcached's own threads remove what is dead.
-NOT_COUNTED = {"limit_maxbytes", "bytes", "curr_items", "evictions", "threads"}
+ALL_SECONDS = 280
 
 
 class Peer:
-    """A connection to one of the two servers."""
+    """A connection to one of the two servers, with what it last told of each key's unique."""
 
     def __init__(self, port):
         self.socket = socket.create_connection(("127.0.0.1", port), timeout=20)
@@ -61,11 +52,6 @@ class Peer:
             self.kept += got
         reply, self.kept = self.kept.removesuffix(FENCE_REPLY), b""
         return reply
-
-    def counters(self):
-        """What `stats` tells, by name."""
-        told = re.findall(rb"STAT (\w+) (\d+)\r\n", self.ask(b"stats\r\n"))
-        return {name.decode(): int(value) for name, value in told}
 
     def unique(self, key):
         """The unique of the item under this key, or one that no item has."""
@@ -314,33 +300,6 @@ def differs_later(drop_in, asked):
     return next((name for name, command, replies in named(drop_in) if replies is None and re.fullmatch(command, line)), None)
 
 
-# What docs/PROTOCOL.md names of the counters: its name there, what the command looks like, what both reply, and the counters that
-# memcached lets grow by one more.
-STATS_NAMED = [
-    ("a bad data chunk", rb"(set|add|replace|append|prepend|cas|ms) .*", rb"(CLIENT_ERROR bad data chunk\r\n)?.*", {"cmd_set"}),
-    ("a number that gets longer", rb"(incr|decr|ma) .*", rb".*", {"total_items"}),
-    ("a refused `flush_all`", rb"flush_all .*", rb"(CLIENT_ERROR .*)?", {"cmd_flush"}),
-    ("keys in front of a bad one", rb"gets? .*", rb"CLIENT_ERROR .*", {"cmd_get", "get_hits", "get_misses"}),
-    ("keys in front of a bad one", rb"gats? .*", rb"CLIENT_ERROR .*", {"cmd_touch", "touch_hits", "touch_misses"}),
-]
-
-
-def grown(before, after):
-    """By how much each counter grew, but for those that stayed."""
-    return {name: after[name] - before[name] for name in after if name in before and after[name] != before[name]}
-
-
-def counts_differ(asked, reply, ours, theirs):
-    """The name of the difference between what a command let grow; `None` where there is none, and where none is named the counters."""
-    more = {name: theirs.get(name, 0) - ours.get(name, 0) for name in {*ours, *theirs}}
-    more = {name: by for name, by in more.items() if by}
-    line = asked.partition(b"\r\n")[0]
-    for name, command, answer, counters in STATS_NAMED:
-        if set(more) <= counters and min(more.values(), default=0) > 0 and re.fullmatch(command, line) and re.fullmatch(answer, reply, re.DOTALL):
-            return name
-    return f"counters: {more}" if more else None
-
-
 def told_as_gone(page):
     """The names that the page says are gone with `--drop-in`."""
     return sorted(name for name in NAMES if re.search(rf"^.*\*\*{re.escape(name)}\*\*.*Gone with `--drop-in`", page, re.M))
@@ -349,13 +308,13 @@ def told_as_gone(page):
 def main():
     words = argparse.ArgumentParser(description=__doc__.splitlines()[0])
     words.add_argument("--drop-in", action="store_true")
-    words.add_argument("--seed", type=int, nargs="+", default=[1])
+    words.add_argument("--seed", type=int, default=1)
     words.add_argument("--commands", type=int, default=20000)
     words.add_argument("--as-installed", action="store_true")
     asked = words.parse_args()
     needs_program()
     page = (TOP / "docs/PROTOCOL.md").read_text()
-    say(all(f"**{name}**" in page for name in [*NAMES, *(it[0] for it in STATS_NAMED)]), "docs/PROTOCOL.md names each difference")
+    say(all(f"**{name}**" in page for name in NAMES), "docs/PROTOCOL.md names each difference")
     say(told_as_gone(page) == sorted(GONE), "docs/PROTOCOL.md tells which are gone with --drop-in")
     if not asked.as_installed and not shutil.which("memcached"):
         install(["memcached"])
@@ -363,73 +322,44 @@ def main():
         skip("memcached isn't installed")
         return told("beside memcached")
     bounded(ALL_SECONDS)
-    for seed in asked.seed:
-        judged(asked, seed)
-    return told("beside memcached")
-
-
-def judged(asked, seed):
-    """Sends the stream of this seed, and once more where it shows a difference."""
-    unnamed = sent(asked, seed)
-    if unnamed:
-        again = sent(asked, seed)
-        unnamed = {number: text for number, text in unnamed.items() if number in again}
-    for text in [*unnamed.values()][:40]:
-        print(text)
-    say(not unnamed, f"seed {seed}: {asked.commands} commands, {len(unnamed)} replies or counts that differ by nothing that docs/PROTOCOL.md names")
-
-
-def sent(asked, seed):
-    """Sends the stream of this seed to both servers: what differs by nothing that is named, by the number of its command."""
     port = free_port()
     theirs = started(["memcached", "-u", "nobody", "-l", "127.0.0.1", "-p", str(port), "-m", "64", "-t", "1"])
     try:
         with Server(*["--drop-in"] * asked.drop_in) as ours:
             if not is_up(port):
-                return {-1: "memcached doesn't listen"}
-            return compare(Peer(ours.port), Peer(port), Maker(seed, asked.drop_in), asked.commands)
+                say(False, "memcached doesn't listen")
+            else:
+                compare(Peer(ours.port), Peer(port), asked)
     finally:
         theirs.kill()
         theirs.wait()
+    return told("beside memcached")
 
 
-def compare(ours, theirs, maker, commands):
-    met, unnamed = collections.Counter(), {}
-    for number in range(commands):
+def compare(ours, theirs, asked):
+    maker, met, unnamed = Maker(asked.seed, asked.drop_in), collections.Counter(), 0
+    for _ in range(asked.commands):
         keys, make = maker.command()
         mine, other = make(ours), make(theirs)
-        name = one_compared(maker.drop_in, ours, theirs, keys, mine, other)
-        if name is None:
+        my_reply, other_reply = ours.ask(mine), theirs.ask(other)
+        name = differs_later(asked.drop_in, mine)
+        if re.match(rb"(incr|decr|ma) ", mine):
+            if is_padded(theirs, keys):
+                name = "numbers aren't padded"
+            ours.ask(b"".join(b"get " + key + b"\r\n" for key in keys))
+        if name is None and is_same(my_reply, other_reply):
             continue
+        name = name or difference(asked.drop_in, mine, my_reply, other_reply)
         met[name] += 1
-        if name.startswith(("reply", "counters")):
-            unnamed[number] = f"  {number}: {shown(mine)} and memcached's {shown(other)}:\n      {name}"
+        if name is None:
+            unnamed += 1
+            if unnamed <= 40:
+                print(f"  {shown(mine)} and memcached's {shown(other)}:\n      {shown(my_reply)}\n      {shown(other_reply)}")
         for peer in (ours, theirs):
             peer.ask(b"".join(b"delete " + key + b" noreply\r\n" for key in keys))
     for name, count in met.most_common():
-        print(f"  {count:6} times: {name:.100}")
-    return unnamed
-
-
-def one_compared(drop_in, ours, theirs, keys, mine, other):
-    """The name of the difference that one command shows, if any: `reply ..` or `counters ..` where none is named."""
-    before = [peer.counters() for peer in (ours, theirs)] if drop_in else None
-    my_reply, other_reply = ours.ask(mine), theirs.ask(other)
-    after = [peer.counters() for peer in (ours, theirs)] if drop_in else None
-    name = differs_later(drop_in, mine)
-    if re.match(rb"(incr|decr|ma) ", mine):
-        if is_padded(theirs, keys):
-            name = "numbers aren't padded"
-        ours.ask(b"".join(b"get " + key + b"\r\n" for key in keys))
-    if name is None and is_same(my_reply, other_reply):
-        return counts_compared(mine, my_reply, before, after) if drop_in else None
-    return name or difference(drop_in, mine, my_reply, other_reply) or f"reply: {shown(my_reply)}\n      {shown(other_reply)}"
-
-
-def counts_compared(asked, reply, before, after):
-    names = before[0].keys() & before[1].keys() - NOT_COUNTED
-    ours, theirs = ({name: by for name, by in grown(*pair).items() if name in names} for pair in zip(before, after))
-    return counts_differ(asked, reply, ours, theirs)
+        print(f"  {count:6} times: {name}")
+    say(unnamed == 0, f"{asked.commands} commands, {unnamed} replies that differ by nothing that docs/PROTOCOL.md names")
 
 
 def shown(text):

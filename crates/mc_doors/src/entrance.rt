@@ -1,13 +1,11 @@
 //! Where connections come in: a thread of its own takes them from the listener, and hands each to a free seat.
 use crate::free_seats::FreeSeats;
-use libc::net::{SHUT_RD, SO_KEEPALIVE, SOL_SOCKET, setsockopt, shutdown};
 use mc_wake::{Marked, Patience, Sleeper, Wakers};
 use mc_watch::{EntranceWatch, SeatWatch, Watch};
 use mio::net::TcpStream;
 use rtrb::{Consumer, Producer, RingBuffer};
 use std::alloc::{AllocError, Global};
 use std::net::{SocketAddr, TcpListener};
-use std::os::fd::AsRawFd;
 use std::sync::atomic::{AtomicBool, Ordering};
 use std::sync::{Arc, Wait};
 use std::time::Duration;
@@ -97,40 +95,10 @@ impl Bell {
         self.closing.has_failed.load(Ordering::SeqCst)
     }
 
-    /// Whether no seat will be free.
-    fn is_dismissed(&self) -> bool {
-        self.closing.is_dismissed.load(Ordering::SeqCst)
-    }
-
     /// Tells the entrance that no seat will be free.
     pub fn dismiss(&self) {
         self.closing.is_dismissed.store(true, Ordering::SeqCst);
         self.wakers.rouse(0);
-    }
-}
-
-/// Closes an entrance while its thread accepts connections.
-pub struct Closer {
-    bell: Bell,
-    listener: Arc<TcpListener, Global>,
-}
-
-impl Drop for Closer {
-    /// By hand, so that to let one go is one call for whoever holds it (docs/DECISIONS.md).
-    fn drop(self) {
-        let Closer {
-            bell: _bell,
-            listener: _listener,
-        } = self;
-    }
-}
-
-impl Closer {
-    /// No further connection is accepted, and those that wait to be are refused.
-    pub fn close(&self) {
-        self.bell.dismiss();
-        // It ends the accept that waits, and any later one. Where it fails the listener is closed already.
-        let _ = shutdown(self.listener.as_raw_fd(), SHUT_RD);
     }
 }
 
@@ -152,8 +120,6 @@ pub struct Way {
     pub(crate) seats: Wakers,
     /// What is watched of its connections.
     pub(crate) watch: SeatWatch,
-    /// It has told the entrance that the seat is free.
-    pub(crate) told_free: bool,
 }
 
 impl Drop for Way {
@@ -165,20 +131,15 @@ impl Drop for Way {
             bell: _bell,
             seats: _seats,
             watch: _watch,
-            told_free: _told_free,
         } = self;
     }
 }
 
 /// The listener, and the ways from it to the seats.
 pub struct Entrance {
-    listener: Arc<TcpListener, Global>,
+    listener: TcpListener,
     /// Connections still to be taken, where their number is bounded.
     left: Option<u64>,
-    /// How often a seat has said that it is free, a count that stays at its greatest value.
-    freed: usize,
-    /// It was reported that all seats are taken, and not yet that one is free again.
-    is_full: bool,
     /// The seats call it when they are free.
     sleeper: Sleeper,
     bell: Bell,
@@ -195,8 +156,6 @@ impl Drop for Entrance {
         let Entrance {
             listener: _listener,
             left: _left,
-            freed: _freed,
-            is_full: _is_full,
             sleeper: _sleeper,
             bell: _bell,
             free: _free,
@@ -221,10 +180,8 @@ impl Entrance {
         let sleeper = Sleeper::new(alloc, AT_ONCE, free.seats(), 1, 1)?;
         let bell = Bell::new(alloc, &sleeper)?;
         Ok(Entrance {
-            listener: Arc::new(alloc, listener)?,
+            listener,
             left: connections,
-            freed: 0,
-            is_full: false,
             sleeper,
             bell,
             free,
@@ -245,21 +202,12 @@ impl Entrance {
             bell: self.bell()?,
             seats: self.seats.share()?,
             watch: watch.seat(seat, self.free.thread_of(seat))?,
-            told_free: false,
         })
     }
 
     /// How it is reached.
     pub fn bell(&self) -> Result<Bell, AllocError> {
         self.bell.share()
-    }
-
-    /// What closes it.
-    pub fn closer(&self) -> Result<Closer, AllocError> {
-        Ok(Closer {
-            bell: self.bell()?,
-            listener: Arc::try_clone(&self.listener)?,
-        })
     }
 
     /// Takes in connections until as many have come as are taken, none can be accepted, or it is dismissed.
@@ -278,11 +226,7 @@ impl Entrance {
                 return;
             }
             let Ok(connection) = self.accept(rt) else {
-                let has_failed = !self.bell.is_dismissed();
-                self.bell
-                    .closing
-                    .has_failed
-                    .store(has_failed, Ordering::SeqCst);
+                self.bell.closing.has_failed.store(true, Ordering::SeqCst);
                 return;
             };
             self.hand_over(connection);
@@ -305,13 +249,11 @@ impl Entrance {
     fn wait_for_seat<R: Wait>(&mut self, rt: &R) -> bool {
         for _ in rt.forever() {
             self.note_free();
-            let is_one_free = !self.free.is_empty();
-            self.note_full(!is_one_free);
-            if is_one_free {
+            if !self.free.is_empty() {
                 self.sleeper.found();
                 return true;
             }
-            if self.bell.is_dismissed() {
+            if self.bell.closing.is_dismissed.load(Ordering::SeqCst) {
                 return false;
             }
             self.sleeper.wait(rt);
@@ -319,25 +261,11 @@ impl Entrance {
         unreachable!()
     }
 
-    /// Reports that all seats are taken, or that one is free again. Before each was free once, none is taken.
-    fn note_full(&mut self, is_full: bool) {
-        if self.is_full == is_full || self.freed < self.ways.len() {
-            return;
-        }
-        self.is_full = is_full;
-        if is_full {
-            self.watch.all_taken();
-        } else {
-            self.watch.one_free();
-        }
-    }
-
     /// Notes the seats that have told that they are free.
     fn note_free(&mut self) {
         for word in 0..self.ways.len().div_ceil(64) {
             for seat in Marked::of(word, self.sleeper.callers_in(word)) {
                 self.free.add(seat);
-                self.freed = self.freed.saturating_add(1);
             }
         }
     }
@@ -347,18 +275,13 @@ impl Entrance {
     fn accept<R: time::Clock>(&mut self, rt: &R) -> io::Result<NewConnection> {
         for _ in 0..u64::MAX {
             match self.listener.accept() {
-                Ok((stream, peer)) => match prepared(stream) {
-                    Ok(stream) => {
+                Ok((stream, peer)) => {
+                    if let Some(stream) = prepared(stream) {
                         self.watch.accepted();
                         return Ok(NewConnection { stream, peer });
                     }
-                    // It is closed, and the next one is waited for.
-                    Err(fault) => self.watch.failed(fault.raw_os_error()),
-                },
+                }
                 Err(fault) => {
-                    if self.bell.is_dismissed() {
-                        return Err(fault);
-                    }
                     self.watch.failed(fault.raw_os_error());
                     if is_lasting(&fault) {
                         return Err(fault);
@@ -384,20 +307,12 @@ impl Entrance {
     }
 }
 
-/// The connection, so that no read and no write of it waits, and the system finds out where its client has vanished.
-fn prepared(stream: net::TcpStream) -> io::Result<TcpStream> {
+/// The connection, so that no read and no write of it waits.
+fn prepared(stream: net::TcpStream) -> Option<TcpStream> {
     // Where this fails replies are only later.
     let _ = stream.set_nodelay(true);
-    keep_alive(&stream);
-    stream.set_nonblocking(true)?;
-    Ok(TcpStream::from_std(stream))
-}
-
-/// Has the system ask the peer now and then whether it is still there, while nothing is sent (SO_KEEPALIVE, socket(7); how often,
-/// tcp(7) says). Where this fails, a connection whose client has vanished stays.
-fn keep_alive(stream: &net::TcpStream) {
-    let on = [1u8, 0, 0, 0, 0, 0, 0, 0, 0, 0, 0, 0, 0, 0, 0, 0];
-    let _ = unsafe { setsockopt(stream.as_raw_fd(), SOL_SOCKET, SO_KEEPALIVE, &on, 4) };
+    stream.set_nonblocking(true).ok()?;
+    Some(TcpStream::from_std(stream))
 }
 
 /// Whether the fault of an `accept` comes again at each further one.

@@ -1,25 +1,24 @@
 //! Doors: where the lines of a seat come in, one at a time, and go back once they were served. A door over memory has one line;
-//! a door for streams has those that come in at its seat, as the connections over TCP that a thread of its own accepts.
+//! a door over TCP has the connections that a thread of its own accepts and hands to it.
 #![tactic(auto)]
 
-mod arrivals;
 mod door;
 mod entrance;
 mod foreign;
 mod free_seats;
 mod lingering;
 mod one_door;
-mod stream;
-mod stream_door;
-mod tap;
+mod peek;
+mod tcp_door;
 mod tcp_line;
 mod trail;
+mod vectored;
 
-pub use arrivals::{Arrivals, NewStream};
 pub use door::{Arrival, Door};
-pub use entrance::{Bell, Closer, Entrance, Way};
+pub use entrance::{Bell, Entrance, Way};
 pub use one_door::{OneDoor, ReturnedLine, ServedLine};
-pub use stream::Stream;
-pub use stream_door::{ClosedConnection, StreamDoor};
+pub use peek::Peek;
+pub use tcp_door::{ClosedConnection, TcpDoor};
 pub use tcp_line::TcpLine;
 pub use trail::Trail;
+pub use vectored::VectoredWrite;

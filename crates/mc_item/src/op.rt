@@ -28,10 +28,6 @@ pub enum Op {
     Delete {
         key: Key,
     },
-    /// The item under the key of a value that is too large goes, by memcached's rules.
-    Discard {
-        key: Key,
-    },
     /// `touch`.
     Touch {
         key: Key,
@@ -61,7 +57,7 @@ impl Op {
             Op::Store(_) => Kind::Store,
             Op::Fetch { .. } => Kind::Fetch,
             Op::Count { .. } => Kind::Count,
-            Op::Delete { .. } | Op::Discard { .. } => Kind::Delete,
+            Op::Delete { .. } => Kind::Delete,
             Op::Touch { .. } => Kind::Touch,
             Op::Flush { .. } => Kind::Flush,
             Op::Stats => Kind::Stats,
@@ -82,7 +78,6 @@ impl Op {
             Op::Fetch { key, .. }
             | Op::Count { key, .. }
             | Op::Delete { key }
-            | Op::Discard { key }
             | Op::Touch { key, .. } => Some(key),
             Op::MetaGet(get) => Some(&get.key),
             Op::Store(store) | Op::MetaStore(store) => Some(&store.key),

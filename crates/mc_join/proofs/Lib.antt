@@ -1,4 +1,5 @@
 pub mod Answered
+pub mod Gatherings
 pub mod Joins
 pub mod Queues
 mod Rows

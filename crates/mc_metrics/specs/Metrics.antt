@@ -1,18 +1,15 @@
 -- The text of the metrics, as Prometheus reads them.
-use Rattle.std.specs.Prelude.{ℕ, List, [], ◌∷◌, ◌++◌, ◌-◌, ◌/◌, ◌%◌, codes}
+use Rattle.std.specs.Prelude.{ℕ, List, [], ◌∷◌, ◌++◌, ◌-◌, codes}
 use Rattle.std.specs.Fmt.{decimal}
 use Rattle.std.specs.List.{concat}
-use Rattle.mc_watch.specs.declared.counts.EndTotals.{EndTotals}
 use Rattle.mc_watch.specs.declared.shard_counts.CommandTotals.{CommandTotals}
 use Rattle.mc_watch.specs.declared.shard_counts.ShardTotals.{ShardTotals}
 use Rattle.mc_metrics.specs.declared.reading.Reading.{Reading}
 use Rattle.mc_metrics.specs.declared.text.CommandKind.{CommandKind}
 use Rattle.mc_metrics.specs.declared.text.CommandKind.TheVariants.{Get, Set, Cas, Touch, Delete, Incr, Decr, Flush}
-use Rattle.mc_metrics.specs.declared.text.EndReason.{EndReason}
-use Rattle.mc_metrics.specs.declared.text.EndReason.TheVariants as reason
 use Rattle.mc_metrics.specs.declared.text.Metric.{Metric}
 use Rattle.mc_metrics.specs.declared.text.Number.{Number}
-use Rattle.mc_metrics.specs.declared.text.Number.TheVariants.{Up, Uptime, LimitBytes, Shards, Seats, Open, Waiting, Accepted, Broken, Failed, Commands, Read, Written, Items, Bytes, Evicted, OutOfMemory, Resident, Started}
+use Rattle.mc_metrics.specs.declared.text.Number.TheVariants.{Up, Uptime, LimitBytes, Shards, Seats, Open, Waiting, Accepted, Broken, Failed, Commands, Read, Written, Items, Bytes, Evicted, OutOfMemory}
 
 -- a metric of this kind, with its name, what it tells and its value: three lines, whose ends are the byte 10
 unfoldable pub metric_text : (kind name help : List ℕ) (value : ℕ) → List ℕ
@@ -38,49 +35,14 @@ numbers_text reading =
     ∷ counter_text (codes "memcached_connections_total") (codes "How many connections were accepted.") reading.totals.accepted
     ∷ counter_text (codes "mcd_connections_broken_total") (codes "How many connections failed, or were idle for too long.") reading.totals.broken
     ∷ counter_text (codes "mcd_accepts_failed_total") (codes "How many accepts failed.") reading.totals.failed
-    ∷ counter_text (codes "mcd_commands_total") (codes "Commands that were taken.") reading.totals.commands
+    ∷ counter_text (codes "mcd_commands_total") (codes "Commands of the connections that have ended.") reading.totals.commands
     ∷ counter_text (codes "memcached_read_bytes_total") (codes "Bytes read of all connections.") reading.totals.read
     ∷ counter_text (codes "memcached_written_bytes_total") (codes "Bytes written to all connections.") reading.totals.written
     ∷ gauge_text (codes "memcached_current_items") (codes "How many items there are.") reading.totals.shards.items
     ∷ gauge_text (codes "memcached_current_bytes") (codes "What the items cost together, in bytes.") reading.totals.shards.bytes
     ∷ counter_text (codes "memcached_items_evicted_total") (codes "How many items went to make room for others.") reading.totals.shards.evicted
     ∷ counter_text (codes "mcd_out_of_memory_total") (codes "Commands for which no memory was left.") reading.totals.shards.out_of_memory
-    ∷ gauge_text (codes "process_resident_memory_bytes") (codes "Memory of the process that is resident, in bytes.") reading.process.resident
-    ∷ gauge_text (codes "process_start_time_seconds") (codes "When the process started, in seconds since 1970.") reading.facts.started
     ∷ [])
-
--- seconds of processors with two places behind the point, by hundredths
-unfoldable pub cpu_text : ℕ → List ℕ
-cpu_text hundredths =
-    codes "# HELP process_cpu_seconds_total Time of processors that the process has used, in seconds."
-    ++ ((10 ∷ codes "# TYPE process_cpu_seconds_total counter") ++ ((10 ∷ codes "process_cpu_seconds_total ")
-    ++ (decimal (hundredths / 100) ++ (codes "." ++ (decimal (hundredths / 10 % 10) ++ (decimal (hundredths % 10) ++ (10 ∷ [])))))))
-
--- how many connections have ended for the reason of this name: 34 is the quotation mark
-unfoldable pub end_text : (name : List ℕ) (count : ℕ) → List ℕ
-end_text name count =
-    (codes "mcd_connections_ended_total{reason=" ++ (34 ∷ [])) ++ (name ++ ((34 ∷ codes "} ") ++ (decimal count ++ (10 ∷ []))))
-
--- what comes before the reasons
-abbrev pub before_ends : List ℕ
-before_ends =
-    codes "# HELP mcd_connections_ended_total Connections that were ended for a reason to look into."
-    ++ ((10 ∷ codes "# TYPE mcd_connections_ended_total counter") ++ (10 ∷ []))
-
--- the reasons
-abbrev pub ends_each : EndTotals → List ℕ
-ends_each ends =
-    concat (end_text (codes "binary") ends.binary
-    ∷ end_text (codes "http") ends.http
-    ∷ end_text (codes "tls") ends.tls
-    ∷ end_text (codes "line_too_long") ends.line_too_long
-    ∷ end_text (codes "idle") ends.idle
-    ∷ end_text (codes "failed") ends.failed
-    ∷ end_text (codes "refused_memory") ends.refused_memory
-    ∷ [])
-
-abbrev pub ends_text : EndTotals → List ℕ
-ends_text ends = before_ends ++ ends_each ends
 
 -- how often a kind of command came to this: 34 is the quotation mark
 unfoldable pub status_text : (name status : List ℕ) (count : ℕ) → List ℕ
@@ -124,9 +86,7 @@ abbrev pub version_text : (version : List ℕ) → List ℕ
 version_text version = before_version ++ (version ++ behind_version)
 
 abbrev pub metrics_text : Reading → List ℕ
-metrics_text reading =
-    version_text reading.facts.version.now
-    ++ (numbers_text reading ++ (cpu_text reading.process.cpu ++ (ends_text reading.totals.ends ++ commands_text reading.totals.shards)))
+metrics_text reading = version_text reading.facts.version.now ++ (numbers_text reading ++ commands_text reading.totals.shards)
 
 -- the number of this name
 abbrev pub number_of : Number → Reading → ℕ
@@ -147,30 +107,6 @@ number_of Items reading = reading.totals.shards.items
 number_of Bytes reading = reading.totals.shards.bytes
 number_of Evicted reading = reading.totals.shards.evicted
 number_of OutOfMemory reading = reading.totals.shards.out_of_memory
-number_of Resident reading = reading.process.resident
-number_of Started reading = reading.facts.started
-
-abbrev pub reason_name : EndReason → List ℕ
-reason_name reason.Binary = codes "binary"
-reason_name reason.Http = codes "http"
-reason_name reason.Tls = codes "tls"
-reason_name reason.LineTooLong = codes "line_too_long"
-reason_name reason.Idle = codes "idle"
-reason_name reason.Failed = codes "failed"
-reason_name reason.RefusedMemory = codes "refused_memory"
-
-abbrev pub reason_count : EndReason → EndTotals → ℕ
-reason_count reason.Binary ends = ends.binary
-reason_count reason.Http ends = ends.http
-reason_count reason.Tls ends = ends.tls
-reason_count reason.LineTooLong ends = ends.line_too_long
-reason_count reason.Idle ends = ends.idle
-reason_count reason.Failed ends = ends.failed
-reason_count reason.RefusedMemory ends = ends.refused_memory
-
--- what is reported of a reason
-abbrev pub ended_text : EndTotals → EndReason → List ℕ
-ended_text ends reason = end_text (reason_name reason) (reason_count reason ends)
 
 -- what is told of a metric of one number
 abbrev pub told_text : Reading → Metric → List ℕ

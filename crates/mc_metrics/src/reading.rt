@@ -1,5 +1,4 @@
 //! What is told of a server at a moment.
-use crate::process::Process;
 use mc_watch::Totals;
 
 /// What a server was started with.
@@ -15,8 +14,6 @@ pub struct Facts {
     pub seats: u64,
     /// What the items of all shards may cost together, in bytes.
     pub limit_bytes: u64,
-    /// When it started, in seconds since 1970.
-    pub started: u64,
 }
 
 /// What is known of a server at a moment.
@@ -30,6 +27,4 @@ pub struct Reading {
     pub waiting: u64,
     /// How long it has run, in seconds.
     pub uptime: u64,
-    /// What its process uses.
-    pub process: Process,
 }

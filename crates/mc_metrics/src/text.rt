@@ -1,9 +1,9 @@
 //! The metrics as Prometheus reads them (its text format, version 0.0.4).
 ghost use Rattle.std.specs.Prelude.{◌≡◌, ◌++◌, IfOk, OnOk, flat_map, string_bytes};
-ghost use Rattle.mc_metrics.specs.Metrics.{asked_text, command_name, command_text, commands_text, cpu_text, end_text, ended_text, ends_text, metric_text, metrics_text, number_of, reason_count, reason_name, status_text, told_text, totals_of, version_text};
+ghost use Rattle.mc_metrics.specs.Metrics.{asked_text, command_name, command_text, commands_text, metric_text, metrics_text, number_of, status_text, told_text, totals_of, version_text};
 
 use crate::reading::Reading;
-use mc_watch::{CommandTotals, EndTotals, ShardTotals};
+use mc_watch::{CommandTotals, ShardTotals};
 use std::alloc::{AllocError, Global};
 
 /// A metric of one number: its name, of what kind it is, what it tells, and its number.
@@ -35,8 +35,6 @@ enum Number {
     Bytes,
     Evicted,
     OutOfMemory,
-    Resident,
-    Started,
 }
 
 /// A kind of command that shards are asked.
@@ -52,25 +50,13 @@ enum CommandKind {
     Flush,
 }
 
-/// A reason for which connections have ended.
-#[derive(Clone, Copy)]
-enum EndReason {
-    Binary,
-    Http,
-    Tls,
-    LineTooLong,
-    Idle,
-    Failed,
-    RefusedMemory,
-}
-
 /// A gauge grows and falls, a counter only grows.
 const GAUGE: &str = "gauge";
 
 const COUNTER: &str = "counter";
 
 /// All metrics of one number, in the order in which they are told. Those with names that memcached's exporter has mean the same.
-const METRICS: [Metric; 19] = [
+const METRICS: [Metric; 17] = [
     Metric {
         name: "memcached_up",
         kind: GAUGE,
@@ -134,7 +120,7 @@ const METRICS: [Metric; 19] = [
     Metric {
         name: "mcd_commands_total",
         kind: COUNTER,
-        help: "Commands that were taken.",
+        help: "Commands of the connections that have ended.",
         number: Number::Commands,
     },
     Metric {
@@ -173,34 +159,7 @@ const METRICS: [Metric; 19] = [
         help: "Commands for which no memory was left.",
         number: Number::OutOfMemory,
     },
-    Metric {
-        name: "process_resident_memory_bytes",
-        kind: GAUGE,
-        help: "Memory of the process that is resident, in bytes.",
-        number: Number::Resident,
-    },
-    Metric {
-        name: "process_start_time_seconds",
-        kind: GAUGE,
-        help: "When the process started, in seconds since 1970.",
-        number: Number::Started,
-    },
 ];
-
-/// All reasons, in the order in which they are reported.
-const ENDS: [EndReason; 7] = [
-    EndReason::Binary,
-    EndReason::Http,
-    EndReason::Tls,
-    EndReason::LineTooLong,
-    EndReason::Idle,
-    EndReason::Failed,
-    EndReason::RefusedMemory,
-];
-
-/// What comes before the lines of the reasons.
-const BEFORE_ENDS: &str =
-    "# HELP mcd_connections_ended_total Connections that were ended for a reason to look into.\n# TYPE mcd_connections_ended_total counter\n";
 
 /// All kinds of commands, in the order in which they are told.
 const COMMANDS: [CommandKind; 8] = [
@@ -224,8 +183,6 @@ pub fn metrics_of(alloc: Global, reading: &Reading) -> Result<String, AllocError
 {
     let mut text = version_of(alloc, reading.facts.version)?;
     push_metrics(&mut text, &METRICS, reading)?;
-    push_cpu(&mut text, reading.process.cpu)?;
-    push_ends(&mut text, &reading.totals.ends)?;
     push_commands(&mut text, &reading.totals.shards)?;
     Ok(text)
 }
@@ -265,55 +222,6 @@ fn push_metric(text: &mut String, metric: &Metric, value: u64) -> Result<(), All
     write!(
         text,
         "# HELP {name} {help}\n# TYPE {name} {kind}\n{name} {value}\n"
-    )
-}
-
-/// How long the process has used processors, by this many hundredths of a second.
-#[tactic(auto, unfolding(crate::specs::Metrics::cpu_text))]
-fn push_cpu(text: &mut String, hundredths: u64) -> Result<(), AllocError>
-    ensures { OnOk result (string_bytes text.new ≡ string_bytes text.old ++ cpu_text hundredths) }
-{
-    let seconds = hundredths / 100;
-    let tenths = hundredths / 10 % 10;
-    let rest = hundredths % 10;
-    write!(
-        text,
-        "# HELP process_cpu_seconds_total Time of processors that the process has used, in seconds.\n# TYPE process_cpu_seconds_total counter\nprocess_cpu_seconds_total {seconds}.{tenths}{rest}\n"
-    )
-}
-
-/// How many connections have ended, by the reasons.
-fn push_ends(text: &mut String, ends: &EndTotals) -> Result<(), AllocError>
-    ensures { OnOk result (string_bytes text.new ≡ string_bytes text.old ++ ends_text ends.now) }
-{
-    text.push_str(BEFORE_ENDS)?;
-    push_each_end(text, &ENDS, ends)
-}
-
-/// The reasons, one after another.
-fn push_each_end(
-    text: &mut String,
-    reasons: &[EndReason],
-    ends: &EndTotals,
-) -> Result<(), AllocError>
-    ensures { OnOk result (string_bytes text.new ≡
-        string_bytes text.old ++ flat_map (ended_text ends.now) reasons.now) }
-{
-    for reason in reasons {
-        push_end(text, reason.name(), reason.count(ends))?;
-    }
-    Ok(())
-}
-
-/// How many connections have ended for the reason of this name.
-#[tactic(auto, unfolding(crate::specs::Metrics::end_text))]
-fn push_end(text: &mut String, name: &str, count: u64) -> Result<(), AllocError>
-    ensures { OnOk result
-        (string_bytes text.new ≡ string_bytes text.old ++ end_text name.now count) }
-{
-    write!(
-        text,
-        "mcd_connections_ended_total{{reason=\"{name}\"}} {count}\n"
     )
 }
 
@@ -385,38 +293,6 @@ impl Number {
             Number::Bytes => reading.totals.shards.bytes,
             Number::Evicted => reading.totals.shards.evicted,
             Number::OutOfMemory => reading.totals.shards.out_of_memory,
-            Number::Resident => reading.process.resident,
-            Number::Started => reading.facts.started,
-        }
-    }
-}
-
-impl EndReason {
-    fn name(self) -> &'static str
-        ensures { result.now ≡ reason_name self }
-    {
-        match self {
-            EndReason::Binary => "binary",
-            EndReason::Http => "http",
-            EndReason::Tls => "tls",
-            EndReason::LineTooLong => "line_too_long",
-            EndReason::Idle => "idle",
-            EndReason::Failed => "failed",
-            EndReason::RefusedMemory => "refused_memory",
-        }
-    }
-
-    fn count(self, ends: &EndTotals) -> u64
-        ensures { result ≡ reason_count self ends.now }
-    {
-        match self {
-            EndReason::Binary => ends.binary,
-            EndReason::Http => ends.http,
-            EndReason::Tls => ends.tls,
-            EndReason::LineTooLong => ends.line_too_long,
-            EndReason::Idle => ends.idle,
-            EndReason::Failed => ends.failed,
-            EndReason::RefusedMemory => ends.refused_memory,
         }
     }
 }

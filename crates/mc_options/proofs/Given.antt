@@ -8,7 +8,7 @@ use Rattle.mc_options.specs.Wrong.{wrong_of}
 use Rattle.mc_options.specs.Calls.{call_by, given_in}
 use Rattle.mc_options.specs.Faults.{IsFaultOf, IsOfOptions}
 use Rattle.mc_options.specs.declared.fault.OptionFault.{OptionFault}
-use Rattle.mc_options.specs.declared.fault.OptionFault.TheVariants.{Call, Items, NotOfReplay, NotOfStdio, NotOfTcp, Number, Size, TwoBudgets, UnixSocket}
+use Rattle.mc_options.specs.declared.fault.OptionFault.TheVariants.{BytesAndMemory, Call, Items, NotOfReplay, NotOfStdio, NotOfTcp, Number, Size}
 
 -- the options are read of what was found
 pub found_given : (matches : ArgMatches) (words : List (List ℕ)) → rows_of (found_of matches) ≡ rows_in words → first_value (found_of matches) ≡ given_in words
@@ -20,10 +20,9 @@ found_given matches words rows =
 pub refused_of_words : (words : List (List ℕ)) (fault : OptionFault) → word_faults words ≡ [] → call_by (given_in words) ≡ Err (wrong_of fault) → IsOfOptions fault → IsFaultOf words fault
 refused_of_words words (Call error) none wrong of_options = absurd of_options
 refused_of_words words Items none wrong of_options = (none, wrong)
-refused_of_words words UnixSocket none wrong of_options = (none, wrong)
 refused_of_words words (NotOfReplay option) none wrong of_options = (none, wrong)
 refused_of_words words (NotOfStdio option) none wrong of_options = (none, wrong)
 refused_of_words words (NotOfTcp option) none wrong of_options = (none, wrong)
-refused_of_words words TwoBudgets none wrong of_options = (none, wrong)
+refused_of_words words BytesAndMemory none wrong of_options = (none, wrong)
 refused_of_words words (Number option word least most) none wrong of_options = (none, wrong)
 refused_of_words words (Size option word least most) none wrong of_options = (none, wrong)

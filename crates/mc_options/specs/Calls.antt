@@ -1,5 +1,5 @@
 -- The calls of the program, each with the options that it has.
-use Rattle.std.specs.Prelude.{ℕ, ◌≡◌, ◌||◌, Bool, List, [], ◌∷◌, map, Option, Ok, Err, Result, codes, find, is_some, option_map, unwrap_or, if◌then◌else◌}
+use Rattle.std.specs.Prelude.{ℕ, ◌≡◌, Bool, List, [], ◌∷◌, map, Option, Ok, Err, Result, codes, find, is_some, option_map, unwrap_or, if◌then◌else◌}
 use Rattle.std.specs.Option.{option_map_or, option_or}
 use Rattle.clap.specs.Words.{first_of}
 use Rattle.mc_sizes.specs.Sizes.{AreWithin}
@@ -7,25 +7,23 @@ use Rattle.mc_sizes.specs.declared.sizes.Sizes.{Sizes}
 use Rattle.mc_options.specs.declared.options.Options.{Options}
 use Rattle.mc_options.specs.declared.options.Options.TheVariants.{Listen, Replay, Stdio, Version}
 use Rattle.mc_options.specs.Program.{rows_in}
-use Rattle.mc_options.specs.Wrong.{HasItems, HasUnixSocket, NotOfReplay, NotOfStdio, NotOfTcp, Wrong}
+use Rattle.mc_options.specs.Wrong.{HasItems, NotOfReplay, NotOfStdio, NotOfTcp, Wrong}
 use Rattle.mc_options.specs.Flags.{is_flag}
-use Rattle.mc_options.specs.Numbers.{and_then, number_given, number_if_given, number_in, sizes_by}
+use Rattle.mc_options.specs.Numbers.{and_then, number_given, number_if_given, sizes_by}
 
 -- what the program is called to do
 pub data Call : Type 0 where
   TellsVersion : Call
   RunsSchedule : (file : List ℕ) → Call
   ServesLine : (at : Option ℕ) (sizes : Sizes) → Call
-  ServesTcp :
-      (address port : List ℕ) (connections idle : Option ℕ) (verbose : Bool) (metrics : Option (List ℕ)) (drain : ℕ) (plan ignores : Bool) (sizes : Sizes) → Call
+  ServesTcp : (address : List ℕ) (connections idle : Option ℕ) (verbose : Bool) (metrics : Option (List ℕ)) (sizes : Sizes) → Call
 
 -- the call as the program has it
 abbrev pub call_of : Options → Call
 call_of Version = TellsVersion
 call_of (Replay file) = RunsSchedule file.now
 call_of (Stdio at sizes) = ServesLine at sizes
-call_of (Listen address port connections idle verbose metrics drain plan ignores sizes) =
-    ServesTcp address.now port.now connections idle verbose (option_map (λ text. text.now) metrics) drain plan ignores sizes
+call_of (Listen address connections idle verbose metrics sizes) = ServesTcp address.now connections idle verbose (option_map (λ text. text.now) metrics) sizes
 
 -- the first that is given of these options with a value, or of these without one
 abbrev pub first_given : (List ℕ → Option (List ℕ)) → List (List ℕ) → List (List ℕ) → Option (List ℕ)
@@ -39,62 +37,43 @@ unless_foreign given wrong call = option_map_or (λ name. Err (wrong name)) give
 abbrev pub other_than_replay : List (List ℕ)
 other_than_replay =
     map codes
-    (
-    "at"
-    ∷ "listen" ∷ "shards" ∷ "seats" ∷ "bytes" ∷ "memory" ∷ "value-limit" ∷ "line-limit" ∷ "window" ∷ "connections" ∷ "idle-timeout" ∷ "metrics" ∷ "drain"
-    ∷ "port" ∷ "memory-limit" ∷ "udp-port" ∷ "user" ∷ "pidfile" ∷ []
-    )
+    ("at" ∷ "listen" ∷ "shards" ∷ "seats" ∷ "bytes" ∷ "memory" ∷ "value-limit" ∷ "line-limit" ∷ "window" ∷ "connections" ∷ "idle-timeout" ∷ "metrics" ∷ [])
 
 abbrev pub other_than_stdio : List (List ℕ)
-other_than_stdio =
-    map codes ("listen" ∷ "seats" ∷ "connections" ∷ "idle-timeout" ∷ "metrics" ∷ "drain" ∷ "port" ∷ "udp-port" ∷ "user" ∷ "pidfile" ∷ [])
+other_than_stdio = map codes ("listen" ∷ "seats" ∷ "connections" ∷ "idle-timeout" ∷ "metrics" ∷ [])
 
 -- the schedule in the file is run, where no other option is given
 abbrev pub replay_by : (List ℕ → Option (List ℕ)) → List ℕ → Result Call Wrong
 replay_by given file =
-    unless_foreign (first_given given other_than_replay (map codes ("stdio" ∷ "verbose" ∷ "drop-in" ∷ "plan" ∷ "daemon" ∷ []))) NotOfReplay
+    unless_foreign (first_given given other_than_replay (map codes ("stdio" ∷ "verbose" ∷ "drop-in" ∷ []))) NotOfReplay
     (Ok (RunsSchedule file))
 
 -- one line is served over standard input and output
 abbrev pub stdio_by : (List ℕ → Option (List ℕ)) → Result Call Wrong
 stdio_by given =
-    unless_foreign (first_given given other_than_stdio (map codes ("verbose" ∷ "plan" ∷ "daemon" ∷ []))) NotOfStdio
+    unless_foreign (first_given given other_than_stdio (codes "verbose" ∷ [])) NotOfStdio
     (and_then (number_if_given given (codes "at") 0 18446744073709551615) (λ at.
     and_then (sizes_by given 1) (λ sizes. Ok (ServesLine at sizes))))
 
 -- the address to listen on
 abbrev pub address_by : (List ℕ → Option (List ℕ)) → List ℕ
-address_by given = unwrap_or (given (codes "listen")) (codes "127.0.0.1")
-
--- the port of an address that names none, where no port of UDP is asked for
-abbrev pub port_by : (List ℕ → Option (List ℕ)) → Result (List ℕ) Wrong
-port_by given =
-    and_then (number_if_given given (codes "udp-port") 0 0) (λ udp.
-    option_map_or (λ text. and_then (number_in (codes "port") 1 65535 text) (λ number. Ok text)) (given (codes "port")) (Ok (codes "11211")))
-
--- an option of memcached is given that does nothing here
-abbrev pub is_one_ignored : (List ℕ → Option (List ℕ)) → Bool
-is_one_ignored given = is_some (given (codes "user")) || (is_some (given (codes "pidfile")) || is_flag given (codes "daemon"))
+address_by given = unwrap_or (given (codes "listen")) (codes "127.0.0.1:11211")
 
 -- TCP is served
 abbrev pub tcp_by : (List ℕ → Option (List ℕ)) → Result Call Wrong
 tcp_by given =
     unless_foreign (first_given given (codes "at" ∷ []) []) NotOfTcp
-    (and_then (number_given given (codes "seats") 1 1024 65536) (λ seats.
+    (and_then (number_given given (codes "seats") 1 1024 4096) (λ seats.
     and_then (number_if_given given (codes "connections") 1 4294967295) (λ connections.
     and_then (number_if_given given (codes "idle-timeout") 1 31536000) (λ idle.
-    and_then (number_given given (codes "drain") 0 5 86400) (λ drain.
     and_then (sizes_by given seats) (λ sizes.
-    and_then (port_by given) (λ port.
-    Ok
-    (ServesTcp (address_by given) port connections idle (is_flag given (codes "verbose")) (given (codes "metrics")) drain (is_flag given (codes "plan")) (is_one_ignored given) sizes))))))))
+    Ok (ServesTcp (address_by given) connections idle (is_flag given (codes "verbose")) (given (codes "metrics")) sizes))))))
 
 -- the call that is given, or the first thing that is wrong with it
 abbrev pub call_by : (List ℕ → Option (List ℕ)) → Result Call Wrong
 call_by given =
     if is_flag given (codes "version") then Ok TellsVersion
     else if is_some (given (codes "items")) then Err HasItems
-    else if is_some (given (codes "unix-socket")) then Err HasUnixSocket
     else option_map_or (replay_by given) (given (codes "replay")) (if is_flag given (codes "stdio") then stdio_by given else tcp_by given)
 
 -- what the words of the command line give under the name of an option
@@ -110,4 +89,4 @@ abbrev pub HasAllowedSizes : Options → Type 0
 HasAllowedSizes Version = Unit {0}
 HasAllowedSizes (Replay file) = Unit {0}
 HasAllowedSizes (Stdio at sizes) = AreWithin sizes
-HasAllowedSizes (Listen address port connections idle verbose metrics drain plan ignores sizes) = AreWithin sizes
+HasAllowedSizes (Listen address connections idle verbose metrics sizes) = AreWithin sizes

@@ -8,14 +8,12 @@ pub data Wrong : Type 0 where
   NoWords : Wrong
   -- items are not limited by their number
   HasItems : Wrong
-  -- a path in the file system is no place to listen at
-  HasUnixSocket : Wrong
   -- the call has no option of this name
   NotOfReplay : (name : List ℕ) → Wrong
   NotOfStdio : (name : List ℕ) → Wrong
   NotOfTcp : (name : List ℕ) → Wrong
-  -- more than one option says what the items may cost
-  TwoBudgets : Wrong
+  -- one of the two says what the items may cost
+  BytesAndMemory : Wrong
   -- under this name stands a word that is no number, or no number of bytes, from the least to the most
   NoNumber : (name word : List ℕ) (least most : ℕ) → Wrong
   NoSize : (name word : List ℕ) (least most : ℕ) → Wrong
@@ -24,10 +22,9 @@ pub data Wrong : Type 0 where
 abbrev pub wrong_of : OptionFault → Wrong
 wrong_of (fault.Call error) = NoWords
 wrong_of fault.Items = HasItems
-wrong_of fault.UnixSocket = HasUnixSocket
 wrong_of (fault.NotOfReplay option) = NotOfReplay option.now
 wrong_of (fault.NotOfStdio option) = NotOfStdio option.now
 wrong_of (fault.NotOfTcp option) = NotOfTcp option.now
-wrong_of fault.TwoBudgets = TwoBudgets
+wrong_of fault.BytesAndMemory = BytesAndMemory
 wrong_of (fault.Number option word least most) = NoNumber option.now word.now least most
 wrong_of (fault.Size option word least most) = NoSize option.now word.now least most

@@ -16,16 +16,13 @@ pub enum OptionFault<'a> {
     /// Items are limited by what they cost together, not by their number.
     #[error("there is no option --items: --bytes says what the items of a shard may cost together")]
     Items,
-    /// A path in the file system is given to listen at.
-    #[error("--unix-socket isn't served: --listen ADDRESS says where to listen")]
-    UnixSocket,
     /// An option is given beside `--replay`.
     #[error("--{option} doesn't go with --replay, which takes no other option")]
     NotOfReplay {
         option: &'static str,
     },
     /// An option is given beside `--stdio` that serves TCP alone.
-    #[error("--{option} doesn't go with --stdio, which takes --at, --shards, --bytes, --memory, --memory-limit, --value-limit, --line-limit, --window and --drop-in")]
+    #[error("--{option} doesn't go with --stdio, which takes --at, --shards, --bytes, --memory, --value-limit, --line-limit, --window and --drop-in")]
     NotOfStdio {
         option: &'static str,
     },
@@ -34,9 +31,9 @@ pub enum OptionFault<'a> {
     NotOfTcp {
         option: &'static str,
     },
-    /// More than one option says what the items may cost.
-    #[error("--bytes, --memory and --memory-limit don't go together: --bytes is for each shard, the others for all of them")]
-    TwoBudgets,
+    /// Two options say what the items may cost.
+    #[error("--bytes and --memory don't go together: --bytes is for each shard, --memory for all of them")]
+    BytesAndMemory,
     /// The word is no number in its range.
     #[error("--{option} takes a number from {least} to {most}, not '{word}'")]
     Number {
@@ -46,7 +43,7 @@ pub enum OptionFault<'a> {
         most: u64,
     },
     /// The word is no number of bytes in its range.
-    #[error("--{option} takes a number of bytes from {least} to {most}, or a size such as 64k, 64m or 4g, not '{word}'")]
+    #[error("--{option} takes a number of bytes from {least} to {most}, or one of k, m and g (1024 each) behind a number, not '{word}'")]
     Size {
         option: &'static str,
         word: &'a str,

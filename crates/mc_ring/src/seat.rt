@@ -5,7 +5,7 @@ ghost use Rattle.mc_ring.specs.Ends.{AreSameEnds, AtLane, LooksFor, Receives, Se
 
 use crate::parcel::Parcel;
 use crate::reply::Reply;
-use rtrb::{Consumer, Producer};
+use rtrb::{Consumer, Producer, PushError};
 use std::marker::Model;
 
 /// A seat's end of one lane.
@@ -42,26 +42,23 @@ impl Model for SeatLane {
 
 impl SeatLane {
     /// Sends a parcel, or hands it back where the ring is full.
-    #[inline(always)]
     pub(crate) fn send(&mut self, parcel: Parcel) -> Result<(), Parcel>
         ensures { Sends (λ sent. sent) parcel result self.old self.new }
     {
-        if self.parcels.is_full() {
+        if let Err(PushError::Full(parcel)) = self.parcels.push(parcel) {
             return Err(parcel);
         }
-        self.parcels.push_reserved(parcel);
         Ok(())
     }
 
     /// Receives the reply that has waited longest, if one waits.
-    #[inline(always)]
     pub(crate) fn receive(&mut self) -> Option<Reply>
         ensures { Receives shown result self.old self.new }
     {
-        if self.replies.is_empty() {
+        let Ok(reply) = self.replies.pop() else {
             return None;
-        }
-        Some(self.replies.pop_known())
+        };
+        Some(reply)
     }
 
     /// Whether a reply waits. No memory is taken.

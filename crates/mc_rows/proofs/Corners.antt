@@ -39,7 +39,6 @@ step_on_is_step state (op.Store asked) = refl
 step_on_is_step state (op.Fetch key touch) = refl
 step_on_is_step state (op.Count key direction amount) = refl
 step_on_is_step state (op.Delete key) = refl
-step_on_is_step state (op.Discard key) = refl
 step_on_is_step state (op.Touch key exptime) = refl
 step_on_is_step state (op.Flush delay) = refl
 step_on_is_step state op.Stats = refl

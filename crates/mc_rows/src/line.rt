@@ -126,4 +126,8 @@ impl Line for MemoryLine<'_> {
         self.ended = count == 0;
         Ok(count)
     }
+
+    fn give_up(&mut self) {
+        self.failed = true;
+    }
 }

@@ -7,5 +7,3 @@ pub mod Pieces
 pub mod Buffers
 pub mod Serving
 pub mod More
-pub mod Traces
-mod RowsLazy

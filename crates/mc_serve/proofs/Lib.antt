@@ -12,5 +12,3 @@ pub mod AtDoors
 pub mod Parts
 pub mod One
 pub mod Connections
-mod RowsConnections
-mod StreamSent

@@ -2,7 +2,6 @@
 //! in memory and connections over TCP come in by doors alike.
 #![tactic(auto)]
 
-mod outcome;
 mod over;
 mod part;
 mod refusal;
@@ -11,13 +10,10 @@ mod serving;
 mod settling;
 mod shard_watch;
 mod sitting;
-mod streams;
 mod tcp;
 mod warden;
 
-pub use outcome::Outcome;
 pub use over::{Report, serve_over};
 pub use refusal::ServeRefusal;
 pub use serving::serve;
-pub use streams::serve_streams;
 pub use tcp::serve_tcp;

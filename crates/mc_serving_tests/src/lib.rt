@@ -12,8 +12,6 @@ mod line;
 #[cfg(test)]
 mod memory_line;
 #[cfg(test)]
-mod memory_stream;
-#[cfg(test)]
 mod options;
 #[cfg(test)]
 mod portions;

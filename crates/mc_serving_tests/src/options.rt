@@ -53,15 +53,11 @@ fn each_call(rt: HostRuntime) -> Result<(), Fail> {
         &rt,
         options
             == Options::Listen {
-                address: "127.0.0.1",
-                port: "11211",
+                address: "127.0.0.1:11211",
                 connections: None,
                 idle_timeout: None,
                 verbose: false,
                 metrics: None,
-                plan: false,
-                ignores: false,
-                drain: 5,
                 sizes,
             },
     );
@@ -117,8 +113,6 @@ fn numbers_of_bytes(rt: HostRuntime) -> Result<(), Fail> {
             1_048_576,
         ),
         ("mcd --stdio --memory 2048 --shards 2", 1_024, 1_048_576),
-        ("mcd --stdio -m 64 -I 2MB", 33_554_432, 2_097_152),
-        ("mcd --stdio --memory 129gb", 46_170_898_432, 1_048_576),
     ];
     for (call, bytes, value) in calls {
         let words = words_of(alloc, call)?;
@@ -156,7 +150,7 @@ fn line_limits(rt: HostRuntime) -> Result<(), Fail> {
 fn faults(rt: HostRuntime) -> Result<(), Fail> {
     let alloc = rt.alloc();
     let calls = [
-        ("mcd --stdio --shards 65", 2),
+        ("mcd --stdio --shards 17", 2),
         ("mcd --stdio --bytes 1023", 2),
         ("mcd --stdio --value-limit 1023", 2),
         ("mcd --stdio --line-limit 2047", 2),
@@ -167,13 +161,13 @@ fn faults(rt: HostRuntime) -> Result<(), Fail> {
         ("mcd --stdio --at 1 --at 1", 2),
         ("mcd --items 5", 2),
         ("mcd --at 5", 2),
-        ("mcd --seats 65537", 2),
+        ("mcd --seats 4097", 2),
         ("mcd --connections 0", 2),
         ("mcd --replay a --stdio", 2),
         ("mcd --replay a --shards 2", 2),
         ("mcd --replay a --drop-in", 2),
         ("mcd --drop-in=true", 2),
-        ("mcd --tcp-port 11211", 2),
+        ("mcd --port 11211", 2),
         ("mcd --bytes 64k --memory 1m", 2),
         ("mcd --memory 2047", 2),
         ("mcd --bytes k", 2),

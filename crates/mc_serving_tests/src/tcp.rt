@@ -6,7 +6,7 @@ use crate::sizes::SMALL;
 use mc_serve::serve_tcp;
 use mc_server::StillClock;
 use mc_sizes::Sizes;
-use mc_watch::{Counts, EndTotals, IdleLimit, Seconds, ShardTotals, Totals, Watch};
+use mc_watch::{Counts, IdleLimit, Seconds, ShardTotals, Totals, Watch};
 use std::alloc::Global;
 use std::io::{Read, Write};
 use std::net::{Net, SocketAddr, TcpListener, TcpStream};
@@ -60,8 +60,8 @@ fn serve_client<
         ..SMALL
     };
     let watch = Watch::nothing(alloc);
-    let served = serve_tcp(rt, alloc, listener, sizes, Some(1), StillClock(1000), watch);
-    Ok((client.join(rt)?, served.ok().map(|served| served.ended)))
+    let ended = serve_tcp(rt, alloc, listener, sizes, Some(1), StillClock(1000), watch).ok();
+    Ok((client.join(rt)?, ended))
 }
 
 #[test]
@@ -100,8 +100,7 @@ fn serve_three<
         ..SMALL
     };
     let watch = Watch::nothing(alloc);
-    let served = serve_tcp(rt, alloc, listener, sizes, Some(3), StillClock(1000), watch);
-    let ended = served.ok().map(|served| served.ended);
+    let ended = serve_tcp(rt, alloc, listener, sizes, Some(3), StillClock(1000), watch).ok();
     let no_op = first.join(rt)?.as_slice() == b"MN\r\n".as_slice();
     let miss = second.join(rt)?.as_slice() == b"END\r\n".as_slice();
     let bad = third.join(rt)?.as_slice() == b"CLIENT_ERROR bad key\r\n".as_slice();
@@ -143,8 +142,7 @@ fn serve_idle<
         seconds: Seconds::new(alloc)?,
         limit: 1,
     });
-    let served = serve_tcp(rt, alloc, listener, SMALL, Some(1), StillClock(1000), watch);
-    let ended = served.ok().map(|served| served.ended);
+    let ended = serve_tcp(rt, alloc, listener, SMALL, Some(1), StillClock(1000), watch).ok();
     let mut totals = counts.totals();
     // The connection that has ended is the one that was counted.
     totals.ended = totals.ended.min(ended.unwrap_or(0));
@@ -164,10 +162,6 @@ fn an_idle_client_is_given_up(rt: HostRuntime) -> Result<(), Fail> {
         commands: 1,
         read: 18,
         written: 4,
-        ends: EndTotals {
-            idle: 1,
-            ..EndTotals::default()
-        },
         // Nothing of it came to a shard.
         shards: ShardTotals::default(),
     };

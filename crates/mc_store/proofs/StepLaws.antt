@@ -10,7 +10,7 @@ use Rattle.mc_command.specs.declared.command.StoreMode.TheVariants.{Set, Add, Ap
 use Rattle.mc_wire.specs.Limits.{latest_moment}
 use Rattle.mc_item.specs.declared.item.Item.{Item}
 use Rattle.mc_item.specs.declared.op.Op.{Op}
-use Rattle.mc_item.specs.declared.op.Op.TheVariants.{Store, Fetch, Count, Delete, Discard, Touch, Flush, Stats, ResetStats, MetaGet, MetaStore, MetaDelete, MetaCount}
+use Rattle.mc_item.specs.declared.op.Op.TheVariants.{Store, Fetch, Count, Delete, Touch, Flush, Stats, ResetStats, MetaGet, MetaStore, MetaDelete, MetaCount}
 use Rattle.mc_command.specs.declared.meta.MetaRemoval as op
 use Rattle.mc_command.specs.declared.meta.MetaFetch as mg
 use Rattle.mc_command.specs.declared.command.StoreRequest.{StoreRequest}
@@ -30,7 +30,7 @@ use Rattle.mc_item.specs.Kind.{kind_of, key_of, is_lawful}
 use Rattle.mc_item.specs.Tally.{no_counts}
 use Rattle.mc_store.specs.State.{Used, Items, State, is_due, arrived, is_dead_at, with_items, without_dead, settle, first, entered, next_unique, with_given}
 use Rattle.mc_store.specs.Rows.{fetched_item, touched_item, stored_item, joined_item, counted_item, counter_item, vivified_item, stale_item, shown_item, hit_of, made_hit, done_of, is_won, has_fewer_left}
-use Rattle.mc_store.specs.Step.{Outcome, Reply, is_other, compared, numbered, is_too_large, writes, stores, joins, absent_store, present_store, store_step, counting, absent_count, counts, count_step, fetch_step, touch_step, absent_meta_get, meta_get_step, shows, delete_step, stales, meta_delete_step, new_number, coming, flush_step, stats_of, noted_in, step_of, Answers, IsStep}
+use Rattle.mc_store.specs.Step.{Outcome, Reply, is_other, compared, numbered, is_too_large, writes, stores, joins, absent_store, present_store, store_step, counting, absent_count, counts, count_step, fetch_step, touch_step, absent_meta_get, meta_get_step, shows, delete_step, stales, meta_delete_step, counted, coming, flush_step, stats_of, noted_in, step_of, Answers, IsStep}
 use Rattle.mc_store.specs.Laws.{StaysUnless, tells_stored, IsEvicted, SameStored, IsKept, HasNewUnique, token_of, is_sent, may_clear_sent, AnswersAreLawful, StepsAgree, OthersStay, UniquesRise, UniquesDiffer, UniquesTell, TokensAreTaken, TimeRises, WinnersAreFirst, SentStays}
 use Rattle.mc_store.proofs.Lists.{same, same_is, by_key, nothing, get_nothing, get_gone, get_apart, get_here, get_other, get_kept, inserted_all}
 use Rattle.mc_store.proofs.Costs.{fitting_key, fitting_other}
@@ -290,7 +290,7 @@ module _ (s : State) (asked : Kind) (what : ma.MetaCount) (reply : Reply) (may :
       Follows s asked what.unique (Some what.key) (counts s u.item what reply number)
   counting_present u is None = unchanged s asked what.unique (Some what.key) NonNumeric (λ _ _ e. cc) may.no_number
   counting_present u is (Some number) =
-      let to = new_number what.direction number what.amount in
+      let to = counted what.direction number what.amount in
       numbers_to s asked what.key reply may what.unique (counted_item u.item to what.exptime s.time 0) to (λ had. rw is at had)
 
 -- Each kind
@@ -397,7 +397,6 @@ step_follows s (Fetch key touch) = fetch_follows s key touch (get s.items key) r
 step_follows s (Store asked) = storing_follows s kind.Store asked (λ _. Stored) (record { clears = refl; absent = refl; not_stored = refl; exists = refl; large = refl; no_cas = refl; replies = λ _. refl; not_no_cas = λ _ e. cc; told = λ _ _. refl }) (get s.items asked.key) refl
 step_follows s (Count key direction amount) = classic_count_follows s (counting key direction amount) (λ shown. Number shown.number) refl (record { absent = refl; no_number = refl; no_cas = refl; replies = λ _. refl; not_no_cas = λ _ e. cc; told = λ _ _. refl }) (get s.items key) refl
 step_follows s (Delete key) = delete_follows s key (get s.items key)
-step_follows s (Discard key) = delete_follows s key (get s.items key)
 step_follows s (Touch key exptime) = touch_follows s key exptime (get s.items key) refl
 step_follows s (Flush delay) = flush_follows s (coming (expiry_of delay s.time) s.time)
 step_follows s Stats = unchanged s kind.Stats None None (shown.Stats (stats_of s)) (λ _ _ e. cc) refl
@@ -457,8 +456,8 @@ answered_is settled new op answer (inl none) = rw (none.0, none.2) (unchanged se
 answered_is settled new op answer (inr is) = subst (λ o. Follows settled (kind_of op) (token_of op) (key_of op) o) (sym is) (step_follows settled op)
 
 -- counting what was asked changes nothing of that
-noted_follows : (s settled new : State) (asked : Kind) (token : Option ℕ) (key : Option (List ℕ)) (op : Op) (answer : Answer) → Follows s asked token key (answer, new) → Follows s asked token key (answer, noted_in settled new op answer)
-noted_follows s settled new asked token key op answer done = record {
+noted_follows : (s new : State) (asked : Kind) (token : Option ℕ) (key : Option (List ℕ)) (op : Op) (answer : Answer) → Follows s asked token key (answer, new) → Follows s asked token key (answer, noted_in new op answer)
+noted_follows s new asked token key op answer done = record {
   given = done.given;
   taken = done.taken;
   time = done.time;
@@ -473,7 +472,7 @@ step_is : (old new : State) (op : Op) (moment : ℕ) (answer : Answer) → IsSte
 unfolding IsStep
 step_is old new op moment answer step =
     let settled = settle old (key_of op) moment in
-    rw step.2 (noted_follows settled settled step.0 (kind_of op) (token_of op) (key_of op) op answer (answered_is settled step.0 op answer step.1))
+    rw step.2 (noted_follows settled step.0 (kind_of op) (token_of op) (key_of op) op answer (answered_is settled step.0 op answer step.1))
 
 -- An answer is one that its kind of operation may have.
 pub answers_are_lawful : AnswersAreLawful
@@ -602,7 +601,7 @@ pub steps_agree : StepsAgree
 unfolding IsStep
 steps_agree old one other op moment answer second a b had had_too =
     let both = answers_agree (settle old (key_of op) moment) a.0 b.0 op answer second a.1 b.1 had had_too in
-    (ap (λ o. o.0) both, a.2 ∙ ap (λ o. noted_in (settle old (key_of op) moment) o.1 op o.0) both ∙ sym b.2)
+    (ap (λ o. o.0) both, a.2 ∙ ap (λ o. noted_in o.1 op o.0) both ∙ sym b.2)
 
 -- no multiple of the number of shards lies between two places
 same_next : (shards index given other more : ℕ) → index < shards → other < shards → index + 1 + shards * given ≡ other + 1 + shards * more →

@@ -1,14 +1,13 @@
 //! The shard: what it holds, how its time moves, and which kind of operation goes where.
 ghost use Rattle.std.specs.FinMap;
-ghost use Rattle.std.specs.FinMap.{get};
-ghost use Rattle.std.specs.Prelude.{◌≡◌, ◌+◌, ◌*◌, ◌^◌, ◌<◌, ◌≤◌, ◌⊎◌, ◌||◌, ◌&&◌, ℕ, length, nat_lt, true, false, IfOk, IfErr, None, Some, is_none};
+ghost use Rattle.std.specs.Prelude.{◌≡◌, ◌+◌, ◌*◌, ◌^◌, ◌<◌, ◌≤◌, ◌⊎◌, ◌||◌, ℕ, length, nat_lt, true, false, IfOk, IfErr, None};
 ghost use Rattle.std.specs.Option.{option_copied, IsSome};
 ghost use Rattle.std.specs.Map.{lookup};
 ghost use Rattle.mc_wire.specs.SameKey.{same_key};
 ghost use Rattle.mc_wire.specs.declared.TheConstants.{GREATEST_VALUE_LIMIT, LATEST_MOMENT};
 ghost use Rattle.mc_item.specs.declared.answer.Answer.{Answer as TheAnswer};
 ghost use Rattle.mc_item.specs.declared.answer.MetaDone.{MetaDone as TheDone};
-ghost use Rattle.mc_item.specs.Kind.{kind_of, key_of, is_lawful};
+ghost use Rattle.mc_item.specs.Kind.{kind_of, is_lawful};
 ghost use Rattle.mc_store.specs.internal.Found.{live, unique_for, given_after};
 ghost use Rattle.mc_store.specs.internal.Listed.{FitsBudget};
 ghost use Rattle.mc_store.specs.Rows.{expiry_from, done_of};
@@ -22,7 +21,7 @@ mod storing;
 
 use crate::access;
 use crate::items::{Items, cost_of};
-use mc_item::{Answer, Counting, Item, MetaDone, Op, PackedExpiry, Status, Tally, Value};
+use mc_item::{Answer, CountedAs, Item, MetaDone, Op, PackedExpiry, Status, Tally, Value};
 use mc_sizes::{GREATEST_BUDGET, LEAST_BUDGET};
 use mc_wire::{GREATEST_VALUE_LIMIT, Key, LATEST_MOMENT};
 use std::alloc::{AllocError, Global};
@@ -85,9 +84,9 @@ impl Drop for Shard {
 
 impl Shard {
     ghost use Rattle.mc_store.specs.State.{State, empty_state, arrived, is_due, flushed, without_dead, item_overhead, costs, entered};
-    ghost use Rattle.mc_store.specs.Step.{makes, numbered};
+    ghost use Rattle.mc_store.specs.Step.{numbered};
     ghost use Rattle.mc_store.specs.Shard.{IsShard, Steps, held_of};
-    ghost use Rattle.mc_store.specs.internal.Parts.{Acts, Does, answered};
+    ghost use Rattle.mc_store.specs.internal.Parts.{Does, Handles, answered};
 
     /// An empty shard: the one at `index` of `shards` shards. Its items may cost `budget` bytes together, its
     /// values have at most `limit` bytes each, and `given` uniques were given before. It takes no room for its items
@@ -148,49 +147,20 @@ impl Shard {
         ensures step { Steps self.old op moment result self.new }
         ensures lawful { is_lawful (kind_of op) result ≡ true }
     {
-        self.arrive(moment);
-        let counting = Counting::of(&op, self.index == 0, self.makes(&op));
-        let answer = self.answer(alloc, op);
-        self.tally.count_in(counting, Status::of(&answer));
+        let asked = CountedAs::of(&op);
+        let answer = self.answer(alloc, op, moment);
+        self.tally.note(asked, Status::of(&answer));
         answer
     }
 
-    /// Whether the operation is to make an item of a miss.
-    #[inline(always)]
-    #[tactic(auto, unfolding(mc_item::specs::Kind::key_of))]
-    fn makes(&self, op: &Op) -> bool
-        ensures { (state : State) → IsShard self.now state →
-            result ≡ makes (without_dead state (key_of op.now)) op.now }
-    {
-        match op {
-            Op::MetaGet(asked) => self.fills(asked.vivify.is_some(), &asked.key),
-            Op::MetaCount(asked) => self.fills(asked.vivify.is_some(), &asked.key),
-            _ => false,
-        }
-    }
-
-    /// Whether a miss is to be filled, and no item that lives stands under the key.
-    fn fills(&self, asked: bool, key: &Key) -> bool
-        ensures { (state : State) → IsShard self.now state →
-            result ≡
-            (asked && is_none (get (without_dead state (Some key.now)).items key.now)) }
-    {
-        if !asked {
-            return false;
-        }
-        match self.find(key) {
-            Some(_) => false,
-            None => true,
-        }
-    }
-
-    /// Does what it is asked, at its own time, without counting it.
+    /// The same, without counting it.
     #[inline(always)]
     #[tactic(auto, unfolding(mc_item::specs::Kind::is_lawful, mc_item::specs::Kind::kind_of))]
-    fn answer(&mut self, alloc: Global, op: Op) -> Answer
-        ensures acts { Acts self.old op result self.new }
+    fn answer(&mut self, alloc: Global, op: Op, moment: u64) -> Answer
+        ensures handles { Handles self.old op moment result self.new }
         ensures lawful { is_lawful (kind_of op) result ≡ true }
     {
+        self.arrive(moment);
         match op {
             Op::Store(asked) => self.store_classic(alloc, asked),
             Op::Fetch { key, touch } => self.fetch(&key, touch),
@@ -200,7 +170,6 @@ impl Shard {
                 amount,
             } => self.count_classic(alloc, key, direction, amount),
             Op::Delete { key } => self.delete(&key),
-            Op::Discard { key } => self.delete(&key),
             Op::Touch { key, exptime } => self.touch(&key, exptime),
             Op::Flush { delay } => self.flush_at(delay),
             Op::Stats => self.stats(alloc),

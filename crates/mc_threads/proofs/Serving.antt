@@ -94,7 +94,7 @@ serves_first may_answer line rules window courier service after idle new takes =
     let shards = length courier.ends.lanes in
     let told : Told = told_nothing shards rules window in
     serves_on shards rules may_answer line line courier.ends courier told (λ s. []) after refl refl (omega arith)
-    (carries_first courier.ends courier.under_way.items rules window courier.each_shard idle) (takes (λ s. []) line line told (serving_first may_answer line shards rules window service new)).on
+    (carries_first courier.ends courier.under_way.items rules window courier.each_shard idle) (takes (λ s. []) line line told (serving_first may_answer line shards rules window service new))
 
 -- Pieces and replies were carried: the line is served as before.
 pub serves_carried : (says : Told → ℕ → Type 0) (shards : ℕ) (rules : Rules) (may_answer : ℕ → Type 0) (begin now : Sight) (before : Ends Near) (courier courier' : Courier) (service : Service) (conn : Conn) → CourierGoesOn says courier service.conn courier' conn → IsServedBy shards rules may_answer begin now before courier service

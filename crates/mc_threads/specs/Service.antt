@@ -1,6 +1,5 @@
 -- How a seat serves one line, step by step, over its lanes.
-use Rattle.std.specs.Prelude.{ℕ, ◌≡◌, ◌==◌, Bool, true, false, ◌⊎◌, List}
-use Rattle.std.specs.List.{list_all}
+use Rattle.std.specs.Prelude.{ℕ, ◌≡◌, Bool, List}
 use Rattle.mc_wire.specs.Outlet.{Sight}
 use Rattle.mc_ring.specs.Reply.{Shown}
 use Rattle.mc_ring.specs.Lane.{Near}
@@ -35,10 +34,6 @@ abbrev pub LineSays : LineStep → ℕ → Rules → (ℕ → Type 0) → Sight 
 LineSays stepped.Did shards rules may_answer begin now before courier service = IsServedBy shards rules may_answer begin now before courier service
 LineSays stepped.Waits shards rules may_answer begin now before courier service = IsServedBy shards rules may_answer begin now before courier service
 LineSays (stepped.Ended served) shards rules may_answer begin now before courier service = WasServedBy shards rules may_answer begin now before courier service served.commands served.broke
-
--- Replies of shards are awaited, or a piece waits for a place on its lane.
-abbrev pub AwaitsShards : Courier → Type 0
-AwaitsShards courier = (courier.blocked ≡ true) ⊎ (list_all (λ count. count == 0) courier.under_way.items ≡ false)
 
 -- Some line is being served.
 abbrev pub ServesSomeLine : Courier → Service → Type 0

@@ -1,6 +1,6 @@
 //! Carries the pieces of a connection to the shards, and their replies back.
 ghost use Rattle.mc_command.specs.declared.rules.Rules.{Rules};
-ghost use Rattle.std.specs.Prelude.{◌≡◌, ◌<◌, ◌==◌, ◌⊎◌, ℕ, [], false, true, IfOk, IsTrue, length};
+ghost use Rattle.std.specs.Prelude.{◌≡◌, ◌<◌, ◌==◌, ℕ, [], false, true, IfOk, IsTrue, length};
 ghost use Rattle.std.specs.Bool.{OnFalse, OnTrue};
 ghost use Rattle.std.specs.List.{list_all};
 ghost use Rattle.mc_threads.specs.Serving.{AreCalled};
@@ -34,8 +34,7 @@ impl Courier {
     ghost use Rattle.mc_ring.specs.Lane.{Near};
     ghost use Rattle.mc_ring.specs.Ends.{Ends};
     ghost use Rattle.mc_threads.specs.Ending.{EndsOne, StandsStill};
-    ghost use Rattle.mc_seat.specs.Service.{WaitsForLine};
-    ghost use Rattle.mc_threads.specs.Service.{AwaitsShards, IsServedBy, LineSays, ServesSomeLine};
+    ghost use Rattle.mc_threads.specs.Service.{IsServedBy, LineSays, ServesSomeLine};
     ghost use Rattle.mc_threads.specs.Serving.{IsIdle};
     ghost use Rattle.mc_threads.specs.internal.Carrying.{AllOutWhere, AnyOut, CanCarry, CourierGoesOn, NoneOut};
 
@@ -65,7 +64,6 @@ impl Courier {
     pub(crate) fn is_settled(&self) -> bool
         ensures sent { IsTrue result → self.now.blocked ≡ false }
         ensures idle { IsTrue result → IsIdle self.now.under_way.items }
-        ensures awaits { result ≡ false → AwaitsShards self.now }
     {
         if self.blocked {
             return false;
@@ -251,9 +249,6 @@ impl Courier {
         // Where it waits, each shard of which replies are awaited was called after the last piece was sent.
         ensures called { result ≡ LineStep.Waits →
             AreCalled self.new.shards self.new.under_way.items }
-        // It waits for nothing but shards, and once they have answered for its line.
-        ensures waits { result ≡ LineStep.Waits →
-            AwaitsShards self.new ⊎ WaitsForLine service.new }
     {
         if self.carry(&mut service.conn) {
             return LineStep::Did;

@@ -1,6 +1,6 @@
 //! A seat serves lines step by step, one after another.
 ghost use Rattle.mc_command.specs.declared.rules.Rules.{Rules};
-ghost use Rattle.std.specs.Prelude.{◌≡◌, ◌<◌, ◌↔◌, ◌⊎◌, ℕ, Some, IfOk, IsSomeAnd, IsTrue, OnErr, OnOk, length};
+ghost use Rattle.std.specs.Prelude.{◌≡◌, ◌<◌, ◌↔◌, ℕ, Some, IfOk, IsTrue, OnErr, OnOk, length};
 ghost use Rattle.std.specs.Bool.{OnFalse, OnTrue};
 ghost use Rattle.mc_sizes.specs.Sizes.{SuitLines, rules_of};
 
@@ -42,8 +42,7 @@ impl Session {
     ghost use Rattle.mc_conn.specs.Conn.{IsConn};
     ghost use Rattle.mc_conn.specs.Told.{Told, IsAtRest, IsOver};
     ghost use Rattle.mc_seat.specs.declared.service.Service.{Service};
-    ghost use Rattle.mc_seat.specs.Service.{IsNew, WaitsForLine};
-    ghost use Rattle.mc_threads.specs.Service.{AwaitsShards};
+    ghost use Rattle.mc_seat.specs.Service.{IsNew};
     ghost use Rattle.mc_threads.specs.Ending.{EndsOne, StandsStill};
     ghost use Rattle.mc_threads.specs.Serving.{AreCalled, IsIdle};
     ghost use Rattle.mc_threads.specs.Session.{IsServingLine, IsVacant, MayStep, StepSays, seat_ends};
@@ -115,10 +114,6 @@ impl Session {
         // Where it waits, each shard of which replies are awaited was called after the last piece was sent.
         ensures called { result ≡ LineStep.Waits →
             AreCalled self.new.courier.shards self.new.courier.under_way.items }
-        // It waits for nothing but shards, and once they have answered for its line.
-        ensures waits { result ≡ LineStep.Waits →
-            IsSomeAnd self.new.service (λ service.
-            AwaitsShards self.new.courier ⊎ WaitsForLine service) }
     {
         let Some(service) = &mut self.service else {
             unreachable!()

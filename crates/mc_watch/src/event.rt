@@ -1,32 +1,16 @@
-//! What happens to connections, as it is reported to operators.
+//! What happens to connections, as it is told to who runs the server.
 use std::net::SocketAddr;
 use std::{fmt, io};
 
-/// Why a connection ended.
+/// How a connection ended.
 #[derive(Clone, Copy)]
 pub enum Manner {
-    /// Its client closed its side.
-    ByClient,
-    /// Its client sent `quit`.
-    Quit,
-    /// Its client sent a line that is too long.
-    LineTooLong,
-    /// It began as memcached's binary protocol does.
-    Binary,
-    /// It began as an HTTP request does.
-    Http,
-    /// It began as TLS does.
-    Tls,
+    /// Its client ended it, by `quit` or by closing its side.
+    Ended,
+    /// A read or a write of it failed, or memory for its replies was refused.
+    Broke,
     /// It moved no byte for too long.
     Idle,
-    /// A read failed.
-    ReadFailed,
-    /// A write failed.
-    WriteFailed,
-    /// Memory for its replies was refused.
-    NoMemory,
-    /// The server ends.
-    Shutdown,
 }
 
 /// What happened.
@@ -53,17 +37,6 @@ pub enum ConnectionEvent {
     NotAccepted {
         fault: Option<i32>,
     },
-    /// No seat is free: further connections wait to be accepted.
-    SeatsTaken,
-    /// A seat is free again.
-    SeatFree,
-}
-
-/// A number of things, by the word for one of them.
-#[derive(Clone, Copy)]
-struct Counted {
-    count: u64,
-    one: &'static str,
 }
 
 impl fmt::Display for Manner {
@@ -74,34 +47,10 @@ impl fmt::Display for Manner {
 
     fn fmt<W: fmt::Write>(&self, f: &mut fmt::Formatter<W>) -> fmt::Result {
         f.write_str(match self {
-            Manner::ByClient => "its client closed it",
-            Manner::Quit => "its client quit",
-            Manner::LineTooLong => "a line was too long",
-            Manner::Binary => "it speaks memcached's binary protocol",
-            Manner::Http => "it speaks HTTP",
-            Manner::Tls => "it speaks TLS",
-            Manner::Idle => "it was idle for too long",
-            Manner::ReadFailed => "a read failed",
-            Manner::WriteFailed => "a write failed",
-            Manner::NoMemory => "no memory was left for its replies",
-            Manner::Shutdown => "the server ends",
+            Manner::Ended => "ended",
+            Manner::Broke => "broke",
+            Manner::Idle => "was idle for too long",
         })
-    }
-}
-
-impl fmt::Display for Counted {
-    ghost use Rattle.std.specs.Prelude.{Some};
-    ghost use Rattle.mc_watch.specs.EventText.{counted_text};
-
-    ghost output = { λ counted. Some (counted_text counted.count counted.one.now) };
-
-    fn fmt<W: fmt::Write>(&self, f: &mut fmt::Formatter<W>) -> fmt::Result {
-        let Counted { count, one } = *self;
-        if count == 1 {
-            write!(f, "1 {one}")
-        } else {
-            write!(f, "{count} {one}s")
-        }
     }
 }
 
@@ -120,30 +69,14 @@ impl fmt::Display for ConnectionEvent {
                 commands,
                 read,
                 written,
-            } => {
-                let commands = Counted {
-                    count: *commands,
-                    one: "command",
-                };
-                let read = Counted {
-                    count: *read,
-                    one: "byte",
-                };
-                let written = Counted {
-                    count: *written,
-                    one: "byte",
-                };
-                write!(
-                    f,
-                    "{peer} on seat {seat}: {manner}; {commands}, {read} read, {written} written"
-                )
-            }
+            } => write!(
+                f,
+                "{peer} on seat {seat}: {manner}; {commands} commands, {read} bytes read, {written} bytes written"
+            ),
             ConnectionEvent::NotAccepted { fault: Some(fault) } => {
                 write!(f, "accept failed: {}", io::Error::from_raw_os_error(*fault))
             }
             ConnectionEvent::NotAccepted { fault: None } => write!(f, "accept failed"),
-            ConnectionEvent::SeatsTaken => write!(f, "all seats are taken"),
-            ConnectionEvent::SeatFree => write!(f, "a seat is free again"),
         }
     }
 }

@@ -7,14 +7,13 @@ use std::io::Eprint;
 /// The files that each shard's thread has open: its poll twice, and what wakes it.
 const FILES_A_SHARD: u64 = 3;
 
-/// The files that are open besides: the three standard ones, the listener, a connection that waits for a seat, and what says
-/// which signals wait.
-const OTHER_FILES: u64 = 6;
+/// The files that are open besides: the three standard ones, the listener, and a connection that waits for a seat.
+const OTHER_FILES: u64 = 5;
 
 /// How many files are open while each seat has a connection.
 fn files_for(seats: usize, shards: usize) -> u64
     ensures { result ≡
-        min (min (seats + min (shards * 3) (2 ^ 64 - 1)) (2 ^ 64 - 1) + 6) (2 ^ 64 - 1) }
+        min (min (seats + min (shards * 3) (2 ^ 64 - 1)) (2 ^ 64 - 1) + 5) (2 ^ 64 - 1) }
 {
     let threads = (shards as u64).saturating_mul(FILES_A_SHARD);
     (seats as u64)

@@ -3,17 +3,16 @@ ghost use Rattle.mc_sizes.specs.Sizes.{AreWithin};
 
 use crate::files::tell_files;
 use crate::refuse;
-use crate::start::{tell_start, tell_warnings};
 use crate::version::VERSION;
 use libc::net::listen as listen_again;
-use mc_metrics::{Ended, NotWatching, Wishes, start_watching};
+use mc_metrics::{NotWatching, Wishes, start_watching};
 use mc_serve::{ServeRefusal, serve_tcp};
 use mc_server::MachineClock;
 use mc_sizes::Sizes;
 use std::alloc::Global;
 use std::fs::File;
 use std::io::Eprint;
-use std::net::{Net, SocketAddr, TcpListener, TcpStream};
+use std::net::{Net, TcpListener, TcpStream};
 use std::os::fd::AsRawFd;
 use std::process::ExitCode;
 use std::random::RandomSource;
@@ -43,53 +42,42 @@ pub fn listen<
 >(rt: &R, address: &str, connections: Option<u64>, sizes: Sizes, wishes: Wishes<'_>) -> ExitCode
     requires { AreWithin sizes }
 {
-    let (listener, local) = match open(rt, address) {
+    let (listener, port) = match open(rt, address) {
         Ok(opened) => opened,
         Err(error) => return refuse_address(rt, "listen", address, &error),
     };
-    let (watch, watching) = match start_watching(rt, VERSION, local.port(), sizes, wishes) {
+    tell_files(rt, sizes.seats, sizes.shards);
+    let (watch, watching) = match start_watching(rt, VERSION, port, sizes, wishes) {
         Ok(begun) => begun,
         Err(fault) => return refuse_watching(rt, fault, sizes.shards, wishes.metrics),
     };
-    tell_start(rt, &sizes, local);
-    tell_files(rt, sizes.seats, sizes.shards);
-    tell_warnings(rt, &sizes);
-    let served = serve_tcp(
+    let ended = serve_tcp(
         rt,
         rt.alloc(),
         listener,
         sizes,
         connections,
-        MachineClock::start(*rt),
+        MachineClock(*rt),
         watch,
     );
-    let ended = watching.end(rt);
-    match served {
-        Ok(_) => report_end(rt, ended),
+    watching.end(rt);
+    match ended {
+        Ok(_) => ExitCode::SUCCESS,
         Err(refusal) => refuse_serving(rt, refusal, sizes.shards),
     }
 }
 
-/// Reports that a signal ended the server, where one did; the status with which the program ends.
-fn report_end(rt: &impl Eprint, ended: Ended) -> ExitCode {
-    let _ = match ended {
-        Ended::Unasked => Ok(()),
-        Ended::InOrder => eprintln!(rt; "mcd: ended by a signal, all replies written"),
-        Ended::Cut => eprintln!(rt; "mcd: ended by a signal, connections cut off (--drain)"),
-    };
-    ExitCode::SUCCESS
-}
-
-/// Listens on the address; with the address that it has.
-fn open<R: Net<Listener = TcpListener, Stream = TcpStream>>(
+/// Listens on the address, and tells so; with the port.
+fn open<R: Net<Listener = TcpListener, Stream = TcpStream> + Eprint>(
     rt: &R,
     address: &str,
-) -> io::Result<(TcpListener, SocketAddr)> {
+) -> io::Result<(TcpListener, u16)> {
     let listener = TcpListener::bind(rt, address)?;
     let local = listener.local_addr()?;
     // Where this fails fewer wait there: 128.
     let _ = listen_again(listener.as_raw_fd(), QUEUE);
-    Ok((listener, local))
+    let _ = eprintln!(rt; "listening {local}");
+    Ok((listener, local.port()))
 }
 
 /// Tells why nothing is watched; the status with which the program ends.

@@ -35,16 +35,6 @@ returns-in_err-idle_timeout-clause-refused c =
       start NotOfTcp _ _ _ none ∙ (step _ _ _ c.in_ok-seats.ensures.given ∙ (step _ _ _ c.in_ok-connections.ensures.given ∙ step _ _ _ c.in_err-idle_timeout.ensures.refused.1)),
     )
 
-pub returns-in_err-drain-clause-refused : goal.returns-in_err-drain-clause-refused
-returns-in_err-drain-clause-refused c =
-    let none = sym c.first_given.ensures ∙ ap (option_map (λ name. name.now)) c.in_default.is in
-    passed_up c.from_residual-in_err-drain.result c.in_err-drain.field-0.0 _ c.from_residual-in_err-drain.ensures.1 (
-      c.in_err-drain.ensures.refused.0,
-      start NotOfTcp _ _ _ none
-          ∙ (step _ _ _ c.in_ok-seats.ensures.given
-          ∙ (step _ _ _ c.in_ok-connections.ensures.given ∙ (step _ _ _ c.in_ok-idle_timeout.ensures.given ∙ step _ _ _ c.in_err-drain.ensures.refused.1))),
-    )
-
 pub returns-in_err-sizes-clause-refused : goal.returns-in_err-sizes-clause-refused
 returns-in_err-sizes-clause-refused c =
     let none = sym c.first_given.ensures ∙ ap (option_map (λ name. name.now)) c.in_default.is in
@@ -52,31 +42,17 @@ returns-in_err-sizes-clause-refused c =
       c.in_err-sizes.ensures.refused.0,
       start NotOfTcp _ _ _ none
           ∙ (step _ _ _ c.in_ok-seats.ensures.given
-          ∙ (step _ _ _ c.in_ok-connections.ensures.given ∙ (step _ _ _ c.in_ok-idle_timeout.ensures.given ∙ (step _ _ _ c.in_ok-drain.ensures.given ∙ step _ _ _ c.in_err-sizes.ensures.refused.1)))),
-    )
-
-pub returns-in_err-port-clause-refused : goal.returns-in_err-port-clause-refused
-returns-in_err-port-clause-refused c =
-    let none = sym c.first_given.ensures ∙ ap (option_map (λ name. name.now)) c.in_default.is in
-    passed_up c.from_residual-in_err-port.result c.in_err-port.field-0.0 _ c.from_residual-in_err-port.ensures.1 (
-      c.in_err-port.ensures.refused.0,
-      start NotOfTcp _ _ _ none
-          ∙ (step _ _ _ c.in_ok-seats.ensures.given
-          ∙ (step _ _ _ c.in_ok-connections.ensures.given
-          ∙ (step _ _ _ c.in_ok-idle_timeout.ensures.given
-          ∙ (step _ _ _ c.in_ok-drain.ensures.given ∙ (step _ _ _ c.in_ok-sizes.ensures.given ∙ step _ _ _ c.in_err-port.ensures.refused.1))))),
+          ∙ (step _ _ _ c.in_ok-connections.ensures.given ∙ (step _ _ _ c.in_ok-idle_timeout.ensures.given ∙ step _ _ _ c.in_err-sizes.ensures.refused.1))),
     )
 
 pub returns-clause-given : goal.returns-clause-given
 returns-clause-given c =
     let none = sym c.first_given.ensures ∙ ap (option_map (λ name. name.now)) c.in_default.is in
     let address = text_is c.get_str.result _ _ _ c.unwrap_or-address.ensures c.get_str.ensures in
-    rw (address, c.is_flag.ensures, c.get_str-2.ensures, c.is_flag-2.ensures, c.is_one_ignored.ensures)
+    rw (address, c.is_flag.ensures, c.get_str-2.ensures)
     (start NotOfTcp _ _ _ none
     ∙ (step _ _ _ c.in_ok-seats.ensures.given
-    ∙ (step _ _ _ c.in_ok-connections.ensures.given
-    ∙ (step _ _ _ c.in_ok-idle_timeout.ensures.given
-    ∙ (step _ _ _ c.in_ok-drain.ensures.given ∙ (step _ _ _ c.in_ok-sizes.ensures.given ∙ step _ _ _ c.in_ok-port.ensures.given))))))
+    ∙ (step _ _ _ c.in_ok-connections.ensures.given ∙ (step _ _ _ c.in_ok-idle_timeout.ensures.given ∙ step _ _ _ c.in_ok-sizes.ensures.given))))
 
 pub returns-clause-within : goal.returns-clause-within
 returns-clause-within c = c.in_ok-sizes.ensures.within
