@@ -85,6 +85,10 @@ class Server:
     def resident(self):
         return self.status_word("VmRSS")
 
+    def taken(self):
+        """The address space, of which not all need be resident."""
+        return self.status_word("VmSize")
+
     def most_resident(self):
         return self.status_word("VmHWM")
 

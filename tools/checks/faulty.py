@@ -6,6 +6,7 @@
 Calls that serve connections go through a proxy of this process, so what a check reads of the memory of the server is its.
 """
 import os
+import pathlib
 import re
 import signal
 import socket
@@ -15,7 +16,9 @@ import sys
 import threading
 import time
 
-from served import MIB, WITH_US, started
+sys.path.insert(0, str(pathlib.Path(__file__).resolve().parent.parent))
+
+from served import MIB, WITH_US, started  # noqa: E402
 
 # Memory that is never given back.
 KEPT = []
@@ -146,6 +149,16 @@ class StoresTornBlocks(Honest):
         super().client_ends()
 
 
+class TakesForWhatIsOpen(Honest):
+    """Takes 4 MiB more where a piece ends within a line or a block, once for each connection."""
+
+    def up(self, got):
+        if not self.sent and not got.endswith(b"\n"):
+            KEPT.append(b"x" * (4 * MIB))
+            self.sent += b"seen"
+        super().up(got)
+
+
 class SlowForChosenKeys(Honest):
     def up(self, got):
         if b"cqhmya" in got:
@@ -182,7 +195,7 @@ LINES = {
     "slow for chosen keys": SlowForChosenKeys, "keeps its port": Honest, "takes 64 MiB": takes(0, 64),
     "takes 1 MiB a connection": takes(1), "takes 4 MiB a connection": takes(4), "takes 16 MiB a connection": takes(16),
     "takes 64 MiB a connection": takes(64), "takes 4 KiB a connection": takes(1 / 256), "counts a connection twice": Honest,
-    "spins": Spins,
+    "takes 4 MiB for what is open": TakesForWhatIsOpen, "spins": Spins,
 }
 
 

@@ -1,9 +1,10 @@
 """How much memory clients can make the server take. The bounds are those of the table in docs/SECURITY.md.
 
-Beside the faults of tools/checks/seen_to_fail.py three were built into the program itself. A form that takes 768 bytes more for each
+Beside the faults of tools/checks/seen_to_fail.py five were built into the program itself. A form that takes 768 bytes more for each
 key let `lines_of_32766_keys_are_bounded` find 2,266 MiB and `the_sum_holds_for_all_together` 658; a shard that keeps the items that
 were replaced let `unread_replies_hold_what_they_show` find 50 MiB where all replies had been read; a line that keeps the room in
-which its replies waited let `written_replies_leave_their_lines` find 9.
+which its replies waited let `written_replies_leave_their_lines` find 9; room for 8 MiB for each open block let
+`open_blocks_take_little_address_space` find 512; and a line whose room isn't renewed let `a_long_line_leaves_no_room_behind` find 128.
 """
 import re
 import time
@@ -66,6 +67,36 @@ def lines_without_end_are_bounded():
 def announced_gigabytes_are_not_held():
     with served() as server:
         return within(grown(server, lambda _: b"set k 0 0 4294967295\r\n" + b"v" * 200_000), SEATS * term("line") * MIB)
+
+
+def open_blocks_take_little_address_space():
+    """What is taken and not written to isn't resident, but counts where the system limits what is taken (ulimit -v)."""
+    with served() as server:
+        lines = [Line(server.port) for _ in range(SEATS)]
+        for line in lines:
+            line.ask(set_of(b"k", b"v" * 1000), b"STORED\r\n")
+        before = server.taken()
+        for line in lines:
+            line.send(b"set k 0 0 1000\r\n" + b"v" * 500)
+        wait_until_still(server)
+        told = within(server.taken() - before, SEATS * term("line") * MIB)
+        for line in lines:
+            line.ask(b"v" * 500 + b"\r\n", b"STORED\r\n")
+            line.close()
+        return told
+
+
+def a_long_line_leaves_no_room_behind():
+    """Each of 16 connections sends a line of 8 MiB, and stays: of its room no more than that of a short line is kept."""
+    with Server("--seats", 16, "--line-limit", "8m") as server:
+        lines = [Line(server.port) for _ in range(16)]
+        for line in lines:
+            line.ask(b"mn\r\n", b"MN\r\n")
+        before = server.resident()
+        for line in lines:
+            line.ask(b"mn" + b" " * (8 * MIB - 3) + b"\n", b"MN\r\n")
+        wait_until_still(server)
+        return within(server.resident() - before, 16 * term("line") * MIB)
 
 
 def values_but_for_a_byte_are_bounded():
@@ -159,7 +190,8 @@ def bound_of(seats, budgets):
 
 
 CHECKS = [
-    an_idle_server_is_small, lines_without_end_are_bounded, announced_gigabytes_are_not_held, values_but_for_a_byte_are_bounded,
+    an_idle_server_is_small, lines_without_end_are_bounded, announced_gigabytes_are_not_held,
+    open_blocks_take_little_address_space, a_long_line_leaves_no_room_behind, values_but_for_a_byte_are_bounded,
     lines_of_32766_keys_are_bounded, small_items_take_few_times_their_cost,
     unread_replies_hold_what_they_show, written_replies_leave_their_lines, the_sum_holds_for_all_together,
 ]

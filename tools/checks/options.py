@@ -6,8 +6,10 @@
 What is expected follows from the rules of docs/PROTOCOL.md: what an item costs, on which shard a key lies, which cas uniques
 a shard gives. Each row gives another output where its option is ignored. The last line is `options: N passed, M failed`.
 """
+import os
 import pathlib
 import random
+import socket
 import subprocess
 import sys
 import tempfile
@@ -198,6 +200,70 @@ def each_number_of_shards():
     equal(len(set(told.values())), len(told))
     for shards, wanted in told.items():
         row(f"--shards {shards}", given, len(keys) * STORED + wanted)
+
+
+# In a network of its own, where nothing else listens; who isn't root becomes it there.
+ALONE = ["unshare", "--net", *([] if os.geteuid() == 0 else ["--map-root-user"]), "sh", "-c", 'ip link set lo up; exec "$0" "$@"']
+
+
+def socket_address(found):
+    """Of IPv4, as /proc/net/tcp writes it: the bytes of the address from last to first, and the port."""
+    host, port = found.split(":")
+    return f"{socket.inet_ntoa(bytes.fromhex(host)[::-1])}:{int(port, 16)}"
+
+
+def listened_at(process):
+    """Where sockets listen in the network of the process, as the system tells it: those of IPv6 are no address of IPv4."""
+    tables = [pathlib.Path(f"/proc/{process.pid}/net/{name}").read_text().splitlines()[1:] for name in ("tcp", "tcp6")]
+    there, sixes = ([row.split()[1] for row in table if row.split()[3] == "0A"] for table in tables)
+    return sorted(map(socket_address, there)) + sixes
+
+
+def one_listens_at(words, told, wanted):
+    """The program with these words tells where it listens, and listens there alone."""
+    process = started([*ALONE, MCD, *words], stderr=subprocess.PIPE)
+    try:
+        for line in told:
+            equal(process.stderr.readline().decode(), line + "\n")
+        equal(listened_at(process), sorted(wanted))
+    finally:
+        process.kill()
+        process.wait()
+        process.stderr.close()
+
+
+def it_listens_where_it_is_told_alone():
+    """At the address that is given, or where none is at 127.0.0.1:11211; and the metrics at theirs."""
+    if subprocess.run([*ALONE, "true"], capture_output=True).returncode != 0:
+        return "left out: no network of its own is to be had here"
+    default, given = "127.0.0.1:11211", "127.0.0.2:11311"
+    one_listens_at([], [f"listening {default}"], [default])
+    one_listens_at(["--drop-in", "--seats", "4"], [f"listening {default}"], [default])
+    one_listens_at(["--listen", given], [f"listening {given}"], [given])
+    one_listens_at(["--listen", "0.0.0.0:11311"], ["listening 0.0.0.0:11311"], ["0.0.0.0:11311"])
+    for word, metrics in (("11212", "127.0.0.1:11212"), ("127.0.0.3:11213", "127.0.0.3:11213")):
+        one_listens_at(["--metrics", word], [f"listening {default}", f"metrics {metrics}"], [default, metrics])
+    return None
+
+
+def each_moment():
+    """What a time that is given as a second since 1970 leaves of an item: `--at` says which second it is."""
+    given = b"set a 0 4000000100 1\r\nx\r\nmg a t\r\n"
+    for at, left in ((1000, 3_999_999_100), (4_000_000_000, 100), (4_000_000_099, 1)):
+        ran = subprocess.run([MCD, "--stdio", "--at", str(at)], input=given, capture_output=True, timeout=30)
+        equal((at, ran.returncode, ran.stdout), (at, 0, STORED + b"HD t%d\r\n" % left))
+
+
+def so_many_connections():
+    """The program ends with the last of as many connections as are given, and takes no further one."""
+    for count in (1, 3):
+        with Server("--connections", count) as server:
+            for number in range(count):
+                equal((number, server.is_running()), (number, True))
+                with Line(server.port) as line:
+                    line.ask(b"mn\r\nquit\r\n", b"MN\r\n")
+                    equal(line.rest(), b"")
+            equal(server.process.wait(timeout=30), 0)
 
 
 def two_seats():
@@ -401,8 +467,8 @@ def what_the_system_refuses_is_told():
 
 
 CHECKS = [
-    memcacheds_rules, another_protocol, the_worked_rows_by_memcacheds_rules, a_value_limit_of_1024, values_of_2_mib, the_longest_line, a_budget_of_1024, a_budget_of_1_mib, each_number_of_shards, two_seats,
-    each_window, the_clock_goes_on, the_clock_tells_the_year, each_fault_of_the_command_line, each_fault_of_a_word,
+    memcacheds_rules, another_protocol, the_worked_rows_by_memcacheds_rules, a_value_limit_of_1024, values_of_2_mib, the_longest_line, a_budget_of_1024, a_budget_of_1_mib, each_number_of_shards, it_listens_where_it_is_told_alone,
+    each_moment, so_many_connections, two_seats, each_window, the_clock_goes_on, the_clock_tells_the_year, each_fault_of_the_command_line, each_fault_of_a_word,
     what_cannot_be_read_is_told, what_cannot_be_written_is_told, a_taken_address_is_told, few_open_files_are_told,
     what_the_system_refuses_is_told,
 ]

@@ -57,6 +57,8 @@ FAULTS = {
     "an_idle_server_is_small": ["takes 64 MiB"],
     "lines_without_end_are_bounded": ["takes 1 MiB a connection"],
     "announced_gigabytes_are_not_held": ["takes 1 MiB a connection"],
+    "open_blocks_take_little_address_space": ["takes 4 MiB for what is open"],
+    "a_long_line_leaves_no_room_behind": ["takes 4 MiB for what is open"],
     "values_but_for_a_byte_are_bounded": ["takes 4 MiB a connection"],
     "lines_of_32766_keys_are_bounded": ["takes 16 MiB a connection"],
     "small_items_take_few_times_their_cost": ["takes 64 MiB a connection"],

@@ -6,6 +6,7 @@
 What is expected is counted here from what the clients send and get. The text of the metrics is read by promtool, of Debian's
 prometheus, too where it is installed. The last line is `watching: N passed, M failed`.
 """
+import multiprocessing
 import pathlib
 import re
 import resource
@@ -234,11 +235,53 @@ def each_counter_follows_a_conversation():
         eventually(found, [0, 2, 2 * len(asked), 2 * len(answered), 4, 0, 0])
         line = Line(server.port)
         line.ask(NO_OP, NO_OP_REPLY)
+        eventually(found, [1, 3, 2 * len(asked) + 4, 2 * len(answered) + 4, 4, 0, 0])
         line.reset()
         eventually(found, [0, 3, 2 * len(asked) + 4, 2 * len(answered) + 4, 5, 1, 0])
         before = server.values()["memcached_uptime_seconds"]
         time.sleep(2)
         equal(1 <= server.values()["memcached_uptime_seconds"] - before <= 10, True)
+
+
+def ask_on(port, rounds):
+    """Awaits each reply, so that each is a read and a write of its own."""
+    with Line(port) as line:
+        for _ in range(rounds):
+            line.ask(NO_OP, NO_OP_REPLY)
+
+
+def counted_at_once(clients, rounds):
+    """What is counted while all threads serve clients at once, each of which awaits so many replies."""
+    names = ["memcached_read_bytes_total", "memcached_written_bytes_total", "mcd_commands_total", "memcached_current_connections"]
+    with Watched("--shards", 4) as server:
+        running = [multiprocessing.Process(target=ask_on, args=(server.port, rounds)) for _ in range(clients)]
+        for it in running:
+            it.start()
+        for it in running:
+            it.join()
+        equal([it.exitcode for it in running], clients * [0])
+        wanted = [clients * rounds * len(NO_OP), clients * rounds * len(NO_OP_REPLY), clients * rounds, 0]
+        eventually(lambda: [server.values()[name] for name in names], wanted)
+
+
+def no_count_is_lost():
+    """Each thread counts by itself: where two added to one counter, what one of them adds would now and then be lost. Seats that all count
+    as those of the first thread were found by every second of these servers."""
+    for _ in range(4):
+        counted_at_once(8, 10_000)
+
+
+def the_page_shows_what_is_counted():
+    """Its first sample is of the start, and one comes every five seconds: the newest point of a curve is the number beside its title."""
+    with Watched("--seats", 9) as server, Line(server.port) as line, Line(server.port) as other:
+        line.ask(b"".join(set_of(b"key:%012d" % it, b"v" * 100) for it in range(1000)), 1000 * b"STORED\r\n")
+        other.ask(NO_OP, NO_OP_REPLY)
+
+        def found():
+            page = server.get("/")[2].decode()
+            newest = dict(re.findall(r"<figcaption>([^:<]+): (\d+) \(at most \d+\)", page))
+            return [newest[it] for it in ("Items", "Bytes of items", "Connections")] + ["2 of 9 connections open, 2 since the start" in page]
+        eventually(found, ["1000", "180000", "2", True])
 
 
 def those_who_wait_are_counted():
@@ -407,7 +450,7 @@ def bad_http_harms_nobody():
 CHECKS = [
     an_idle_client_is_closed, one_that_never_sent_is_closed, one_that_sends_stays, none_is_closed_unasked, one_amid_a_block_is_closed,
     one_that_takes_nothing_is_closed, dead_connections_free_their_seats, each_connection_is_told, one_that_breaks_is_told,
-    one_that_is_idle_is_told, what_finds_no_room_is_counted, an_accept_that_fails_is_told, each_counter_follows_a_conversation,
+    one_that_is_idle_is_told, what_finds_no_room_is_counted, an_accept_that_fails_is_told, each_counter_follows_a_conversation, no_count_is_lost, the_page_shows_what_is_counted,
     those_who_wait_are_counted, each_command_is_counted_by_what_came_of_it, items_and_evictions_are_told,
     the_version_is_the_programs, promtool_reads_the_text, the_other_pages, it_is_told_to_this_machine_alone, a_taken_address_is_told,
     bad_http_harms_nobody,
