@@ -49,19 +49,31 @@ def equal(found, wanted):
         raise AssertionError(f"{found!r:.160} in place of {wanted!r:.160}")
 
 
-class Server:
-    """A running mcd with these options, on a port that the system chose. It ends with the `with` block."""
+# The line of a server that listens.
+LISTENING = re.compile(r"mcd \S+: (?:own rules|memcached's rules), \d+ threads, \d+ MiB, listening on 127\.0\.0\.1:(\d+)\n")
 
-    def __init__(self, *options):
+
+class Server:
+    """A running mcd with these options, on a port that the system chose. It ends with the `with` block. The words `before` start
+    it, if there are any."""
+
+    def __init__(self, *options, before=(), **streams):
         # Unbuffered: who waits for a further line by select misses none that was read ahead.
-        self.process = started([MCD, "--listen", "127.0.0.1:0", *map(str, options)], stderr=subprocess.PIPE, bufsize=0)
-        ready, _, _ = select.select([self.process.stderr], [], [], 30)
-        told = self.process.stderr.readline().decode() if ready else ""
-        found = re.fullmatch(r"listening 127\.0\.0\.1:(\d+)\n", told)
-        if not found:
-            self.stop()
-            raise AssertionError(f"the server tells {told!r} in place of the address that it listens on")
+        words = [*before, MCD, "--listen", "127.0.0.1:0", *map(str, options)]
+        self.process = started(words, stderr=subprocess.PIPE, bufsize=0, **streams)
+        # What it says before it listens: where its metrics are, if it serves them.
+        self.before = []
+        while not (found := LISTENING.fullmatch(told := self.line_said())):
+            if not told:
+                self.stop()
+                raise AssertionError(f"the server says {self.before} and no address that it listens on")
+            self.before.append(told.rstrip("\n"))
         self.port = int(found[1])
+
+    def line_said(self):
+        """The next line on standard error, or nothing where none comes."""
+        ready, _, _ = select.select([self.process.stderr], [], [], 30)
+        return self.process.stderr.readline().decode() if ready else ""
 
     def __enter__(self):
         return self
@@ -138,6 +150,13 @@ class Line:
         """Sends what fits into the buffers on the way, and wants this reply."""
         self.send(sent)
         equal(self.read(len(wanted)), wanted)
+
+    def waits(self):
+        """Nothing comes as long as its timeout lasts: fails where something does, or the stream ends."""
+        try:
+            raise AssertionError(f"a connection that was to wait has got {self.read(4)!r}")
+        except TimeoutError:
+            pass
 
     def end(self):
         """No more is sent."""

@@ -10,11 +10,15 @@ alone, and each of its replies comes and is its own. The load must be one: it ha
 machine is busy with other work, the system's time slices come between: so the rounds are run up to three times, and the first
 time in which the bound holds decides. A wrong or a missing reply fails at once.
 
+The same beside one that sends commands that no shard is asked for. Its seat always finds something to do, and the shard of the same thread
+has its turns all the same: a reply comes within a tenth of a second, where it takes some milliseconds.
+
 Then the same beside eight clients that ask for values of 64 KiB and read a few bytes now and then: their replies wait, and take
 nothing from the others. The bound is three times, though on a quiet machine it is hardly more than alone.
 The last line is `fairness: N passed, M failed`.
 """
 import argparse
+import functools
 import multiprocessing
 import pathlib
 import signal
@@ -27,7 +31,7 @@ sys.path.insert(0, str(pathlib.Path(__file__).resolve().parent.parent))
 
 from served import Line, Server, Tally, bounded, needs_program  # noqa: E402
 
-LIMIT_SECONDS = 300
+LIMIT_SECONDS = 450
 
 # How many times as long the 99th percentile may be beside the load.
 MOST_TIMES = 10
@@ -41,6 +45,9 @@ LEAST_RATE = 20_000
 # The same beside clients that hardly read.
 MOST_TIMES_UNREAD = 3
 
+# The most microseconds of the 99th percentile beside commands that no shard is asked for.
+LATEST = 100_000
+
 # The number of clients that hardly read.
 SLOW = 8
 
@@ -51,12 +58,12 @@ LARGE = b"set large 0 0 65536\r\n%s\r\n" % (b"l" * 65536)
 BATCH = 4096
 
 
-def sends_without_end(port, replies, ends):
-    """Sends gets as fast as they are taken, and reads the replies as they come. It never waits for its last command."""
+def sends_without_end(port, replies, ends, asked=ASKED, reply=VALUE):
+    """Sends a command as fast as it is taken, and reads the replies as they come. It never waits for its last command."""
     signal.signal(signal.SIGTERM, signal.SIG_DFL)
     line = socket.create_connection(("127.0.0.1", port))
     line.setblocking(False)
-    batch, rest, count = ASKED * BATCH, b"", 0
+    batch, rest, count = asked * BATCH, b"", 0
     while not ends.is_set():
         if not rest:
             rest = batch
@@ -73,7 +80,7 @@ def sends_without_end(port, replies, ends):
             pass
         if not moved:
             time.sleep(0.0001)
-        replies.value = count // len(VALUE)
+        replies.value = count // len(reply)
 
 
 def hardly_reads(port, replies, ends):
@@ -148,6 +155,13 @@ def beside_a_load(tally, port, given):
     tally.tell(loaded <= MOST_TIMES * quiet, f"beside it a reply takes {loaded / quiet:.1f} times as long as alone, at most {MOST_TIMES} ({loaded:.0f} and {quiet:.0f} µs)")
 
 
+def beside_one_that_asks_no_shard(tally, port, given):
+    load = functools.partial(sends_without_end, asked=b"mn\r\n", reply=b"MN\r\n")
+    _quiet, loaded, rate = measured(port, given, load)
+    tally.tell(rate >= LEAST_RATE, f"one that asks no shard has {rate:,.0f} replies a second, at least {LEAST_RATE:,}")
+    tally.tell(loaded <= LATEST, f"beside it a reply takes {loaded:.0f} µs, at most {LATEST}")
+
+
 def beside_slow_readers(tally, port, given):
     for _ in range(ATTEMPTS):
         quiet, loaded, _rate = measured(port, given, hardly_reads)
@@ -168,6 +182,7 @@ def main():
         with Line(server.port) as line:
             line.ask(STORED + LARGE, b"STORED\r\n" * 2)
         beside_a_load(tally, server.port, given)
+        beside_one_that_asks_no_shard(tally, server.port, given)
         beside_slow_readers(tally, server.port, given)
     return tally.done()
 

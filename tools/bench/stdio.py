@@ -51,6 +51,7 @@ MIXES = [
     ("get hit", get_of),
     ("get miss", lambda i: b"get none%s\r\n" % key(i)),
     ("set", set_of),
+    ("set with an expiry", lambda i: b"set %s 0 1000 100\r\n%s\r\n" % (key(i), VALUE)),
     ("half gets, half sets", lambda i: set_of(i) if i % 2 else get_of(i)),
     ("mg v", lambda i: b"mg %s v\r\n" % key(i)),
     ("ms", lambda i: b"ms %s 100\r\n%s\r\n" % (key(i), VALUE)),

@@ -67,7 +67,7 @@ def served(program, folder, options, commands, awaits):
     # Few open files are allowed, so that the server needs no more than valgrind leaves.
     process = subprocess.Popen(["sh", "-c", 'ulimit -n 1024; exec "$@"', "", *valgrind, *server], stderr=subprocess.PIPE, text=True)
     for told in process.stderr:
-        if found := re.fullmatch(r"listening 127\.0\.0\.1:(\d+)\n", told):
+        if found := re.search(r"listening on 127\.0\.0\.1:(\d+)$", told):
             break
     rest = threading.Thread(target=process.stderr.read)
     rest.start()

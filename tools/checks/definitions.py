@@ -23,7 +23,7 @@ QUOTING = [TOP / "README.md", TOP / "docs/PROOFS.md"]
 BEGIN, END = "<!-- tools/checks/definitions.py -->\n", "<!-- end -->\n"
 
 # The functions whose contracts are the theorems: the headline, the laws of progress and order, what ties the simulator to
-# them, one line, real threads over doors, lines in memory and sockets, replay files and the command line.
+# them, one line, real threads over doors, lines in memory, streams and sockets, replay files and the command line.
 THEOREMS = [
     ("mc_model/src/laws.rt", ["every_schedule"]),
     ("mc_laws/src/progress.rt", ["never_stuck", "all_comes_to_rest", "fair_runs_come_to_rest", "what_is_tried_is_fair", "none_waits_forever", "bytes_are_taken_at_rest"]),
@@ -33,6 +33,7 @@ THEOREMS = [
     ("mc_server/src/serve.rt", ["serve_one"]),
     ("mc_serve/src/serving.rt", ["serve"]),
     ("mc_serve/src/over.rt", ["serve_over"]),
+    ("mc_serve/src/streams.rt", ["serve_streams"]),
     ("mc_serve/src/tcp.rt", ["serve_tcp"]),
     ("mc_replay/src/schedule.rt", ["read_schedule"]),
     ("mc_replay/src/run.rt", ["replay"]),

@@ -1,9 +1,9 @@
 #!/usr/bin/env python3
 """Stands in for mcd with one fault put in, so that tools/checks/seen_to_fail.py can see which checks find it.
 
-    tools/checks/faulty.py FAULT PROGRAM [WORD ..]     FAULT is a key of STATUSES, INPUTS, CALLS or LINES below, PROGRAM the real one
+    tools/checks/faulty.py FAULT PROGRAM [WORD ..]     FAULT is a key of STATUSES, INPUTS, CALLS, SIGNALS, TEXTS or LINES below, PROGRAM the real one
 
-Calls that serve connections go through a proxy of this process, so what a check reads of the memory of the server is its.
+With a fault of LINES, calls that serve connections go through a proxy of this process, so what a check reads of the memory of the server is its.
 """
 import os
 import pathlib
@@ -54,6 +54,8 @@ class Honest:
 
     at_once = 64
     at_start = 0
+    # Whether it accepts no more once a signal asks the program to end.
+    closes = True
 
     def __init__(self, client, server, number):
         self.client, self.server, self.number = client, server, number
@@ -112,6 +114,31 @@ class DropsConnections(Honest):
 
 class HasOneSeat(Honest):
     at_once = 1
+
+
+class LosesSeats(Honest):
+    """Of two seats one is lost after a thousand connections, and then the other."""
+
+    at_once = 2
+
+    def serve(self):
+        super().serve()
+        if self.number % 1000 == 999:
+            threading.Event().wait()
+
+
+class EndsAfterAGigabyte(Honest):
+    passed = 0
+
+    def up(self, got):
+        self.passed += len(got)
+        if self.passed > 1 << 30:
+            raise OSError
+        super().up(got)
+
+
+class AcceptsToTheEnd(Honest):
+    closes = False
 
 
 class GathersReplies(Honest):
@@ -195,8 +222,13 @@ LINES = {
     "slow for chosen keys": SlowForChosenKeys, "keeps its port": Honest, "takes 64 MiB": takes(0, 64),
     "takes 1 MiB a connection": takes(1), "takes 4 MiB a connection": takes(4), "takes 16 MiB a connection": takes(16),
     "takes 64 MiB a connection": takes(64), "takes 4 KiB a connection": takes(1 / 256), "counts a connection twice": Honest,
-    "takes 4 MiB for what is open": TakesForWhatIsOpen, "spins": Spins,
+    "takes 4 MiB for what is open": TakesForWhatIsOpen, "spins": Spins, "loses its seats": LosesSeats,
+    "ends a connection after a gigabyte": EndsAfterAGigabyte, "accepts to the end": AcceptsToTheEnd,
 }
+
+# The signals that end a program in order where they are blocked, and one that ends nothing then.
+ENDING = {signal.SIGTERM, signal.SIGINT}
+BLOCKED = ENDING | {signal.SIGHUP}
 
 
 def listener(fault):
@@ -214,18 +246,31 @@ def serve(fault, program, words):
     front.bind((host, int(port)))
     front.listen(128)
     real = started([program, *words[:at], "127.0.0.1:0", *words[at + 1 :]], stderr=subprocess.PIPE)
-    behind = int(re.search(rb":(\d+)\n", real.stderr.readline())[1])
+    said, _, behind = real.stderr.readline().decode().rpartition(":")
     KEPT.append(b"x" * (LINES[fault].at_start * MIB))
-    print(f"listening {host}:{front.getsockname()[1]}", file=sys.stderr, flush=True)
-    threading.Thread(target=accept_all, args=(LINES[fault], front, behind), daemon=True).start()
+    print(f"{said}:{front.getsockname()[1]}", file=sys.stderr, flush=True)
+    threading.Thread(target=accept_all, args=(LINES[fault], front, int(behind)), daemon=True).start()
+    if ENDING <= signal.pthread_sigmask(signal.SIG_BLOCK, []):
+        threading.Thread(target=pass_on, args=(LINES[fault], front, real), daemon=True).start()
     return real.wait()
+
+
+def pass_on(kind, front, real):
+    """Passes on a signal that asks the program to end."""
+    number = signal.sigwait(ENDING)
+    if kind.closes:
+        front.shutdown(socket.SHUT_RDWR)
+    real.send_signal(number)
 
 
 def accept_all(kind, front, behind):
     seats, number = threading.Semaphore(kind.at_once), 0
     while True:
         seats.acquire()
-        client, _ = front.accept()
+        try:
+            client, _ = front.accept()
+        except OSError:
+            return
         one = kind(client, socket.create_connection(("127.0.0.1", behind)), number)
         number += 1
         threading.Thread(target=lambda it=one: (it.serve(), seats.release()), daemon=True).start()
@@ -247,8 +292,123 @@ def few_seats(words):
     return words
 
 
+def without(names):
+    """A fault that ignores these options, each with its value."""
+
+    def call(words):
+        kept, skips = [], False
+        for place, word in enumerate(words):
+            if skips:
+                skips = False
+            elif word in names:
+                skips = place + 1 < len(words) and not words[place + 1].startswith("-")
+            elif not any(re.fullmatch(rf"{name}\d+", word) for name in names):
+                kept.append(word)
+        return kept
+
+    return call
+
+
+def elsewhere(words):
+    """The words with another host at which it listens."""
+    for place, word in enumerate(words[:-1]):
+        if word in ("--listen", "-l"):
+            port = re.search(r"(?:^|:)(\d+)$", words[place + 1])
+            words[place + 1] = f"127.0.0.9:{port[1]}" if port else "127.0.0.9"
+    return words
+
+
+def everywhere(words):
+    """The words with all addresses of the machine where they name none."""
+    return words if "--listen" in words else [*words, "--listen", "0.0.0.0:11211"]
+
+
+def stands_still(words):
+    return [*words, "--at", "1000"] if "--stdio" in words and "--at" not in words else words
+
+
+def refuses_capitals(words):
+    if any(re.fullmatch(r"\d+[kmg]?b?", word, re.I) and word != word.lower() for word in words):
+        sys.exit(2)
+    return words
+
+
+def says_at_once(words):
+    print("mcd: listening", file=sys.stderr, flush=True)
+    return words
+
+
+def instead(name, value):
+    """A fault that takes the option for having this value."""
+    return lambda words: [*without([name])(words), name, value]
+
+
 # Faults of how the program is called.
-CALLS = {"has few seats": few_seats}
+CALLS = {
+    "has few seats": few_seats, "listens elsewhere": elsewhere, "refuses capital letters": refuses_capitals, "listens before it does": says_at_once,
+    "ignores the port": without(["--port", "-p"]), "ignores the number of seats": without(["--seats", "-c"]), "ignores a value limit": without(["--value-limit", "-I"]),
+    "ignores that it is to be verbose": without(["--verbose", "-v"]), "ignores that it is to plan": without(["--plan"]),
+    "ignores the rules of memcached": without(["--drop-in"]), "ignores a line limit": without(["--line-limit"]), "ignores a budget": without(["--bytes", "--memory"]),
+    "ignores the number of shards": without(["--shards"]), "ignores the moment": without(["--at"]), "ignores the window": without(["--window"]),
+    "ignores the number of connections": without(["--connections"]), "serves no metrics": without(["--metrics"]), "has a clock that stands still": stands_still,
+    "listens at each address": everywhere,
+    "has two shards": instead("--shards", "2"), "cuts connections off at once": instead("--drain", "0"), "drains for an hour": instead("--drain", "3600"),
+}
+
+
+def unblocks(program, words):
+    signal.pthread_sigmask(signal.SIG_UNBLOCK, BLOCKED)
+    os.execv(program, [program, *words])
+
+
+def blocks(program, words):
+    signal.pthread_sigmask(signal.SIG_BLOCK, BLOCKED)
+    os.execv(program, [program, *words])
+
+
+def keeps(program, words):
+    """The program gets no signal that this process gets."""
+    signal.pthread_sigmask(signal.SIG_BLOCK, BLOCKED)
+    return subprocess.run([*WITH_US, program, *words]).returncode
+
+
+# Faults of which signals reach it, and how.
+SIGNALS = {"unblocks its signals": unblocks, "blocks its signals": blocks, "gets no signal": keeps}
+
+
+def times(factor):
+    """A fault of the plan: each figure is this many times as large."""
+    return lambda text: re.sub(r"(?m)^  (\d+) MiB", lambda it: f"  {int(int(it[1]) * factor)} MiB", text)
+
+
+# Faults of a line that it prints.
+TEXTS = {
+    "warns of nothing": lambda text: "" if "warning" in text else text, "names its own rules alone": lambda text: text.replace("memcached's rules", "own rules"),
+    "counts open files otherwise": lambda text: re.sub(r"needs \d+ open files", "needs 30 open files", text), "plans a third": times(1 / 3), "plans ten times as much": times(10),
+}
+
+
+def prints(change, program, words):
+    """Runs the program, whose lines are changed on both streams."""
+    real = subprocess.Popen([*WITH_US, program, *words], stdin=subprocess.DEVNULL, stdout=subprocess.PIPE, stderr=subprocess.PIPE, text=True)
+
+    def passes(source, out):
+        for line in source:
+            out.write(change(line))
+            out.flush()
+
+    errors = threading.Thread(target=passes, args=(real.stderr, sys.stderr))
+    errors.start()
+    passes(real.stdout, sys.stdout)
+    errors.join()
+    return real.wait()
+
+
+def prints_where_it_plans(fault, program, words):
+    """The faults of the plan change no line of a server, which is the process that is started."""
+    if "plan" in fault and "--plan" not in words:
+        os.execv(program, [program, *words])
+    return prints(TEXTS[fault], program, words)
 
 
 def one_fewer(words):
@@ -265,9 +425,15 @@ def main():
         return converse(fault, program, words)
     if fault in CALLS:
         os.execv(program, [program, *CALLS[fault](words)])
+    if fault in SIGNALS:
+        return SIGNALS[fault](program, words)
+    if fault in TEXTS:
+        return prints_where_it_plans(fault, program, words)
     if fault in STATUSES:
         subprocess.run([*WITH_US, program, *words])
         return STATUSES[fault]
+    if "--listen" not in words:
+        os.execv(program, [program, *words])
     return serve(fault, program, one_fewer(words) if fault == "counts a connection twice" else words)
 
 

@@ -3,14 +3,16 @@ import socket
 import subprocess
 import time
 
-from served import MCD, TOP, Line, Server, equal, started
+from served import LISTENING, MCD, TOP, Line, Server, equal, started
 
 # Addresses that aren't one, or can't be listened on (192.0.2.1 is nobody's: RFC 5737).
-NO_ADDRESSES = ["nonsense", "", "256.0.0.1:1", "127.0.0.1", "127.0.0.1:99999", "127.0.0.1:-1", "192.0.2.1:1"]
+# Places where it can't listen. One that names no port is told with that of memcached.
+NO_ADDRESSES = ["nonsense:1", ":", "256.0.0.1:1", "127.0.0.1:99999", "127.0.0.1:-1", "192.0.2.1:1", "unix:", "unix:/nonexistent/x"]
+WITHOUT_PORT = ["nonsense", "", "256.0.0.1"]
 
 FAULTY_CALLS = [
-    "--seats 0", "--seats 4097", "--seats 1 --seats 2", "--seats 1x", "--shards 0", "--shards 17", "--bytes 1023",
-    "--bytes 1073741825", "--value-limit 1023", "--value-limit 8388609", "--line-limit 2047", "--line-limit 8388609", "--window 0", "--window 4097",
+    "--seats 0", "--seats 65537", "--seats 1 --seats 2", "--seats 1x", "--shards 0", "--shards 65", "--bytes 1023",
+    "--bytes 68719476737", "--value-limit 1023", "--value-limit 8388609", "--line-limit 2047", "--line-limit 8388609", "--window 0", "--window 4097",
     "--connections 0", "--connections 4294967296", "--listen", "--nope", "nope", "--at 3", "--stdio --seats 2",
     "--stdio --listen 127.0.0.1:0", "--stdio --connections 1", "--stdio --at x",
     "--replay", "--replay x --seats 2", "--replay x --stdio", "--replay x --bytes 1024",
@@ -22,12 +24,12 @@ def ended(words):
     return ran.returncode, ran.stdout, ran.stderr
 
 
-def is_refused_address(address):
+def is_refused_address(address, shown=None):
     """The program tells that it can't listen, and why it can't listen there."""
     status, out, told = ended(["--listen", address])
     first, _, second = told.decode().partition("\n")
     equal((address, status, out, first), (address, 1, b"", "mcd: cannot listen"))
-    equal(second.startswith(f"mcd: --listen {address}: ") and second.count("\n") == 1, True)
+    equal(second.startswith(f"mcd: --listen {shown or address}: ") and second.count("\n") == 1, True)
 
 
 def a_taken_port_is_refused():
@@ -39,7 +41,9 @@ def a_taken_port_is_refused():
 
 def what_is_no_address_is_refused():
     for address in NO_ADDRESSES:
-        is_refused_address(address)
+        is_refused_address(address, {":": "127.0.0.1:"}.get(address))
+    for address in WITHOUT_PORT:
+        is_refused_address(address, f"{address}:11211")
 
 
 def faults_of_the_command_line_end_with_2():
@@ -115,7 +119,7 @@ def a_port_is_free_again_at_once():
         server.process.wait()
         again = started([MCD, "--listen", f"127.0.0.1:{port}"], stderr=subprocess.PIPE)
         try:
-            equal(again.stderr.readline(), b"listening 127.0.0.1:%d\n" % port)
+            equal(int(LISTENING.fullmatch(again.stderr.readline().decode())[1]), port)
             socket.create_connection(("127.0.0.1", port), timeout=30).close()
         finally:
             again.kill()

@@ -164,8 +164,45 @@ def a_thousand_clients_are_killed(count=1000):
             line.close()
 
 
+# How connections end that leave their seat: what is sent, what comes, and what the client does then.
+LEAVINGS = [
+    (b"mn\r\nquit\r\n", b"MN\r\n", Line.rest), (b"mn\r\n", b"MN\r\n", Line.close), (b"", b"", Line.close), (b"", b"", Line.reset),
+    (b"set a 0 0 10\r\nhalf", b"", Line.reset), (b"get a", b"", Line.end), (b"get a\r\nmn\r\n", b"END\r\nMN\r\n", Line.reset),
+    (b"get " + b"k" * 70_000 + b"\r\n", b"CLIENT_ERROR line too long\r\n", Line.close),
+]
+
+
+def each_seat_serves_one_client_after_another(count=4000):
+    """However each of them leaves: both seats are there at the end, and so is the server. One that loses a seat after so many clients, or
+    after one that leaves in a certain way, serves none of the last two, or one of them."""
+    with Server("--seats", 2) as server:
+        for number in range(count):
+            sent, wanted, leaves = LEAVINGS[number % len(LEAVINGS)]
+            with Line(server.port, timeout=30) as line:
+                line.ask(sent, wanted)
+                leaves(line)
+        lines = [Line(server.port, timeout=30) for _ in range(2)]
+        for line in lines:
+            line.ask(b"mn\r\n", b"MN\r\n")
+        for line in lines:
+            line.close()
+        equal(server.is_running(), True)
+
+
+def more_than_a_gigabyte_goes_over_one_connection(count=136):
+    """Each way: values of 8 MiB are stored and read. A count of bytes of 30 bits would be at its end."""
+    value = random.Random(2).randbytes(8 * MIB)
+    wanted = hit_of(b"a", value)
+    with Server("--value-limit", "8m", "--memory", "64m") as server, Line(server.port) as line:
+        for _ in range(count):
+            line.ask(set_of(b"a", value), b"STORED\r\n")
+            line.send(b"get a\r\n")
+            equal(line.read(len(wanted)) == wanted, True)
+
+
 CHECKS = [
     half_closed_connections_get_all_replies, replies_are_read_a_byte_at_a_time, commands_come_a_byte_at_a_time,
     a_slow_reader_holds_little_memory, two_hundred_connections_take_turns_on_four_seats,
     silent_connections_keep_their_seats_alone, a_client_quits_amid_what_it_sends, a_thousand_clients_are_killed,
+    each_seat_serves_one_client_after_another, more_than_a_gigabyte_goes_over_one_connection,
 ]

@@ -1,5 +1,5 @@
 #!/usr/bin/env python3
-"""Checks six rules of the house: what a reader meets first in a contract, in a proof and in the documents.
+"""Checks seven rules of the house: what a reader meets first in a contract, in a proof and in the documents.
 
     tools/checks/house.py            fails where a rule is broken, and names each place (the gate does this)
     tools/checks/house.py --counts   how many clauses and lemmas there are, crate by crate
@@ -7,7 +7,8 @@
 A clause (`requires`, `ensures`, or what a trait or type promises under `ghost`) has no line of more than 100 columns: a longer
 one goes on in further lines, broken at its arrows first. A lemma that another file cites has a comment directly above it, which
 says in a sentence what it says. Something cites each lemma, and no two say the same: worked rows aside, which stand for themselves,
-and those inside a block (`module _ .. where`), which aren't looked at. A file uses each definition and lemma that it imports. A
+and those inside a block (`module _ .. where`), which aren't looked at. A file uses each definition and lemma that it imports. No crate
+but those of tests makes a source of random bytes: no clause says where a secret is drawn from, and there is no other one to draw from then. A
 paragraph of the documents (a line that stands in no table and in no block of code) has at most 600 characters.
 """
 import argparse
@@ -139,6 +140,15 @@ def unused_imports():
                     yield file, text.count("\n", 0, found.start()) + 1, name
 
 
+def sources():
+    """The sources of random bytes that are no test's: the file and the line."""
+    for file in sorted(CRATES.glob("*/src/**/*.rt")):
+        text = file.read_text(encoding="utf-8")
+        for found in re.finditer(r"\bRandomSource\s+for\b", text):
+            if not file.relative_to(CRATES).parts[0].endswith("_tests"):
+                yield file, text.count("\n", 0, found.start()) + 1
+
+
 def paragraphs():
     """The paragraphs of the documents: the file, the line, and the text."""
     for file in [file for pattern in DOCUMENTS for file in sorted(TOP.glob(pattern))]:
@@ -156,7 +166,8 @@ def findings():
     for file, number, lines in clauses():
         counts[file.relative_to(CRATES).parts[0]][0] += 1
         for place, line in enumerate(lines, number):
-            if len(line) > COLUMNS:
+            # The layout keeps what a field promises and its proof on one line.
+            if len(line.partition(" by {")[0]) > COLUMNS:
                 faults.append(f"{file.relative_to(TOP)}:{place}: a clause's line of {len(line)} columns, of {COLUMNS} at most")
     for file, number, name, is_told in lemmas():
         counts[file.relative_to(CRATES).parts[0]][1] += 1
@@ -168,6 +179,8 @@ def findings():
         faults.append(f"{file.relative_to(TOP)}:{number}: {name} says what {other} says")
     for file, number, name in unused_imports():
         faults.append(f"{file.relative_to(TOP)}:{number}: imports {name}, which nothing there uses")
+    for file, number in sources():
+        faults.append(f"{file.relative_to(TOP)}:{number}: a source of random bytes, outside the crates of tests")
     for file, number, line in paragraphs():
         if len(line) > CHARACTERS:
             faults.append(f"{file.relative_to(TOP)}:{number}: a paragraph of {len(line)} characters, of {CHARACTERS} at most")

@@ -19,7 +19,7 @@ sys.path.insert(0, str(pathlib.Path(__file__).resolve().parent.parent))
 
 from hostile_bytes import rows, spoken  # noqa: E402
 from replay_model import place  # noqa: E402
-from served import MCD, MIB, Line, Server, equal, hit_of, run_checks, set_of, started  # noqa: E402
+from served import MCD, MIB, TOP, Line, Server, equal, hit_of, run_checks, set_of, started  # noqa: E402
 
 LIMIT_SECONDS = 300
 TOO_LARGE = b"SERVER_ERROR object too large for cache\r\n"
@@ -35,11 +35,24 @@ def over_stdio(options, given):
     return ran.stdout
 
 
+def all_of(line):
+    """What comes until the connection is closed, also where its peer had not read all that was sent."""
+    found = b""
+    try:
+        while got := line.socket.recv(1 << 18):
+            found += got
+    except ConnectionResetError:
+        pass
+    return found
+
+
 def over_tcp(options, given, length):
-    """The first `length` bytes of the output."""
+    """The first `length` bytes of the output, and what comes behind them."""
     with Server(*options) as server, Line(server.port) as line:
         line.send(given)
-        return line.read(length)
+        found = line.read(length)
+        line.end()
+        return found + all_of(line)
 
 
 def row(options, given, wanted):
@@ -60,6 +73,16 @@ def values_of_2_mib():
     given = set_of(b"a", value) + 2 * b"get a\r\n" + b"mn\r\n"
     row("--value-limit 4194304", given, STORED + 2 * hit_of(b"a", value) + b"MN\r\n")
     row("--value-limit 4m", set_of(b"a", value) + b"mn\r\n", STORED + b"MN\r\n")
+
+
+def values_of_each_length():
+    """Short ones are copied into the text of their replies, longer ones are written from where they are; a few fill what the system has room
+    for. Each is asked for twice at once, and by itself."""
+    for length in (0, 1, 511, 512, 1023, 1024, 1025, 4096, 16_384, 65_535, 65_536, 262_144, MIB):
+        value = random.Random(length).randbytes(length)
+        given = set_of(b"a", value) + b"get a a\r\nmn\r\nmg a v\r\n"
+        hit = hit_of(b"a", value)
+        row("", given, STORED + hit[:-5] + hit + b"MN\r\nVA %d\r\n%s\r\n" % (length, value))
 
 
 LINE_TOO_LONG = b"CLIENT_ERROR line too long\r\n"
@@ -118,17 +141,6 @@ ALMOST_FOREIGN = [
 ]
 
 
-def all_of(line):
-    """What comes until the connection is closed, also where its peer had not read all that was sent."""
-    found = b""
-    try:
-        while got := line.socket.recv(1 << 18):
-            found += got
-    except ConnectionResetError:
-        pass
-    return found
-
-
 def another_protocol():
     """By memcached's rules it is closed at once and without a byte, and while the client could send more."""
     with Server() as own, Server("--drop-in") as memcacheds:
@@ -182,6 +194,16 @@ def a_budget_of_1_mib():
         one_mebibyte_more(options)
 
 
+def the_budget_by_default():
+    """16 MiB for each shard by default; `stats` shows what all shards together may hold."""
+    for options, mebibytes in (("", 32), ("--shards 3", 48), ("--memory 8m", 8), ("--bytes 1m", 2), ("--bytes 1m --shards 5", 5)):
+        wanted = b"STAT limit_maxbytes %d\r\n" % (mebibytes * MIB)
+        equal((options, wanted in over_stdio(["--drop-in", *options.split()], b"stats\r\n")), (options, True))
+        with Server("--drop-in", *options.split()) as server, Line(server.port) as line:
+            line.send(b"stats\r\nquit\r\n")
+            equal((options, wanted in line.rest()), (options, True))
+
+
 def uniques(shards, keys):
     """What sets of these keys and a `gets` of each give: shard s of S gives the uniques s+1, s+1+S, s+1+2S and so on."""
     given, told = {}, b""
@@ -219,12 +241,12 @@ def listened_at(process):
     return sorted(map(socket_address, there)) + sixes
 
 
-def one_listens_at(words, told, wanted):
-    """The program with these words tells where it listens, and listens there alone."""
+def one_listens_at(words, said, wanted):
+    """The program with these words says where it listens, and listens there alone."""
     process = started([*ALONE, MCD, *words], stderr=subprocess.PIPE)
     try:
-        for line in told:
-            equal(process.stderr.readline().decode(), line + "\n")
+        for line in said:
+            equal(process.stderr.readline().decode().rstrip("\n").rpartition(", ")[2], line)
         equal(listened_at(process), sorted(wanted))
     finally:
         process.kill()
@@ -237,12 +259,12 @@ def it_listens_where_it_is_told_alone():
     if subprocess.run([*ALONE, "true"], capture_output=True).returncode != 0:
         return "left out: no network of its own is to be had here"
     default, given = "127.0.0.1:11211", "127.0.0.2:11311"
-    one_listens_at([], [f"listening {default}"], [default])
-    one_listens_at(["--drop-in", "--seats", "4"], [f"listening {default}"], [default])
-    one_listens_at(["--listen", given], [f"listening {given}"], [given])
-    one_listens_at(["--listen", "0.0.0.0:11311"], ["listening 0.0.0.0:11311"], ["0.0.0.0:11311"])
+    one_listens_at([], [f"listening on {default}"], [default])
+    one_listens_at(["--drop-in", "--seats", "4"], [f"listening on {default}"], [default])
+    one_listens_at(["--listen", given], [f"listening on {given}"], [given])
+    one_listens_at(["--listen", "0.0.0.0:11311"], ["listening on 0.0.0.0:11311"], ["0.0.0.0:11311"])
     for word, metrics in (("11212", "127.0.0.1:11212"), ("127.0.0.3:11213", "127.0.0.3:11213")):
-        one_listens_at(["--metrics", word], [f"listening {default}", f"metrics {metrics}"], [default, metrics])
+        one_listens_at(["--metrics", word], [f"metrics {metrics}", f"listening on {default}"], [default, metrics])
     return None
 
 
@@ -273,13 +295,64 @@ def two_seats():
             for line in (first, second):
                 line.ask(b"mn\r\n", b"MN\r\n")
             third.send(b"mn\r\n")
-            try:
-                raise AssertionError(f"a third client is served beside two: {third.read(4)!r}")
-            except TimeoutError:
-                pass
+            third.waits()
             first.close()
             third.socket.settimeout(60)
             equal(third.read(4), b"MN\r\n")
+
+
+TOO_MANY = b"ERROR Too many open connections\r\n"
+
+
+def served_soon(port):
+    """A connection that is served, once a seat is free."""
+    end = time.monotonic() + 10
+    while True:
+        line = Line(port, timeout=10)
+        try:
+            line.send(b"mn\r\n")
+            found = line.read(4)
+        except (BrokenPipeError, ConnectionResetError):
+            found = b""
+        if found == b"MN\r\n":
+            return line
+        line.close()
+        equal((found in (b"", b"ERRO"), time.monotonic() < end), (True, True))
+        time.sleep(0.01)
+
+
+def files_of(server):
+    return len(list(pathlib.Path(f"/proc/{server.process.pid}/fd").iterdir()))
+
+
+def refused(port, sent):
+    """What a connection that is one too many gets, whatever it sends."""
+    with Line(port, timeout=10) as line:
+        try:
+            line.send(sent)
+        except (BrokenPipeError, ConnectionResetError):
+            pass
+        return all_of(line)
+
+
+def too_many_connections():
+    """By memcached's rules a third client is refused at once beside two, and one is served once a seat is free."""
+    with Server("--drop-in", "--seats", 2, "--verbose") as server:
+        with served_soon(server.port) as first, served_soon(server.port) as second:
+            for sent in (b"", b"mn\r\n", b"set a 0 0 1\r\nx\r\n"):
+                equal((sent, refused(server.port, sent)), (sent, TOO_MANY))
+            first.ask(b"get a\r\n", b"END\r\n")
+            second.close()
+            with served_soon(server.port):
+                equal(refused(server.port, b""), TOO_MANY)
+        # Those that were refused hold nothing: a crowd of them leaves no file open.
+        with served_soon(server.port) as first, served_soon(server.port) as second:
+            before = files_of(server)
+            for _ in range(300):
+                equal(refused(server.port, b""), TOO_MANY)
+            for line in (first, second):
+                line.ask(b"mn\r\n", b"MN\r\n")
+            equal(files_of(server), before)
 
 
 # A client that asks for these and doesn't read holds up the server amid the first reply, which no buffer on the way has room for.
@@ -350,38 +423,73 @@ def the_clock_tells_the_year():
     equal((ran.returncode, ran.stdout), (0, 2 * STORED + hit_of(b"a", b"x") + b"END\r\n"))
 
 
+def a_wall_clock_that_is_set_moves_no_expiry():
+    """Neither an hour forward nor two back ends an item with a life of a minute, nor keeps one with a life of a second."""
+    with tempfile.TemporaryDirectory() as folder:
+        shim, offset = pathlib.Path(folder) / "set_wall.so", pathlib.Path(folder) / "offset"
+        subprocess.run(["cc", "-O1", "-shared", "-fPIC", "-o", shim, TOP / "tools/checks/set_wall.c", "-ldl"], check=True)
+        offset.write_text("0")
+        moved = {**os.environ, "LD_PRELOAD": str(shim), "WALL_OFFSET": str(offset)}
+        process = started([MCD, "--stdio"], stdin=subprocess.PIPE, stdout=subprocess.PIPE, env=moved)
+
+        def ask(sent, wanted):
+            process.stdin.write(sent)
+            process.stdin.flush()
+            found = process.stdout.readline()
+            while found.startswith(b"VALUE") and not found.endswith(b"END\r\n"):
+                found += process.stdout.readline()
+            equal(found, wanted)
+
+        try:
+            ask(b"set long 0 60 1\r\nx\r\n", STORED)
+            offset.write_text("3600")
+            ask(b"get long\r\n", hit_of(b"long", b"x"))
+            ask(b"set short 0 1 1\r\ny\r\n", STORED)
+            offset.write_text("-3600")
+            time.sleep(2.1)
+            ask(b"get short\r\n", b"END\r\n")
+            ask(b"get long\r\n", hit_of(b"long", b"x"))
+        finally:
+            process.kill()
+            process.wait()
+            process.stdin.close()
+            process.stdout.close()
+
+
 def ended(words, **streams):
     ran = subprocess.run([MCD, *words], **{"stdin": subprocess.DEVNULL, "stdout": subprocess.PIPE, **streams}, stderr=subprocess.PIPE, timeout=30)
     return ran.returncode, ran.stdout, ran.stderr.decode()
 
 
-WITH_STDIO = "--stdio, which takes --at, --shards, --bytes, --memory, --value-limit, --line-limit, --window and --drop-in"
+WITH_STDIO = "--stdio, which takes --at, --shards, --bytes, --memory, --memory-limit, --value-limit, --line-limit, --window and --drop-in"
 NUMBER = "takes a number from {0} to {1}, not '{2}'"
-SIZE = "takes a number of bytes from {0} to {1}, or one of k, m and g (1024 each) behind a number, not '{2}'"
+SIZE = "takes a number of bytes from {0} to {1}, or a size such as 64k, 64m or 4g, not '{2}'"
+TWO_BUDGETS = "--bytes, --memory and --memory-limit don't go together: --bytes is for each shard, the others for all of them"
 ITEMS = "there is no option --items: --bytes says what the items of a shard may cost together"
 
 # Calls, and what is told of them behind `mcd: `.
 FAULTS = [
     ("--items 5", ITEMS), ("--items 5 --replay x --shards 2", ITEMS),
     *((f"--replay x --{name} 2", f"--{name} doesn't go with --replay, which takes no other option")
-      for name in ("at", "listen", "shards", "seats", "bytes", "memory", "value-limit", "line-limit", "window", "connections", "idle-timeout", "metrics")),
-    *((f"--replay x --{name}", f"--{name} doesn't go with --replay, which takes no other option") for name in ("stdio", "verbose", "drop-in")),
-    *((f"--stdio --{name} 2", f"--{name} doesn't go with {WITH_STDIO}") for name in ("listen", "seats", "connections", "idle-timeout", "metrics")),
-    ("--stdio --verbose", f"--verbose doesn't go with {WITH_STDIO}"),
-    ("--at 5", "--at goes with --stdio alone"), ("--at 5 --seats 4097", "--at goes with --stdio alone"),
-    ("--bytes 64k --memory 1m", "--bytes and --memory don't go together: --bytes is for each shard, --memory for all of them"),
-    ("--seats 4097", "--seats " + NUMBER.format(1, 4096, "4097")), ("--seats 2k", "--seats " + NUMBER.format(1, 4096, "2k")),
-    ("--shards 0", "--shards " + NUMBER.format(1, 16, "0")), ("--window 4097", "--window " + NUMBER.format(1, 4096, "4097")),
+      for name in ("at", "listen", "shards", "seats", "bytes", "memory", "value-limit", "line-limit", "window", "connections", "idle-timeout", "metrics", "port", "memory-limit", "udp-port", "user", "pidfile")),
+    *((f"--replay x --{name}", f"--{name} doesn't go with --replay, which takes no other option") for name in ("stdio", "verbose", "drop-in", "plan", "daemon")),
+    *((f"--stdio --{name} 2", f"--{name} doesn't go with {WITH_STDIO}") for name in ("listen", "seats", "connections", "idle-timeout", "metrics", "port", "udp-port", "user", "pidfile")),
+    *((f"--stdio --{name}", f"--{name} doesn't go with {WITH_STDIO}") for name in ("verbose", "plan", "daemon")),
+    ("--at 5", "--at goes with --stdio alone"), ("--at 5 --seats 65537", "--at goes with --stdio alone"),
+    ("--bytes 64k --memory 1m", TWO_BUDGETS),
+    ("--seats 65537", "--seats " + NUMBER.format(1, 65536, "65537")), ("--seats 2k", "--seats " + NUMBER.format(1, 65536, "2k")),
+    ("--shards 0", "--shards " + NUMBER.format(1, 64, "0")), ("--window 4097", "--window " + NUMBER.format(1, 4096, "4097")),
     ("--connections 0", "--connections " + NUMBER.format(1, 4294967295, "0")),
     ("--idle-timeout 0", "--idle-timeout " + NUMBER.format(1, 31536000, "0")),
     ("--idle-timeout 31536001", "--idle-timeout " + NUMBER.format(1, 31536000, "31536001")),
     ("--stdio --at x", "--at " + NUMBER.format(0, 18446744073709551615, "x")),
-    ("--bytes 1023", "--bytes " + SIZE.format(1024, 1073741824, "1023")),
-    ("--bytes 2g", "--bytes " + SIZE.format(1024, 1073741824, "2g")),
-    ("--bytes 1kk", "--bytes " + SIZE.format(1024, 1073741824, "1kk")),
-    ("--bytes 18014398509481985k", "--bytes " + SIZE.format(1024, 1073741824, "18014398509481985k")),
-    ("--memory 2047", "--memory " + SIZE.format(2048, 2147483648, "2047")),
-    ("--memory 4g --shards 3", "--memory " + SIZE.format(3072, 3221225472, "4g")),
+    ("--bytes 1023", "--bytes " + SIZE.format(1024, 68719476736, "1023")),
+    ("--bytes 65g", "--bytes " + SIZE.format(1024, 68719476736, "65g")),
+    ("--bytes 1kk", "--bytes " + SIZE.format(1024, 68719476736, "1kk")),
+    ("--bytes 18014398509481985k", "--bytes " + SIZE.format(1024, 68719476736, "18014398509481985k")),
+    ("--memory 2047", "--memory " + SIZE.format(2048, 4398046511104, "2047")),
+    ("--memory 4097g", "--memory " + SIZE.format(2048, 4398046511104, "4097g")),
+    ("--memory 193g --shards 3", "--memory " + SIZE.format(3072, 206158430208, "193g")),
     ("--value-limit 9m", "--value-limit " + SIZE.format(1024, 8388608, "9m")),
     ("--line-limit 2047", "--line-limit " + SIZE.format(2048, 8388608, "2047")),
     ("--line-limit 8388609", "--line-limit " + SIZE.format(2048, 8388608, "8388609")),
@@ -443,7 +551,7 @@ def few_open_files_are_told():
     process = started(limited("-n 20", "--seats", "30"), stderr=subprocess.PIPE)
     try:
         port = int(process.stderr.readline().rpartition(b":")[2])
-        equal(process.stderr.readline(), b"mcd: --seats 30 needs 41 open files, and 20 are allowed (ulimit -n)\n")
+        equal(process.stderr.readline(), b"mcd: --seats 30 needs 45 open files, and 20 are allowed (ulimit -n)\n")
         with Line(port) as line:
             line.ask(b"mn\r\n", b"MN\r\n")
     finally:
@@ -467,8 +575,9 @@ def what_the_system_refuses_is_told():
 
 
 CHECKS = [
-    memcacheds_rules, another_protocol, the_worked_rows_by_memcacheds_rules, a_value_limit_of_1024, values_of_2_mib, the_longest_line, a_budget_of_1024, a_budget_of_1_mib, each_number_of_shards, it_listens_where_it_is_told_alone,
-    each_moment, so_many_connections, two_seats, each_window, the_clock_goes_on, the_clock_tells_the_year, each_fault_of_the_command_line, each_fault_of_a_word,
+    memcacheds_rules, another_protocol, the_worked_rows_by_memcacheds_rules, a_value_limit_of_1024, values_of_2_mib, values_of_each_length, the_longest_line, a_budget_of_1024, a_budget_of_1_mib, the_budget_by_default, each_number_of_shards, it_listens_where_it_is_told_alone,
+    each_moment, so_many_connections, two_seats, too_many_connections, each_window, the_clock_goes_on, the_clock_tells_the_year, a_wall_clock_that_is_set_moves_no_expiry,
+    each_fault_of_the_command_line, each_fault_of_a_word,
     what_cannot_be_read_is_told, what_cannot_be_written_is_told, a_taken_address_is_told, few_open_files_are_told,
     what_the_system_refuses_is_told,
 ]

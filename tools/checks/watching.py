@@ -7,7 +7,9 @@ What is expected is counted here from what the clients send and get. The text of
 prometheus, too where it is installed. The last line is `watching: N passed, M failed`.
 """
 import multiprocessing
+import os
 import pathlib
+import random
 import re
 import resource
 import select
@@ -22,9 +24,9 @@ import urllib.request
 
 sys.path.insert(0, str(pathlib.Path(__file__).resolve().parent.parent))
 
-from served import MCD, MIB, Line, Server, equal, run_checks, set_of, started  # noqa: E402
+from served import LISTENING, MCD, MIB, Line, Server, equal, hit_of, run_checks, set_of, started  # noqa: E402
 
-LIMIT_SECONDS = 300
+LIMIT_SECONDS = 400
 NO_OP, NO_OP_REPLY = b"mn\r\n", b"MN\r\n"
 
 # As many dead connections as there may be seats, or as many as files may be open here: each is one of ours, and one of the server's.
@@ -103,13 +105,18 @@ def dead_connections_free_their_seats():
                 line.close()
 
 
-def told_of(server, wanted):
-    """The next `wanted` lines on standard error."""
+SEATS = ["mcd: all seats are taken", "mcd: a seat is free again"]
+
+
+def told_of(server, wanted, but=SEATS):
+    """The next `wanted` lines on standard error, but for these."""
     found = []
     while len(found) < wanted:
         ready, _, _ = select.select([server.process.stderr], [], [], 30)
         equal(bool(ready), True)
-        found.append(server.process.stderr.readline().decode().rstrip())
+        line = server.process.stderr.readline().decode().rstrip()
+        if line not in but:
+            found.append(line)
     return found
 
 
@@ -122,8 +129,28 @@ def each_connection_is_told():
             equal(line.rest(), b"")
         equal(told_of(server, 2), [
             f"mcd: 127.0.0.1:{port} on seat 0: opened",
-            f"mcd: 127.0.0.1:{port} on seat 0: ended; 4 commands, 36 bytes read, 34 bytes written",
+            f"mcd: 127.0.0.1:{port} on seat 0: its client quit; 4 commands, 36 bytes read, 34 bytes written",
         ])
+
+
+def each_connection_has_one_seat():
+    """While others are free: it is told of once, and all that it sends and gets goes over that seat, however it is cut."""
+    value = random.Random(1).randbytes(MIB)
+    asked, answered = set_of(b"a", value) + b"get a\r\n", b"STORED\r\n" + hit_of(b"a", value)
+    with Server("--verbose", "--seats", 4) as server:
+        for _ in range(3):
+            with Line(server.port) as line:
+                port = line.socket.getsockname()[1]
+                for at in range(0, len(asked), MIB // 8):
+                    line.send(asked[at : at + MIB // 8])
+                    time.sleep(0.01)
+                found = line.read(len(answered))
+                equal((len(found), found == answered), (len(answered), True))
+            told = [re.sub(r"on seat \d+", "on a seat", it) for it in told_of(server, 2)]
+            equal(told, [
+                f"mcd: 127.0.0.1:{port} on a seat: opened",
+                f"mcd: 127.0.0.1:{port} on a seat: its client closed it; 2 commands, {len(asked)} bytes read, {len(answered)} bytes written",
+            ])
 
 
 def one_that_breaks_is_told():
@@ -132,7 +159,7 @@ def one_that_breaks_is_told():
         port = line.socket.getsockname()[1]
         line.ask(NO_OP, NO_OP_REPLY)
         line.reset()
-        equal(told_of(server, 2)[1], f"mcd: 127.0.0.1:{port} on seat 0: broke; 1 commands, 4 bytes read, 4 bytes written")
+        equal(told_of(server, 2)[1], f"mcd: 127.0.0.1:{port} on seat 0: a read failed; 1 command, 4 bytes read, 4 bytes written")
 
 
 def one_that_is_idle_is_told():
@@ -140,7 +167,96 @@ def one_that_is_idle_is_told():
         port = line.socket.getsockname()[1]
         line.ask(NO_OP, NO_OP_REPLY)
         equal(told_of(server, 2)[1],
-              f"mcd: 127.0.0.1:{port} on seat 0: was idle for too long; 1 commands, 4 bytes read, 4 bytes written")
+              f"mcd: 127.0.0.1:{port} on seat 0: it was idle for too long; 1 command, 4 bytes read, 4 bytes written")
+
+
+def ended(options, sent):
+    """Why a connection ended that sent this and no more, and what was counted of such ends."""
+    with Watched("--verbose", "--seats", 1, *options) as server:
+        with Line(server.port) as line:
+            line.send(sent)
+            line.end()
+            try:
+                line.rest()
+            except ConnectionResetError:
+                pass
+        found = re.fullmatch(r"mcd: 127\.0\.0\.1:\d+ on seat 0: (.*?); .*", told_of(server, 2)[1])
+        counted = re.findall(r'^mcd_connections_ended_total\{reason="(\w+)"\} (\d+)$', server.metrics(), re.M)
+        equal([reason for reason, _ in counted], ["binary", "http", "tls", "line_too_long", "idle", "failed", "refused_memory"])
+        return found[1], {reason for reason, count in counted if count != "0"}
+
+
+# What a client sends, with which options, why its connection ends, and what counts that.
+ENDS = [
+    ([], b"mn\r\n", "its client closed it", set()),
+    ([], b"", "its client closed it", set()),
+    ([], b"mn\r\nquit\r\n", "its client quit", set()),
+    (["--drop-in"], b"quit\r\nmn\r\n", "its client quit", set()),
+    ([], b"get " + b"k" * 70_000 + b"\r\nmn\r\n", "a line was too long", {"line_too_long"}),
+    (["--drop-in"], b"mn\r\nget " + b"k" * 1_100_000, "a line was too long", {"line_too_long"}),
+    (["--line-limit", "2k"], b"mn\r\nget " + b"k" * 3_000 + b"\r\n", "a line was too long", {"line_too_long"}),
+    (["--drop-in"], b"\x80\x0a" + 22 * b"\0", "it speaks memcached's binary protocol", {"binary"}),
+    (["--drop-in"], b"GET / HTTP/1.1\r\nHost: x\r\n\r\n", "it speaks HTTP", {"http"}),
+    (["--drop-in"], b"\x16\x03\x01\x02\x00\x01\x00\x01\xfc\x03\x03", "it speaks TLS", {"tls"}),
+]
+
+
+def each_reason_is_told_and_counted():
+    for options, sent, why, counted in ENDS:
+        equal((options, sent[:9], *ended(options, sent)), (options, sent[:9], why, counted))
+
+
+def all_seats_taken_is_told():
+    """Once, however many wait, and once one is free again."""
+    with Server("--verbose", "--seats", 2) as server:
+        lines = [Line(server.port) for _ in range(4)]
+        for line in lines[:2]:
+            line.ask(NO_OP, NO_OP_REPLY)
+        time.sleep(0.5)
+        for line in lines:
+            line.close()
+        told = [line for line in told_of(server, 10, []) if line in SEATS]
+        equal(told[:2], SEATS)
+
+
+def the_journal_gets_priorities():
+    with Server("--verbose", env={**os.environ, "JOURNAL_STREAM": "8:12345"}) as server:
+        with Line(server.port) as line:
+            line.ask(NO_OP, NO_OP_REPLY)
+        told = told_of(server, 2)
+        equal([re.sub(r":\d+ on seat \d+", "", line) for line in told],
+              ["<6>127.0.0.1: opened", "<6>127.0.0.1: its client closed it; 1 command, 4 bytes read, 4 bytes written"])
+
+
+def no_line_is_lost_at_2000_connections_a_second():
+    """Standard error is read as it comes."""
+    rounds, found = 6000, bytearray()
+    with Server("--verbose", "--drop-in") as server:
+        def read():
+            while got := os.read(server.process.stderr.fileno(), 1 << 16):
+                found.extend(got)
+                if found.count(b"\n") >= 2 * rounds or b"dropped" in found:
+                    return
+        reading = threading.Thread(target=read)
+        reading.start()
+        began = time.monotonic()
+        for it in range(rounds):
+            Line(server.port).close()
+            time.sleep(max(0, began + it / 2000 - time.monotonic()))
+        rate = rounds / (time.monotonic() - began)
+        reading.join(timeout=30)
+        equal((found.count(b": opened\n"), found.count(b"its client closed it"), found.count(b"dropped")), (rounds, rounds, 0))
+        return f"{rate:.0f} connections a second"
+
+
+def vanished_clients_are_asked_for():
+    """The system's table has a timer of the kind 2 for a socket that is kept alive (proc(5), /proc/net/tcp)."""
+    with Server() as server, Line(server.port) as line:
+        line.ask(NO_OP, NO_OP_REPLY)
+        port = line.socket.getsockname()[1]
+        ends = f"0100007F:{server.port:04X} 0100007F:{port:04X}"
+        table = pathlib.Path("/proc/net/tcp").read_text().splitlines()
+        equal([row.split()[5][:2] for row in table if ends in row], ["02"])
 
 
 def what_finds_no_room_is_counted():
@@ -170,7 +286,7 @@ def an_accept_that_fails_is_told():
     process = started(words, stderr=subprocess.PIPE)
     lines = []
     try:
-        port = int(re.fullmatch(rb"listening 127\.0\.0\.1:(\d+)\n", process.stderr.readline())[1])
+        port = int(LISTENING.fullmatch(process.stderr.readline().decode())[1])
         lines = [Line(port) for _ in range(40)]
         for told in process.stderr:
             if told == b"mcd: accept failed: Too many open files (os error 24)\n":
@@ -187,9 +303,9 @@ def an_accept_that_fails_is_told():
 class Watched(Server):
     """A server that tells its metrics, on a port that the system chose."""
 
-    def __init__(self, *options, where="0"):
-        super().__init__("--metrics", where, *options)
-        found = re.fullmatch(r"metrics 127\.0\.0\.1:(\d+)", told_of(self, 1)[0])
+    def __init__(self, *options, where="0", before=()):
+        super().__init__("--metrics", where, *options, before=before)
+        found = re.fullmatch(r"metrics 127\.0\.0\.1:(\d+)", self.before[0])
         self.metrics_port = int(found[1])
 
     def get(self, path, method="GET"):
@@ -231,11 +347,11 @@ def each_counter_follows_a_conversation():
         with Line(server.port) as one, Line(server.port) as other:
             one.ask(asked, answered)
             other.ask(asked, answered)
-            eventually(found, [2, 2, 2 * len(asked), 2 * len(answered), 0, 0, 0])
+            eventually(found, [2, 2, 2 * len(asked), 2 * len(answered), 4, 0, 0])
         eventually(found, [0, 2, 2 * len(asked), 2 * len(answered), 4, 0, 0])
         line = Line(server.port)
         line.ask(NO_OP, NO_OP_REPLY)
-        eventually(found, [1, 3, 2 * len(asked) + 4, 2 * len(answered) + 4, 4, 0, 0])
+        eventually(found, [1, 3, 2 * len(asked) + 4, 2 * len(answered) + 4, 5, 0, 0])
         line.reset()
         eventually(found, [0, 3, 2 * len(asked) + 4, 2 * len(answered) + 4, 5, 1, 0])
         before = server.values()["memcached_uptime_seconds"]
@@ -271,17 +387,130 @@ def no_count_is_lost():
         counted_at_once(8, 10_000)
 
 
+# The figure of a curve: its title, its newest point, its limit, its greatest point, and the number at the top of its axis.
+FIGURE = re.compile(r"<figcaption><b>([^<]+)</b> ([^<]*?)(?: of ([^<]+?))? <small>(?:peak ([^<]+))?</small></figcaption>"
+                    r'<div class="plot"><span class="top">([^<]+)</span>')
+
+
+def page_of(server):
+    return server.get("/")[2].decode()
+
+
+def figures(server):
+    """What the page shows of each curve, by its title."""
+    return {title: tuple(shown) for title, *shown in FIGURE.findall(page_of(server))}
+
+
 def the_page_shows_what_is_counted():
     """Its first sample is of the start, and one comes every five seconds: the newest point of a curve is the number beside its title."""
-    with Watched("--seats", 9) as server, Line(server.port) as line, Line(server.port) as other:
-        line.ask(b"".join(set_of(b"key:%012d" % it, b"v" * 100) for it in range(1000)), 1000 * b"STORED\r\n")
+    with Watched("--seats", 1009, "--memory", "64m") as server, Line(server.port) as line, Line(server.port) as other:
+        equal(list(figures(server)), ["Requests", "Hit ratio", "Items", "Memory of items", "Evictions", "Connections", "Read from clients",
+                                      "Written to clients"])
+        line.ask(b"".join(set_of(b"key:%012d" % it, b"v" * 100) for it in range(12_345)), 12_345 * b"STORED\r\n")
         other.ask(NO_OP, NO_OP_REPLY)
 
         def found():
-            page = server.get("/")[2].decode()
-            newest = dict(re.findall(r"<figcaption>([^:<]+): (\d+) \(at most \d+\)", page))
-            return [newest[it] for it in ("Items", "Bytes of items", "Connections")] + ["2 of 9 connections open, 2 since the start" in page]
-        eventually(found, ["1000", "180000", "2", True])
+            shown = figures(server)
+            return [shown[it] for it in ("Items", "Memory of items", "Connections")]
+        eventually(found, [("12,345", "", "12,345", "12,345"), ("2.1 MiB", "64.0 MiB", "2.1 MiB", "64.0 MiB"), ("2", "1,009", "2", "1,009")])
+
+
+def the_page_has_a_peak():
+    """It stays where the number falls."""
+    with Watched("--seats", 9) as server:
+        with Line(server.port) as line, Line(server.port) as other:
+            line.ask(NO_OP, NO_OP_REPLY)
+            other.ask(NO_OP, NO_OP_REPLY)
+            eventually(lambda: figures(server)["Connections"], ("2", "9", "2", "9"))
+        eventually(lambda: figures(server)["Connections"], ("0", "9", "2", "9"))
+
+
+def the_hit_ratio_is_a_percentage():
+    """Of the gets in five seconds; where nobody asks the curve has a gap, and no number."""
+    with Watched("--drop-in") as server, Line(server.port) as line:
+        def found():
+            page = page_of(server)
+            shown = {title: told for title, *told in FIGURE.findall(page)}
+            return [shown["Requests"][0], *shown["Hit ratio"], re.search(r'"Hit ratio">.*?<path class="curve" d="([^"]*)"', page, re.S)[1]]
+        eventually(found, ["0/s", "none", "", "", "100%", ""])
+        line.ask(b"set a 0 0 1\r\nx\r\n" + 15 * b"get a\r\n" + 5 * b"get b\r\n",
+                 b"STORED\r\n" + 15 * b"VALUE a 0 1\r\nx\r\nEND\r\n" + 5 * b"END\r\n")
+        eventually(found, ["4/s", "75%", "", "75%", "100%", "M600,25h0"])
+        eventually(found, ["0/s", "none", "", "75%", "100%", "M595,25h0"])
+
+
+def the_page_has_axes_and_limits():
+    """Each curve has its times, and those with a limit a line for it, at the top where nothing exceeds it."""
+    with Watched() as server:
+        page = page_of(server)
+        equal((page.count("<span>10 min ago</span><span>5 min ago</span><span>now</span>"), page.count('class="axes" d="M0,0V100H600V0')), (8, 8))
+        drawn = re.findall(r'aria-label="([^"]+)"><path class="axes" [^>]*/><path class="limit" d="([^"]*)"', page)
+        equal(drawn, [("Memory of items", "M0,0H600"), ("Connections", "M0,0H600")])
+
+
+def the_page_names_its_server():
+    """By its machine, and the port that clients use."""
+    name = f"{socket.gethostname()}:"
+    with Watched() as server:
+        page = page_of(server)
+        equal((f"<title>{name}{server.port} mcd</title>" in page, f" on {name}{server.port}</h1>" in page), (True, True))
+
+
+def the_page_stands_alone():
+    """It has no script, loads nothing, and follows the dark mode of its browser."""
+    with Watched() as server:
+        page = page_of(server)
+        equal(("<script" in page, "@import" in page, "url(" in page, re.findall(r'(?:src|href)="([^"]*)', page)), (False, False, False, ["/metrics"]))
+        equal(("@media (prefers-color-scheme: dark)" in page, 'name="color-scheme" content="light dark"' in page), (True, True))
+
+
+def the_page_shows_the_process():
+    """By what the system says of it beside."""
+    with Watched() as server, Line(server.port) as line:
+        line.ask(NO_OP, NO_OP_REPLY)
+        shown = dict(re.findall(r"<dt>([^<]+)</dt><dd>([^<]+)</dd>", page_of(server)))
+        equal(list(shown), ["Uptime", "Connections", "Shards", "Process memory", "CPU time", "Open files"])
+        equal((shown["Connections"], shown["Shards"]), ("1 accepted, 0 waiting", "2"))
+        equal(abs(float(re.fullmatch(r"([\d,]+\.\d) MiB", shown["Process memory"])[1]) - server.resident() / MIB) < 2, True)
+        equal(re.fullmatch(r"\d+(?: of [\d,]+)?", shown["Open files"]) is not None, True)
+
+
+def the_process_is_measured():
+    """By what the system says of it beside."""
+    began = time.time()
+    with Watched() as server, Line(server.port) as line:
+        for _ in range(5000):
+            line.ask(NO_OP, NO_OP_REPLY)
+        values, used = server.values(), server.cpu_seconds()
+        told = float(re.search(r"^process_cpu_seconds_total (\d+\.\d\d)$", server.metrics(), re.M)[1])
+        equal((abs(values["process_resident_memory_bytes"] - server.resident()) < MIB, 0 < used <= told <= used + 1), (True, True))
+        equal(-2 < values["process_start_time_seconds"] - began < 2, True)
+
+
+def open_files_are_counted():
+    """Those of clients among them, however many names the system gives at a time."""
+    with Watched() as server:
+        def counted():
+            return server.values()["process_open_fds"]
+        first = counted()
+        equal(abs(first - len(os.listdir(f"/proc/{server.process.pid}/fd"))) <= 2, True)
+        lines = [Line(server.port) for _ in range(300)]
+        try:
+            for line in lines:
+                line.ask(NO_OP, NO_OP_REPLY)
+            equal(counted(), first + 300)
+        finally:
+            for line in lines:
+                line.close()
+        eventually(counted, first)
+
+
+def the_most_open_files_are_the_limit():
+    """The one that the process has now."""
+    with Watched(before=["prlimit", "--nofile=1234:4321"]) as server:
+        equal(server.values()["process_max_fds"], 1234)
+        subprocess.run(["prlimit", "--pid", str(server.process.pid), "--nofile=4000:"], check=True)
+        equal(server.values()["process_max_fds"], 4000)
 
 
 def those_who_wait_are_counted():
@@ -397,7 +626,7 @@ def a_taken_address_is_told():
     with Watched() as server:
         ran = subprocess.run([MCD, "--listen", "127.0.0.1:0", "--metrics", str(server.metrics_port)], capture_output=True, text=True, timeout=30)
         told = ran.stderr.splitlines()
-        equal((ran.returncode, told[-2]), (1, "mcd: cannot listen"))
+        equal((ran.returncode, told[-2], "listening" in ran.stderr), (1, "mcd: cannot listen", False))
         equal(told[-1].startswith(f"mcd: --metrics {server.metrics_port}: Address already in use"), True)
 
 
@@ -449,9 +678,13 @@ def bad_http_harms_nobody():
 
 CHECKS = [
     an_idle_client_is_closed, one_that_never_sent_is_closed, one_that_sends_stays, none_is_closed_unasked, one_amid_a_block_is_closed,
-    one_that_takes_nothing_is_closed, dead_connections_free_their_seats, each_connection_is_told, one_that_breaks_is_told,
-    one_that_is_idle_is_told, what_finds_no_room_is_counted, an_accept_that_fails_is_told, each_counter_follows_a_conversation, no_count_is_lost, the_page_shows_what_is_counted,
-    those_who_wait_are_counted, each_command_is_counted_by_what_came_of_it, items_and_evictions_are_told,
+    one_that_takes_nothing_is_closed, dead_connections_free_their_seats, each_connection_is_told, each_connection_has_one_seat, one_that_breaks_is_told,
+    one_that_is_idle_is_told, each_reason_is_told_and_counted,
+    all_seats_taken_is_told, the_journal_gets_priorities, no_line_is_lost_at_2000_connections_a_second, vanished_clients_are_asked_for,
+    what_finds_no_room_is_counted, an_accept_that_fails_is_told, each_counter_follows_a_conversation,
+    no_count_is_lost, the_page_shows_what_is_counted, the_page_has_a_peak, the_hit_ratio_is_a_percentage, the_page_has_axes_and_limits,
+    the_page_names_its_server, the_page_stands_alone, the_page_shows_the_process,
+    the_process_is_measured, open_files_are_counted, the_most_open_files_are_the_limit, those_who_wait_are_counted, each_command_is_counted_by_what_came_of_it, items_and_evictions_are_told,
     the_version_is_the_programs, promtool_reads_the_text, the_other_pages, it_is_told_to_this_machine_alone, a_taken_address_is_told,
     bad_http_harms_nobody,
 ]

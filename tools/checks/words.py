@@ -13,7 +13,10 @@ import sys
 TOP = pathlib.Path(__file__).resolve().parent.parent.parent
 
 # The documents that are held to the list.
-PLAIN = ["README.md", "CONTRIBUTING.md", "docs/PROOFS.md", "docs/ARCHITECTURE.md", "docs/BENCHMARKS.md", "docs/SECURITY.md", "docs/SCALING.md"]
+PLAIN = [
+    "README.md", "CONTRIBUTING.md", "tools/README.md", "docs/PROTOCOL.md", "docs/OPERATING.md", "docs/CLIENTS.md", "docs/REPLAY.md",
+    "docs/PROOFS.md", "docs/ARCHITECTURE.md", "docs/BENCHMARKS.md", "docs/SECURITY.md", "docs/SCALING.md",
+]
 
 # What not to write, and what to write for it.
 BETTER = {

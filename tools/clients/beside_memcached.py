@@ -1,26 +1,36 @@
 #!/usr/bin/env python3
 """Sends the same random commands to mcd and to memcached 1.6, and compares their replies one by one.
 
-    tools/clients/beside_memcached.py [--drop-in] [--seed N] [--commands N] [--as-installed]
+    tools/clients/beside_memcached.py [--drop-in] [--seed N ..] [--commands N] [--as-installed]
 
 Classic and meta commands on a few keys, well formed and not, each followed by a `mg` of a key that nothing lies under, so that
 the end of its reply is known. A difference that docs/PROTOCOL.md names is counted under its name there, and its keys are removed
 on both servers, so that it has no later effect. Any other difference is shown, and fails: forty commands of a stream of 3,000
-did, before their differences stood on that page. With `--drop-in` mcd is started so, what the page says is gone then is no
+did, before their differences were on that page. With `--drop-in` mcd is started so, what the page says is gone then is no
 difference that it names, and the commands have more of what memcached takes. Uniques count differently on the two servers and are
-compared by whether they are there; seconds may differ by one, since the servers' clocks don't tick together. It isn't part of
-the gate, since memcached's own replies to a stream differ now and then from run to run.
+compared by whether they are there; seconds may differ by one, since the servers' clocks don't tick together.
 
-memcached is Debian's package; where it isn't there and can't be had, nothing is compared, and the last line says so.
+With `--drop-in` what `stats` counts is compared too, command by command: how much each counter grew that both servers have. A
+difference that the section "Statistics" names is counted under its name. Where replies differ, counters aren't compared. Before
+the streams each kind of command is sent alone, and what it lets each counter grow by is compared with a table (counted.py) on
+both servers. Where there is no memcached, mcd alone is compared with the table.
+
+memcached's own replies to a stream differ now and then from run to run. So a stream that shows a difference is sent once more, to
+new servers, and one fails that shows it at the same command twice.
+
+memcached is Debian's package; where it isn't there and can't be had, the last line says so. The seeds are sent at once.
 """
 import argparse
 import collections
+import concurrent.futures
+import contextlib
 import random
 import re
 import shutil
 import socket
 import sys
 
+import counted
 from run import free_port, install, is_up, say, skip, told
 from served import TOP, Server, bounded, needs_program, started
 
@@ -31,32 +41,52 @@ TOO_LARGE = 1024 * 1024 + 1
 FENCE, FENCE_REPLY = b"mg nothing Othe-end\r\n", b"EN Othe-end\r\n"
 # Flags for a proxy, which memcached takes with each meta command.
 FOR_A_PROXY = [b"P", b"L"]
-ALL_SECONDS = 280
+ALL_SECONDS = 560
+
+
+# What `stats` counts by itself on one of the servers: what is held, when memcached's own threads remove what is dead.
+NOT_COUNTED = {"limit_maxbytes", "bytes", "curr_items", "evictions", "threads"}
 
 
 class Peer:
-    """A connection to one of the two servers, with what it last told of each key's unique."""
+    """A connection to one of the two servers. `known` has its counters where nothing was asked since they were read."""
 
     def __init__(self, port):
         self.socket = socket.create_connection(("127.0.0.1", port), timeout=20)
         self.socket.setsockopt(socket.IPPROTO_TCP, socket.TCP_NODELAY, 1)
-        self.kept = b""
+        self.known = None
+
+    def send(self, *texts):
+        self.socket.sendall(b"".join(text + FENCE for text in texts))
+
+    def replies(self, count):
+        """What the server answers to so many texts: all that comes before the reply to the fence behind each."""
+        kept = b""
+        while not (kept.endswith(FENCE_REPLY) and kept.count(FENCE_REPLY) == count):
+            if not (got := self.socket.recv(1 << 20)):
+                break
+            kept += got
+        return (kept.split(FENCE_REPLY) + [b""] * count)[:count]
 
     def ask(self, text):
-        """What the server answers to it: all that comes before the reply to the fence."""
-        self.socket.sendall(text + FENCE)
-        while not self.kept.endswith(FENCE_REPLY):
-            got = self.socket.recv(1 << 20)
-            if not got:
-                break
-            self.kept += got
-        reply, self.kept = self.kept.removesuffix(FENCE_REPLY), b""
-        return reply
+        self.known = None
+        self.send(text)
+        return self.replies(1)[0]
+
+    def counters(self):
+        """What `stats` shows, by name."""
+        if self.known is None:
+            self.known = shown_counters(self.ask(b"stats\r\n"))
+        return self.known
 
     def unique(self, key):
         """The unique of the item under this key, or one that no item has."""
         shown = re.fullmatch(rb"HD c(\d+)\r\n", self.ask(b"mg " + key + b" c\r\n"))
         return shown[1] if shown else b"4000000000"
+
+
+def shown_counters(text):
+    return {name.decode(): int(value) for name, value in re.findall(rb"STAT (\w+) (\d+)\r\n", text)}
 
 
 class Maker:
@@ -178,7 +208,7 @@ class Maker:
         line = self.one_of(b"", b"nonsense", b"GET " + key, b"get", b"gat 0", b"delete", b"delete " + key + b" 7", b"incr " + key, b"incr " + key + b" x", b"incr " + key + b" -1",
                            b"touch " + key, b"touch " + key + b" x", b"get " + b"k" * 251, b"delete " + b"k" * 251, b"incr " + b"k" * 251 + b" 1", b"set " + key, b"set", b"cas " + key + b" 0 0",
                            b"verbosity", b"flush_all x", b"mg", b"mg " + key + b" v v", b"mg " + key + b" !", b"mg " + b"k" * 251 + b" v", b"md", b"ma", b"ms", b"ms " + key,
-                           b"ma " + key + b" Dx", b"ma " + key + b" MX", b"mg " + key + b" O" + b"o" * 33, b"mg YQ= b v", b"gets", b"set " + key + b" 0 0 x", b"ms " + key + b" x")
+                           b"ma " + key + b" Dx", b"ma " + key + b" MX", b"mg " + key + b" O" + b"o" * 33, b"ma " + key + b" O" + b"o" * 33, b"mg YQ= b v", b"gets", b"set " + key + b" 0 0 x", b"ms " + key + b" x")
         if self.drop_in and self.random.random() < 0.3:
             line = self.one_of(*self.broken_by_memcached(key))
         return [key], lambda peer: line + b"\r\n"
@@ -238,6 +268,7 @@ NAMED = [
     ("`T` beside `N`", rb"m[ga] .*( N.* T| T.* N).*", None),
     ("`T` of a number that gets longer", rb"ma .* T.*", None),
     ("a key that was stored in base64", rb"m[sga] .* b( .*)?", None),
+    ("a token of `O` that is too long", rb"ma .* O\S{32,}.*", None),
     ("`version`", rb"version", (rb"VERSION .*", rb"VERSION .*")),
     ("faults are shown in spite of noreply", rb".* noreply", (FAULT, rb"")),
     ("error texts", rb".*", (rb"CLIENT_ERROR [^\r]*\r\n", rb"CLIENT_ERROR [^\r]*\r\n")),
@@ -300,6 +331,65 @@ def differs_later(drop_in, asked):
     return next((name for name, command, replies in named(drop_in) if replies is None and re.fullmatch(command, line)), None)
 
 
+# What docs/PROTOCOL.md names of the counters: its name there, what the command looks like, what both reply, and the counters that
+# memcached lets grow by one more.
+STATS_NAMED = [
+    ("a bad data chunk", rb"(set|add|replace|append|prepend|cas|ms) .*", rb"(CLIENT_ERROR bad data chunk\r\n)?.*", {"cmd_set"}),
+    ("a number that gets longer", rb"(incr|decr|ma) .*", rb".*", {"total_items"}),
+    ("a refused `flush_all`", rb"flush_all .*", rb"(CLIENT_ERROR .*)?", {"cmd_flush"}),
+    ("keys in front of a bad one", rb"gets? .*", rb"CLIENT_ERROR .*", {"cmd_get", "get_hits", "get_misses"}),
+    ("keys in front of a bad one", rb"gats? .*", rb"CLIENT_ERROR .*", {"cmd_touch", "touch_hits", "touch_misses"}),
+    ("a token of `O` that is too long", rb"mg .* O\S{32,}.*", rb"CLIENT_ERROR .*", {"cmd_get", "get_misses"}),
+]
+
+
+# Why each of them stays.
+REASONS = {
+    "exptimes have 64 bits": "by its own rules the server keeps the number that was sent",
+    "too large a value leaves the old one": "by its own rules a refused command changes nothing",
+    "too large to append": "by its own rules the line gives the reason",
+    "`t` of an item that is dead at once": "no time is left, so it is 0",
+    "`T` beside `N`": "an item that N makes has the time of N",
+    "`T` of a number that gets longer": "memcached makes a new item, which loses T",
+    "a key that was stored in base64": "a key is its bytes, and how it was spelled isn't kept",
+    "a token of `O` that is too long": "a refused line changes and counts nothing",
+    "`version`": "by its own rules the server gives its own",
+    "faults are shown in spite of noreply": "by its own rules a client that is out of step sees it",
+    "error texts": "one text for each kind of fault",
+    "`gat` without a key": "a line without a key has too few words",
+    "too few words": "by its own rules the name is known, and the line is wrong",
+    "`C` of `ms` in other modes": "by its own rules C is for mode S",
+    "`C` without an item": "NF in each mode",
+    "`c` where `ms` stored nothing": "by its own rules no unique is shown where there is none",
+    "quiet `md` and `ma`": "protocol.txt hides HD and NF, and shows what was asked for",
+    "`t` beside `T` and `N`": "the time after the command, in whatever order the flags are",
+    "`R` beside `T`": "the time before the command, in whatever order the flags are",
+    "the order of marks": "by its own rules W is first",
+    "what counts as a use": "each use is noted, in its own second",
+    "numbers aren't padded": "a number has its digits alone",
+    "a bad data chunk": "the line is refused before a shard is asked",
+    "a number that gets longer": "it stays the same item",
+    "a refused `flush_all`": "the line is refused before a shard is asked",
+    "keys in front of a bad one": "the line is refused as a whole",
+}
+
+
+def grown_from(before, after):
+    """By how much each counter grew, but for those that stayed."""
+    return {name: after[name] - before[name] for name in after if name in before and after[name] != before[name]}
+
+
+def counts_differ(asked, reply, ours, theirs):
+    """The name of the difference between what a command let grow; `None` where there is none, and where none is named the counters."""
+    more = {name: theirs.get(name, 0) - ours.get(name, 0) for name in {*ours, *theirs}}
+    more = {name: by for name, by in more.items() if by}
+    line = asked.partition(b"\r\n")[0]
+    for name, command, answer, counters in STATS_NAMED:
+        if set(more) <= counters and min(more.values(), default=0) > 0 and re.fullmatch(command, line) and re.fullmatch(answer, reply, re.DOTALL):
+            return name
+    return f"counters: {more}" if more else None
+
+
 def told_as_gone(page):
     """The names that the page says are gone with `--drop-in`."""
     return sorted(name for name in NAMES if re.search(rf"^.*\*\*{re.escape(name)}\*\*.*Gone with `--drop-in`", page, re.M))
@@ -308,58 +398,120 @@ def told_as_gone(page):
 def main():
     words = argparse.ArgumentParser(description=__doc__.splitlines()[0])
     words.add_argument("--drop-in", action="store_true")
-    words.add_argument("--seed", type=int, default=1)
+    words.add_argument("--seed", type=int, nargs="+", default=[1])
     words.add_argument("--commands", type=int, default=20000)
     words.add_argument("--as-installed", action="store_true")
     asked = words.parse_args()
     needs_program()
     page = (TOP / "docs/PROTOCOL.md").read_text()
-    say(all(f"**{name}**" in page for name in NAMES), "docs/PROTOCOL.md names each difference")
-    say(told_as_gone(page) == sorted(GONE), "docs/PROTOCOL.md tells which are gone with --drop-in")
+    say(all(f"**{name}**" in page for name in REASONS), "docs/PROTOCOL.md names each difference")
+    say({*NAMES, *(it[0] for it in STATS_NAMED), *(name for name, _ in counted.BESIDE.values())} == {*REASONS}, "each difference has its reason")
+    say(told_as_gone(page) == sorted(GONE), "docs/PROTOCOL.md says which are gone with --drop-in")
     if not asked.as_installed and not shutil.which("memcached"):
         install(["memcached"])
-    if not shutil.which("memcached"):
-        skip("memcached isn't installed")
-        return told("beside memcached")
     bounded(ALL_SECONDS)
-    port = free_port()
-    theirs = started(["memcached", "-u", "nobody", "-l", "127.0.0.1", "-p", str(port), "-m", "64", "-t", "1"])
-    try:
-        with Server(*["--drop-in"] * asked.drop_in) as ours:
-            if not is_up(port):
-                say(False, "memcached doesn't listen")
-            else:
-                compare(Peer(ours.port), Peer(port), asked)
-    finally:
-        theirs.kill()
-        theirs.wait()
+    if asked.drop_in:
+        judge_rows()
+    if shutil.which("memcached"):
+        with concurrent.futures.ProcessPoolExecutor(initializer=bounded, initargs=(ALL_SECONDS,)) as at_once:
+            for lines, unnamed in at_once.map(sent_twice, *zip(*((asked, seed) for seed in asked.seed))):
+                print(*lines, *[*unnamed.values()][:40], sep="\n")
+                say(not unnamed, f"{asked.commands} commands, {len(unnamed)} replies or counts that differ by nothing that docs/PROTOCOL.md names")
+    else:
+        skip("memcached isn't installed")
     return told("beside memcached")
 
 
-def compare(ours, theirs, asked):
-    maker, met, unnamed = Maker(asked.seed, asked.drop_in), collections.Counter(), 0
-    for _ in range(asked.commands):
+@contextlib.contextmanager
+def memcached():
+    """memcached at a port; none where it isn't installed."""
+    if not shutil.which("memcached"):
+        yield None
+        return
+    port = free_port()
+    process = started(["memcached", "-u", "nobody", "-l", "127.0.0.1", "-p", str(port), "-m", "64", "-t", "1"])
+    try:
+        if not is_up(port):
+            raise SystemExit("FAILED: memcached doesn't listen")
+        yield port
+    finally:
+        process.kill()
+        process.wait()
+
+
+def judge_rows():
+    """Compares what each row of counted.py lets the counters grow by with the row: of mcd, and of memcached where it is there."""
+    failed = []
+    with Server("--drop-in") as ours, memcached() as port:
+        peers = [Peer(ours.port), *([Peer(port)] if port else [])]
+        names = set.intersection(*(set(peer.counters()) for peer in peers)) - NOT_COUNTED
+        for row in counted.ROWS:
+            found = [counted.growth(peer, row) for peer in peers]
+            wanted = [dict(counted.grown_by(words)) for words in counted.wanted(row)]
+            grown = [{name: by for name, by in growth.items() if name in names} for _, growth in found]
+            if grown != wanted[: len(peers)] or not is_same(found[0][0], found[-1][0]) and difference(True, row[2], found[0][0], found[-1][0]) is None:
+                failed.append(f"  {row[0]}: {[shown(reply) for reply, _ in found]}, {grown} in place of {wanted}")
+    print(*failed, sep="\n", end="\n" if failed else "")
+    say(not failed, f"{len(counted.ROWS) - len(failed)} kinds of commands count as they do in memcached, {len(failed)} don't")
+
+
+def sent_twice(asked, seed):
+    """Sends the stream of this seed, and once more where it shows a difference: lines to show, and what differs both times."""
+    lines, unnamed = sent(asked, seed)
+    if unnamed:
+        again = sent(asked, seed)[1]
+        unnamed = {number: text for number, text in unnamed.items() if number in again}
+    return [f"seed {seed}:", *lines], unnamed
+
+
+def sent(asked, seed):
+    """Sends the stream of this seed to both servers: how often each named difference was met, and what differs by nothing that is
+    named, by the number of its command."""
+    with memcached() as port, Server(*["--drop-in"] * asked.drop_in) as ours:
+        return compare(Peer(ours.port), Peer(port), Maker(seed, asked.drop_in), asked.commands)
+
+
+def compare(ours, theirs, maker, commands):
+    met, unnamed = collections.Counter(), {}
+    for number in range(commands):
         keys, make = maker.command()
         mine, other = make(ours), make(theirs)
-        my_reply, other_reply = ours.ask(mine), theirs.ask(other)
-        name = differs_later(asked.drop_in, mine)
-        if re.match(rb"(incr|decr|ma) ", mine):
-            if is_padded(theirs, keys):
-                name = "numbers aren't padded"
-            ours.ask(b"".join(b"get " + key + b"\r\n" for key in keys))
-        if name is None and is_same(my_reply, other_reply):
-            continue
-        name = name or difference(asked.drop_in, mine, my_reply, other_reply)
-        met[name] += 1
+        name = one_compared(maker.drop_in, ours, theirs, keys, mine, other)
         if name is None:
-            unnamed += 1
-            if unnamed <= 40:
-                print(f"  {shown(mine)} and memcached's {shown(other)}:\n      {shown(my_reply)}\n      {shown(other_reply)}")
+            continue
+        met[name] += 1
+        if name.startswith(("reply", "counters")):
+            unnamed[number] = f"  {number}: {shown(mine)} and memcached's {shown(other)}:\n      {name}"
         for peer in (ours, theirs):
             peer.ask(b"".join(b"delete " + key + b" noreply\r\n" for key in keys))
-    for name, count in met.most_common():
-        print(f"  {count:6} times: {name}")
-    say(unnamed == 0, f"{asked.commands} commands, {unnamed} replies that differ by nothing that docs/PROTOCOL.md names")
+    return [f"  {count:6} times: {name:.100}" + (f" ({REASONS[name]})" if name in REASONS else "") for name, count in met.most_common()], unnamed
+
+
+def one_compared(drop_in, ours, theirs, keys, mine, other):
+    """The name of the difference that one command shows, if any: `reply ..` or `counters ..` where none is named."""
+    my_reply, other_reply, grown = both_asked(drop_in, ours, theirs, mine, other)
+    name = differs_later(drop_in, mine)
+    if re.match(rb"(incr|decr|ma) ", mine):
+        if is_padded(theirs, keys):
+            name = "numbers aren't padded"
+        ours.ask(b"".join(b"get " + key + b"\r\n" for key in keys))
+    if name is None and is_same(my_reply, other_reply):
+        return counts_differ(mine, my_reply, *grown) if drop_in else None
+    return name or difference(drop_in, mine, my_reply, other_reply) or f"reply: {shown(my_reply)}\n      {shown(other_reply)}"
+
+
+def both_asked(drop_in, ours, theirs, mine, other):
+    """What both servers answer to one command, and by how much each counter grew that both have."""
+    if not drop_in:
+        return ours.ask(mine), theirs.ask(other), None
+    before = [peer.counters() for peer in (ours, theirs)]
+    ours.send(mine, b"stats\r\n")
+    theirs.send(other, b"stats\r\n")
+    (my_reply, my_stats), (other_reply, other_stats) = ours.replies(2), theirs.replies(2)
+    ours.known, theirs.known = shown_counters(my_stats), shown_counters(other_stats)
+    names = ours.known.keys() & theirs.known.keys() - NOT_COUNTED
+    grown = [{name: by for name, by in grown_from(*it).items() if name in names} for it in zip(before, (ours.known, theirs.known))]
+    return my_reply, other_reply, grown
 
 
 def shown(text):

@@ -475,11 +475,17 @@ def quits_with_the_last_reply(host, port):
     equal(found, b"MN\r\n")
 
 
-def serves_64_at_once_and_then_the_65th(host, port):
+def sixty_four_connections(host, port):
+    """As many as there are seats, each of which was served."""
     lines = [Plain(host, port) for _ in range(64)]
     for number, it in enumerate(lines):
         it.asked(b"set s%d 0 0 2\r\n%02d\r\nget s%d\r\n" % (number, number, number),
                  b"STORED\r\nVALUE s%d 0 2\r\n%02d\r\nEND\r\n" % (number, number))
+    return lines
+
+
+def serves_64_at_once_and_then_the_65th(host, port):
+    lines = sixty_four_connections(host, port)
     waits = Plain(host, port)
     waits.line.sendall(b"mn\r\n")
     waits.line.settimeout(0.3)
@@ -492,9 +498,23 @@ def serves_64_at_once_and_then_the_65th(host, port):
     waits.asked(b"", b"MN\r\n")
 
 
+def serves_64_at_once_and_refuses_the_65th(host, port):
+    lines = sixty_four_connections(host, port)
+    refused = Plain(host, port)
+    refused.asked(b"", b"ERROR Too many open connections\r\n")
+    equal(refused.line.recv(10), b"")
+    lines[7].asked(b"mn\r\n", b"MN\r\n")
+    lines[7].line.close()
+    for _ in range(100):
+        try:
+            return Plain(host, port).asked(b"mn\r\n", b"MN\r\n")
+        except (AssertionError, OSError):
+            time.sleep(0.05)
+    raise AssertionError("no seat is free again")
+
+
 PLAIN = [
     binary_keys_by_base64, pipelines_10000_commands, half_closes, quits_with_the_last_reply,
-    serves_64_at_once_and_then_the_65th,
 ]
 
 LARGE_PARTS = b"set joined 0 0 1000000\r\n%b\r\n" % (b"v" * 1_000_000), b" 100000\r\n%b\r\n" % (b"x" * 100_000)
@@ -533,8 +553,8 @@ def noreply_shows_a_bad_data_chunk(host, port):
 
 # What a plain socket sees by the one and by the other rules.
 PLAIN_DIFFERING = {
-    "own": [a_joined_value_that_is_too_large_is_an_error, meta_replies_are_those_of_mcd, noreply_shows_a_bad_data_chunk],
-    "drop-in": [a_joined_value_that_is_too_large_is_not_stored, meta_replies_are_those_of_memcached, noreply_hides_a_bad_data_chunk],
+    "own": [a_joined_value_that_is_too_large_is_an_error, meta_replies_are_those_of_mcd, noreply_shows_a_bad_data_chunk, serves_64_at_once_and_then_the_65th],
+    "drop-in": [a_joined_value_that_is_too_large_is_not_stored, meta_replies_are_those_of_memcached, noreply_hides_a_bad_data_chunk, serves_64_at_once_and_refuses_the_65th],
 }
 
 

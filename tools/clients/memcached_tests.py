@@ -11,7 +11,7 @@ that have a counterpart and leaves out the others. What moves memcached's clock 
 
 OTHERWISE has the assertions that mcd doesn't fulfil, with the reason; docs/PROTOCOL.md has those differences that a client sees.
 One of them that holds is a failure too, so that the list stays true. Not run are the tests of what mcd doesn't have: the binary
-protocol, TLS, SASL, UDP, sockets of Unix, storage on disk, the proxy, `watch`, `slabs`, `lru_crawler`, `shutdown`, and a memory
+protocol, TLS, SASL, UDP, storage on disk, the proxy, `watch`, `slabs`, `lru_crawler`, `shutdown`, and a memory
 limit that changes or refuses; and those that read little else than `stats` of memcached's own memory, threads and connections.
 
 Without `--drop-in` two of six files that were tried failed, as they should: `cas` and `metaget`.
@@ -41,7 +41,7 @@ FETCH_SECONDS, TEST_SECONDS, ALL_SECONDS = 30, 120, 500
 
 # Each test, the longest first.
 TESTS = """
-    getset chunked-items expirations idle-timeout issue_41 flush-all issue_14 evictions issue_22 issue_163 metaget cas issue_183
+    getset unixsocket chunked-items expirations idle-timeout issue_41 flush-all issue_14 evictions issue_22 issue_163 metaget cas issue_183
     touch getandtouch lru bogus-commands flags incrdecr issue_104 issue_108 issue_152 issue_192 issue_3 issue_42 issue_61 issue_68
     issue_70 malicious-commands multiversioning noreply quit strtol-testing
 """.split()
@@ -80,7 +80,8 @@ ASSERTION = re.compile(r"^(not )?ok (\d+)(.*)", re.M)
 def words_for(words):
     """The words of mcd for those of memcached."""
     given = {**USUAL, **{word: value for word, value in zip(words, words[1:]) if word in USUAL}}
-    made = [MCD, "--drop-in", f"--listen={given['-l']}:{given['-p']}", f"--memory={given['-m']}m"]
+    place = f"--unix-socket={words[words.index('-s') + 1]}" if "-s" in words else f"--listen={given['-l']}:{given['-p']}"
+    made = [MCD, "--drop-in", place, f"--memory={given['-m']}m"]
     if SHARDS in os.environ:
         made.append(f"--shards={os.environ[SHARDS]}")
     idle = IDLE.search(" ".join(words))

@@ -213,6 +213,25 @@ compares : AreSo (
 unfolding line_of words_of name_of is_key number_of meta_line_of
 compares = (refl, refl)
 
+-- `ma` by a profile, which compares with this unique
+abbrev ma : Profile → Option ℕ → Line
+ma profile compare =
+    Whole (command.MetaArithmetic (record {
+      asked = record { key = a; compare = compare; unique = None; direction = Increment; amount = 1; exptime = None; vivify = None };
+      flags = record { base64 = false; quiet = false; profile = profile; returned = []; opaque = [] };
+      value = false;
+    }))
+
+-- `C` of `ma`: by memcached's rules 0 is none
+counts_compare : AreSo (
+    (codes "ma a C1", ma Own (Some 1), ma DropIn (Some 1))
+    ∷ (codes "ma a C0", ma Own (Some 0), ma DropIn None)
+    ∷ (codes "ma a", ma Own None, ma DropIn None)
+    ∷ []
+    )
+unfolding line_of words_of name_of is_key number_of meta_line_of
+counts_compare = (refl, refl)
+
 -- The reply to a meta command follows the rules by which its line is read.
 abbrev mg_by : Profile → Bool → Line
 mg_by profile unnoted = Whole (command.MetaGet (record { asked = record { key = a; touch = None; vivify = None; recache = None; unnoted = unnoted }; flags = record { base64 = false; quiet = false; profile = profile; returned = []; opaque = [] }; value = true }))

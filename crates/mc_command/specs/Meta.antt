@@ -139,7 +139,7 @@ is_set other = false
 abbrev pub compare_refusal : Rules → MetaSet → Option Refusal
 compare_refusal rules set = if not (is_drop_in rules) && (is_some set.asked.compare && not (is_set set.asked.mode)) then Some BadFormat else None
 
--- the token of `C` in a mode, by memcached's rules: E compares nothing, and A and P nothing with 0
+-- the token of `C` in a mode, by memcached's rules: E compares nothing, and A and P nothing with 0, as `ma`
 abbrev pub compared_in : StoreMode → Option ℕ → Option ℕ
 compared_in mode.Add compare = None
 compared_in mode.Append (Some zero) = None
@@ -230,7 +230,7 @@ abbrev pub meta_arithmetic_of : Rules → List ℕ → List (List ℕ) → MetaA
 meta_arithmetic_of rules key words = record {
   asked = record {
     key = key;
-    compare = unsigned_token (2 ^ 64) (byte "C") words;
+    compare = compare_by rules mode.Append (unsigned_token (2 ^ 64) (byte "C") words);
     unique = unsigned_token (2 ^ 64) (byte "E") words;
     direction = unwrap_or (option_and_then direction_of (token_of (byte "M") words)) Increment;
     amount = unwrap_or (unsigned_token (2 ^ 64) (byte "D") words) 1;

@@ -215,7 +215,7 @@ impl FlagsRead {
         MetaArithmetic {
             asked: MetaCount {
                 key,
-                compare: self.compare,
+                compare: rules.compared(StoreMode::Append, self.compare),
                 unique: self.unique,
                 direction: self.direction.unwrap_or(Direction::Increment),
                 amount: self.amount.unwrap_or(1),

@@ -95,7 +95,7 @@ impl Rules {
     }
 
     /// The unique that `ms` compares in a mode: by memcached's rules none in mode `E`, and 0 is none in the modes `A`
-    /// and `P`.
+    /// and `P`. `ma` compares as mode `A` does.
     pub(crate) fn compared(self, mode: StoreMode, unique: Option<u64>) -> Option<u64>
         ensures { result ≡ compare_by self mode unique }
     {

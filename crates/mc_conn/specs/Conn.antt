@@ -80,9 +80,10 @@ pub record HandsOut (told : Told) (count : ℕ) (new : Conn) (before after : Sig
   pub together : handed_text (record told { handed = told.handed + count }) ≡ handed_text told ++ waiting_text told
   pub none_waits : waiting_text (record told { handed = told.handed + count }) ≡ []
 
--- The outlet failed: it took a beginning of what was due, and the connection is broken.
+-- The outlet failed: some reply was due, of these it took a beginning, and the connection is broken.
 pub record FailsToHand (told : Told) (new : Conn) (before after : Sight) : Type 0 where
   pub whole : told.broken ≡ false
+  pub owed : told.handed < length (all_texts told)
   pub cut : outlet.BreaksOff (waiting_text told) before after
   pub now : IsConn new (record told { broken = true })
 

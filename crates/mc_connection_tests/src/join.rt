@@ -1,5 +1,5 @@
 //! Replies of a few commands, whose answers come in any order, and outlets that count or fail.
-ghost use Rattle.std.specs.Prelude.{◌≡◌, ◌+◌, ◌≤◌, Some, IfOk, IfSome, OnOk, false};
+ghost use Rattle.std.specs.Prelude.{◌≡◌, ◌+◌, Some, IfOk, IfSome, OnOk, false};
 ghost use Rattle.mc_wire.specs.Outlet.{Listed, Untold, sight_out};
 ghost use Rattle.mc_join.specs.Held.{opened_count};
 
@@ -41,17 +41,6 @@ fn get(alloc: Global, ticket: Ticket, keys: &[&[u8]]) -> Result<Form, Fail>
     for key in keys {
         text.extend_from_slice(key)?;
         text.push(b' ')?;
-    }
-    get_words(alloc, ticket, text.as_slice())
-}
-
-/// The form of a get that names one key `count` times.
-fn get_often(alloc: Global, ticket: Ticket, count: usize) -> Result<Form, Fail>
-    ensures { IfOk result (λ form. form.ticket ≡ ticket) }
-{
-    let mut text = Vec::new(alloc);
-    for _ in 0..count {
-        text.extend_from_slice(b"k ")?;
     }
     get_words(alloc, ticket, text.as_slice())
 }
@@ -340,39 +329,8 @@ fn a_failed_outlet_is_written_to_no_more(rt: HostRuntime) -> Result<(), Fail> {
     Ok(())
 }
 
-/// Opens an `mn` for each ticket of `from..to`, one after another.
-fn open_noops(
-    rt: &impl Abort,
-    alloc: Global,
-    joiner: &mut Joiner,
-    from: u64,
-    to: u64,
-) -> Result<(), Fail>
-    requires next { opened_count joiner.old ≡ from }
-    requires order { from ≤ to }
-    ensures { OnOk result (opened_count joiner.new ≡ to) }
-{
-    for ticket in from..to {
-        open_noop(rt, alloc, joiner, ticket)?;
-    }
-    Ok(())
-}
-
 #[test]
-fn small_replies_go_out_in_one_write(rt: HostRuntime) -> Result<(), Fail> {
-    let alloc = rt.alloc();
-    let mut joiner = Joiner::new(alloc, 256)?;
-    open_noops(&rt, alloc, &mut joiner, 0, 256)?;
-    let mut out = outlet(alloc, usize::MAX);
-    equal(&rt, joiner.ready(), 1024);
-    equal(&rt, joiner.hand(&mut out), Ok(256));
-    equal(&rt, out.taken.len(), 1024);
-    equal(&rt, out.writes, 1);
-    Ok(())
-}
-
-#[test]
-fn a_large_value_goes_out_by_itself(rt: HostRuntime) -> Result<(), Fail> {
+fn a_large_value_goes_out_in_its_turn(rt: HostRuntime) -> Result<(), Fail> {
     let alloc = rt.alloc();
     let value = vec![in alloc; 7; 16_384]?;
     let mut joiner = Joiner::new(alloc, 4)?;
@@ -391,28 +349,6 @@ fn a_large_value_goes_out_by_itself(rt: HostRuntime) -> Result<(), Fail> {
         &rt,
         out.taken.as_slice().ends_with(b"\x07\r\nEND\r\nMN\r\n"),
     );
-    // What stands before the value, the value, and what stands behind it.
-    equal(&rt, out.writes, 3);
-    Ok(())
-}
-
-#[test]
-fn a_reply_above_the_room_goes_out_in_few_writes(rt: HostRuntime) -> Result<(), Fail> {
-    let alloc = rt.alloc();
-    let value = vec![in alloc; 7; 1_024]?;
-    let mut joiner = Joiner::new(alloc, 1)?;
-    open(&rt, &mut joiner, get_often(alloc, Ticket(0), 100)?);
-    for part in 0..100 {
-        hits(&rt, alloc, &mut joiner, 0, part, value.as_slice())?;
-    }
-    let item = b"VALUE k 0 1024\r\n".len() + 1_024 + b"\r\n".len();
-    let len = 100 * item + b"END\r\n".len();
-    let mut out = outlet(alloc, usize::MAX);
-    equal(&rt, joiner.ready(), len as u64);
-    equal(&rt, joiner.hand(&mut out), Ok(1));
-    equal(&rt, out.taken.len(), len);
-    // Fifteen items fill the room.
-    equal(&rt, out.writes, 7);
     Ok(())
 }
 
@@ -437,9 +373,9 @@ impl Outlet for Drip {
     }
 }
 
-/// A joiner whose replies are together a little longer than the room: `mn`, a get of a value, and `mn`.
-fn above_the_room(rt: &impl Abort, alloc: Global) -> Result<Joiner, Fail> {
-    let value = vec![in alloc; 7; 16_360]?;
+/// A joiner with a long reply between two short ones: `mn`, a get of a value, and `mn`.
+fn long_between_short(rt: &impl Abort, alloc: Global) -> Result<Joiner, Fail> {
+    let value = vec![in alloc; 7; 1_000]?;
     let mut joiner = Joiner::new(alloc, 4)?;
     open_noop(rt, alloc, &mut joiner, 0)?;
     open_get(rt, alloc, &mut joiner, 1, &[b"a"])?;
@@ -449,27 +385,27 @@ fn above_the_room(rt: &impl Abort, alloc: Global) -> Result<Joiner, Fail> {
 }
 
 #[test]
-fn replies_across_the_end_of_the_room(rt: HostRuntime) -> Result<(), Fail> {
+fn replies_may_break_off_at_each_byte(rt: HostRuntime) -> Result<(), Fail> {
     let alloc = rt.alloc();
     let mut whole = outlet(alloc, usize::MAX);
-    equal(&rt, above_the_room(&rt, alloc)?.hand(&mut whole), Ok(3));
+    equal(&rt, long_between_short(&rt, alloc)?.hand(&mut whole), Ok(3));
     let text = whole.taken.as_slice();
-    equal(&rt, text.len(), 4 + 17 + 16_360 + 7 + 4);
+    equal(&rt, text.len(), 4 + 16 + 1_000 + 7 + 4);
     let mut drip = Drip {
         taken: Vec::new(alloc),
         failed: false,
     };
-    equal(&rt, above_the_room(&rt, alloc)?.hand(&mut drip), Ok(3));
+    equal(&rt, long_between_short(&rt, alloc)?.hand(&mut drip), Ok(3));
     equal(&rt, drip.taken.as_slice(), text);
     for left in 0..text.len() {
         let mut out = outlet(alloc, left);
-        holds(&rt, above_the_room(&rt, alloc)?.hand(&mut out).is_err());
+        holds(&rt, long_between_short(&rt, alloc)?.hand(&mut out).is_err());
         equal(&rt, out.taken.as_slice(), text.split_at(left).0);
     }
     Ok(())
 }
 
-/// A value of this length is larger than the room in which replies are gathered.
+/// The length of a value that is shared, not copied.
 const LARGE: usize = 100_000;
 
 /// A key of one byte more than those that take no memory.
@@ -546,8 +482,8 @@ fn a_hit_copies_no_value(rt: HostRuntime) {
     equal(&rt, joiner.hand(&mut out), Ok(1));
     equal(&rt, out.bytes, len as u64);
     equal(&rt, out.large, 1);
-    // The line before the value, and what stands behind it.
-    equal(&rt, out.small, 2);
+    // The line before the value, the end of its block, and the end of the reply.
+    equal(&rt, out.small, 3);
 }
 
 #[test]

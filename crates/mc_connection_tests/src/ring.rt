@@ -152,12 +152,12 @@ fn what_waits_is_counted(rt: HostRuntime) -> Result<(), Fail> {
 /// Numbers of seats, shards and places of a ring, and whether there are lanes for them.
 static NUMBERS: [(usize, usize, usize, bool); 8] = [
     (0, 1, 1, false),
-    (4_097, 1, 1, false),
+    (65_537, 1, 1, false),
     (1, 0, 1, false),
-    (1, 17, 1, false),
+    (1, 65, 1, false),
     (1, 1, 0, false),
     (1, 1, 1025, false),
-    (64, 16, 1, true),
+    (64, 64, 1, true),
     (1, 1, 1024, true),
 ];
 

@@ -1,4 +1,4 @@
 pub mod Buffers
+pub mod Comes
 pub mod Sent
-pub mod TcpSent
 mod RowsForeign

@@ -1,6 +1,8 @@
 -- How a connection begins that speaks another protocol than memcached's commands.
-use Rattle.std.specs.Prelude.{ℕ, ◌≡◌, ◌==◌, ◌&&◌, ◌||◌, ⊤, Bool, List, [], ◌∷◌, Option, Some, None, codes, length, nat_eq, take}
+use Rattle.std.specs.Prelude.{ℕ, ◌≡◌, ◌==◌, ◌&&◌, ◌||◌, ⊤, Bool, List, [], ◌∷◌, Option, Some, None, codes, length, nat_eq, take, if◌then◌else◌}
 use Rattle.std.specs.List.{list_any, starts_with}
+use Rattle.mc_watch.specs.declared.event.Manner.{Manner}
+use Rattle.mc_watch.specs.declared.event.Manner.TheVariants.{Binary, Http, Tls}
 
 -- HTTP requests: a method, a blank and the begin of a path (RFC 9112, section 3)
 abbrev pub http_begins : List (List ℕ)
@@ -21,6 +23,11 @@ is_http bytes = list_any (λ begin. starts_with nat_eq bytes begin) http_begins
 -- whether these bytes, which come first, are those of another protocol
 unfoldable pub is_foreign : List ℕ → Bool
 is_foreign bytes = starts_with nat_eq bytes binary_begin || starts_with nat_eq bytes tls_begin || is_http bytes
+
+-- which protocol these bytes are, where they are another one's: no two of them begin with the same byte
+unfoldable pub protocol_of : List ℕ → Manner
+protocol_of bytes =
+    if starts_with nat_eq bytes binary_begin then Binary else if starts_with nat_eq bytes (0x16 ∷ []) then Tls else Http
 
 -- the most bytes that it takes to tell it
 abbrev pub first_bytes : ℕ

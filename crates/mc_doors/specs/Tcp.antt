@@ -1,23 +1,41 @@
--- What is told of a connection over TCP, and of the door that lets connections in.
-use Rattle.std.specs.Prelude.{ℕ, ◌≡◌, ◌+◌, Bool, true, false, List, [], ◌∷◌, Option, Some, None, Result, Ok, Err, length, map, take}
-use Rattle.mc_wire.specs.Outlet.{Listed, Read, Sight}
+-- What is told of a connection over a stream, and of the door that lets connections in.
+use Rattle.std.specs.Prelude.{ℕ, ◌≡◌, ◌+◌, Bool, false, List, [], ◌∷◌, Option, Some, None, Result, Ok, Err, length, map, take}
+use Rattle.mc_wire.specs.Outlet.{Listed, Read, Sight, Trace, Untold}
 use Rattle.mc_seat.specs.Explains.{LineTold}
 use Rattle.mc_doors.specs.Told.{DoorTold, TellsLines, TellsNothing}
-use Rattle.mc_doors.specs.declared.tcp_door.ClosedConnection.{ClosedConnection}
+use Rattle.mc_doors.specs.declared.stream.Stream.{Ghosts}
+use Rattle.mc_doors.specs.declared.stream_door.ClosedConnection.{ClosedConnection}
 use Rattle.mc_doors.specs.declared.tcp_line.TcpLine.{TcpLine}
+use Rattle.std.specs.declared.snapshot.Snapshot.{Snapshot}
 use Rattle.std.specs.Io.KnownBytes.{Appends, Consumes, Keeps}
 
 -- a read, by the bytes given and taken before it
 abbrev pub read_of : List ℕ × List ℕ → Read
 read_of one = record { given = Listed one.0; taken = Listed one.1 }
 
--- a connection that has just come in: nothing was read of it, nor written to it
-abbrev pub new_line : Sight
-new_line = record { given = Listed []; ended = false; reads = Some []; taken = Listed []; failed = false }
+-- bytes that are known, or aren't
+abbrev pub trace_of : Option (List ℕ) → Trace
+trace_of None = Untold
+trace_of (Some bytes) = Listed bytes
+
+-- the note that a connection begins with: what its stream had to give when it came in, and what it had taken
+abbrev pub note_of : Option (List ℕ) → Option (List ℕ) → Read
+note_of remaining contents = record { given = trace_of remaining; taken = trace_of contents }
+
+-- a connection over a stream that has just come in, which has these bytes to give and has taken those, if they are known:
+-- nothing was read of it, nor written to it
+abbrev pub new_line : Option (List ℕ) → Option (List ℕ) → Sight
+new_line remaining contents = record { given = Listed []; ended = false; reads = Some (note_of remaining contents ∷ []); taken = Listed []; failed = false }
 
 -- what is seen of one
-abbrev pub sight_of : {S : Type 0} → TcpLine S → Sight
-sight_of line = record { given = Listed line.given; ended = line.ended; reads = Some (map read_of line.reads.items); taken = Listed line.taken; failed = line.failed }
+abbrev pub sight_of : {S : Type 0} {g : Ghosts S} → TcpLine S g → Sight
+sight_of {g = g} line = record {
+  given = Listed line.tap.given;
+  ended = line.ended;
+  reads = Some (note_of (g.remaining line.tap.begin.value) (g.contents line.tap.begin.value) ∷ map read_of line.reads.items);
+  taken = Listed line.tap.taken;
+  failed = line.failed;
+}
 
 -- Just the bytes that a read says it gave came from the stream, whose bytes are known or not.
 abbrev pub ReadsStream : {E : Type 0} → List ℕ → Result (Option ℕ) E → Option (List ℕ) → Option (List ℕ) → Type 0
@@ -38,18 +56,42 @@ TellsWrite (Err why) (Ok told) = told ≡ 0
 TellsWrite (Err why) (Err fault) = Unit {0}
 
 -- one that is gone: what its reads gave and its writes took
-abbrev pub gone_line : ClosedConnection → LineTold
+abbrev pub gone_line : {S : Type 0} {g : Ghosts S} → ClosedConnection S g → LineTold
 gone_line gone = record {
-  begin = new_line;
+  begin = sight_of gone.begin.value;
   now = sight_of gone.line.value;
   commands = gone.commands;
   broke = gone.broke;
 }
 
--- what is told of the door of a seat: whether a connection is out, those that are gone, and whether it said that no more come
-abbrev pub told_tcp : Bool → List (ClosedConnection × Unit {0}) → Bool → DoorTold
-told_tcp true gone over = TellsLines None (Some new_line) (map (λ one. gone_line one.0) gone) over
-told_tcp false gone over = TellsLines None None (map (λ one. gone_line one.0) gone) over
+-- those of a seat that are gone, in their order
+abbrev pub gone_lines : {S : Type 0} {g : Ghosts S} → List (ClosedConnection S g × Unit {0}) → List LineTold
+gone_lines gone = map (λ one. gone_line one.0) gone
+
+-- the connection that is out, as it was when it came in
+abbrev pub out_line : {S : Type 0} {g : Ghosts S} → Option (Snapshot (TcpLine S g)) → Option Sight
+out_line None = None
+out_line (Some begin) = Some (sight_of begin.value)
+
+-- streams that will come, where they are known, as connections
+abbrev pub new_lines : {S : Type 0} → (S → Option (List ℕ)) → (S → Option (List ℕ)) → Option (List S) → Option (List Sight)
+new_lines remaining contents None = None
+new_lines remaining contents (Some streams) = Some (map (λ stream. new_line (remaining stream) (contents stream)) streams)
+
+-- a door by which no stream came in yet
+abbrev pub new_door : {S : Type 0} → (S → Option (List ℕ)) → (S → Option (List ℕ)) → Option (List S) → DoorTold
+new_door remaining contents coming = TellsLines (new_lines remaining contents coming) None [] false
+
+-- what is told of the door of a seat: the streams that will come, where they are known, the connection that is out, those that are
+-- gone, and whether it said that no more come
+abbrev pub told_door : {S : Type 0} {g : Ghosts S} → Option (List S) → Option (Snapshot (TcpLine S g)) → List (ClosedConnection S g × Unit {0}) → Bool → DoorTold
+told_door {g = g} coming out gone over = TellsLines (new_lines g.remaining g.contents coming) (out_line out) (gone_lines gone) over
+
+-- The stream of this connection, which was so when it came in, gave just the bytes that the connection was given, and no others,
+-- and took just those that it took, until the connection ended.
+pub record IsServed {S : Type 0} {g : Ghosts S} (stream : S) (one : ClosedConnection S g) : Type 0 where
+  pub gave : Consumes (g.remaining stream) (g.remaining one.line.value.tap.stream) one.line.value.tap.given
+  pub took : Appends (g.contents stream) (g.contents one.line.value.tap.stream) one.line.value.tap.taken
 
 -- how many lines went back to the doors, all of them together
 abbrev pub gone_count : List DoorTold → ℕ

@@ -1,26 +1,32 @@
-//! Where connections come in: a thread of its own takes them from the listener, and hands each to a free seat.
+//! Where connections come in: a thread of its own takes them from the listeners, and hands each to a free seat.
 use crate::free_seats::FreeSeats;
+use crate::listener::Listener;
+use crate::socket::Socket;
+use crate::stream::Stream;
 use mc_wake::{Marked, Patience, Sleeper, Wakers};
 use mc_watch::{EntranceWatch, SeatWatch, Watch};
-use mio::net::TcpStream;
 use rtrb::{Consumer, Producer, RingBuffer};
 use std::alloc::{AllocError, Global};
-use std::net::{SocketAddr, TcpListener};
+use std::io::ErrorKind;
+use std::net::{Net, SocketAddr};
 use std::sync::atomic::{AtomicBool, Ordering};
 use std::sync::{Arc, Wait};
 use std::time::Duration;
-use std::{io, net, slice, thread, time};
+use std::{io, slice, thread, time};
 
 /// Milliseconds that the thread waits after a fault of `accept` that passes, before it tries again.
 const PAUSE_MILLIS: u64 = 10;
 
-/// It sleeps at once where no seat is free.
+/// What memcached says to a connection that is one too many (`maxconns_fast`).
+const TOO_MANY: &[u8] = b"ERROR Too many open connections\r\n";
+
+/// It sleeps at once where no connection has come, or no seat is free.
 const AT_ONCE: Patience = Patience {
     looks: 0,
     yields: 0,
 };
 
-/// The numbers by which Linux tells that the listener is none, or can't be one (accept(2)): a bad descriptor, a bad address,
+/// Linux's error numbers for a listener that is none, or can't be one (accept(2)): a bad descriptor, a bad address,
 /// one that doesn't listen, no socket, no socket of streams.
 const LASTING_FAULTS: [i32; 5] = [
     9, // EBADF
@@ -37,7 +43,7 @@ struct Closing {
     is_over: AtomicBool,
     /// None can be accepted, though more may come.
     has_failed: AtomicBool,
-    /// No seat will be free: the server doesn't serve.
+    /// No further connection is to be accepted.
     is_dismissed: AtomicBool,
 }
 
@@ -95,7 +101,12 @@ impl Bell {
         self.closing.has_failed.load(Ordering::SeqCst)
     }
 
-    /// Tells the entrance that no seat will be free.
+    /// Whether no further connection is to be accepted.
+    fn is_dismissed(&self) -> bool {
+        self.closing.is_dismissed.load(Ordering::SeqCst)
+    }
+
+    /// Has the entrance accept no further connection: those that wait to be accepted are refused.
     pub fn dismiss(&self) {
         self.closing.is_dismissed.store(true, Ordering::SeqCst);
         self.wakers.rouse(0);
@@ -105,7 +116,7 @@ impl Bell {
 /// A connection that has come in, and whose it is.
 #[derive(Drop)]
 pub(crate) struct NewConnection {
-    pub(crate) stream: TcpStream,
+    pub(crate) stream: Socket,
     pub(crate) peer: SocketAddr,
 }
 
@@ -120,6 +131,8 @@ pub struct Way {
     pub(crate) seats: Wakers,
     /// What is watched of its connections.
     pub(crate) watch: SeatWatch,
+    /// It has told the entrance that the seat is free.
+    pub(crate) told_free: bool,
 }
 
 impl Drop for Way {
@@ -131,16 +144,25 @@ impl Drop for Way {
             bell: _bell,
             seats: _seats,
             watch: _watch,
+            told_free: _told_free,
         } = self;
     }
 }
 
-/// The listener, and the ways from it to the seats.
+/// The listeners, and the ways from them to the seats.
 pub struct Entrance {
-    listener: TcpListener,
+    listeners: Vec<Listener>,
+    /// The listener that is looked at first: the one behind the last that had a connection.
+    first: usize,
     /// Connections still to be taken, where their number is bounded.
     left: Option<u64>,
-    /// The seats call it when they are free.
+    /// A connection that comes while all seats are taken is refused: so it is by memcached's rules.
+    refuses: bool,
+    /// How often a seat has said that it is free, a count that stays at its greatest value.
+    freed: usize,
+    /// It was reported that all seats are taken, and not yet that one is free again.
+    is_full: bool,
+    /// The seats call it when they are free, and each listener has a place of it.
     sleeper: Sleeper,
     bell: Bell,
     free: FreeSeats,
@@ -154,8 +176,12 @@ impl Drop for Entrance {
     /// By hand, so that to let one go is one call for whoever holds it (docs/DECISIONS.md).
     fn drop(self) {
         let Entrance {
-            listener: _listener,
+            listeners: _listeners,
+            first: _first,
             left: _left,
+            refuses: _refuses,
+            freed: _freed,
+            is_full: _is_full,
             sleeper: _sleeper,
             bell: _bell,
             free: _free,
@@ -166,22 +192,42 @@ impl Drop for Entrance {
     }
 }
 
+/// What a look at the listeners finds.
+#[derive(Drop)]
+enum Found {
+    Connection(NewConnection),
+    /// No connection has come.
+    Nothing,
+    /// A listener gave none.
+    Fault(io::Error),
+}
+
 impl Entrance {
-    /// The connections come in by the listener, at most `connections` of them, or any number where it is none. The sleepers
-    /// are those of the threads of the seats.
-    pub fn new(
+    /// The connections come in by the listeners, at most `connections` of them, or any number where it is none. The sleepers are
+    /// those of the threads of the seats. Where it refuses, a connection that comes while all seats are taken is answered with an
+    /// error and closed; else it waits.
+    pub fn new<R: Net>(
+        rt: &R,
         alloc: Global,
-        listener: TcpListener,
+        listeners: Vec<Listener>,
         connections: Option<u64>,
+        refuses: bool,
         sleepers: &[Sleeper],
         watch: EntranceWatch,
-    ) -> Result<Entrance, AllocError> {
+    ) -> io::Result<Entrance> {
         let free = FreeSeats::new(alloc, sleepers)?;
-        let sleeper = Sleeper::new(alloc, AT_ONCE, free.seats(), 1, 1)?;
+        let places = listeners.len().max(1);
+        let sleeper = Sleeper::polling(rt, alloc, AT_ONCE, free.seats(), places, 1)?;
         let bell = Bell::new(alloc, &sleeper)?;
+        let mut listeners = listeners;
+        register_all(&mut listeners, &bell.wakers)?;
         Ok(Entrance {
-            listener,
+            listeners,
+            first: 0,
             left: connections,
+            refuses,
+            freed: 0,
+            is_full: false,
             sleeper,
             bell,
             free,
@@ -202,6 +248,7 @@ impl Entrance {
             bell: self.bell()?,
             seats: self.seats.share()?,
             watch: watch.seat(seat, self.free.thread_of(seat))?,
+            told_free: false,
         })
     }
 
@@ -222,43 +269,82 @@ impl Entrance {
 
     fn take_all<R: Wait + time::Clock>(&mut self, rt: &R) {
         for _ in rt.forever() {
-            if !self.may_take() || !self.wait_for_seat(rt) {
+            if self.left == Some(0) || self.bell.is_dismissed() {
                 return;
             }
-            let Ok(connection) = self.accept(rt) else {
-                self.bell.closing.has_failed.store(true, Ordering::SeqCst);
-                return;
+            match self.take_one(rt) {
+                Ok(true) => self.sleeper.found(),
+                Ok(false) => self.sleeper.wait(rt),
+                Err(_) => {
+                    self.bell.closing.has_failed.store(true, Ordering::SeqCst);
+                    return;
+                }
+            }
+        }
+    }
+
+    /// Takes the next connection, where one has come and a seat is free, or it is refused. Whether there may be another: else it
+    /// is to be asked again once a connection comes or a seat is free.
+    fn take_one<R: time::Clock>(&mut self, rt: &R) -> io::Result<bool> {
+        self.note_free();
+        let is_full = self.free.is_empty();
+        self.note_full(is_full);
+        if is_full && !(self.is_full && self.refuses) {
+            return Ok(false);
+        }
+        match self.look() {
+            Found::Connection(connection) => {
+                if is_full {
+                    refuse(connection);
+                } else {
+                    self.hand_over(connection);
+                }
+                Ok(true)
+            }
+            Found::Nothing => Ok(false),
+            Found::Fault(fault) => self.wait_out(rt, fault),
+        }
+    }
+
+    /// Looks at each listener until one has a connection.
+    fn look(&mut self) -> Found {
+        for _ in 0..self.listeners.len() {
+            let place = self.first;
+            let Some(listener) = self.listeners.get(place) else {
+                return Found::Nothing;
             };
-            self.hand_over(connection);
+            let accepted = listener.accept();
+            self.first = (place + 1) % self.listeners.len();
+            match accepted {
+                Ok((stream, peer)) => return Found::Connection(NewConnection { stream, peer }),
+                Err(fault) if fault.kind() == ErrorKind::WouldBlock => {}
+                Err(fault) => return Found::Fault(fault),
+            }
         }
+        Found::Nothing
     }
 
-    /// Whether one more connection is taken.
-    fn may_take(&mut self) -> bool {
-        match &mut self.left {
-            Some(0) => false,
-            Some(left) => {
-                *left -= 1;
-                true
-            }
-            None => true,
+    /// A fault of an accept that passes, as too many open files or a peer that went away, is waited out; another one is returned.
+    fn wait_out<R: time::Clock>(&mut self, rt: &R, fault: io::Error) -> io::Result<bool> {
+        self.watch.failed(fault.raw_os_error());
+        if is_lasting(&fault) {
+            return Err(fault);
         }
+        thread::sleep(rt, Duration::from_millis(PAUSE_MILLIS));
+        Ok(true)
     }
 
-    /// Waits until a seat is free. Whether one is: not where it was dismissed.
-    fn wait_for_seat<R: Wait>(&mut self, rt: &R) -> bool {
-        for _ in rt.forever() {
-            self.note_free();
-            if !self.free.is_empty() {
-                self.sleeper.found();
-                return true;
-            }
-            if self.bell.closing.is_dismissed.load(Ordering::SeqCst) {
-                return false;
-            }
-            self.sleeper.wait(rt);
+    /// Reports that all seats are taken, or that one is free again. Before each was free once, none is taken.
+    fn note_full(&mut self, is_full: bool) {
+        if self.is_full == is_full || self.freed < self.ways.len() {
+            return;
         }
-        unreachable!()
+        self.is_full = is_full;
+        if is_full {
+            self.watch.all_taken();
+        } else {
+            self.watch.one_free();
+        }
     }
 
     /// Notes the seats that have told that they are free.
@@ -266,39 +352,21 @@ impl Entrance {
         for word in 0..self.ways.len().div_ceil(64) {
             for seat in Marked::of(word, self.sleeper.callers_in(word)) {
                 self.free.add(seat);
+                self.freed = self.freed.saturating_add(1);
             }
         }
-    }
-
-    /// Waits for a connection. A fault that passes, as too many open files or a peer that went away, is waited out. What is
-    /// written to the connection goes out at once (TCP_NODELAY).
-    fn accept<R: time::Clock>(&mut self, rt: &R) -> io::Result<NewConnection> {
-        for _ in 0..u64::MAX {
-            match self.listener.accept() {
-                Ok((stream, peer)) => {
-                    if let Some(stream) = prepared(stream) {
-                        self.watch.accepted();
-                        return Ok(NewConnection { stream, peer });
-                    }
-                }
-                Err(fault) => {
-                    self.watch.failed(fault.raw_os_error());
-                    if is_lasting(&fault) {
-                        return Err(fault);
-                    }
-                    thread::sleep(rt, Duration::from_millis(PAUSE_MILLIS));
-                }
-            }
-        }
-        Err(io::Error::from(io::ErrorKind::Interrupted))
     }
 
     /// Hands the connection to a free seat of the thread that has the most.
     fn hand_over(&mut self, connection: NewConnection) {
-        self.note_free();
         let Some(seat) = self.free.take() else {
             return;
         };
+        connection.stream.prepare();
+        self.watch.accepted();
+        if let Some(left) = &mut self.left {
+            *left = left.saturating_sub(1);
+        }
         if let Some(way) = self.ways.get_mut(seat) {
             // A seat that is free has taken what came before.
             let _ = way.push(connection);
@@ -307,12 +375,21 @@ impl Entrance {
     }
 }
 
-/// The connection, so that no read and no write of it waits.
-fn prepared(stream: net::TcpStream) -> Option<TcpStream> {
-    // Where this fails replies are only later.
-    let _ = stream.set_nodelay(true);
-    stream.set_nonblocking(true).ok()?;
-    Some(TcpStream::from_std(stream))
+/// Has the thread of the entrance roused where a connection comes: the place of each listener is its number.
+fn register_all(listeners: &mut Vec<Listener>, wakers: &Wakers) -> io::Result<()> {
+    for (place, listener) in listeners.iter_mut().enumerate() {
+        listener.register(wakers, place)?;
+    }
+    Ok(())
+}
+
+/// Answers the connection as memcached does one that is too many, and closes it. What the answer becomes is its client's matter.
+fn refuse(connection: NewConnection) {
+    let NewConnection {
+        mut stream,
+        peer: _,
+    } = connection;
+    let _ = stream.write(TOO_MANY);
 }
 
 /// Whether the fault of an `accept` comes again at each further one.

@@ -1,6 +1,8 @@
 //! Connections that speak another protocol.
 ghost use Rattle.std.specs.Prelude.{◌≡◌};
-ghost use Rattle.mc_doors.specs.Foreign.{is_foreign, is_http};
+ghost use Rattle.mc_doors.specs.Foreign.{is_foreign, is_http, protocol_of};
+
+use mc_watch::Manner;
 
 /// The most bytes that it takes to tell that a connection speaks another protocol.
 pub(crate) const FIRST_BYTES: usize = 9;
@@ -12,6 +14,20 @@ pub(crate) fn is_foreign(bytes: &[u8]) -> bool
     ensures { result ≡ is_foreign bytes.now }
 {
     bytes.starts_with(&[0x80]) || bytes.starts_with(&[0x16, 0x03]) || is_http(bytes)
+}
+
+/// Why a connection ends whose first bytes are another protocol's.
+#[tactic(auto, unfolding(crate::specs::Foreign::protocol_of))]
+pub(crate) fn protocol_of(bytes: &[u8]) -> Manner
+    ensures { result ≡ protocol_of bytes.now }
+{
+    if bytes.starts_with(&[0x80]) {
+        Manner::Binary
+    } else if bytes.starts_with(&[0x16]) {
+        Manner::Tls
+    } else {
+        Manner::Http
+    }
 }
 
 /// Whether these are the first bytes of an HTTP request.

@@ -1,9 +1,10 @@
 //! A connection that is closed while its peer may still be sending.
+ghost use Rattle.std.specs.Prelude.{IfSome};
+ghost use Rattle.std.specs.Io.KnownBytes.{Keeps};
 
-use crate::tcp_line::read_some;
-use mio::net::TcpStream;
+use crate::stream::Stream;
+use crate::tap::read_some;
 use std::io::ErrorKind;
-use std::net::Shutdown;
 use std::time;
 use std::time::{Duration, Instant};
 
@@ -31,16 +32,16 @@ pub(crate) enum Lingers {
 }
 
 /// A connection whose output was ended, and of which what comes is dropped for a while: to close with bytes unread would reset
-/// the connection, and the peer could lose the last reply (RFC 1122, section 4.2.2.13).
-pub(crate) struct Lingering {
-    stream: TcpStream,
+/// the connection, and the peer could lose the last reply (RFC 1122, section 4.2.2.13). Nothing is written to it.
+pub(crate) struct Lingering<S> {
+    stream: S,
     /// Reads of it that may still be dropped.
     reads: u32,
     /// It lingers no longer.
     until: Instant,
 }
 
-impl Drop for Lingering {
+impl<S: Drop> Drop for Lingering<S> {
     /// By hand, so that to let one go is one call for whoever holds it (docs/DECISIONS.md).
     fn drop(self) {
         let Lingering {
@@ -51,10 +52,13 @@ impl Drop for Lingering {
     }
 }
 
-impl Lingering {
+impl<S: Stream + Drop> Lingering<S> {
     /// Ends the output of the stream, which is closed at once where that fails.
-    pub(crate) fn begin<R: time::Clock>(rt: &R, stream: TcpStream) -> Option<Lingering> {
-        stream.shutdown(Shutdown::Write).ok()?;
+    pub(crate) fn begin<R: time::Clock>(rt: &R, stream: S) -> Option<Lingering<S>>
+        ensures { IfSome result (λ now. Keeps (S.contents stream) (S.contents now.stream)) }
+    {
+        let mut stream = stream;
+        stream.end_output().ok()?;
         let now = Instant::now(rt).ok()?;
         let until = now.checked_add(Duration::from_millis(LINGER_MILLIS))?;
         Some(Lingering {
@@ -65,7 +69,9 @@ impl Lingering {
     }
 
     /// Drops what has come.
-    pub(crate) fn go_on<R: time::Clock>(&mut self, rt: &R) -> Lingers {
+    pub(crate) fn go_on<R: time::Clock>(&mut self, rt: &R) -> Lingers
+        ensures { Keeps (S.contents self.old.stream) (S.contents self.new.stream) }
+    {
         let mut room = [0; LINGER_BYTES];
         for _ in 0..READS_AT_ONCE {
             if self.reads == 0 {

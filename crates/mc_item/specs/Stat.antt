@@ -26,7 +26,7 @@ row_of stat.CmdFlush = (codes "cmd_flush", total asked.Flush)
 row_of stat.CmdTouch = (codes "cmd_touch", total asked.Touch)
 row_of stat.GetHits = (codes "get_hits", came_to status.Hit asked.Get)
 row_of stat.GetMisses = (codes "get_misses", came_to status.Miss asked.Get)
-row_of stat.DeleteMisses = (codes "delete_misses", came_to status.Miss asked.Delete)
+row_of stat.DeleteMisses = (codes "delete_misses", λ stats. came_to status.Miss asked.Delete stats + came_to status.BadValue asked.Delete stats)
 row_of stat.DeleteHits = (codes "delete_hits", came_to status.Hit asked.Delete)
 row_of stat.IncrMisses = (codes "incr_misses", came_to status.Miss asked.Incr)
 row_of stat.IncrHits = (codes "incr_hits", came_to status.Hit asked.Incr)
@@ -40,7 +40,8 @@ row_of stat.TouchMisses = (codes "touch_misses", came_to status.Miss asked.Touch
 row_of stat.LimitMaxbytes = (codes "limit_maxbytes", λ stats. stats.budget)
 row_of stat.Bytes = (codes "bytes", λ stats. stats.bytes)
 row_of stat.CurrItems = (codes "curr_items", λ stats. stats.items)
-row_of stat.TotalItems = (codes "total_items", λ stats. came_to status.Hit asked.Set stats + came_to status.Hit asked.Cas stats)
+row_of stat.TotalItems =
+    (codes "total_items", λ stats. came_to status.Hit asked.Set stats + came_to status.Hit asked.Cas stats + came_to status.Hit asked.Made stats)
 row_of stat.Evictions = (codes "evictions", λ stats. stats.evicted)
 
 -- all of them, in the order in which they are shown

@@ -1,39 +1,63 @@
 -- What a piece counts as, and what its answer does, as memcached counts them (protocol.txt, "General-purpose statistics").
-use Rattle.std.specs.Prelude.{ℕ, ◌+◌, ◌*◌, ◌^◌, ◌%◌, replicate, slice_index, slice_set, if◌then◌else◌}
+use Rattle.std.specs.Prelude.{ℕ, ◌+◌, ◌*◌, ◌^◌, ◌%◌, Bool, true, false, ◌&&◌, not, Option, replicate, slice_index, slice_set, if◌then◌else◌}
 use Rattle.std.specs.Option.{is_some}
 use denote.Enum.Declared.{tag_of}
 use Rattle.mc_command.specs.declared.command.Direction.{Direction}
 use Rattle.mc_command.specs.declared.command.Direction.TheVariants as direction
+use Rattle.mc_command.specs.declared.command.StoreMode.{StoreMode}
+use Rattle.mc_command.specs.declared.command.StoreMode.TheVariants as mode
 use Rattle.mc_item.specs.declared.answer.Answer.{Answer}
 use Rattle.mc_item.specs.declared.answer.Answer.TheVariants as answer
 use Rattle.mc_item.specs.declared.op.Op.{Op}
 use Rattle.mc_item.specs.declared.op.Op.TheVariants as op
 use Rattle.mc_item.specs.declared.tally.CountedAs.{CountedAs}
 use Rattle.mc_item.specs.declared.tally.CountedAs.TheVariants as asked
+use Rattle.mc_item.specs.declared.tally.Counting.{Counting}
 use Rattle.mc_item.specs.declared.tally.Status.{Status}
 use Rattle.mc_item.specs.declared.tally.Status.TheVariants as status
 use Rattle.mc_item.specs.declared.tally.Tally.{Tally}
 use Rattle.mc_item.specs.contracts.tally.CountedAs.{the_type as kinds}
 use Rattle.mc_item.specs.contracts.tally.Status.{the_type as statuses}
 
-abbrev pub counting : Direction → CountedAs
-counting direction.Increment = asked.Incr
-counting direction.Decrement = asked.Decr
+-- what counts as one kind, whatever comes of it
+abbrev pub always : CountedAs → Counting
+always kind = record { found = kind; missed = kind; made = false }
 
--- what a piece counts as
-unfoldable pub asked_of : Op → CountedAs
-asked_of (op.Store store) = if is_some store.compare then asked.Cas else asked.Set
-asked_of (op.Fetch key touch) = if is_some touch then asked.Touch else asked.Get
-asked_of (op.Count key direction amount) = counting direction
-asked_of (op.Delete key) = asked.Delete
-asked_of (op.Touch key exptime) = asked.Touch
-asked_of (op.Flush delay) = asked.Flush
-asked_of op.Stats = asked.Stats
-asked_of op.ResetStats = asked.Stats
-asked_of (op.MetaGet get) = if is_some get.touch then asked.Touch else asked.Get
-asked_of (op.MetaStore store) = if is_some store.compare then asked.Cas else asked.Set
-asked_of (op.MetaDelete delete) = asked.Delete
-asked_of (op.MetaCount count) = counting count.direction
+abbrev pub kind_of_direction : Direction → CountedAs
+kind_of_direction direction.Increment = asked.Incr
+kind_of_direction direction.Decrement = asked.Decr
+
+-- a mode joins values
+abbrev pub joins_values : StoreMode → Bool
+joins_values mode.Append = true
+joins_values mode.Prepend = true
+joins_values mode = false
+
+-- a storage command: with a unique as `cas`, but not where `ms` joins values
+abbrev pub kind_of_store : Option ℕ → Bool → CountedAs
+kind_of_store compare joins = if is_some compare && not joins then asked.Cas else asked.Set
+
+abbrev pub kind_of_fetch : Bool → CountedAs
+kind_of_fetch touches = if touches then asked.Touch else asked.Get
+
+-- What a piece counts as. One that all shards are asked counts on the first of them alone. What makes an item of a miss
+-- (the flag `N`) is counted as that; `ma` is then counted as nothing else, and `mg` as a hit. `mg` with `T` is a touch
+-- where it hits, and a get where it misses. To mark an item stale, and to drop it for too large a value, count as nothing.
+unfoldable pub counting_of : Bool → Bool → Op → Counting
+counting_of first makes (op.Store asked) = always (kind_of_store asked.compare false)
+counting_of first makes (op.Fetch key touch) = always (kind_of_fetch (is_some touch))
+counting_of first makes (op.Count key direction amount) = always (kind_of_direction direction)
+counting_of first makes (op.Delete key) = always asked.Delete
+counting_of first makes (op.Discard key) = always asked.Other
+counting_of first makes (op.Touch key exptime) = always asked.Touch
+counting_of first makes (op.Flush delay) = always (if first then asked.Flush else asked.Other)
+counting_of first makes op.Stats = always asked.Other
+counting_of first makes op.ResetStats = always asked.Other
+counting_of first makes (op.MetaGet get) = record { found = kind_of_fetch (is_some get.touch); missed = asked.Get; made = makes }
+counting_of first makes (op.MetaStore store) = always (kind_of_store store.compare (joins_values store.mode))
+counting_of first makes (op.MetaDelete delete) = record { found = if delete.invalidate then asked.Other else asked.Delete; missed = asked.Delete; made = false }
+counting_of first makes (op.MetaCount count) =
+    record { found = if makes then asked.Other else kind_of_direction count.direction; missed = kind_of_direction count.direction; made = makes }
 
 -- what an answer says of it
 unfoldable pub status_of : Answer → Status
@@ -47,9 +71,9 @@ status_of answer.NoCas = status.Refused
 status_of answer.NonNumeric = status.Refused
 status_of _ = status.Hit
 
--- nothing was counted: all 45 counters, one for each kind and status, stand at 0
+-- nothing was counted: all 50 counters, one for each kind and status, stand at 0
 abbrev pub no_counts : Tally
-no_counts = record { counts = replicate 45 0 }
+no_counts = record { counts = replicate 50 0 }
 
 -- the counter of a kind and a status, by the places of both in the order in which they are declared
 abbrev pub counter : CountedAs → Status → ℕ
@@ -62,3 +86,14 @@ counted tally asked status = slice_index tally.counts (counter asked status)
 -- the counts where this was asked once more and came to that, and no other changed; a count starts anew after 2^64 - 1
 abbrev pub noted : Tally → CountedAs → Status → Tally
 noted tally asked status = record tally { counts = slice_set tally.counts (counter asked status) ((counted tally asked status + 1) % (2 ^ 64)) }
+
+-- the kind that is counted, by what came of it
+abbrev pub kind_met : Counting → Status → CountedAs
+kind_met counting status.Miss = counting.missed
+kind_met counting status.BadValue = counting.missed
+kind_met counting status = counting.found
+
+-- the counts where that was asked and came to that: an item that was made of a miss is counted beside it
+abbrev pub counted_in : Tally → Counting → Status → Tally
+counted_in tally counting came =
+    if counting.made then noted (noted tally (kind_met counting came) came) asked.Made came else noted tally (kind_met counting came) came

@@ -1,5 +1,5 @@
 //! What a shard keeps under a key.
-ghost use Rattle.std.specs.Prelude.{◌≡◌, ◌+◌, ◌≤◌, length, IfOk};
+ghost use Rattle.std.specs.Prelude.{◌≡◌, ◌+◌, ◌≤◌, ◌⊎◌, None, length, IfOk};
 ghost use Rattle.std.specs.Option.{IsSome};
 ghost use Rattle.mc_item.specs.Expiry.{is_dead, seconds_left};
 ghost use Rattle.mc_item.specs.Value.{number_in, joined};
@@ -80,7 +80,8 @@ impl Item {
     /// The item once more, with the same value: shared, or else a copy for which the reserve is used up.
     pub fn shared(&self, reserve: &mut Option<Reserve>) -> Item
         requires { IsSome reserve.old }
-        ensures { result ≡ self.now }
+        ensures item { result ≡ self.now }
+        ensures reserve { (reserve.new ≡ reserve.old) ⊎ (reserve.new ≡ None) }
     {
         Item {
             value: self.value.shared(reserve),

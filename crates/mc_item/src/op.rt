@@ -28,6 +28,10 @@ pub enum Op {
     Delete {
         key: Key,
     },
+    /// The item under the key of a value that is too large goes, by memcached's rules.
+    Discard {
+        key: Key,
+    },
     /// `touch`.
     Touch {
         key: Key,
@@ -57,7 +61,7 @@ impl Op {
             Op::Store(_) => Kind::Store,
             Op::Fetch { .. } => Kind::Fetch,
             Op::Count { .. } => Kind::Count,
-            Op::Delete { .. } => Kind::Delete,
+            Op::Delete { .. } | Op::Discard { .. } => Kind::Delete,
             Op::Touch { .. } => Kind::Touch,
             Op::Flush { .. } => Kind::Flush,
             Op::Stats => Kind::Stats,
@@ -78,6 +82,7 @@ impl Op {
             Op::Fetch { key, .. }
             | Op::Count { key, .. }
             | Op::Delete { key }
+            | Op::Discard { key }
             | Op::Touch { key, .. } => Some(key),
             Op::MetaGet(get) => Some(&get.key),
             Op::Store(store) | Op::MetaStore(store) => Some(&store.key),

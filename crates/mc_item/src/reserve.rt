@@ -1,5 +1,5 @@
 //! Memory that is put aside.
-ghost use Rattle.std.specs.Prelude.{◌≡◌, ◌≤◌, [], length, vec_capacity};
+ghost use Rattle.std.specs.Prelude.{◌≡◌, ◌≤◌, [], IfOk, length, vec_capacity};
 ghost use Rattle.mc_wire.specs.declared.TheConstants.{GREATEST_VALUE_LIMIT};
 
 use crate::memory::NoMemory;
@@ -17,7 +17,11 @@ pub struct Reserve {
 
 impl Reserve {
     /// Puts the memory aside.
-    pub fn new(alloc: Global) -> Result<Reserve, NoMemory> {
+    pub fn new(alloc: Global) -> Result<Reserve, NoMemory>
+        ensures empty { IfOk result (λ reserve. reserve.block.value.items ≡ []) }
+        ensures room { IfOk result (λ reserve.
+            GREATEST_VALUE_LIMIT ≤ vec_capacity reserve.block.value) }
+    {
         let block = Vec::with_capacity(alloc, GREATEST_VALUE_LIMIT)?;
         match Box::new(alloc, block) {
             Ok(block) => Ok(Reserve { block }),

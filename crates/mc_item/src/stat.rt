@@ -112,7 +112,7 @@ impl Stat {
             Stat::CmdTouch => total(stats, CountedAs::Touch),
             Stat::GetHits => stats.tally.count(CountedAs::Get, Status::Hit),
             Stat::GetMisses => stats.tally.count(CountedAs::Get, Status::Miss),
-            Stat::DeleteMisses => stats.tally.count(CountedAs::Delete, Status::Miss),
+            Stat::DeleteMisses => not_deleted(stats),
             Stat::DeleteHits => stats.tally.count(CountedAs::Delete, Status::Hit),
             Stat::IncrMisses => stats.tally.count(CountedAs::Incr, Status::Miss),
             Stat::IncrHits => stats.tally.count(CountedAs::Incr, Status::Hit),
@@ -151,4 +151,13 @@ fn stored(stats: &Stats) -> u64
 {
     let set = stats.tally.count(CountedAs::Set, Status::Hit);
     set.wrapping_add(stats.tally.count(CountedAs::Cas, Status::Hit))
+        .wrapping_add(stats.tally.count(CountedAs::Made, Status::Hit))
+}
+
+/// How often no item was there to delete, or one with another unique.
+fn not_deleted(stats: &Stats) -> u64
+    ensures { result ≡ (row_of Stat.DeleteMisses).1 stats.now % 2 ^ 64 }
+{
+    let misses = stats.tally.count(CountedAs::Delete, Status::Miss);
+    misses.wrapping_add(stats.tally.count(CountedAs::Delete, Status::BadValue))
 }

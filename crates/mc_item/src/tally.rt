@@ -1,32 +1,45 @@
 //! How often a shard was asked for what, and what came of it: what who runs the server sees of its commands.
 ghost use Rattle.std.specs.Prelude.{◌≡◌, ◌<◌};
-ghost use Rattle.mc_item.specs.Tally.{asked_of, counted, counter, counting, no_counts, noted, status_of};
+ghost use Rattle.mc_item.specs.Tally.{always, counted, counted_in, counter, counting_of, joins_values, kind_met, kind_of_direction, kind_of_fetch, kind_of_store, no_counts, noted, status_of};
 
 use crate::answer::Answer;
 use crate::op::Op;
-use mc_command::{Direction, MetaFetch};
+use mc_command::{Direction, StoreMode};
 
 /// What a shard is asked, as it is counted: under memcached's names (protocol.txt, "General-purpose statistics").
 #[derive(Clone, Copy)]
 pub enum CountedAs {
-    /// `get`, `gets`, and `mg` without `T`.
+    /// `get`, `gets`, `mg` without `T`, and `mg` that misses.
     Get,
     /// `set`, `add`, `replace`, `append`, `prepend`, `ms`.
     Set,
-    /// `cas`, and `ms` with `C`.
+    /// `cas`, and `ms` with `C` that joins no values.
     Cas,
-    /// `touch`, `gat`, `gats`, and `mg` with `T`.
+    /// `touch`, `gat`, `gats`, and `mg` with `T` that hits.
     Touch,
-    /// `delete`, `md`.
+    /// `delete`, and `md` that marks no item stale.
     Delete,
     /// `incr`, and `ma` that adds.
     Incr,
     /// `decr`, and `ma` that subtracts.
     Decr,
-    /// `flush_all`.
+    /// `flush_all`, on the first shard.
     Flush,
-    /// `stats`, `stats reset`.
-    Stats,
+    /// An item that `mg` or `ma` makes of a miss.
+    Made,
+    /// What memcached has no name for: `stats`, `md` that marks an item stale, and the like.
+    Other,
+}
+
+/// What a piece counts as, by what comes of it.
+#[derive(Clone, Copy)]
+pub struct Counting {
+    /// Where it finds its item.
+    pub found: CountedAs,
+    /// Where it finds none, or one with another unique.
+    pub missed: CountedAs,
+    /// Whether it makes an item of a miss.
+    pub made: bool,
 }
 
 /// What came of it.
@@ -45,7 +58,7 @@ pub enum Status {
 }
 
 /// The number of kinds that are counted; each by its statuses.
-const KINDS: usize = 9;
+const KINDS: usize = 10;
 
 const STATUSES: usize = 5;
 
@@ -55,33 +68,107 @@ pub struct Tally {
     counts: [u64; KINDS * STATUSES],
 }
 
-impl CountedAs {
-    /// What the piece asks.
-    #[tactic(auto, unfolding(crate::specs::Tally::asked_of))]
-    pub fn of(op: &Op) -> CountedAs
-        ensures { result ≡ asked_of op.now }
+/// What a direction counts as.
+fn kind_of_direction(direction: Direction) -> CountedAs
+    ensures { result ≡ kind_of_direction direction }
+{
+    match direction {
+        Direction::Increment => CountedAs::Incr,
+        Direction::Decrement => CountedAs::Decr,
+    }
+}
+
+/// Whether a mode joins values.
+fn joins_values(mode: StoreMode) -> bool
+    ensures { result ≡ joins_values mode }
+{
+    matches!(mode, StoreMode::Append | StoreMode::Prepend)
+}
+
+/// What a storage command counts as.
+fn kind_of_store(compare: Option<u64>, joins: bool) -> CountedAs
+    ensures { result ≡ kind_of_store compare joins }
+{
+    if compare.is_some() && !joins {
+        CountedAs::Cas
+    } else {
+        CountedAs::Set
+    }
+}
+
+/// What reading an item counts as.
+fn kind_of_fetch(touches: bool) -> CountedAs
+    ensures { result ≡ kind_of_fetch touches }
+{
+    if touches {
+        CountedAs::Touch
+    } else {
+        CountedAs::Get
+    }
+}
+
+impl Counting {
+    /// What counts as one kind, whatever comes of it.
+    fn always(kind: CountedAs) -> Counting
+        ensures { result ≡ always kind }
     {
-        match op {
-            Op::Store(asked) | Op::MetaStore(asked) if asked.compare.is_some() => CountedAs::Cas,
-            Op::Store(_) | Op::MetaStore(_) => CountedAs::Set,
-            Op::Fetch { touch: Some(_), .. }
-            | Op::Touch { .. }
-            | Op::MetaGet(MetaFetch { touch: Some(_), .. }) => CountedAs::Touch,
-            Op::Fetch { .. } | Op::MetaGet(_) => CountedAs::Get,
-            Op::Count { direction, .. } => CountedAs::counting(*direction),
-            Op::Delete { .. } | Op::MetaDelete(_) => CountedAs::Delete,
-            Op::Flush { .. } => CountedAs::Flush,
-            Op::Stats | Op::ResetStats => CountedAs::Stats,
-            Op::MetaCount(asked) => CountedAs::counting(asked.direction),
+        Counting {
+            found: kind,
+            missed: kind,
+            made: false,
         }
     }
 
-    fn counting(direction: Direction) -> CountedAs
-        ensures { result ≡ counting direction }
+    /// What the piece counts as, on the first shard or another, where it makes an item of a miss or doesn't.
+    #[tactic(auto, unfolding(crate::specs::Tally::counting_of))]
+    pub fn of(op: &Op, first: bool, makes: bool) -> Counting
+        ensures { result ≡ counting_of first makes op.now }
     {
-        match direction {
-            Direction::Increment => CountedAs::Incr,
-            Direction::Decrement => CountedAs::Decr,
+        match op {
+            Op::Store(asked) => Counting::always(kind_of_store(asked.compare, false)),
+            Op::Fetch { touch, .. } => Counting::always(kind_of_fetch(touch.is_some())),
+            Op::Count { direction, .. } => Counting::always(kind_of_direction(*direction)),
+            Op::Delete { .. } => Counting::always(CountedAs::Delete),
+            Op::Touch { .. } => Counting::always(CountedAs::Touch),
+            Op::Flush { .. } if first => Counting::always(CountedAs::Flush),
+            Op::Flush { .. } | Op::Discard { .. } | Op::Stats | Op::ResetStats => {
+                Counting::always(CountedAs::Other)
+            }
+            Op::MetaGet(asked) => Counting {
+                found: kind_of_fetch(asked.touch.is_some()),
+                missed: CountedAs::Get,
+                made: makes,
+            },
+            Op::MetaStore(asked) => {
+                Counting::always(kind_of_store(asked.compare, joins_values(asked.mode)))
+            }
+            Op::MetaDelete(asked) => Counting {
+                found: if asked.invalidate {
+                    CountedAs::Other
+                } else {
+                    CountedAs::Delete
+                },
+                missed: CountedAs::Delete,
+                made: false,
+            },
+            Op::MetaCount(asked) => {
+                let missed = kind_of_direction(asked.direction);
+                Counting {
+                    found: if makes { CountedAs::Other } else { missed },
+                    missed,
+                    made: makes,
+                }
+            }
+        }
+    }
+
+    /// The kind that is counted, by what came of it.
+    fn kind_met(self, came: Status) -> CountedAs
+        ensures { result ≡ kind_met self came }
+    {
+        match came {
+            Status::Miss | Status::BadValue => self.missed,
+            Status::Hit | Status::NoMemory | Status::Refused => self.found,
         }
     }
 }
@@ -128,6 +215,16 @@ impl Tally {
         self.counts[place_of(asked, status)]
     }
 
+    /// Counts what was asked and what came of it, and an item that was made of a miss.
+    pub fn count_in(&mut self, counting: Counting, came: Status)
+        ensures { self.new ≡ counted_in self.old counting came }
+    {
+        self.note(counting.kind_met(came), came);
+        if counting.made {
+            self.note(CountedAs::Made, came);
+        }
+    }
+
     /// Counts what was asked, and what came of it.
     pub fn note(&mut self, asked: CountedAs, status: Status)
         ensures { self.new ≡ noted self.old asked status }
@@ -140,7 +237,7 @@ impl Tally {
 /// Where a kind and a status are counted.
 fn place_of(asked: CountedAs, status: Status) -> usize
     ensures place { result ≡ counter asked status }
-    ensures within { result < 45 }
+    ensures within { result < 50 }
 {
     asked as usize * STATUSES + status as usize
 }

@@ -1,5 +1,5 @@
 //! The value of an item.
-ghost use Rattle.std.specs.Prelude.{◌≡◌, ◌+◌, ◌≤◌, ◌==◌, [], length, IfOk};
+ghost use Rattle.std.specs.Prelude.{◌≡◌, ◌+◌, ◌≤◌, ◌==◌, ◌⊎◌, [], None, length, IfOk};
 ghost use Rattle.std.specs.Option.{IsSome};
 ghost use Rattle.std.specs.List.{list_all, position};
 ghost use Rattle.mc_item.specs.Value.{number_in, number_text, joined};
@@ -143,7 +143,8 @@ impl Value {
     /// copy of them, for which the reserve is used up.
     pub fn shared(&self, reserve: &mut Option<Reserve>) -> Value
         requires { IsSome reserve.old }
-        ensures { result ≡ self.now }
+        ensures value { result ≡ self.now }
+        ensures reserve { (reserve.new ≡ reserve.old) ⊎ (reserve.new ≡ None) }
     {
         let bytes = match &self.held {
             Held::Empty => return Value::empty(),
@@ -163,7 +164,8 @@ impl Value {
     #[inline(never)]
     fn copied(&self, reserve: &mut Option<Reserve>) -> Value
         requires { IsSome reserve.old }
-        ensures { result ≡ self.now }
+        ensures value { result ≡ self.now }
+        ensures reserve { reserve.new ≡ None }
     {
         let reserve = reserve.take().unwrap();
         Value {

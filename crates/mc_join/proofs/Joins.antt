@@ -1,5 +1,5 @@
 -- What each call makes of the lists that a joiner was given and gave.
-use Rattle.std.proofs.Common.{◌≡◌, ℕ, zero, suc, ◌+◌, ◌<◌, ◌≤◌, Bool, true, false, cond, List, [], ◌∷◌, ◌++◌, length, map, set, take, drop, Some, None, refl, sym, ap, ◌∙◌, arith, length-append, length-drop, length-set}
+use Rattle.std.proofs.Common.{◌≡◌, ℕ, zero, suc, ◌+◌, ◌<◌, ◌≤◌, Bool, true, false, cond, List, [], ◌∷◌, ◌++◌, length, map, set, take, drop, Some, None, refl, sym, ap, subst, ◌∙◌, arith, length-append, length-drop, length-set}
 use Rattle.std.specs.List.{slice_get, AllByRecursion, concat, prefix_len}
 use Rattle.std.proofs.lemmas.List.{take_all, take-take, take-append-le, take-set-le, drop-append-le, drop-set-add, drop-drop, drop-take, drop-map, take-map, length-take, length-map, map-append}
 use Rattle.std.proofs.lemmas.Option.{same_Some, slice_get_within}
@@ -131,6 +131,19 @@ passed_count held opened accepted handed j =
     let forms = all_answered opened accepted in
     let behind = prefix_len-drop is_answered (length handed) forms (handed_within forms handed j.beginning) in
     omega (arith, behind, ap (prefix_len is_answered) j.rest, length-replies forms)
+
+-- Where some held form has all its answers, not all replies whose turn has come were handed out.
+pub owes_some : (held : Held) (count : ℕ) → count ≡ prefix_len is_answered held.forms → (count ≡ 0 → ⊥) → (opened : List Form) (accepted : List Shown) (handed : List (List ℕ)) → IsJoiner held opened accepted handed → length handed < length (replies opened accepted)
+owes_some held count passed some opened accepted handed j = omega (arith, passed, some, passed_count held opened accepted handed j)
+
+-- Where no held form has all its answers, all replies whose turn has come were handed out.
+pub join_none : (held : Held) (count : ℕ) → count ≡ prefix_len is_answered held.forms → count ≡ 0 → (opened : List Form) (accepted : List Shown) (handed : List (List ℕ)) → IsJoiner held opened accepted handed → IsJoiner held opened accepted (replies opened accepted)
+join_none held count passed none opened accepted handed j =
+    let texts = replies opened accepted in
+    let whole : length handed ≡ length texts = omega (arith, passed, none, passed_count held opened accepted handed j) in
+    let same : handed ≡ texts = j.beginning ∙ take_all (length handed) texts (omega (arith, whole)) in
+    let P : List (List ℕ) → Type 0 = λ all. IsJoiner held opened accepted all in
+    subst P same j
 
 -- the replies whose turn has come are handed out
 pub join_hand : (old new : Held) (count : ℕ) → count ≡ prefix_len is_answered old.forms → new.handed ≡ old.handed + count → new.forms ≡ drop count old.forms → (opened : List Form) (accepted : List Shown) (handed : List (List ℕ)) → IsJoiner old opened accepted handed → IsJoiner new opened accepted (replies opened accepted)

@@ -1,5 +1,4 @@
 pub mod Answered
-pub mod Gatherings
 pub mod Joins
 pub mod Queues
 mod Rows

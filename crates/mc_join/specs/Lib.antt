@@ -3,4 +3,3 @@ pub mod Held
 pub mod Joined
 pub mod Length
 pub mod Replies
-pub mod internal

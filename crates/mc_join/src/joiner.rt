@@ -10,7 +10,6 @@ ghost use Rattle.mc_join.specs.Length.{capped};
 ghost use Rattle.mc_join.specs.Replies.{complete, replies};
 
 use crate::queue::{add, awaits, count_complete, drop_first, fill, put_first, texts_len};
-use crate::room::Room;
 use circular_buffer::HeapCircularBuffer;
 use mc_reply::{Form, Ticket};
 use mc_ring::Reply;
@@ -53,7 +52,6 @@ pub struct Joiner {
     handed: u128,
     /// The outlet has failed.
     gone: bool,
-    room: Room,
 }
 
 impl Drop for Joiner {
@@ -63,7 +61,6 @@ impl Drop for Joiner {
             forms: _forms,
             handed: _handed,
             gone: _gone,
-            room: _room,
         } = self;
     }
 }
@@ -99,7 +96,6 @@ impl Joiner {
             forms: HeapCircularBuffer::with_capacity(alloc, window)?,
             handed: 0,
             gone: false,
-            room: Room::new(alloc)?,
         })
     }
 
@@ -237,7 +233,7 @@ impl Joiner {
     }
 
     /// Writes the replies whose turn has come, in the order of their tickets, and gives how many commands it passed.
-    /// Small replies go out together. After a fault nothing is written any more. Takes no memory.
+    /// After a fault nothing is written any more. Takes no memory.
     pub fn hand<O: Outlet>(&mut self, out: &mut O) -> Result<u64, Gone>
         // Once an outlet has failed.
         ensures silent { IsTrue self.old.gone →
@@ -266,12 +262,20 @@ impl Joiner {
             ((opened : List Form) (accepted : List Shown) (handed : List (List ℕ)) →
             IsJoiner self.old opened accepted handed →
             IsJoiner self.new opened accepted handed) }
+        // The outlet fails only at a reply whose turn has come.
+        ensures owed { OnErr result
+            ((opened : List Form) (accepted : List Shown) (handed : List (List ℕ)) →
+            IsJoiner self.old opened accepted handed →
+            length handed < length (replies opened accepted)) }
     {
         if self.gone {
             return Ok(0);
         }
         let count = count_complete(&self.forms);
-        if let Err(_fault) = put_first(out, &mut self.room, &self.forms) {
+        if count == 0 {
+            return Ok(0);
+        }
+        if let Err(_fault) = put_first(out, &self.forms) {
             self.gone = true;
             return Err(Gone);
         }
@@ -288,6 +292,5 @@ impl Joiner {
         self.forms.clear();
         self.handed = 0;
         self.gone = false;
-        self.room.clear();
     }
 }

@@ -8,15 +8,12 @@ ghost use Rattle.mc_join.specs.Held.{Awaits, Fills, HasPart, IsDue};
 ghost use Rattle.mc_join.specs.Length.{capped};
 ghost use Rattle.mc_join.specs.Replies.{complete, form_text, is_answered};
 
-use crate::gathering::{Gathering, Start};
 use crate::length::ByteCounter;
-use crate::room::Room;
 use circular_buffer::HeapCircularBuffer;
 use mc_item::Answer;
 use mc_reply::{Form, put_reply};
 use mc_ring::Reply;
 use mc_wire::{OutFault, Outlet};
-use std::marker::{Brand, PhantomData};
 
 /// Puts a form behind the others, where there is a place for it; else it is let go.
 pub(crate) fn add(forms: &mut HeapCircularBuffer<Form>, form: Form) -> bool
@@ -69,41 +66,11 @@ fn is_complete(form: &Form) -> bool
     form.slots.is_filled()
 }
 
-/// Writes the replies of the first forms, those that have all their answers, in few writes: what is small waits in the room
-/// and goes out together. Where the outlet fails, it took a beginning of them.
+/// Writes the replies of the first forms, those that have all their answers. Where the outlet fails, it took a beginning of them.
 pub(crate) fn put_first<O: Outlet>(
     out: &mut O,
-    room: &mut Room,
     forms: &HeapCircularBuffer<Form>,
 ) -> Result<(), OutFault>
-    ensures { Writes (concat (map form_text (complete forms.now.items))) result (O.sight out.old)
-        (O.sight out.new) }
-{
-    put_gathered::<Brand, O>(out, room, forms)
-}
-
-/// Writes these replies by a gathering that begins with the outlet as it is.
-fn put_gathered<S: Start, O: Outlet>(
-    out: &mut O,
-    room: &mut Room,
-    forms: &HeapCircularBuffer<Form>,
-) -> Result<(), OutFault>
-    requires { S.sight ≡ O.sight out.old }
-    ensures { Writes (concat (map form_text (complete forms.now.items))) result (O.sight out.old)
-        (O.sight out.new) }
-{
-    room.clear();
-    let mut gathering: Gathering<'_, '_, S, O> = Gathering {
-        out,
-        room,
-        start: PhantomData,
-    };
-    put_each(&mut gathering, forms)?;
-    gathering.send()
-}
-
-/// Writes these replies, each by itself. Where the outlet fails, it took a beginning of them.
-fn put_each<O: Outlet>(out: &mut O, forms: &HeapCircularBuffer<Form>) -> Result<(), OutFault>
     ensures { Writes (concat (map form_text (complete forms.now.items))) result (O.sight out.old)
         (O.sight out.new) }
 {
@@ -145,7 +112,7 @@ pub(crate) fn texts_len(forms: &HeapCircularBuffer<Form>) -> u64
 {
     let mut counter = ByteCounter::new();
     // A counter that is full tells the greatest number.
-    let _ = put_each(&mut counter, forms);
+    let _ = put_first(&mut counter, forms);
     counter.count
 }
 

@@ -77,13 +77,13 @@ spells_few rules text entry (of_bad_block head line chunk ends asked is text_is 
 spells_few rules text entry (of_skipped head line skipped discarded refusal is text_is said entry_is) = subst (AsksFew rules.line_limit) (sym entry_is) (skip_few rules.line_limit discarded refusal)
 spells_few rules text entry (of_long is no_end entry_is) = subst (AsksFew rules.line_limit) (sym entry_is) tt
 
-shards_few : (shards : ℕ) (op : Op) → shards ≤ 16 → length (asked_of_all shards op) ≤ 8388608
+shards_few : (shards : ℕ) (op : Op) → shards ≤ 64 → length (asked_of_all shards op) ≤ 8388608
 shards_few shards op small =
     let long : length (asked_of_all shards op) ≡ shards = length-map-range_with_len _ 0 shards in
     omega (arith, long, small)
 
 -- So it has few pieces: one a key, or one a shard.
-pieces_few : (most shards : ℕ) (asked : Command) → shards ≤ 16 → most ≤ 8388608 → AsksFew most asked → length (pieces_of shards asked) ≤ 8388608
+pieces_few : (most shards : ℕ) (asked : Command) → shards ≤ 64 → most ≤ 8388608 → AsksFew most asked → length (pieces_of shards asked) ≤ 8388608
 unfolding pieces_of
 pieces_few most shards (command.Get retrieval) small room few = let long : length (pieces_of shards (command.Get retrieval)) ≡ length retrieval.keys = length-map retrieval.keys _ in omega (arith, long, few, room)
 pieces_few most shards (command.FlushAll delay noreply) small room few = shards_few shards (op.Flush delay) small
@@ -102,7 +102,7 @@ not_yet before entry room goes = elim (eqb_tells (before + 1) most_commands) [
 ]
 
 -- The commands of a stream have few steps, and they are not more than a connection takes.
-pub front_few : (rules : Rules) (shards before : ℕ) (input : List ℕ) (commands : List Command) (rest : List ℕ) → shards ≤ 16 → rules.line_limit ≤ 8388608 → before < most_commands → SpellsFront rules before input commands rest →
+pub front_few : (rules : Rules) (shards before : ℕ) (input : List ℕ) (commands : List Command) (rest : List ℕ) → shards ≤ 64 → rules.line_limit ≤ 8388608 → before < most_commands → SpellsFront rules before input commands rest →
     (steps_of shards commands ≤ length commands * 33554434) × (before + length commands ≤ most_commands)
 front_few rules shards before input [] rest small short room front = (omega arith, omega (arith, room))
 front_few rules shards before input (entry ∷ commands) rest small short room front =
@@ -121,7 +121,7 @@ front_few rules shards before input (entry ∷ commands) rest small short room f
     ]
 
 -- The connections have at most 2 ^ 88 + 2 ^ 64 + 2 steps each: no more than 2 ^ 63 commands, of no more than 8,388,608 pieces.
-pub all_few : (sizes : Sizes) (links : List Link) → sizes.shards ≤ 16 → sizes.line ≤ 8388608 → steps_of_all sizes.shards (map (spelled_by sizes) links) ≤ length links * 309485028268089142434332674
+pub all_few : (sizes : Sizes) (links : List Link) → sizes.shards ≤ 64 → sizes.line ≤ 8388608 → steps_of_all sizes.shards (map (spelled_by sizes) links) ≤ length links * 309485028268089142434332674
 all_few sizes [] small short = omega arith
 all_few sizes (link ∷ links) small short =
     let all = every_input (rules_of sizes) link.fed in

@@ -14,7 +14,8 @@ use Rattle.mc_item.specs.declared.op.Op.{Op}
 use Rattle.mc_item.specs.declared.op.Op.TheVariants as op
 use Rattle.mc_item.specs.Expiry.{expiry_of, is_dead}
 use Rattle.mc_item.specs.Kind.{key_of}
-use Rattle.mc_store.specs.State.{State, Used, entered, first}
+use Rattle.mc_item.specs.Tally.{counting_of}
+use Rattle.mc_store.specs.State.{State, Used, items_after, turns_after, entered, first}
 use Rattle.mc_store.specs.Step.{Answers, IsStep, noted_in, step_of}
 use Rattle.mc_store.specs.Rows.{fetched_item}
 use Rattle.mc_store.proofs.Costs.{fitting_key}
@@ -42,32 +43,32 @@ old s = record (empty_shard two s) { time = 1000 }
 
 -- the second shard once b was asked for, which it doesn't hold
 abbrev missed : State
-missed = noted_in (old 1) (op.Fetch b None) Miss
+missed = noted_in (old 1) (old 1) (op.Fetch b None) Miss
 
 abbrev item : ℕ → Item
 item unique = record { value = codes "2"; flags = 0; expiry = Never; unique = unique; last_access = 1000; fetched = false; stale = false; sent = false }
 
 -- a shard in which the key was stored
 abbrev holding : State → List ℕ → ℕ → State
-holding state key unique = entered (record state { given = 1 }) key (item unique)
+holding state key unique = entered (record state { given = 1 }) None key (item unique)
 
 -- and in which that is counted
 abbrev new : State → List ℕ → ℕ → State
-new state key unique = noted_in (holding state key unique) (store key) Stored
+new state key unique = noted_in state (holding state key unique) (store key) Stored
 
 nothing : (key : List ℕ) → get {X = Used} {R = slice_cmp nat_cmp} empty key ≡ None
 nothing key = get-empty (slice_cmp nat_cmp) key
 
 misses : IsStep (empty_shard two 1) (op.Fetch b None) 1000 Miss missed
-unfolding IsStep Answers step_of key_of
+unfolding IsStep Answers step_of key_of counting_of
 misses = (old 1, inr (rw (nothing b, nothing b)), refl)
 
 stores_b : IsStep missed (store b) 1000 Stored (new missed b 2)
-unfolding IsStep Answers step_of key_of expiry_of
+unfolding IsStep Answers step_of key_of expiry_of counting_of
 stores_b = (holding missed b 2, inr (rw (nothing b, nothing b)), refl)
 
 stores_a : IsStep (empty_shard two 0) (store a) 1000 Stored (new (old 0) a 1)
-unfolding IsStep Answers step_of key_of expiry_of
+unfolding IsStep Answers step_of key_of expiry_of counting_of
 stores_a = (holding (old 0) a 1, inr (rw (nothing a, nothing a)), refl)
 
 -- the first shard, in which a was stored
@@ -75,6 +76,7 @@ abbrev stored : State
 stored = new (old 0) a 1
 
 found : get stored.items a ≡ Some (record { item = item 1; number = 1 })
+unfolding items_after turns_after
 found = fitting_key (insert empty a (record { item = item 1; number = 1 })) 1024 a ∙ get_here empty a (record { item = item 1; number = 1 })
 
 -- and was got
@@ -82,10 +84,10 @@ abbrev got : State
 got = first stored a (fetched_item (item 1) None 1000)
 
 abbrev last : State
-last = noted_in got (op.Fetch a None) (Hit 0 1 (codes "2"))
+last = noted_in stored got (op.Fetch a None) (Hit 0 1 (codes "2"))
 
 hits : IsStep stored (op.Fetch a None) 1000 (Hit 0 1 (codes "2")) last
-unfolding IsStep Answers step_of key_of is_dead
+unfolding IsStep Answers step_of key_of is_dead counting_of
 hits = (got, inr (rw (found, found)), refl)
 
 -- what a connection asks of a shard for its command of that number

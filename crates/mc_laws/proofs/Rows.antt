@@ -52,7 +52,7 @@ at_flush = record before { time = 1000 }
 
 -- and once it has flushed, which is counted
 abbrev once : State → State
-once state = noted_in state piece.op answer.Done
+once state = noted_in state state piece.op answer.Done
 
 abbrev after : State
 after = once at_flush

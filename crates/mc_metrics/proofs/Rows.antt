@@ -1,6 +1,8 @@
--- Worked rows of the definitions of what waits, computed.
+-- Worked rows of the definitions of what waits and of amounts, computed.
 use Rattle.std.proofs.Common.{◌≡◌, ◌-◌, ◌^◌, ◌++◌, ℕ, List, [], ◌∷◌, map, Some, None, codes, refl}
 use Rattle.mc_wire.specs.Words.{words_of}
+use Rattle.std.specs.Fmt.{digits}
+use Rattle.mc_metrics.specs.Amounts.{bytes_text, digits_of, duration_text, group_text, grouped, percent_of, tenths_text}
 use Rattle.mc_metrics.specs.Backlog.{behind_colon, hexadecimal, waiting_at, waiting_in, word_at}
 
 -- lines as the system writes them: the heading, a socket that listens at port 11211 of 127.0.0.1 with 3 who wait, one that listens
@@ -59,3 +61,23 @@ sums = (refl, refl, refl)
 unreadable : map (waiting_in 22) (codes "0: 00:16 00:00 0A 00:zz" ∷ codes "0: 0016 00:00 0A 00:1" ∷ codes "0: 00:16 00:00 0A" ∷ codes "0: 00:16" ∷ []) ≡ 0 ∷ 0 ∷ 0 ∷ 0 ∷ []
 unfolding waiting_in word_at words_of behind_colon hexadecimal
 unreadable = refl
+
+-- numbers with their separators, up to the greatest one of 64 bits
+groups : map grouped (0 ∷ 999 ∷ 1000 ∷ 12345 ∷ 1002003 ∷ (2 ^ 64 - 1) ∷ [])
+    ≡ codes "0" ∷ codes "999" ∷ codes "1,000" ∷ codes "12,345" ∷ codes "1,002,003" ∷ codes "18,446,744,073,709,551,615" ∷ []
+unfolding group_text digits_of digits
+groups = refl
+
+-- bytes in the unit that suits them, rounded down
+sizes : map bytes_text (0 ∷ 1023 ∷ 1024 ∷ 1048575 ∷ 1048576 ∷ 2222100 ∷ 67108864 ∷ 2 ^ 40 ∷ [])
+    ≡ codes "0 bytes" ∷ codes "1,023 bytes" ∷ codes "1.0 KiB" ∷ codes "1,023.9 KiB" ∷ codes "1.0 MiB" ∷ codes "2.1 MiB" ∷ codes "64.0 MiB" ∷ codes "1,024.0 GiB" ∷ []
+unfolding tenths_text group_text digits_of digits
+sizes = refl
+
+times : map duration_text (0 ∷ 59 ∷ 60 ∷ 3599 ∷ 3600 ∷ 86399 ∷ 90061 ∷ [])
+    ≡ codes "0 s" ∷ codes "59 s" ∷ codes "1 min 0 s" ∷ codes "59 min 59 s" ∷ codes "1 h 0 min" ∷ codes "23 h 59 min" ∷ codes "1 d 1 h" ∷ []
+unfolding digits
+times = refl
+
+shares : (percent_of 0 0 ≡ None) × (percent_of 0 9 ≡ Some 0) × (percent_of 9 0 ≡ Some 100) × (percent_of 2 1 ≡ Some 66) × (percent_of (2 ^ 64 - 1) (2 ^ 64 - 1) ≡ Some 50)
+shares = (refl, refl, refl, refl, refl)

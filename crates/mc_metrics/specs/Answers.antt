@@ -1,8 +1,11 @@
 -- What is answered to a request.
 use Rattle.std.specs.Prelude.{ℕ, ◌≡◌, ◌||◌, ◌++◌, Bool, true, List, [], ◌∷◌, bytes_eq, codes, if◌then◌else◌}
+use Rattle.mc_watch.specs.Counts.{AreTotals, EachIsShown, shards_of}
+use Rattle.mc_watch.specs.declared.counts.Counts.{Counts}
 use Rattle.mc_watch.specs.declared.counts.Totals.{Totals}
 use Rattle.mc_watch.specs.declared.shard_counts.ShardTotals.{ShardTotals}
 use Rattle.mc_metrics.specs.declared.pages.Target.{Target}
+use Rattle.mc_metrics.specs.declared.process.Process.{Process}
 use Rattle.mc_metrics.specs.declared.pages.Target.TheVariants.{Metrics, Health, Page, Nothing}
 use Rattle.mc_metrics.specs.declared.reading.Facts.{Facts}
 use Rattle.mc_metrics.specs.Backlog.{AreWaiting}
@@ -34,19 +37,25 @@ status_at Nothing = 404
 abbrev pub status_of : List ℕ → List ℕ → ℕ
 status_of method path = if is_read method then status_at (target_of path) else 405
 
--- the metrics of a server with these facts and this uptime in seconds, at some moment; tables that were read count who waits
-abbrev pub AreMetrics : Facts → ℕ → List ℕ → Type 0
-AreMetrics facts uptime text =
-    (totals : Totals) × (waiting : ℕ) × AreWaiting facts.port waiting × (text ≡ metrics_text (record { facts = facts; totals = totals; waiting = waiting; uptime = uptime }))
+module _ {C : Type 0} (told : C → ℕ → Type 0) where
+  -- the metrics of a server with these facts and counters and this uptime in seconds: what all counters told; tables that were
+  -- read count who waits, and what its process uses the system said
+  abbrev pub AreMetrics : Facts → Counts C → ℕ → List ℕ → Type 0
+  AreMetrics facts counts uptime text =
+      (totals : Totals) × (waiting : ℕ) × (process : Process) × AreTotals told counts totals × AreWaiting facts.port waiting
+      × (text ≡ metrics_text (record { facts = facts; totals = totals; waiting = waiting; uptime = uptime; process = process }))
 
--- the text at the target of a server with these facts and this uptime: the metrics, and behind them each shard's at some moment
-abbrev pub IsTextAt : Target → Facts → ℕ → List ℕ → Type 0
-IsTextAt Metrics facts uptime text = (metrics : List ℕ) × (shards : List ShardTotals) × AreMetrics facts uptime metrics × (text ≡ metrics ++ shards_text shards)
-IsTextAt Health facts uptime text = text ≡ codes "ok" ++ (10 ∷ [])
-IsTextAt Page facts uptime text = Unit {0}
-IsTextAt Nothing facts uptime text = text ≡ codes "not found: see /, /metrics and /healthz" ++ (10 ∷ [])
+  -- the text at the target: the metrics, and behind them what each shard's own counters told. No clause says what the page shows.
+  abbrev pub IsTextAt : Target → Facts → Counts C → ℕ → List ℕ → Type 0
+  IsTextAt Metrics facts counts uptime text =
+      (metrics : List ℕ) × (shards : List ShardTotals) × AreMetrics facts counts uptime metrics
+      × EachIsShown told (shards_of counts) shards × (text ≡ metrics ++ shards_text shards)
+  IsTextAt Health facts counts uptime text = text ≡ codes "ok" ++ (10 ∷ [])
+  IsTextAt Page facts counts uptime text = Unit {0}
+  IsTextAt Nothing facts counts uptime text = text ≡ codes "not found: see /, /metrics and /healthz" ++ (10 ∷ [])
 
--- the response to a request, of a server with these facts that has run for uptime seconds
-pub record IsAnswer (facts : Facts) (uptime : ℕ) (request : Request (List ℕ)) (response : Response) : Type 0 where
-  pub status : response.status ≡ status_of (head_of request).method (uri_path (head_of request).uri)
-  pub text : is_read (head_of request).method ≡ true → IsTextAt (target_of (uri_path (head_of request).uri)) facts uptime response.body.items
+  -- the response to a request, of a server with these facts and counters that has run for uptime seconds
+  pub record IsAnswer (facts : Facts) (counts : Counts C) (uptime : ℕ) (request : Request (List ℕ)) (response : Response) : Type 0 where
+    pub status : response.status ≡ status_of (head_of request).method (uri_path (head_of request).uri)
+    pub text : is_read (head_of request).method ≡ true
+        → IsTextAt (target_of (uri_path (head_of request).uri)) facts counts uptime response.body.items

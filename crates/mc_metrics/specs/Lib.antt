@@ -1,6 +1,9 @@
 pub mod Address
+pub mod Amounts
 pub mod Answers
 pub mod Backlog
+pub mod Host
 pub mod Metrics
+pub mod Samples
 pub mod Shards
 pub mod Wishes

@@ -1,15 +1,18 @@
 -- The text of the metrics, as Prometheus reads them.
-use Rattle.std.specs.Prelude.{ℕ, List, [], ◌∷◌, ◌++◌, ◌-◌, codes}
+use Rattle.std.specs.Prelude.{ℕ, List, [], ◌∷◌, ◌++◌, ◌-◌, ◌/◌, ◌%◌, codes}
 use Rattle.std.specs.Fmt.{decimal}
 use Rattle.std.specs.List.{concat}
+use Rattle.mc_watch.specs.declared.counts.EndTotals.{EndTotals}
 use Rattle.mc_watch.specs.declared.shard_counts.CommandTotals.{CommandTotals}
 use Rattle.mc_watch.specs.declared.shard_counts.ShardTotals.{ShardTotals}
 use Rattle.mc_metrics.specs.declared.reading.Reading.{Reading}
 use Rattle.mc_metrics.specs.declared.text.CommandKind.{CommandKind}
 use Rattle.mc_metrics.specs.declared.text.CommandKind.TheVariants.{Get, Set, Cas, Touch, Delete, Incr, Decr, Flush}
+use Rattle.mc_metrics.specs.declared.text.EndReason.{EndReason}
+use Rattle.mc_metrics.specs.declared.text.EndReason.TheVariants as reason
 use Rattle.mc_metrics.specs.declared.text.Metric.{Metric}
 use Rattle.mc_metrics.specs.declared.text.Number.{Number}
-use Rattle.mc_metrics.specs.declared.text.Number.TheVariants.{Up, Uptime, LimitBytes, Shards, Seats, Open, Waiting, Accepted, Broken, Failed, Commands, Read, Written, Items, Bytes, Evicted, OutOfMemory}
+use Rattle.mc_metrics.specs.declared.text.Number.TheVariants.{Up, Uptime, LimitBytes, Shards, Seats, Open, Waiting, Accepted, Broken, Failed, Commands, Read, Written, Items, Bytes, Evicted, OutOfMemory, Resident, Started, OpenFiles, MostFiles}
 
 -- a metric of this kind, with its name, what it tells and its value: three lines, whose ends are the byte 10
 unfoldable pub metric_text : (kind name help : List ℕ) (value : ℕ) → List ℕ
@@ -25,24 +28,61 @@ counter_text name help value = metric_text (codes "counter") name help value
 -- the metrics of one number; the connections that are open are those that were accepted and have not ended
 abbrev pub numbers_text : Reading → List ℕ
 numbers_text reading =
-    concat (gauge_text (codes "memcached_up") (codes "Whether the server runs.") 1
-    ∷ gauge_text (codes "memcached_uptime_seconds") (codes "For how many seconds the server has run.") reading.uptime
-    ∷ gauge_text (codes "memcached_limit_bytes") (codes "What the items of all shards may cost together, in bytes.") reading.facts.limit_bytes
-    ∷ gauge_text (codes "mcd_shards") (codes "How many shards there are, a thread each.") reading.facts.shards
-    ∷ gauge_text (codes "memcached_max_connections") (codes "How many connections are served at a time.") reading.facts.seats
-    ∷ gauge_text (codes "memcached_current_connections") (codes "How many connections are open.") (reading.totals.accepted - reading.totals.ended)
-    ∷ gauge_text (codes "mcd_connections_waiting") (codes "How many connections wait to be accepted, in the system's queue.") reading.waiting
-    ∷ counter_text (codes "memcached_connections_total") (codes "How many connections were accepted.") reading.totals.accepted
-    ∷ counter_text (codes "mcd_connections_broken_total") (codes "How many connections failed, or were idle for too long.") reading.totals.broken
-    ∷ counter_text (codes "mcd_accepts_failed_total") (codes "How many accepts failed.") reading.totals.failed
-    ∷ counter_text (codes "mcd_commands_total") (codes "Commands of the connections that have ended.") reading.totals.commands
-    ∷ counter_text (codes "memcached_read_bytes_total") (codes "Bytes read of all connections.") reading.totals.read
-    ∷ counter_text (codes "memcached_written_bytes_total") (codes "Bytes written to all connections.") reading.totals.written
-    ∷ gauge_text (codes "memcached_current_items") (codes "How many items there are.") reading.totals.shards.items
-    ∷ gauge_text (codes "memcached_current_bytes") (codes "What the items cost together, in bytes.") reading.totals.shards.bytes
-    ∷ counter_text (codes "memcached_items_evicted_total") (codes "How many items went to make room for others.") reading.totals.shards.evicted
-    ∷ counter_text (codes "mcd_out_of_memory_total") (codes "Commands for which no memory was left.") reading.totals.shards.out_of_memory
+    concat (gauge_text (codes "memcached_up") (codes "1 as long as the server runs.") 1
+    ∷ gauge_text (codes "memcached_uptime_seconds") (codes "Seconds since the server started.") reading.uptime
+    ∷ gauge_text (codes "memcached_limit_bytes") (codes "Limit for the cost of all items, in bytes.") reading.facts.limit_bytes
+    ∷ gauge_text (codes "mcd_shards") (codes "Number of shards, each with a thread of its own.") reading.facts.shards
+    ∷ gauge_text (codes "memcached_max_connections") (codes "Maximum number of connections served at a time.") reading.facts.seats
+    ∷ gauge_text (codes "memcached_current_connections") (codes "Number of open connections.") (reading.totals.accepted - reading.totals.ended)
+    ∷ gauge_text (codes "mcd_connections_waiting") (codes "Number of connections waiting in the system's queue to be accepted.") reading.waiting
+    ∷ counter_text (codes "memcached_connections_total") (codes "Connections accepted.") reading.totals.accepted
+    ∷ counter_text (codes "mcd_connections_broken_total") (codes "Connections that failed or exceeded the idle timeout.") reading.totals.broken
+    ∷ counter_text (codes "mcd_accepts_failed_total") (codes "Failed attempts to accept a connection.") reading.totals.failed
+    ∷ counter_text (codes "mcd_commands_total") (codes "Commands received.") reading.totals.commands
+    ∷ counter_text (codes "memcached_read_bytes_total") (codes "Bytes read from clients.") reading.totals.read
+    ∷ counter_text (codes "memcached_written_bytes_total") (codes "Bytes written to clients.") reading.totals.written
+    ∷ gauge_text (codes "memcached_current_items") (codes "Number of items.") reading.totals.shards.items
+    ∷ gauge_text (codes "memcached_current_bytes") (codes "Cost of all items in bytes: key, value and 64 each.") reading.totals.shards.bytes
+    ∷ counter_text (codes "memcached_items_evicted_total") (codes "Items evicted to make room.") reading.totals.shards.evicted
+    ∷ counter_text (codes "mcd_out_of_memory_total") (codes "Commands that failed because no memory was left.") reading.totals.shards.out_of_memory
+    ∷ gauge_text (codes "process_resident_memory_bytes") (codes "Resident memory of the process, in bytes.") reading.process.resident
+    ∷ gauge_text (codes "process_start_time_seconds") (codes "Start time of the process, in seconds since 1970.") reading.facts.started
+    ∷ gauge_text (codes "process_open_fds") (codes "Number of open file descriptors of the process.") reading.process.open_files
+    ∷ gauge_text (codes "process_max_fds") (codes "Maximum number of open file descriptors of the process.") reading.process.most_files
     ∷ [])
+
+-- seconds of processors with two places behind the point, by hundredths
+unfoldable pub cpu_text : ℕ → List ℕ
+cpu_text hundredths =
+    codes "# HELP process_cpu_seconds_total CPU time used by the process, in seconds."
+    ++ ((10 ∷ codes "# TYPE process_cpu_seconds_total counter") ++ ((10 ∷ codes "process_cpu_seconds_total ")
+    ++ (decimal (hundredths / 100) ++ (codes "." ++ (decimal (hundredths / 10 % 10) ++ (decimal (hundredths % 10) ++ (10 ∷ [])))))))
+
+-- how many connections have ended for the reason of this name: 34 is the quotation mark
+unfoldable pub end_text : (name : List ℕ) (count : ℕ) → List ℕ
+end_text name count =
+    (codes "mcd_connections_ended_total{reason=" ++ (34 ∷ [])) ++ (name ++ ((34 ∷ codes "} ") ++ (decimal count ++ (10 ∷ []))))
+
+-- what comes before the reasons
+abbrev pub before_ends : List ℕ
+before_ends =
+    codes "# HELP mcd_connections_ended_total Connections closed because of an error or a limit, by reason."
+    ++ ((10 ∷ codes "# TYPE mcd_connections_ended_total counter") ++ (10 ∷ []))
+
+-- the reasons
+abbrev pub ends_each : EndTotals → List ℕ
+ends_each ends =
+    concat (end_text (codes "binary") ends.binary
+    ∷ end_text (codes "http") ends.http
+    ∷ end_text (codes "tls") ends.tls
+    ∷ end_text (codes "line_too_long") ends.line_too_long
+    ∷ end_text (codes "idle") ends.idle
+    ∷ end_text (codes "failed") ends.failed
+    ∷ end_text (codes "refused_memory") ends.refused_memory
+    ∷ [])
+
+abbrev pub ends_text : EndTotals → List ℕ
+ends_text ends = before_ends ++ ends_each ends
 
 -- how often a kind of command came to this: 34 is the quotation mark
 unfoldable pub status_text : (name status : List ℕ) (count : ℕ) → List ℕ
@@ -56,7 +96,7 @@ command_text name totals =
 -- what comes before the kinds of commands
 abbrev pub before_commands : List ℕ
 before_commands =
-    codes "# HELP memcached_commands_total What was asked of the shards, and what came of it." ++ ((10 ∷ codes "# TYPE memcached_commands_total counter") ++ (10 ∷ []))
+    codes "# HELP memcached_commands_total Commands executed by the shards, by command and outcome." ++ ((10 ∷ codes "# TYPE memcached_commands_total counter") ++ (10 ∷ []))
 
 -- the kinds of commands
 abbrev pub commands_each : ShardTotals → List ℕ
@@ -77,7 +117,7 @@ commands_text totals = before_commands ++ commands_each totals
 -- the version is a label of a metric that is always 1: 34 is the quotation mark
 abbrev pub before_version : List ℕ
 before_version =
-    codes "# HELP memcached_version The version of the server." ++ ((10 ∷ codes "# TYPE memcached_version gauge") ++ ((10 ∷ codes "memcached_version{version=") ++ (34 ∷ [])))
+    codes "# HELP memcached_version Version of the server." ++ ((10 ∷ codes "# TYPE memcached_version gauge") ++ ((10 ∷ codes "memcached_version{version=") ++ (34 ∷ [])))
 
 abbrev pub behind_version : List ℕ
 behind_version = (34 ∷ codes "} 1") ++ (10 ∷ [])
@@ -86,7 +126,9 @@ abbrev pub version_text : (version : List ℕ) → List ℕ
 version_text version = before_version ++ (version ++ behind_version)
 
 abbrev pub metrics_text : Reading → List ℕ
-metrics_text reading = version_text reading.facts.version.now ++ (numbers_text reading ++ commands_text reading.totals.shards)
+metrics_text reading =
+    version_text reading.facts.version.now
+    ++ (numbers_text reading ++ (cpu_text reading.process.cpu ++ (ends_text reading.totals.ends ++ commands_text reading.totals.shards)))
 
 -- the number of this name
 abbrev pub number_of : Number → Reading → ℕ
@@ -107,6 +149,32 @@ number_of Items reading = reading.totals.shards.items
 number_of Bytes reading = reading.totals.shards.bytes
 number_of Evicted reading = reading.totals.shards.evicted
 number_of OutOfMemory reading = reading.totals.shards.out_of_memory
+number_of Resident reading = reading.process.resident
+number_of Started reading = reading.facts.started
+number_of OpenFiles reading = reading.process.open_files
+number_of MostFiles reading = reading.process.most_files
+
+abbrev pub reason_name : EndReason → List ℕ
+reason_name reason.Binary = codes "binary"
+reason_name reason.Http = codes "http"
+reason_name reason.Tls = codes "tls"
+reason_name reason.LineTooLong = codes "line_too_long"
+reason_name reason.Idle = codes "idle"
+reason_name reason.Failed = codes "failed"
+reason_name reason.RefusedMemory = codes "refused_memory"
+
+abbrev pub reason_count : EndReason → EndTotals → ℕ
+reason_count reason.Binary ends = ends.binary
+reason_count reason.Http ends = ends.http
+reason_count reason.Tls ends = ends.tls
+reason_count reason.LineTooLong ends = ends.line_too_long
+reason_count reason.Idle ends = ends.idle
+reason_count reason.Failed ends = ends.failed
+reason_count reason.RefusedMemory ends = ends.refused_memory
+
+-- what is reported of a reason
+abbrev pub ended_text : EndTotals → EndReason → List ℕ
+ended_text ends reason = end_text (reason_name reason) (reason_count reason ends)
 
 -- what is told of a metric of one number
 abbrev pub told_text : Reading → Metric → List ℕ

@@ -18,10 +18,10 @@ name_of OutOfMemory = codes "mcd_shard_out_of_memory_total"
 
 -- what stands before the lines of a metric
 abbrev pub head_of : ShardMetric → List ℕ
-head_of Items = head_text (codes "gauge") (name_of Items) (codes "How many items a shard has.")
-head_of Bytes = head_text (codes "gauge") (name_of Bytes) (codes "What the items of a shard cost together, in bytes.")
-head_of Evicted = head_text (codes "counter") (name_of Evicted) (codes "How many items of a shard went to make room for others.")
-head_of OutOfMemory = head_text (codes "counter") (name_of OutOfMemory) (codes "Commands for which a shard had no memory.")
+head_of Items = head_text (codes "gauge") (name_of Items) (codes "Number of items in the shard.")
+head_of Bytes = head_text (codes "gauge") (name_of Bytes) (codes "Cost of the items in the shard, in bytes.")
+head_of Evicted = head_text (codes "counter") (name_of Evicted) (codes "Items of the shard evicted to make room.")
+head_of OutOfMemory = head_text (codes "counter") (name_of OutOfMemory) (codes "Commands that failed because the shard had no memory left.")
 
 abbrev pub value_of : ShardMetric → ShardTotals → ℕ
 value_of Items shard = shard.items

@@ -1,7 +1,7 @@
 -- What who runs a server wants to be watched.
-use Rattle.std.specs.Prelude.{ℕ, ◌≡◌, ◌+◌, ◌-◌, ◌^◌, Bool, length, min, option_map, if◌then◌else◌}
+use Rattle.std.specs.Prelude.{ℕ, ◌≡◌, ◌+◌, ◌-◌, ◌^◌, Bool, IfSome, length, min, option_map, if◌then◌else◌}
 use Rattle.mc_sizes.specs.declared.sizes.Sizes.{Sizes}
-use Rattle.mc_watch.specs.Counts.{threads_of}
+use Rattle.mc_watch.specs.Counts.{shard_count, threads_of}
 use Rattle.mc_watch.specs.declared.counter.Counter.{Counter}
 use Rattle.mc_watch.specs.declared.watch.Watch.{Watch}
 use Rattle.mc_metrics.specs.declared.watching.Wishes.{Wishes}
@@ -16,5 +16,9 @@ pub record AreFollowed (wishes : Wishes) (sizes : Sizes) (watch : Watch Counter)
   pub idle : option_map (λ idle_limit. idle_limit.limit) watch.idle_limit ≡ wishes.idle_timeout
   -- Connections are told on standard error, or not.
   pub told : length watch.reporters.items ≡ reporter_count wishes.verbose sizes.seats
-  -- Where the metrics are told somewhere, each shard's thread counts.
+  -- Where the metrics are told somewhere, each shard's thread counts, and each shard shows what it holds and was asked. That these
+  -- are the counters that are told no clause says: none tells one `Counter` from another.
   pub counted : option_map (λ counts. length (threads_of counts)) watch.counts ≡ option_map (λ _. sizes.shards) wishes.metrics
+  pub shown : option_map (λ counts. shard_count counts) watch.counts ≡ option_map (λ _. sizes.shards) wishes.metrics
+  -- Where a signal may ask the server to end, its connections may take as long for that as is said.
+  pub drained : IfSome watch.drain (λ drain. drain.limit ≡ wishes.drain)

@@ -105,16 +105,16 @@ impl ShardMetric {
     {
         match self {
             ShardMetric::Items => {
-                "# HELP mcd_shard_items How many items a shard has.\n# TYPE mcd_shard_items gauge\n"
+                "# HELP mcd_shard_items Number of items in the shard.\n# TYPE mcd_shard_items gauge\n"
             }
             ShardMetric::Bytes => {
-                "# HELP mcd_shard_bytes What the items of a shard cost together, in bytes.\n# TYPE mcd_shard_bytes gauge\n"
+                "# HELP mcd_shard_bytes Cost of the items in the shard, in bytes.\n# TYPE mcd_shard_bytes gauge\n"
             }
             ShardMetric::Evicted => {
-                "# HELP mcd_shard_evicted_total How many items of a shard went to make room for others.\n# TYPE mcd_shard_evicted_total counter\n"
+                "# HELP mcd_shard_evicted_total Items of the shard evicted to make room.\n# TYPE mcd_shard_evicted_total counter\n"
             }
             ShardMetric::OutOfMemory => {
-                "# HELP mcd_shard_out_of_memory_total Commands for which a shard had no memory.\n# TYPE mcd_shard_out_of_memory_total counter\n"
+                "# HELP mcd_shard_out_of_memory_total Commands that failed because the shard had no memory left.\n# TYPE mcd_shard_out_of_memory_total counter\n"
             }
         }
     }

@@ -1,5 +1,5 @@
 //! What was counted in the last minutes.
-ghost use Rattle.std.specs.Prelude.{if◌then◌else◌, ◌≡◌, ◌++◌, ◌∷◌, [], IfOk, length, nat_lt, drop};
+ghost use Rattle.std.specs.Prelude.{◌≡◌, [], IfOk};
 
 use mc_watch::Totals;
 use std::alloc::{AllocError, Global};
@@ -29,6 +29,8 @@ impl Model for History {
 }
 
 impl History {
+    ghost use Rattle.mc_metrics.specs.Samples.{with_sample};
+
     /// No sample yet.
     pub fn new(alloc: Global) -> Result<History, AllocError>
         ensures { IfOk result (λ history. history ≡ []) }
@@ -40,8 +42,7 @@ impl History {
 
     /// One sample more; the oldest goes where there are enough.
     pub fn add(&mut self, sample: Totals)
-        ensures { self.new ≡
-            (if nat_lt (length self.old) KEPT then self.old else drop 1 self.old) ++ (sample ∷ []) }
+        ensures { self.new ≡ with_sample self.old sample }
     {
         if self.samples.len() >= KEPT {
             self.samples.remove(0);

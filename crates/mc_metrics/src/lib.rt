@@ -3,11 +3,14 @@
 #![tactic(auto)]
 
 mod address;
+mod amounts;
 mod backlog;
 mod by_shard;
 mod history;
+mod host;
 mod page;
 mod pages;
+mod process;
 mod reading;
 mod server;
 mod text;
@@ -16,9 +19,10 @@ mod watching;
 
 pub use address::address_of;
 pub use history::History;
-pub use page::write_page;
+pub use page::page_of;
 pub use pages::Pages;
+pub use process::Process;
 pub use reading::{Facts, Reading};
 pub use server::MetricsServer;
 pub use text::metrics_of;
-pub use watching::{NotWatching, Watching, Wishes, start_watching};
+pub use watching::{Ended, NotWatching, Watching, Wishes, start_watching};

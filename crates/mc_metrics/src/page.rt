@@ -1,11 +1,13 @@
-//! The page that shows the last minutes.
-ghost use Rattle.std.specs.Prelude.{◌≤◌};
+//! The page that shows the last minutes: one document without scripts, which the browser loads again by itself.
+ghost use Rattle.std.specs.Prelude.{◌≡◌, ◌≤◌, ◌-◌, ◌/◌};
+ghost use Rattle.mc_metrics.specs.Amounts.{percent_of};
 
+use crate::amounts::{Unit, percent_of, push_amount, push_bytes, push_duration, push_grouped};
 use crate::history::KEPT;
-use crate::reading::Reading;
+use crate::process::Process;
+use crate::reading::{Facts, Reading};
 use mc_watch::{CommandTotals, ShardTotals, Totals};
 use std::alloc::{AllocError, Global};
-use std::fmt;
 
 /// Seconds from one sample to the next.
 pub(crate) const SAMPLE_SECONDS: u64 = 5;
@@ -17,24 +19,52 @@ const WIDTH: usize = STEP * (KEPT - 1);
 
 const HEIGHT: u64 = 100;
 
-/// What comes before the curves.
+/// What comes before the title.
 const HEAD: &str = "<!doctype html>
 <html lang=\"en\">
 <head>
 <meta charset=\"utf-8\">
 <meta name=\"viewport\" content=\"width=device-width, initial-scale=1\">
+<meta name=\"color-scheme\" content=\"light dark\">
 <meta http-equiv=\"refresh\" content=\"5\">
-<title>mcd</title>
+<title>";
+
+/// What comes between the title and the heading.
+const STYLE: &str = "</title>
 <style>
-body { font: 16px/1.4 sans-serif; margin: 1rem auto; max-width: 70rem; padding: 0 1rem; color: #222; background: #fff }
-main { display: grid; grid-template-columns: repeat(auto-fit, minmax(18rem, 1fr)); gap: 1rem }
-figure { margin: 0; border: 1px solid #bbb; padding: .5rem }
-svg { width: 100%; height: 6rem; display: block }
-polyline { fill: none; stroke: #0a58a6; stroke-width: 2; vector-effect: non-scaling-stroke }
+:root { color-scheme: light dark; --text: #222; --back: #fff; --faint: #666; --frame: #bbb; --curve: #0a58a6; --limit: #b3261e }
+@media (prefers-color-scheme: dark) {
+:root { --text: #ddd; --back: #15181c; --faint: #9aa0a6; --frame: #454a50; --curve: #6cb2ff; --limit: #ff8a80 }
+}
+body { font: 16px/1.4 sans-serif; margin: 1rem auto; max-width: 76rem; padding: 0 1rem; color: var(--text); background: var(--back) }
+a { color: var(--curve) }
+main { display: grid; grid-template-columns: repeat(auto-fit, minmax(19rem, 1fr)); gap: 1rem }
+figure { margin: 0; border: 1px solid var(--frame); padding: .5rem; display: flex; flex-direction: column }
+figcaption { flex: 1 }
+small, .top, .zero, .times { color: var(--faint); font-size: .8rem }
+small { white-space: nowrap }
+.plot { display: grid; grid-template-columns: 5rem 1fr; grid-template-rows: auto 1fr auto auto; column-gap: .4rem }
+.top, .zero { text-align: right; white-space: nowrap }
+.zero { grid-row: 3 }
+svg { grid-column: 2; grid-row: 1 / 4; width: 100%; height: 6rem }
+.times { grid-column: 2; display: grid; grid-template-columns: 1fr 1fr 1fr }
+.times :nth-child(2) { text-align: center }
+.times :last-child { text-align: right }
+path { fill: none; vector-effect: non-scaling-stroke }
+.axes { stroke: var(--frame) }
+.limit { stroke: var(--limit); stroke-dasharray: 6 4 }
+.curve { stroke: var(--curve); stroke-width: 2; stroke-linecap: round }
+dl { display: grid; grid-template-columns: auto 1fr; gap: .1rem .8rem; margin: .4rem 0 0 }
+dt { color: var(--faint) }
+dd { margin: 0 }
 </style>
 </head>
 <body>
-";
+<h1>";
+
+/// The times below a curve, and the end of its figure.
+const FOOT: &str =
+    "<div class=\"times\"><span>10 min ago</span><span>5 min ago</span><span>now</span></div></div></figure>\n";
 
 /// A curve of the last minutes: what it shows of each sample.
 #[derive(Clone, Copy)]
@@ -64,33 +94,61 @@ const CURVES: [Curve; 8] = [
 impl Curve {
     fn title(self) -> &'static str {
         match self {
-            Curve::Requests => "Requests a second",
-            Curve::Hits => "Hits of 100 gets",
+            Curve::Requests => "Requests",
+            Curve::Hits => "Hit ratio",
             Curve::Items => "Items",
-            Curve::Bytes => "Bytes of items",
-            Curve::Evictions => "Evictions a second",
+            Curve::Bytes => "Memory of items",
+            Curve::Evictions => "Evictions",
             Curve::Connections => "Connections",
-            Curve::Read => "Bytes read a second",
-            Curve::Written => "Bytes written a second",
+            Curve::Read => "Read from clients",
+            Curve::Written => "Written to clients",
         }
     }
 
-    /// Its point at a sample, by that sample and the one before it.
-    fn point(self, before: &Totals, now: &Totals) -> u64 {
+    /// What its points count.
+    fn unit(self) -> Unit {
         match self {
-            Curve::Requests => a_second(requests(&before.shards), requests(&now.shards)),
-            Curve::Hits => hits_of_100(&before.shards.get, &now.shards.get),
-            Curve::Items => now.shards.items,
-            Curve::Bytes => now.shards.bytes,
-            Curve::Evictions => a_second(before.shards.evicted, now.shards.evicted),
-            Curve::Connections => now.open(),
-            Curve::Read => a_second(before.read, now.read),
-            Curve::Written => a_second(before.written, now.written),
+            Curve::Requests | Curve::Evictions => Unit::NumberPerSecond,
+            Curve::Hits => Unit::Percent,
+            Curve::Items | Curve::Connections => Unit::Number,
+            Curve::Bytes => Unit::Bytes,
+            Curve::Read | Curve::Written => Unit::BytesPerSecond,
+        }
+    }
+
+    /// What none of its points can exceed, if it has a limit.
+    fn limit(self, facts: &Facts) -> Option<u64> {
+        match self {
+            Curve::Bytes => Some(facts.limit_bytes),
+            Curve::Connections => Some(facts.seats),
+            _ => None,
+        }
+    }
+
+    /// The least number at the top of its axis: its limit, or all of a hundred percent.
+    fn least_top(self, facts: &Facts) -> u64 {
+        match self {
+            Curve::Hits => 100,
+            _ => self.limit(facts).unwrap_or(0),
+        }
+    }
+
+    /// Its point at a sample, by that sample and the one before it; none where there is nothing to show.
+    fn point(self, before: &Totals, now: &Totals) -> Option<u64> {
+        match self {
+            Curve::Requests => Some(a_second(requests(&before.shards), requests(&now.shards))),
+            Curve::Hits => hit_percent(&before.shards.get, &now.shards.get),
+            Curve::Items => Some(now.shards.items),
+            Curve::Bytes => Some(now.shards.bytes),
+            Curve::Evictions => Some(a_second(before.shards.evicted, now.shards.evicted)),
+            Curve::Connections => Some(now.open()),
+            Curve::Read => Some(a_second(before.read, now.read)),
+            Curve::Written => Some(a_second(before.written, now.written)),
         }
     }
 
     /// Its points, one for each sample but the oldest.
-    fn points(self, alloc: Global, samples: &[Totals]) -> Result<Vec<u64>, AllocError> {
+    fn points(self, alloc: Global, samples: &[Totals]) -> Result<Vec<Option<u64>>, AllocError> {
         let mut points = Vec::with_capacity(alloc, samples.len())?;
         for place in 1..samples.len() {
             points.push(self.point(&samples[place - 1], &samples[place]))?;
@@ -99,88 +157,189 @@ impl Curve {
     }
 }
 
-/// The greatest of the points, 0 where there is none.
-fn greatest_of(points: &[u64]) -> u64 {
-    let mut greatest = 0;
+/// The greatest of the points, none where there is none.
+fn peak_of(points: &[Option<u64>]) -> Option<u64> {
+    let mut peak = None;
     for point in points {
-        greatest = greatest.max(*point);
+        peak = greater_of(peak, *point);
     }
-    greatest
+    peak
 }
 
-/// How high a point stands, where the greatest one stands highest.
-fn height_of(point: u64, greatest: u64) -> u64
+/// The greater one of two points, or the one that is there.
+fn greater_of(one: Option<u64>, other: Option<u64>) -> Option<u64> {
+    match (one, other) {
+        (Some(one), Some(other)) => Some(one.max(other)),
+        (None, point) | (point, None) => point,
+    }
+}
+
+/// How high a point stands, where `top` is the number at the top of the axis.
+fn height_of(point: u64, top: u64) -> u64
     ensures { result ≤ HEIGHT }
 {
-    if greatest == 0 {
+    if top == 0 {
         return 0;
     }
-    (point.saturating_mul(HEIGHT) / greatest).min(HEIGHT)
+    (point.saturating_mul(HEIGHT) / top).min(HEIGHT)
 }
 
-/// Writes the page: what is known now, and the curves of the samples.
-pub fn write_page<W: fmt::Write>(
+/// The page: what is known now of the server on the machine of this name, and the curves of the samples.
+pub fn page_of(
     alloc: Global,
-    out: &mut W,
+    host: &str,
     reading: &Reading,
     samples: &[Totals],
-) -> fmt::Result {
-    write_head(out, reading)?;
+) -> Result<String, AllocError> {
+    let mut text = String::new(alloc);
+    push_head(&mut text, host, &reading.facts)?;
+    push_server(&mut text, reading)?;
     for curve in &CURVES {
-        write_curve(alloc, out, *curve, samples)?;
+        push_curve(alloc, &mut text, *curve, &reading.facts, samples)?;
     }
-    out.write_str("</main>\n</body>\n</html>\n")
+    text.push_str("</main>\n</body>\n</html>\n")?;
+    Ok(text)
 }
 
-/// Writes what comes before the curves: what is known now.
-fn write_head<W: fmt::Write>(out: &mut W, reading: &Reading) -> fmt::Result {
-    let version = reading.facts.version;
-    let shards = reading.facts.shards;
-    let seats = reading.facts.seats;
-    let uptime = reading.uptime;
-    let open = reading.totals.open();
-    let accepted = reading.totals.accepted;
-    write!(out, "{HEAD}<h1>mcd {version}</h1>\n")?;
-    write!(
-        out,
-        "<p>{open} of {seats} connections open, {accepted} since the start {uptime} seconds ago; {shards} shards. The curves show the last ten minutes. <a href=\"/metrics\">All metrics</a></p>\n<main>\n"
+/// Appends what comes before the figures.
+fn push_head(text: &mut String, host: &str, facts: &Facts) -> Result<(), AllocError> {
+    let Facts { version, port, .. } = facts;
+    write!(text, "{HEAD}{host}:{port} mcd{STYLE}")?;
+    write!(text, "mcd {version} on {host}:{port}</h1>\n")?;
+    text.push_str(
+        "<p>The curves show the last ten minutes, with dashed lines for limits. <a href=\"/metrics\">All metrics</a></p>\n<main>\n",
     )
 }
 
-/// Writes a curve as a figure. The newest point stands at the right.
-fn write_curve<W: fmt::Write>(
-    alloc: Global,
-    out: &mut W,
-    curve: Curve,
-    samples: &[Totals],
-) -> fmt::Result {
-    match curve.points(alloc, samples) {
-        Ok(points) => write_figure(out, curve.title(), &points),
-        Err(_) => Err(fmt::Error),
+/// Appends the figure of what is known now.
+fn push_server(text: &mut String, reading: &Reading) -> Result<(), AllocError> {
+    text.push_str("<figure><figcaption><b>Server</b></figcaption><dl>\n<dt>Uptime</dt><dd>")?;
+    push_duration(text, reading.uptime)?;
+    text.push_str("</dd>\n<dt>Connections</dt><dd>")?;
+    push_grouped(text, reading.totals.accepted)?;
+    text.push_str(" accepted, ")?;
+    push_grouped(text, reading.waiting)?;
+    text.push_str(" waiting</dd>\n<dt>Shards</dt><dd>")?;
+    push_grouped(text, reading.facts.shards)?;
+    push_process(text, &reading.process)?;
+    text.push_str("</dd>\n</dl></figure>\n")
+}
+
+/// Appends what the process uses.
+fn push_process(text: &mut String, process: &Process) -> Result<(), AllocError> {
+    text.push_str("</dd>\n<dt>Process memory</dt><dd>")?;
+    push_bytes(text, process.resident)?;
+    text.push_str("</dd>\n<dt>CPU time</dt><dd>")?;
+    push_duration(text, process.cpu / 100)?;
+    text.push_str("</dd>\n<dt>Open files</dt><dd>")?;
+    push_grouped(text, process.open_files)?;
+    if process.most_files == u64::MAX {
+        return Ok(());
     }
+    text.push_str(" of ")?;
+    push_grouped(text, process.most_files)
 }
 
-/// Writes a figure of these points.
-fn write_figure<W: fmt::Write>(out: &mut W, title: &str, points: &[u64]) -> fmt::Result {
-    let last = points.last().copied().unwrap_or(0);
-    let greatest = greatest_of(points);
+/// Appends a curve as a figure. The newest point is at the right.
+fn push_curve(
+    alloc: Global,
+    text: &mut String,
+    curve: Curve,
+    facts: &Facts,
+    samples: &[Totals],
+) -> Result<(), AllocError> {
+    let points = curve.points(alloc, samples)?;
+    let peak = peak_of(&points);
+    let newest = points.last().copied().unwrap_or(None);
+    let limit = curve.limit(facts);
+    let top = curve.least_top(facts).max(peak.unwrap_or(0));
+    push_caption(text, curve, newest, limit, peak)?;
+    push_axes(text, curve, top)?;
+    push_limit(text, limit, top)?;
+    text.push_str("<path class=\"curve\" d=\"")?;
+    push_points(text, &points, top)?;
+    write!(text, "\"/></svg>{FOOT}")
+}
+
+/// Appends the caption of a curve: its newest point, its limit, and its greatest point.
+fn push_caption(
+    text: &mut String,
+    curve: Curve,
+    newest: Option<u64>,
+    limit: Option<u64>,
+    peak: Option<u64>,
+) -> Result<(), AllocError> {
+    let title = curve.title();
+    write!(text, "<figure><figcaption><b>{title}</b> ")?;
+    match newest {
+        Some(newest) => push_amount(text, curve.unit(), newest)?,
+        None => text.push_str("none")?,
+    }
+    push_known(text, " of ", curve.unit(), limit)?;
+    text.push_str(" <small>")?;
+    push_known(text, "peak ", curve.unit(), peak)?;
+    text.push_str("</small></figcaption>")
+}
+
+/// Appends an amount that is known, behind these words.
+fn push_known(
+    text: &mut String,
+    words: &str,
+    unit: Unit,
+    amount: Option<u64>,
+) -> Result<(), AllocError> {
+    let Some(amount) = amount else {
+        return Ok(());
+    };
+    text.push_str(words)?;
+    push_amount(text, unit, amount)
+}
+
+/// Appends the numbers at the axis of a curve, and the lines of its axes.
+fn push_axes(text: &mut String, curve: Curve, top: u64) -> Result<(), AllocError> {
+    let title = curve.title();
+    text.push_str("<div class=\"plot\"><span class=\"top\">")?;
+    push_amount(text, curve.unit(), top)?;
     write!(
-        out,
-        "<figure><figcaption>{title}: {last} (at most {greatest})</figcaption><svg viewBox=\"0 -2 {WIDTH} 104\" preserveAspectRatio=\"none\" role=\"img\" aria-label=\"{title}\"><polyline points=\""
+        text,
+        "</span><span class=\"zero\">0</span><svg viewBox=\"0 -4 {WIDTH} 108\" preserveAspectRatio=\"none\" role=\"img\" aria-label=\"{title}\">"
     )?;
-    write_points(out, points, greatest)?;
-    out.write_str("\"/></svg></figure>\n")
+    write!(
+        text,
+        "<path class=\"axes\" d=\"M0,0V{HEIGHT}H{WIDTH}V0M300,0V{HEIGHT}\"/>"
+    )
 }
 
-/// Writes where the points of a curve stand.
-fn write_points<W: fmt::Write>(out: &mut W, points: &[u64], greatest: u64) -> fmt::Result {
+/// Appends the line of the limit.
+fn push_limit(text: &mut String, limit: Option<u64>, top: u64) -> Result<(), AllocError> {
+    let Some(limit) = limit else {
+        return Ok(());
+    };
+    let y = HEIGHT - height_of(limit, top);
+    write!(text, "<path class=\"limit\" d=\"M0,{y}H{WIDTH}\"/>")
+}
+
+/// Appends the points of a curve; it has a gap where there is no point.
+fn push_points(text: &mut String, points: &[Option<u64>], top: u64) -> Result<(), AllocError> {
     let skipped = KEPT.saturating_sub(points.len());
+    let mut follows = false;
     for (place, point) in points.iter().enumerate() {
-        let x = place.saturating_add(skipped).saturating_mul(STEP);
-        let y = HEIGHT - height_of(*point, greatest);
-        write!(out, "{x},{y} ")?;
+        if let Some(point) = point {
+            let x = place.saturating_add(skipped).saturating_mul(STEP);
+            push_point(text, x, HEIGHT - height_of(*point, top), follows)?;
+        }
+        follows = point.is_some();
     }
     Ok(())
+}
+
+/// Appends a point: a line to it where it follows another one, or a dot.
+fn push_point(text: &mut String, x: usize, y: u64, follows: bool) -> Result<(), AllocError> {
+    if follows {
+        write!(text, "L{x},{y}")
+    } else {
+        write!(text, "M{x},{y}h0")
+    }
 }
 
 /// How much was asked of the shards, whatever came of it.
@@ -193,18 +352,19 @@ fn requests(shards: &ShardTotals) -> u64 {
         .saturating_add(all.refused)
 }
 
-/// How many of a hundred gets hit between two samples; none where there was no get.
-fn hits_of_100(before: &CommandTotals, now: &CommandTotals) -> u64 {
+/// The share of the gets between two samples that hit, in percent; none where there was no get.
+fn hit_percent(before: &CommandTotals, now: &CommandTotals) -> Option<u64>
+    ensures { result ≡
+        percent_of (now.now.hits - before.now.hits) (now.now.misses - before.now.misses) }
+{
     let hits = now.hits.saturating_sub(before.hits);
     let misses = now.misses.saturating_sub(before.misses);
-    let gets = hits.saturating_add(misses);
-    if gets == 0 {
-        return 0;
-    }
-    hits.saturating_mul(100) / gets
+    percent_of(hits, misses)
 }
 
 /// How much a count grew a second, between two samples.
-fn a_second(before: u64, now: u64) -> u64 {
+fn a_second(before: u64, now: u64) -> u64
+    ensures { result ≡ (now - before) / SAMPLE_SECONDS }
+{
     now.saturating_sub(before) / SAMPLE_SECONDS
 }

@@ -1,18 +1,22 @@
 //! What is answered to a request.
-ghost use Rattle.std.specs.Prelude.{◌≡◌, IfOk, string_bytes};
+ghost use Rattle.std.specs.Prelude.{◌≡◌, ◌≤◌, ◌<◌, ◌/◌, [], IfOk, string_bytes};
+ghost use Rattle.mc_watch.specs.Counts.{AreTotals, SameCounts};
 ghost use Rattle.mc_metrics.specs.Answers.{AreMetrics, IsAnswer, IsTextAt, is_read, status_at, target_of};
+ghost use Rattle.mc_metrics.specs.Samples.{Samples};
 ghost use Rattle.mc_metrics.specs.Backlog.{AreWaiting};
 
 use crate::backlog::Tables;
 use crate::by_shard::push_shards;
 use crate::history::History;
-use crate::page::{SAMPLE_SECONDS, write_page};
+use crate::host::host_name;
+use crate::page::{SAMPLE_SECONDS, page_of};
+use crate::process::ProcessFiles;
 use crate::reading::{Facts, Reading};
 use crate::text::metrics_of;
 use bytes::Bytes;
 use http::{HeaderValue, Request, StatusCode, header};
 use http_server::{Response, Service};
-use mc_watch::{Counts, ShardTotals};
+use mc_watch::{Count, Counter, Counts};
 use std::alloc::{AllocError, Global};
 use std::fs::File;
 use std::rt::Files;
@@ -67,18 +71,22 @@ impl Target {
 }
 
 /// Answers requests by what the threads of a server have counted.
-pub struct Pages {
+pub struct Pages<C = Counter> {
     alloc: Global,
     facts: Facts,
-    counts: Counts,
+    counts: Counts<C>,
     /// Where it is read how many connections wait.
     tables: Tables,
     /// How long the server has run, in seconds.
     uptime: u64,
+    /// Where it is read what its process uses.
+    process: ProcessFiles,
+    /// The name of its machine.
+    host: String,
     history: History,
 }
 
-impl Drop for Pages {
+impl<C: Drop> Drop for Pages<C> {
     /// By hand, so that to let one go is one call for whoever holds it (docs/DECISIONS.md).
     fn drop(self) {
         let Pages {
@@ -87,32 +95,49 @@ impl Drop for Pages {
             counts: _counts,
             tables: _tables,
             uptime: _uptime,
+            process: _process,
+            host: _host,
             history: _history,
         } = self;
     }
 }
 
-impl Pages {
-    /// Of a server that has just begun.
+impl<C: Count> Pages<C> {
+    /// Of a server that has just begun, whose threads count there.
     pub fn new<R: Files<File = File>>(
         rt: &R,
         alloc: Global,
         facts: Facts,
-        counts: Counts,
-    ) -> Result<Pages, AllocError> {
+        counts: &Counts<C>,
+    ) -> Result<Pages<C>, AllocError>
+        ensures facts { IfOk result (λ pages. pages.facts ≡ facts) }
+        ensures counts { IfOk result (λ pages. SameCounts pages.counts counts.now) }
+        ensures uptime { IfOk result (λ pages. pages.uptime ≡ 0) }
+        ensures samples { IfOk result (λ pages. pages.history ≡ []) }
+    {
         let history = History::new(alloc)?;
         Ok(Pages {
             alloc,
             facts,
-            counts,
+            counts: counts.share(alloc)?,
             tables: Tables::open(rt, alloc),
             uptime: 0,
+            process: ProcessFiles::open(rt, alloc),
+            host: host_name(rt, alloc),
             history,
         })
     }
 
     /// The server has run for `uptime` seconds. Where enough have passed for another sample, it is kept.
-    pub(crate) fn pass(&mut self, uptime: u64) {
+    pub(crate) fn pass(&mut self, uptime: u64)
+        ensures uptime { self.new.uptime ≡ uptime }
+        ensures sampled { self.old.uptime / SAMPLE_SECONDS < uptime / SAMPLE_SECONDS →
+            Samples C.has_told self.old.counts self.old.history self.new.history }
+        ensures early { uptime / SAMPLE_SECONDS ≤ self.old.uptime / SAMPLE_SECONDS →
+            self.new.history ≡ self.old.history }
+        ensures facts { self.new.facts ≡ self.old.facts }
+        ensures counts { self.new.counts ≡ self.old.counts }
+    {
         let is_due = uptime / SAMPLE_SECONDS > self.uptime / SAMPLE_SECONDS;
         self.uptime = uptime;
         if is_due {
@@ -121,13 +146,19 @@ impl Pages {
     }
 
     /// Keeps what is counted now, for the curves of the page.
-    pub(crate) fn sample(&mut self) {
+    pub(crate) fn sample(&mut self)
+        ensures sampled { Samples C.has_told self.old.counts self.old.history self.new.history }
+        ensures uptime { self.new.uptime ≡ self.old.uptime }
+        ensures facts { self.new.facts ≡ self.old.facts }
+        ensures counts { self.new.counts ≡ self.old.counts }
+    {
         self.history.add(self.counts.totals());
     }
 
     /// What is known now.
     fn reading(&self) -> Reading
         ensures facts { result.facts ≡ self.now.facts }
+        ensures totals { AreTotals C.has_told self.now.counts result.totals }
         ensures uptime { result.uptime ≡ self.now.uptime }
         ensures waiting { AreWaiting self.now.facts.port result.waiting }
     {
@@ -136,50 +167,41 @@ impl Pages {
             totals: self.counts.totals(),
             waiting: self.tables.waiting(self.facts.port),
             uptime: self.uptime,
+            process: self.process.now(),
         }
     }
 
     /// The metrics of all shards together.
     fn metrics(&self) -> Result<String, AllocError>
-        ensures { IfOk result
-            (λ text. AreMetrics self.now.facts self.now.uptime (string_bytes text)) }
+        ensures { IfOk result (λ text.
+            AreMetrics C.has_told self.now.facts self.now.counts self.now.uptime
+            (string_bytes text)) }
     {
         metrics_of(self.alloc, &self.reading())
-    }
-
-    /// What each shard has counted.
-    fn shard_totals(&self) -> Result<Vec<ShardTotals>, AllocError> {
-        let shards = self.counts.shards(self.alloc)?;
-        let mut totals = Vec::with_capacity(self.alloc, shards.len())?;
-        for shard in &shards {
-            totals.push(shard.totals())?;
-        }
-        Ok(totals)
     }
 
     /// All metrics: of all shards together, and then of each shard by itself.
     fn all_metrics(&self) -> Result<String, AllocError>
         ensures { IfOk result (λ text.
-            IsTextAt Target.Metrics self.now.facts self.now.uptime (string_bytes text)) }
+            IsTextAt C.has_told Target.Metrics self.now.facts self.now.counts self.now.uptime
+            (string_bytes text)) }
     {
-        let shards = self.shard_totals()?;
+        let shards = self.counts.shard_totals(self.alloc)?;
         let mut text = self.metrics()?;
         push_shards(&mut text, &shards)?;
         Ok(text)
     }
 
+    /// The page for people, as it is now.
     fn page(&self) -> Result<String, AllocError> {
-        let mut text = String::new(self.alloc);
-        let samples = self.history.samples();
-        match write_page(self.alloc, &mut text, &self.reading(), samples) {
-            Ok(()) => Ok(text),
-            Err(_) => Err(AllocError),
-        }
+        let host = self.host.as_str();
+        page_of(self.alloc, host, &self.reading(), self.history.samples())
     }
 
     /// The text at the target.
     fn answer(&self, target: Target) -> Result<Bytes, AllocError>
-        ensures { IfOk result (λ body. IsTextAt target self.now.facts self.now.uptime body) }
+        ensures { IfOk result (λ body.
+            IsTextAt C.has_told target self.now.facts self.now.counts self.now.uptime body) }
     {
         match target {
             Target::Metrics => Bytes::from_string(self.all_metrics()?),
@@ -190,9 +212,9 @@ impl Pages {
     }
 }
 
-impl Service for Pages {
+impl<C: Count> Service for Pages<C> {
     ghost answers = { λ old request response new.
-        (new ≡ old) × IsAnswer old.facts old.uptime request response };
+        (new ≡ old) × IsAnswer C.has_told old.facts old.counts old.uptime request response };
 
     fn call(
         &mut self,

@@ -1,4 +1,5 @@
 //! What is told of a server at a moment.
+use crate::process::Process;
 use mc_watch::Totals;
 
 /// What a server was started with.
@@ -14,6 +15,8 @@ pub struct Facts {
     pub seats: u64,
     /// What the items of all shards may cost together, in bytes.
     pub limit_bytes: u64,
+    /// When it started, in seconds since 1970.
+    pub started: u64,
 }
 
 /// What is known of a server at a moment.
@@ -27,4 +30,6 @@ pub struct Reading {
     pub waiting: u64,
     /// How long it has run, in seconds.
     pub uptime: u64,
+    /// What its process uses.
+    pub process: Process,
 }

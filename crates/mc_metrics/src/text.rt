@@ -1,9 +1,9 @@
 //! The metrics as Prometheus reads them (its text format, version 0.0.4).
 ghost use Rattle.std.specs.Prelude.{◌≡◌, ◌++◌, IfOk, OnOk, flat_map, string_bytes};
-ghost use Rattle.mc_metrics.specs.Metrics.{asked_text, command_name, command_text, commands_text, metric_text, metrics_text, number_of, status_text, told_text, totals_of, version_text};
+ghost use Rattle.mc_metrics.specs.Metrics.{asked_text, command_name, command_text, commands_text, cpu_text, end_text, ended_text, ends_text, metric_text, metrics_text, number_of, reason_count, reason_name, status_text, told_text, totals_of, version_text};
 
 use crate::reading::Reading;
-use mc_watch::{CommandTotals, ShardTotals};
+use mc_watch::{CommandTotals, EndTotals, ShardTotals};
 use std::alloc::{AllocError, Global};
 
 /// A metric of one number: its name, of what kind it is, what it tells, and its number.
@@ -35,6 +35,10 @@ enum Number {
     Bytes,
     Evicted,
     OutOfMemory,
+    Resident,
+    Started,
+    OpenFiles,
+    MostFiles,
 }
 
 /// A kind of command that shards are asked.
@@ -50,116 +54,167 @@ enum CommandKind {
     Flush,
 }
 
+/// A reason for which connections have ended.
+#[derive(Clone, Copy)]
+enum EndReason {
+    Binary,
+    Http,
+    Tls,
+    LineTooLong,
+    Idle,
+    Failed,
+    RefusedMemory,
+}
+
 /// A gauge grows and falls, a counter only grows.
 const GAUGE: &str = "gauge";
 
 const COUNTER: &str = "counter";
 
 /// All metrics of one number, in the order in which they are told. Those with names that memcached's exporter has mean the same.
-const METRICS: [Metric; 17] = [
+const METRICS: [Metric; 21] = [
     Metric {
         name: "memcached_up",
         kind: GAUGE,
-        help: "Whether the server runs.",
+        help: "1 as long as the server runs.",
         number: Number::Up,
     },
     Metric {
         name: "memcached_uptime_seconds",
         kind: GAUGE,
-        help: "For how many seconds the server has run.",
+        help: "Seconds since the server started.",
         number: Number::Uptime,
     },
     Metric {
         name: "memcached_limit_bytes",
         kind: GAUGE,
-        help: "What the items of all shards may cost together, in bytes.",
+        help: "Limit for the cost of all items, in bytes.",
         number: Number::LimitBytes,
     },
     Metric {
         name: "mcd_shards",
         kind: GAUGE,
-        help: "How many shards there are, a thread each.",
+        help: "Number of shards, each with a thread of its own.",
         number: Number::Shards,
     },
     Metric {
         name: "memcached_max_connections",
         kind: GAUGE,
-        help: "How many connections are served at a time.",
+        help: "Maximum number of connections served at a time.",
         number: Number::Seats,
     },
     Metric {
         name: "memcached_current_connections",
         kind: GAUGE,
-        help: "How many connections are open.",
+        help: "Number of open connections.",
         number: Number::Open,
     },
     Metric {
         name: "mcd_connections_waiting",
         kind: GAUGE,
-        help: "How many connections wait to be accepted, in the system's queue.",
+        help: "Number of connections waiting in the system's queue to be accepted.",
         number: Number::Waiting,
     },
     Metric {
         name: "memcached_connections_total",
         kind: COUNTER,
-        help: "How many connections were accepted.",
+        help: "Connections accepted.",
         number: Number::Accepted,
     },
     Metric {
         name: "mcd_connections_broken_total",
         kind: COUNTER,
-        help: "How many connections failed, or were idle for too long.",
+        help: "Connections that failed or exceeded the idle timeout.",
         number: Number::Broken,
     },
     Metric {
         name: "mcd_accepts_failed_total",
         kind: COUNTER,
-        help: "How many accepts failed.",
+        help: "Failed attempts to accept a connection.",
         number: Number::Failed,
     },
     Metric {
         name: "mcd_commands_total",
         kind: COUNTER,
-        help: "Commands of the connections that have ended.",
+        help: "Commands received.",
         number: Number::Commands,
     },
     Metric {
         name: "memcached_read_bytes_total",
         kind: COUNTER,
-        help: "Bytes read of all connections.",
+        help: "Bytes read from clients.",
         number: Number::Read,
     },
     Metric {
         name: "memcached_written_bytes_total",
         kind: COUNTER,
-        help: "Bytes written to all connections.",
+        help: "Bytes written to clients.",
         number: Number::Written,
     },
     Metric {
         name: "memcached_current_items",
         kind: GAUGE,
-        help: "How many items there are.",
+        help: "Number of items.",
         number: Number::Items,
     },
     Metric {
         name: "memcached_current_bytes",
         kind: GAUGE,
-        help: "What the items cost together, in bytes.",
+        help: "Cost of all items in bytes: key, value and 64 each.",
         number: Number::Bytes,
     },
     Metric {
         name: "memcached_items_evicted_total",
         kind: COUNTER,
-        help: "How many items went to make room for others.",
+        help: "Items evicted to make room.",
         number: Number::Evicted,
     },
     Metric {
         name: "mcd_out_of_memory_total",
         kind: COUNTER,
-        help: "Commands for which no memory was left.",
+        help: "Commands that failed because no memory was left.",
         number: Number::OutOfMemory,
     },
+    Metric {
+        name: "process_resident_memory_bytes",
+        kind: GAUGE,
+        help: "Resident memory of the process, in bytes.",
+        number: Number::Resident,
+    },
+    Metric {
+        name: "process_start_time_seconds",
+        kind: GAUGE,
+        help: "Start time of the process, in seconds since 1970.",
+        number: Number::Started,
+    },
+    Metric {
+        name: "process_open_fds",
+        kind: GAUGE,
+        help: "Number of open file descriptors of the process.",
+        number: Number::OpenFiles,
+    },
+    Metric {
+        name: "process_max_fds",
+        kind: GAUGE,
+        help: "Maximum number of open file descriptors of the process.",
+        number: Number::MostFiles,
+    },
 ];
+
+/// All reasons, in the order in which they are reported.
+const ENDS: [EndReason; 7] = [
+    EndReason::Binary,
+    EndReason::Http,
+    EndReason::Tls,
+    EndReason::LineTooLong,
+    EndReason::Idle,
+    EndReason::Failed,
+    EndReason::RefusedMemory,
+];
+
+/// What comes before the lines of the reasons.
+const BEFORE_ENDS: &str =
+    "# HELP mcd_connections_ended_total Connections closed because of an error or a limit, by reason.\n# TYPE mcd_connections_ended_total counter\n";
 
 /// All kinds of commands, in the order in which they are told.
 const COMMANDS: [CommandKind; 8] = [
@@ -175,7 +230,7 @@ const COMMANDS: [CommandKind; 8] = [
 
 /// What comes before the lines of the kinds of commands.
 const BEFORE_COMMANDS: &str =
-    "# HELP memcached_commands_total What was asked of the shards, and what came of it.\n# TYPE memcached_commands_total counter\n";
+    "# HELP memcached_commands_total Commands executed by the shards, by command and outcome.\n# TYPE memcached_commands_total counter\n";
 
 /// The text of all metrics.
 pub fn metrics_of(alloc: Global, reading: &Reading) -> Result<String, AllocError>
@@ -183,6 +238,8 @@ pub fn metrics_of(alloc: Global, reading: &Reading) -> Result<String, AllocError
 {
     let mut text = version_of(alloc, reading.facts.version)?;
     push_metrics(&mut text, &METRICS, reading)?;
+    push_cpu(&mut text, reading.process.cpu)?;
+    push_ends(&mut text, &reading.totals.ends)?;
     push_commands(&mut text, &reading.totals.shards)?;
     Ok(text)
 }
@@ -192,7 +249,7 @@ fn version_of(alloc: Global, version: &str) -> Result<String, AllocError>
     ensures { IfOk result (λ text. string_bytes text ≡ version_text version.now) }
 {
     format!(in alloc;
-        "# HELP memcached_version The version of the server.\n# TYPE memcached_version gauge\nmemcached_version{{version=\"{version}\"}} 1\n"
+        "# HELP memcached_version Version of the server.\n# TYPE memcached_version gauge\nmemcached_version{{version=\"{version}\"}} 1\n"
     )
 }
 
@@ -222,6 +279,55 @@ fn push_metric(text: &mut String, metric: &Metric, value: u64) -> Result<(), All
     write!(
         text,
         "# HELP {name} {help}\n# TYPE {name} {kind}\n{name} {value}\n"
+    )
+}
+
+/// How long the process has used processors, by this many hundredths of a second.
+#[tactic(auto, unfolding(crate::specs::Metrics::cpu_text))]
+fn push_cpu(text: &mut String, hundredths: u64) -> Result<(), AllocError>
+    ensures { OnOk result (string_bytes text.new ≡ string_bytes text.old ++ cpu_text hundredths) }
+{
+    let seconds = hundredths / 100;
+    let tenths = hundredths / 10 % 10;
+    let rest = hundredths % 10;
+    write!(
+        text,
+        "# HELP process_cpu_seconds_total CPU time used by the process, in seconds.\n# TYPE process_cpu_seconds_total counter\nprocess_cpu_seconds_total {seconds}.{tenths}{rest}\n"
+    )
+}
+
+/// How many connections have ended, by the reasons.
+fn push_ends(text: &mut String, ends: &EndTotals) -> Result<(), AllocError>
+    ensures { OnOk result (string_bytes text.new ≡ string_bytes text.old ++ ends_text ends.now) }
+{
+    text.push_str(BEFORE_ENDS)?;
+    push_each_end(text, &ENDS, ends)
+}
+
+/// The reasons, one after another.
+fn push_each_end(
+    text: &mut String,
+    reasons: &[EndReason],
+    ends: &EndTotals,
+) -> Result<(), AllocError>
+    ensures { OnOk result (string_bytes text.new ≡
+        string_bytes text.old ++ flat_map (ended_text ends.now) reasons.now) }
+{
+    for reason in reasons {
+        push_end(text, reason.name(), reason.count(ends))?;
+    }
+    Ok(())
+}
+
+/// How many connections have ended for the reason of this name.
+#[tactic(auto, unfolding(crate::specs::Metrics::end_text))]
+fn push_end(text: &mut String, name: &str, count: u64) -> Result<(), AllocError>
+    ensures { OnOk result
+        (string_bytes text.new ≡ string_bytes text.old ++ end_text name.now count) }
+{
+    write!(
+        text,
+        "mcd_connections_ended_total{{reason=\"{name}\"}} {count}\n"
     )
 }
 
@@ -293,6 +399,40 @@ impl Number {
             Number::Bytes => reading.totals.shards.bytes,
             Number::Evicted => reading.totals.shards.evicted,
             Number::OutOfMemory => reading.totals.shards.out_of_memory,
+            Number::Resident => reading.process.resident,
+            Number::Started => reading.facts.started,
+            Number::OpenFiles => reading.process.open_files,
+            Number::MostFiles => reading.process.most_files,
+        }
+    }
+}
+
+impl EndReason {
+    fn name(self) -> &'static str
+        ensures { result.now ≡ reason_name self }
+    {
+        match self {
+            EndReason::Binary => "binary",
+            EndReason::Http => "http",
+            EndReason::Tls => "tls",
+            EndReason::LineTooLong => "line_too_long",
+            EndReason::Idle => "idle",
+            EndReason::Failed => "failed",
+            EndReason::RefusedMemory => "refused_memory",
+        }
+    }
+
+    fn count(self, ends: &EndTotals) -> u64
+        ensures { result ≡ reason_count self ends.now }
+    {
+        match self {
+            EndReason::Binary => ends.binary,
+            EndReason::Http => ends.http,
+            EndReason::Tls => ends.tls,
+            EndReason::LineTooLong => ends.line_too_long,
+            EndReason::Idle => ends.idle,
+            EndReason::Failed => ends.failed,
+            EndReason::RefusedMemory => ends.refused_memory,
         }
     }
 }

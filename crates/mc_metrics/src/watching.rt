@@ -1,6 +1,6 @@
 //! What is watched of a server, as who runs it wishes, and the threads that tell it.
-ghost use Rattle.std.specs.Prelude.{◌≡◌, ◌*◌, ◌-◌, ◌^◌, IfOk, length, min, option_map};
-ghost use Rattle.mc_watch.specs.Counts.{threads_of};
+ghost use Rattle.std.specs.Prelude.{◌≡◌, ◌*◌, ◌-◌, ◌^◌, IfOk, IfSome, length, min, option_map};
+ghost use Rattle.mc_watch.specs.Counts.{shard_count, threads_of};
 ghost use Rattle.mc_metrics.specs.Wishes.{AreFollowed, reporter_count};
 
 use crate::address::address_of;
@@ -8,7 +8,10 @@ use crate::pages::Pages;
 use crate::reading::Facts;
 use crate::server::MetricsServer;
 use mc_sizes::Sizes;
-use mc_watch::{Counts, Dismissal, IdleLimit, Reporter, Reports, Seconds, Watch, reporters};
+use mc_watch::{
+    Counts, Dismissal, Drain, IdleLimit, Reporter, Reports, Seconds, Shutdown, Signals, Watch,
+    reporters,
+};
 use std::alloc::{AllocError, Global};
 use std::fs::File;
 use std::io::Eprint;
@@ -26,8 +29,12 @@ pub struct Wishes<'a> {
     pub idle_timeout: Option<u64>,
     /// Whether each connection is told on standard error.
     pub verbose: bool,
+    /// Whether standard error is the system's journal.
+    pub is_journal: bool,
     /// Where the metrics are told, if they are.
     pub metrics: Option<&'a str>,
+    /// The most seconds that connections take to end, once a signal asks the server to.
+    pub drain: u64,
 }
 
 /// Why nothing is watched.
@@ -58,10 +65,22 @@ struct Teller {
     dismissal: Arc<Dismissal, Global>,
 }
 
-/// The threads that tell what is watched.
+/// The threads that report what is watched, and how far the server is with its end, where a signal may ask for it.
 #[derive(Drop)]
 pub struct Watching {
     tellers: Vec<Teller>,
+    shutdown: Option<Shutdown>,
+}
+
+/// How a server ended that serves no more.
+#[derive(Clone, Copy)]
+pub enum Ended {
+    /// No signal asked for it.
+    Unasked,
+    /// A signal asked for it, and all connections ended in time.
+    InOrder,
+    /// A signal asked for it, and connections were cut off.
+    Cut,
 }
 
 /// Starts to watch what is wished of a server of this version at this port, of these sizes: what the server has to tell, and
@@ -90,11 +109,12 @@ pub fn start_watching<
 {
     let mut watching = Watching {
         tellers: Vec::new(rt.alloc()),
+        shutdown: None,
     };
     match watching.begin(rt, version, port, sizes, wishes) {
         Ok(watch) => Ok((watch, watching)),
         Err(fault) => {
-            watching.end(rt);
+            let _ = watching.end(rt);
             Err(fault)
         }
     }
@@ -124,12 +144,34 @@ impl Watching {
     ) -> Result<Watch, NotWatching>
         ensures { IfOk result (λ watch. AreFollowed wishes.entry sizes watch) }
     {
-        let facts = facts_of(version, port, sizes);
+        let facts = facts_of(version, port, started(rt), sizes);
+        let prefix = prefix_of(wishes.is_journal);
         Ok(Watch {
             idle_limit: idle_limit_of(rt.alloc(), wishes.idle_timeout)?,
-            reporters: self.reporters(rt, wishes.verbose, sizes.seats)?,
+            reporters: self.reporters(rt, wishes.verbose, prefix, sizes.seats)?,
             counts: self.counts(rt, wishes.metrics, facts, sizes.shards)?,
+            drain: self.drain(rt, wishes.drain)?,
         })
+    }
+
+    /// When the server is to end, where whoever started it has blocked the signals that ask for it.
+    fn drain<R: Files<File = File> + Alloc<A = Global>>(
+        &mut self,
+        rt: &R,
+        limit: u64,
+    ) -> Result<Option<Drain>, AllocError>
+        ensures { IfOk result (λ drain. IfSome drain (λ drain. drain.limit ≡ limit)) }
+    {
+        let Some(signals) = Signals::blocked(rt, rt.alloc()) else {
+            return Ok(None);
+        };
+        let shutdown = Shutdown::new(rt.alloc())?;
+        self.shutdown = Some(shutdown.share()?);
+        Ok(Some(Drain {
+            shutdown,
+            signals,
+            limit,
+        }))
     }
 
     /// A reporter for each seat and one for what accepts, and a thread that tells what they report, where that is wished.
@@ -137,6 +179,7 @@ impl Watching {
         &mut self,
         rt: &R,
         verbose: bool,
+        prefix: &'static str,
         seats: usize,
     ) -> Result<Vec<Reporter>, NotWatching>
         ensures { IfOk result (λ all. length all.items ≡ reporter_count verbose seats) }
@@ -145,7 +188,7 @@ impl Watching {
             return Ok(Vec::new(rt.alloc()));
         }
         let (all, reports) = reporters(rt.alloc(), seats.saturating_add(1))?;
-        self.tell_reports(rt, reports)?;
+        self.tell_reports(rt, reports, prefix)?;
         Ok(all)
     }
 
@@ -170,17 +213,19 @@ impl Watching {
         facts: Facts,
         shards: usize,
     ) -> Result<Option<Counts>, NotWatching>
-        ensures { IfOk result (λ counts. option_map (λ all. length (threads_of all)) counts ≡
+        ensures counted { IfOk result (λ counts.
+            option_map (λ all. length (threads_of all)) counts ≡
             option_map (λ _. shards) word.entry) }
+        ensures shown { IfOk result (λ counts.
+            option_map (λ all. shard_count all) counts ≡ option_map (λ _. shards) word.entry) }
     {
         let Some(word) = word else {
             return Ok(None);
         };
         let counts = Counts::new(rt.alloc(), shards)?;
-        let shared = counts.share(rt.alloc())?;
-        let pages = Pages::new(rt, rt.alloc(), facts, counts)?;
+        let pages = Pages::new(rt, rt.alloc(), facts, &counts)?;
         self.tell_metrics(rt, word, pages)?;
-        Ok(Some(shared))
+        Ok(Some(counts))
     }
 
     /// Starts a thread that writes the reports to standard error.
@@ -188,13 +233,14 @@ impl Watching {
         &mut self,
         rt: &R,
         reports: Reports,
+        prefix: &'static str,
     ) -> Result<(), NotWatching> {
         // The room comes first: a thread whose handle found none would never be joined.
         self.tellers.reserve(1)?;
         let dismissal = Dismissal::new(rt.alloc())?;
         let theirs = Arc::try_clone(&dismissal)?;
         let own = *rt;
-        match thread::spawn(rt, move || reports.write_all(&own, &theirs)) {
+        match thread::spawn(rt, move || reports.write_all(&own, prefix, &theirs)) {
             Ok(telling) => self.keep(telling, dismissal),
             Err(_) => Err(NotWatching::Thread),
         }
@@ -240,14 +286,25 @@ impl Watching {
         }
     }
 
-    /// Ends the threads, once they have told all.
-    pub fn end<R: Threads>(self, rt: &R) {
-        let Watching { tellers } = self;
+    /// Ends the threads, once they have told all; how the server ended.
+    pub fn end<R: Threads>(self, rt: &R) -> Ended {
+        let Watching { tellers, shutdown } = self;
         for teller in tellers {
             teller.dismissal.dismiss();
             teller.telling.join(rt);
         }
+        match shutdown {
+            Some(shutdown) if shutdown.is_cut() => Ended::Cut,
+            Some(shutdown) if shutdown.is_draining() => Ended::InOrder,
+            _ => Ended::Unasked,
+        }
     }
+}
+
+/// What is written before each line: the name of the program, or in the system's journal, which knows it, that it is an
+/// information (sd-daemon(3)).
+fn prefix_of(is_journal: bool) -> &'static str {
+    if is_journal { "<6>" } else { "mcd: " }
 }
 
 /// How long a connection may be idle, where that is limited.
@@ -263,9 +320,10 @@ fn idle_limit_of(alloc: Global, limit: Option<u64>) -> Result<Option<IdleLimit>,
 }
 
 /// What is told of the server beside what it counts.
-fn facts_of(version: &'static str, port: u16, sizes: Sizes) -> Facts
+fn facts_of(version: &'static str, port: u16, started: u64, sizes: Sizes) -> Facts
     ensures version { result.version.now ≡ version.now }
     ensures port { result.port ≡ port }
+    ensures started { result.started ≡ started }
     ensures shards { result.shards ≡ sizes.shards }
     ensures seats { result.seats ≡ sizes.seats }
     ensures limit { result.limit_bytes ≡ min (sizes.shards * sizes.bytes) (2 ^ 64 - 1) }
@@ -277,6 +335,15 @@ fn facts_of(version: &'static str, port: u16, sizes: Sizes) -> Facts
         shards,
         seats: sizes.seats as u64,
         limit_bytes: shards.saturating_mul(sizes.bytes as u64),
+        started,
+    }
+}
+
+/// The second since 1970, 0 where the clock can't be read.
+fn started<R: time::Clock>(rt: &R) -> u64 {
+    match rt.since_1970() {
+        Ok(now) => now.as_secs(),
+        Err(_) => 0,
     }
 }
 

@@ -14,7 +14,8 @@ use Rattle.mc_split.specs.Pieces.{ShardOp, pieces_of}
 use Rattle.mc_split.specs.Plan.{no_answers, parts_from}
 use Rattle.mc_reply.specs.Text.{text_of}
 use Rattle.mc_split.proofs.Shards.{pieces_within}
-use Rattle.mc_store.specs.State.{State}
+use Rattle.mc_item.specs.Kind.{key_of}
+use Rattle.mc_store.specs.State.{State, settle}
 use Rattle.mc_store.specs.Step.{Answers, IsStep, Outcome, noted_in}
 use Rattle.mc_join.specs.Replies.{answer_to, answers_of, is_to, slots_after}
 use Rattle.mc_conn.specs.History.{AnsweredCommand, IsAnswered, Taken, planned, taken_of, texts_of}
@@ -42,7 +43,7 @@ determined : (old : State) (op : Op) (moment : ℕ) (answer : Answer) (new : Sta
 unfolding IsStep Answers
 determined old op moment answer new some step = elim step.1 [
   | inl none ↦ absurd (some none.0)
-  | inr same ↦ ap (λ (s : State). (answer, s)) step.2 ∙ ap (λ (o : Outcome). (o.0, noted_in o.1 op o.0)) same
+  | inr same ↦ ap (λ (s : State). (answer, s)) step.2 ∙ ap (λ (o : Outcome). (o.0, noted_in (settle old (key_of op) moment) o.1 op o.0)) same
 ]
 
 -- from these states on, what is logged of each shard is a run

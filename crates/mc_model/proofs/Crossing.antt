@@ -184,7 +184,7 @@ shard_at index moment = record (empty_state index 2 1024 0 1024) { time = moment
 
 -- and once it has flushed, which is counted
 abbrev once : State → State
-once state = noted_in state (op.Flush (pos 0)) answer.Done
+once state = noted_in state state (op.Flush (pos 0)) answer.Done
 
 -- the shard of that number, which flushed at the moment
 abbrev flushed_at : ℕ → ℕ → State

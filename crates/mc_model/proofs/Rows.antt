@@ -148,7 +148,7 @@ runs = record {
   asker_is = refl;
   next = refl;
   before = empty_state 0 1 1024 0 1024;
-  after = noted_in at_flush piece.op entry.answer;
+  after = noted_in at_flush at_flush piece.op entry.answer;
   left = refl;
   step = (at_flush, inr refl, refl);
 }

@@ -28,8 +28,9 @@ with_state states shard state = λ index. if shard == index then state else stat
 -- what a shard answers at the moment where no memory is refused, and its state then, in which it is counted
 abbrev pub outcome_at : State → Op → ℕ → Outcome
 outcome_at state op moment =
-    let outcome = step_of (settle state (key_of op) moment) op in
-    (outcome.0, noted_in outcome.1 op outcome.0)
+    let settled = settle state (key_of op) moment in
+    let outcome = step_of settled op in
+    (outcome.0, noted_in settled outcome.1 op outcome.0)
 
 -- answers, and the states after them
 pub record Ended : Type 0 where

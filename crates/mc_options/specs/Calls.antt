@@ -1,7 +1,7 @@
 -- The calls of the program, each with the options that it has.
-use Rattle.std.specs.Prelude.{ℕ, ◌≡◌, Bool, List, [], ◌∷◌, map, Option, Ok, Err, Result, codes, find, is_some, option_map, unwrap_or, if◌then◌else◌}
+use Rattle.std.specs.Prelude.{ℕ, ◌≡◌, ◌||◌, Bool, List, [], ◌∷◌, map, Option, Some, None, Ok, Err, Result, codes, find, is_some, option_map, if◌then◌else◌}
 use Rattle.std.specs.Option.{option_map_or, option_or}
-use Rattle.clap.specs.Words.{first_of}
+use Rattle.clap.specs.Words.{Row, all_of, first_of}
 use Rattle.mc_sizes.specs.Sizes.{AreWithin}
 use Rattle.mc_sizes.specs.declared.sizes.Sizes.{Sizes}
 use Rattle.mc_options.specs.declared.options.Options.{Options}
@@ -9,21 +9,23 @@ use Rattle.mc_options.specs.declared.options.Options.TheVariants.{Listen, Replay
 use Rattle.mc_options.specs.Program.{rows_in}
 use Rattle.mc_options.specs.Wrong.{HasItems, NotOfReplay, NotOfStdio, NotOfTcp, Wrong}
 use Rattle.mc_options.specs.Flags.{is_flag}
-use Rattle.mc_options.specs.Numbers.{and_then, number_given, number_if_given, sizes_by}
+use Rattle.mc_options.specs.Numbers.{and_then, mode_by, number_given, number_if_given, number_in, sizes_by}
 
 -- what the program is called to do
 pub data Call : Type 0 where
   TellsVersion : Call
   RunsSchedule : (file : List ℕ) → Call
   ServesLine : (at : Option ℕ) (sizes : Sizes) → Call
-  ServesTcp : (address : List ℕ) (connections idle : Option ℕ) (verbose : Bool) (metrics : Option (List ℕ)) (sizes : Sizes) → Call
+  ServesTcp :
+      (places : List (List ℕ)) (path : Option (List ℕ)) (mode : ℕ) (port : List ℕ) (connections idle : Option ℕ) (verbose : Bool) (metrics : Option (List ℕ)) (drain : ℕ) (plan ignores : Bool) (sizes : Sizes) → Call
 
 -- the call as the program has it
 abbrev pub call_of : Options → Call
 call_of Version = TellsVersion
 call_of (Replay file) = RunsSchedule file.now
 call_of (Stdio at sizes) = ServesLine at sizes
-call_of (Listen address connections idle verbose metrics sizes) = ServesTcp address.now connections idle verbose (option_map (λ text. text.now) metrics) sizes
+call_of (Listen places path mode port connections idle verbose metrics drain plan ignores sizes) =
+    ServesTcp (map (λ word. word.now) places.items) (option_map (λ text. text.now) path) mode port.now connections idle verbose (option_map (λ text. text.now) metrics) drain plan ignores sizes
 
 -- the first that is given of these options with a value, or of these without one
 abbrev pub first_given : (List ℕ → Option (List ℕ)) → List (List ℕ) → List (List ℕ) → Option (List ℕ)
@@ -37,56 +39,85 @@ unless_foreign given wrong call = option_map_or (λ name. Err (wrong name)) give
 abbrev pub other_than_replay : List (List ℕ)
 other_than_replay =
     map codes
-    ("at" ∷ "listen" ∷ "shards" ∷ "seats" ∷ "bytes" ∷ "memory" ∷ "value-limit" ∷ "line-limit" ∷ "window" ∷ "connections" ∷ "idle-timeout" ∷ "metrics" ∷ [])
+    (
+    "at"
+    ∷ "listen" ∷ "shards" ∷ "seats" ∷ "bytes" ∷ "memory" ∷ "value-limit" ∷ "line-limit" ∷ "window" ∷ "connections" ∷ "idle-timeout" ∷ "metrics" ∷ "drain"
+    ∷ "port" ∷ "memory-limit" ∷ "udp-port" ∷ "unix-socket" ∷ "unix-mask" ∷ "user" ∷ "pidfile" ∷ []
+    )
 
 abbrev pub other_than_stdio : List (List ℕ)
-other_than_stdio = map codes ("listen" ∷ "seats" ∷ "connections" ∷ "idle-timeout" ∷ "metrics" ∷ [])
+other_than_stdio =
+    map codes ("listen" ∷ "seats" ∷ "connections" ∷ "idle-timeout" ∷ "metrics" ∷ "drain" ∷ "port" ∷ "udp-port" ∷ "unix-socket" ∷ "unix-mask" ∷ "user" ∷ "pidfile" ∷ [])
 
 -- the schedule in the file is run, where no other option is given
 abbrev pub replay_by : (List ℕ → Option (List ℕ)) → List ℕ → Result Call Wrong
 replay_by given file =
-    unless_foreign (first_given given other_than_replay (map codes ("stdio" ∷ "verbose" ∷ "drop-in" ∷ []))) NotOfReplay
+    unless_foreign (first_given given other_than_replay (map codes ("stdio" ∷ "verbose" ∷ "drop-in" ∷ "plan" ∷ "daemon" ∷ []))) NotOfReplay
     (Ok (RunsSchedule file))
 
 -- one line is served over standard input and output
 abbrev pub stdio_by : (List ℕ → Option (List ℕ)) → Result Call Wrong
 stdio_by given =
-    unless_foreign (first_given given other_than_stdio (codes "verbose" ∷ [])) NotOfStdio
+    unless_foreign (first_given given other_than_stdio (map codes ("verbose" ∷ "plan" ∷ "daemon" ∷ []))) NotOfStdio
     (and_then (number_if_given given (codes "at") 0 18446744073709551615) (λ at.
     and_then (sizes_by given 1) (λ sizes. Ok (ServesLine at sizes))))
 
--- the address to listen on
-abbrev pub address_by : (List ℕ → Option (List ℕ)) → List ℕ
-address_by given = unwrap_or (given (codes "listen")) (codes "127.0.0.1:11211")
+-- where to listen, beside a path that is given: what `--listen` says each time, or where neither is given this machine's own address
+abbrev pub places_by : Option (List ℕ) → Option (List (List ℕ)) → List (List ℕ)
+places_by path (Some words) = words
+places_by (Some path) None = []
+places_by None None = codes "127.0.0.1" ∷ []
 
--- TCP is served
-abbrev pub tcp_by : (List ℕ → Option (List ℕ)) → Result Call Wrong
-tcp_by given =
+-- the same of what was found
+abbrev pub places_of : List Row → List (List ℕ)
+places_of rows = places_by (first_of (codes "unix-socket") rows) (all_of (codes "listen") rows)
+
+-- the port of an address that names none, where no port of UDP is asked for
+abbrev pub port_by : (List ℕ → Option (List ℕ)) → Result (List ℕ) Wrong
+port_by given =
+    and_then (number_if_given given (codes "udp-port") 0 0) (λ udp.
+    option_map_or (λ text. and_then (number_in (codes "port") 1 65535 text) (λ number. Ok text)) (given (codes "port")) (Ok (codes "11211")))
+
+-- an option of memcached is given that does nothing here
+abbrev pub is_one_ignored : (List ℕ → Option (List ℕ)) → Bool
+is_one_ignored given = is_some (given (codes "user")) || (is_some (given (codes "pidfile")) || is_flag given (codes "daemon"))
+
+-- connections are served that come in at these places
+abbrev pub tcp_by : (List ℕ → Option (List ℕ)) → List (List ℕ) → Result Call Wrong
+tcp_by given places =
     unless_foreign (first_given given (codes "at" ∷ []) []) NotOfTcp
-    (and_then (number_given given (codes "seats") 1 1024 4096) (λ seats.
+    (and_then (number_given given (codes "seats") 1 1024 65536) (λ seats.
     and_then (number_if_given given (codes "connections") 1 4294967295) (λ connections.
     and_then (number_if_given given (codes "idle-timeout") 1 31536000) (λ idle.
+    and_then (number_given given (codes "drain") 0 5 86400) (λ drain.
     and_then (sizes_by given seats) (λ sizes.
-    Ok (ServesTcp (address_by given) connections idle (is_flag given (codes "verbose")) (given (codes "metrics")) sizes))))))
+    and_then (port_by given) (λ port.
+    and_then (mode_by given) (λ mode.
+    Ok
+    (ServesTcp places (given (codes "unix-socket")) mode port connections idle (is_flag given (codes "verbose")) (given (codes "metrics")) drain (is_flag given (codes "plan")) (is_one_ignored given) sizes)))))))))
 
 -- the call that is given, or the first thing that is wrong with it
-abbrev pub call_by : (List ℕ → Option (List ℕ)) → Result Call Wrong
-call_by given =
+abbrev pub call_by : (List ℕ → Option (List ℕ)) → List (List ℕ) → Result Call Wrong
+call_by given places =
     if is_flag given (codes "version") then Ok TellsVersion
     else if is_some (given (codes "items")) then Err HasItems
-    else option_map_or (replay_by given) (given (codes "replay")) (if is_flag given (codes "stdio") then stdio_by given else tcp_by given)
+    else option_map_or (replay_by given) (given (codes "replay")) (if is_flag given (codes "stdio") then stdio_by given else tcp_by given places)
 
 -- what the words of the command line give under the name of an option
 abbrev pub given_in : List (List ℕ) → List ℕ → Option (List ℕ)
 given_in words name = first_of name (rows_in words)
 
+-- where they say to listen
+abbrev pub places_in : List (List ℕ) → List (List ℕ)
+places_in words = places_of (rows_in words)
+
 -- What is given is this call of the program.
-abbrev pub SpellsOptions : (List ℕ → Option (List ℕ)) → Options → Type 0
-SpellsOptions given options = call_by given ≡ Ok (call_of options)
+abbrev pub SpellsOptions : (List ℕ → Option (List ℕ)) → List (List ℕ) → Options → Type 0
+SpellsOptions given places options = call_by given places ≡ Ok (call_of options)
 
 -- The sizes of the call are those that a server may have.
 abbrev pub HasAllowedSizes : Options → Type 0
 HasAllowedSizes Version = Unit {0}
 HasAllowedSizes (Replay file) = Unit {0}
 HasAllowedSizes (Stdio at sizes) = AreWithin sizes
-HasAllowedSizes (Listen address connections idle verbose metrics sizes) = AreWithin sizes
+HasAllowedSizes (Listen places path mode port connections idle verbose metrics drain plan ignores sizes) = AreWithin sizes

@@ -7,7 +7,7 @@ use Rattle.mc_options.specs.declared.fault.OptionFault.{OptionFault}
 use Rattle.mc_options.specs.declared.fault.OptionFault.TheVariants.{Call}
 use Rattle.mc_options.specs.Program.{word_faults}
 use Rattle.mc_options.specs.Wrong.{wrong_of}
-use Rattle.mc_options.specs.Calls.{call_by, given_in}
+use Rattle.mc_options.specs.Calls.{call_by, given_in, places_in}
 
 -- the exit status after a fault of the words: 0 where help was asked for, 1 without memory
 abbrev pub word_status : ErrorKind → ℕ
@@ -27,4 +27,4 @@ IsOfOptions fault = Unit {0}
 -- The words are no options of the program, or memory is wanting; or they are, and this is the first thing that is wrong with what they give.
 abbrev pub IsFaultOf : List (List ℕ) → OptionFault → Type 0
 IsFaultOf words (Call error) = HasKind (word_faults words) error
-IsFaultOf words fault = (word_faults words ≡ []) × (call_by (given_in words) ≡ Err (wrong_of fault))
+IsFaultOf words fault = (word_faults words ≡ []) × (call_by (given_in words) (places_in words) ≡ Err (wrong_of fault))

@@ -1,12 +1,12 @@
 -- The numbers that the options give. What is given is a function from the name of an option to its text.
-use Rattle.std.specs.Prelude.{ℕ, ◌-◌, ◌*◌, ◌/◌, ◌^◌, ◌&&◌, List, take, length, Option, Some, None, Ok, Err, Result, codes, nat_eq, nat_le, nat_lt, ok_or, option_and_then, option_map, if◌then◌else◌}
+use Rattle.std.specs.Prelude.{ℕ, ◌+◌, ◌-◌, ◌*◌, ◌/◌, ◌%◌, ◌^◌, ◌&&◌, ◌||◌, Bool, List, take, length, Option, Some, None, Ok, Err, Result, codes, is_some, nat_eq, nat_le, nat_lt, ok_or, option_and_then, option_map, unwrap_or, if◌then◌else◌}
 use Rattle.std.specs.Option.{option_map_or, option_transpose}
 use Rattle.std.specs.List.{ends_with}
 use Rattle.mc_command.specs.declared.rules.Profile.{Profile}
 use Rattle.mc_command.specs.declared.rules.Profile.TheVariants.{Own, DropIn}
 use Rattle.mc_wire.specs.Number.{number_of}
 use Rattle.mc_sizes.specs.declared.sizes.Sizes.{Sizes}
-use Rattle.mc_options.specs.Wrong.{Wrong, BytesAndMemory, NoNumber, NoSize}
+use Rattle.mc_options.specs.Wrong.{Wrong, NoMode, NoNumber, NoSize, TwoBudgets}
 use Rattle.mc_options.specs.Flags.{profile_by}
 
 -- what comes of the next step, or what is wrong with the one before
@@ -19,24 +19,40 @@ abbrev pub in_range : ℕ → ℕ → Option ℕ → Option ℕ
 in_range least most found =
     option_and_then (λ number. if nat_le least number && nat_le number most then Some number else None) found
 
+-- the text ends with this letter, small or capital
+abbrev pub ends_by : List ℕ → List ℕ → List ℕ → Bool
+ends_by text small capital = ends_with nat_eq text small || ends_with nat_eq text capital
+
+-- the text without its last byte
+abbrev pub without_last : List ℕ → List ℕ
+without_last text = take (length text - 1) text
+
+-- the text without a `b` or `B` at its end, which says that bytes are counted
+abbrev pub counted_of : List ℕ → List ℕ
+counted_of text = if ends_by text (codes "b") (codes "B") then without_last text else text
+
 -- what the letter behind a number of bytes multiplies it by
 abbrev pub unit_of : List ℕ → ℕ
 unit_of text =
-    if ends_with nat_eq text (codes "k") then 1024
-    else if ends_with nat_eq text (codes "m") then 1048576
-    else if ends_with nat_eq text (codes "g") then 1073741824 else 1
+    if ends_by text (codes "k") (codes "K") then 1024
+    else if ends_by text (codes "m") (codes "M") then 1048576
+    else if ends_by text (codes "g") (codes "G") then 1073741824 else 1
 
 -- the text without that letter
 abbrev pub digits_of : List ℕ → List ℕ
-digits_of text = if nat_eq (unit_of text) 1 then text else take (length text - 1) text
+digits_of text = if nat_eq (unit_of text) 1 then text else without_last text
 
 -- the product, if it has 64 bits
 abbrev pub times : ℕ → ℕ → Option ℕ
 times unit number = if nat_lt (number * unit) (2 ^ 64) then Some (number * unit) else None
 
--- the number of bytes that a text spells: a number, or one with a letter behind it
+-- the number of bytes that a text spells whose letter stands last: a number, or one with a letter behind it
+abbrev pub scaled_of : List ℕ → Option ℕ
+scaled_of text = option_and_then (times (unit_of text)) (number_of (2 ^ 64) (digits_of text))
+
+-- the number of bytes that a text spells: a number, with `k`, `m`, `g`, `b`, `kb`, `mb` or `gb` behind it where it has one
 abbrev pub bytes_of : List ℕ → Option ℕ
-bytes_of text = option_and_then (times (unit_of text)) (number_of (2 ^ 64) (digits_of text))
+bytes_of text = scaled_of (counted_of text)
 
 -- the number that the text under a name spells, from the least to the most
 abbrev pub number_in : List ℕ → ℕ → ℕ → List ℕ → Result ℕ Wrong
@@ -58,13 +74,56 @@ number_given given name least default most = option_map_or (number_in name least
 abbrev pub size_given : (List ℕ → Option (List ℕ)) → List ℕ → ℕ → ℕ → ℕ → Result ℕ Wrong
 size_given given name least default most = option_map_or (size_in name least most) (given name) (Ok default)
 
--- what each shard's items may cost together: `--bytes`, or `--memory` divided by the number of shards; both together are refused
-abbrev pub budget_of : ℕ → Option (List ℕ) → Option (List ℕ) → Result ℕ Wrong
-budget_of shards None None = Ok 16777216
-budget_of shards (Some bytes) None = size_in (codes "bytes") 1024 1073741824 bytes
-budget_of shards None (Some total) =
-    and_then (size_in (codes "memory") (1024 * shards) (1073741824 * shards) total) (λ bytes. Ok (bytes / shards))
-budget_of shards (Some bytes) (Some total) = Err BytesAndMemory
+-- the mode of a Unix socket, as the system takes it, by three octal digits that are read as one number in decimal
+abbrev pub octal : ℕ → Option ℕ
+octal digits =
+    if nat_le digits 777 && (nat_lt (digits / 10 % 10) 8 && nat_lt (digits % 10) 8)
+    then Some (digits / 100 * 64 + digits / 10 % 10 * 8 + digits % 10) else None
+
+abbrev pub mode_in : List ℕ → Result ℕ Wrong
+mode_in text = ok_or (option_and_then octal (number_of (2 ^ 64) text)) (NoMode text)
+
+-- the mode of Unix sockets: for this user alone by default
+abbrev pub mode_by : (List ℕ → Option (List ℕ)) → Result ℕ Wrong
+mode_by given = option_map_or mode_in (given (codes "unix-mask")) (Ok 448)
+
+-- what the items of all shards may cost, unless `--bytes` says what those of each may
+abbrev pub unless_bytes : Bool → Result (Option ℕ) Wrong → Result (Option ℕ) Wrong
+unless_bytes has_bytes total = if has_bytes then Err TwoBudgets else total
+
+-- what `--memory` says of a server that has this number of shards at least and at most, and what the megabytes of `-m` say
+abbrev pub memory_of : (fewest most : ℕ) → List ℕ → Result (Option ℕ) Wrong
+memory_of fewest most text = and_then (size_in (codes "memory") (1024 * fewest) (68719476736 * most) text) (λ size. Ok (Some size))
+
+abbrev pub megabytes_of : ℕ → List ℕ → Result (Option ℕ) Wrong
+megabytes_of most text = and_then (number_in (codes "memory-limit") 1 (65536 * most) text) (λ number. Ok (Some (number * 1048576)))
+
+-- what the items of all shards may cost together, where it is said; no two options say what items cost
+abbrev pub total_of : (fewest most : ℕ) → Bool → (memory megabytes : Option (List ℕ)) → Result (Option ℕ) Wrong
+total_of fewest most has_bytes None None = Ok None
+total_of fewest most has_bytes (Some text) None = unless_bytes has_bytes (memory_of fewest most text)
+total_of fewest most has_bytes None (Some text) = unless_bytes has_bytes (megabytes_of most text)
+total_of fewest most has_bytes (Some text) (Some other) = Err TwoBudgets
+
+-- how many shards it takes that none has more than its greatest budget
+abbrev pub needed_for : ℕ → ℕ
+needed_for total = (total + 68719476735) / 68719476736
+
+-- the greater of the two
+abbrev pub greater : ℕ → ℕ → ℕ
+greater a b = if nat_lt a b then b else a
+
+-- the number of shards, no fewer than these, and the budget of each: an equal part of all, or what `--bytes` says
+abbrev pub shares_by : (List ℕ → Option (List ℕ)) → ℕ → Option ℕ → Result (ℕ × ℕ) Wrong
+shares_by given fewest None = and_then (size_given given (codes "bytes") 1024 16777216 68719476736) (λ bytes. Ok (fewest, bytes))
+shares_by given fewest (Some total) = Ok (greater fewest (needed_for total), total / greater fewest (needed_for total))
+
+-- the number of shards and the budget of each; where `--shards` isn't given there are two, or as many as the memory needs
+abbrev pub budget_by : (List ℕ → Option (List ℕ)) → Result (ℕ × ℕ) Wrong
+budget_by given =
+    and_then (number_if_given given (codes "shards") 1 64) (λ shards.
+    and_then (total_of (unwrap_or shards 2) (unwrap_or shards 64) (is_some (given (codes "bytes"))) (given (codes "memory")) (given (codes "memory-limit"))) (λ total.
+    shares_by given (unwrap_or shards 2) total))
 
 -- how many bytes a line has at most where nothing else is said
 abbrev pub default_line : Profile → ℕ
@@ -74,9 +133,8 @@ default_line DropIn = 1048576
 -- the sizes of the server with this number of seats, whose rings have 20 places, or the first of them that is wrong
 abbrev pub sizes_by : (List ℕ → Option (List ℕ)) → ℕ → Result Sizes Wrong
 sizes_by given seats =
-    and_then (number_given given (codes "shards") 1 2 16) (λ shards.
-    and_then (budget_of shards (given (codes "bytes")) (given (codes "memory"))) (λ bytes.
+    and_then (budget_by given) (λ budget.
     and_then (size_given given (codes "value-limit") 1024 1048576 8388608) (λ value.
     and_then (size_given given (codes "line-limit") 2048 (default_line (profile_by given)) 8388608) (λ line.
     and_then (number_given given (codes "window") 1 256 4096) (λ window.
-    Ok (record { profile = profile_by given; seats = seats; shards = shards; bytes = bytes; ring = 20; value = value; line = line; window = window }))))))
+    Ok (record { profile = profile_by given; seats = seats; shards = budget.0; bytes = budget.1; ring = 20; value = value; line = line; window = window })))))

@@ -12,11 +12,13 @@ pub data Wrong : Type 0 where
   NotOfReplay : (name : List ℕ) → Wrong
   NotOfStdio : (name : List ℕ) → Wrong
   NotOfTcp : (name : List ℕ) → Wrong
-  -- one of the two says what the items may cost
-  BytesAndMemory : Wrong
+  -- more than one option says what the items may cost
+  TwoBudgets : Wrong
   -- under this name stands a word that is no number, or no number of bytes, from the least to the most
   NoNumber : (name word : List ℕ) (least most : ℕ) → Wrong
   NoSize : (name word : List ℕ) (least most : ℕ) → Wrong
+  -- the mode of Unix sockets is no octal number up to 777
+  NoMode : (word : List ℕ) → Wrong
 
 -- what a fault tells
 abbrev pub wrong_of : OptionFault → Wrong
@@ -25,6 +27,7 @@ wrong_of fault.Items = HasItems
 wrong_of (fault.NotOfReplay option) = NotOfReplay option.now
 wrong_of (fault.NotOfStdio option) = NotOfStdio option.now
 wrong_of (fault.NotOfTcp option) = NotOfTcp option.now
-wrong_of fault.BytesAndMemory = BytesAndMemory
+wrong_of fault.TwoBudgets = TwoBudgets
 wrong_of (fault.Number option word least most) = NoNumber option.now word.now least most
 wrong_of (fault.Size option word least most) = NoSize option.now word.now least most
+wrong_of (fault.Mode word) = NoMode word.now

@@ -22,7 +22,7 @@ pub enum OptionFault<'a> {
         option: &'static str,
     },
     /// An option is given beside `--stdio` that serves TCP alone.
-    #[error("--{option} doesn't go with --stdio, which takes --at, --shards, --bytes, --memory, --value-limit, --line-limit, --window and --drop-in")]
+    #[error("--{option} doesn't go with --stdio, which takes --at, --shards, --bytes, --memory, --memory-limit, --value-limit, --line-limit, --window and --drop-in")]
     NotOfStdio {
         option: &'static str,
     },
@@ -31,9 +31,9 @@ pub enum OptionFault<'a> {
     NotOfTcp {
         option: &'static str,
     },
-    /// Two options say what the items may cost.
-    #[error("--bytes and --memory don't go together: --bytes is for each shard, --memory for all of them")]
-    BytesAndMemory,
+    /// More than one option says what the items may cost.
+    #[error("--bytes, --memory and --memory-limit don't go together: --bytes is for each shard, the others for all of them")]
+    TwoBudgets,
     /// The word is no number in its range.
     #[error("--{option} takes a number from {least} to {most}, not '{word}'")]
     Number {
@@ -43,12 +43,17 @@ pub enum OptionFault<'a> {
         most: u64,
     },
     /// The word is no number of bytes in its range.
-    #[error("--{option} takes a number of bytes from {least} to {most}, or one of k, m and g (1024 each) behind a number, not '{word}'")]
+    #[error("--{option} takes a number of bytes from {least} to {most}, or a size such as 64k, 64m or 4g, not '{word}'")]
     Size {
         option: &'static str,
         word: &'a str,
         least: u64,
         most: u64,
+    },
+    /// The word is no mode of a Unix socket.
+    #[error("--unix-mask takes an octal number from 0 to 777, not '{word}'")]
+    Mode {
+        word: &'a str,
     },
 }
 

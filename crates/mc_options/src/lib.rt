@@ -1,9 +1,11 @@
 //! The command line: how the program is called, and with which sizes.
 #![tactic(auto)]
 
+mod address;
 mod fault;
 mod options;
 mod program;
 
+pub use address::{listening_address, listening_path};
 pub use fault::OptionFault;
 pub use options::{Options, read_options};

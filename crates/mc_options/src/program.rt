@@ -2,88 +2,174 @@
 ghost use Rattle.std.specs.Prelude.{◌≡◌, IfOk, map};
 ghost use Rattle.clap.specs.Words.{app_of, with_rule};
 ghost use Rattle.mc_options.specs.Program.{program, with_rules};
-ghost use Rattle.mc_options.specs.internal.Told.{told_rule};
+ghost use Rattle.mc_options.specs.internal.Told.{action_of, by_letter, told_rule};
 
 use clap::{Arg, ArgAction, Command};
 use std::alloc::{AllocError, Global};
 
 /// The calls of the program, below the list of its options.
 const CALLS: &str = "\
-mcd [--listen ADDRESS] [--seats N] [--connections N] [limits]   TCP
-mcd --stdio [--at SECONDS] [limits]                             one connection
-mcd --replay FILE                                               a schedule
-Limits are --shards, --bytes or --memory, --value-limit, --line-limit, --window
-and --drop-in. With TCP go --idle-timeout, --verbose and --metrics too.
-Defaults stand in []. Behind a number of bytes k, m and g stand for 1024 each.";
+mcd [--listen PLACE..] [--seats N] [--memory SIZE] [options]   serves clients
+mcd --plan [options]                        memory of such a server
+mcd --stdio [--at SECONDS] [limits]         serves one connection
+mcd --replay FILE                           runs a schedule
 
-/// An option: its name, what the help calls its value, and what the help says of it. One that is given or not has no value. One
-/// of which the help says nothing is not shown: the program knows it only to name the option that took its place.
-type Told<'a> = (&'a str, &'a str, &'a str);
+Limits are --shards, --bytes, --memory, --memory-limit, --value-limit,
+--line-limit, --window and --drop-in. A SIZE is a number of bytes, or has k, m
+or g behind it (1024 each): 64m, 64M, 64mb. Defaults are shown in [].
+memcached's -U 0, -d, -u USER and -P FILE are accepted and do nothing.";
 
-/// The options, in the order of the help: how the program is called, what the server is like, and who watches it.
-const OPTIONS: [Told<'static>; 18] = [
-    ("listen", "ADDRESS", "Where to listen [127.0.0.1:11211]"),
+/// An option: its name, the letter that gives it too, what the help calls its value, and what the help says of it. One that is
+/// given or not has no value. One whose value ends with dots there may be given more than once. One of which the help says nothing is not shown: it does nothing, or only names the option that
+/// took its place.
+type Told<'a> = (&'a str, Option<char>, &'a str, &'a str);
+
+/// The options, in the order of the help: how the program is called, what the server is like, who watches it, and what
+/// memcached has besides. A letter means here what it means there.
+const OPTIONS: [Told<'static>; 28] = [
+    (
+        "listen",
+        Some('l'),
+        "PLACE..",
+        "Where to listen [127.0.0.1:11211]: HOST[:PORT], PORT, unix:PATH",
+    ),
     (
         "stdio",
+        None,
         "",
         "Serves one connection over standard input and output",
     ),
     (
         "replay",
+        None,
         "FILE",
         "Runs the schedule in a file, and shows what came of it",
     ),
     (
         "at",
+        None,
         "SECONDS",
-        "Every moment is this, in seconds since 1970",
+        "Unix time of every command, with --stdio",
     ),
-    ("version", "", "Tells the program's version and toolchain"),
-    ("shards", "N", "Threads that own items, 1 to 16 [2]"),
+    (
+        "version",
+        None,
+        "",
+        "Prints the program's version and toolchain",
+    ),
+    (
+        "plan",
+        None,
+        "",
+        "Prints what a server with these options takes, and exits",
+    ),
+    (
+        "shards",
+        Some('t'),
+        "N",
+        "Threads that own items, 1 to 64 [2, or as --memory needs]",
+    ),
     (
         "seats",
+        Some('c'),
         "N",
-        "Connections served at a time, 1 to 4096 [1024]",
+        "Connections served at a time, 1 to 65536 [1024]",
     ),
-    ("bytes", "N", "Budget of a shard, 1k to 1g bytes [16m]"),
+    (
+        "bytes",
+        None,
+        "SIZE",
+        "Memory for items of each shard, 1k to 64g [16m]",
+    ),
     (
         "memory",
-        "N",
-        "Budget of all shards together, in place of --bytes",
+        None,
+        "SIZE",
+        "Memory for items of all shards, in place of --bytes",
     ),
     (
         "value-limit",
-        "N",
-        "Bytes of a value at most, 1k to 8m [1m]",
+        Some('I'),
+        "SIZE",
+        "Largest value, 1k to 8m [1m]",
     ),
     (
         "line-limit",
-        "N",
-        "Bytes of a line at most, 2k to 8m [64k; --drop-in 1m]",
+        None,
+        "SIZE",
+        "Longest line, 2k to 8m [64k; with --drop-in 1m]",
     ),
-    ("window", "N", "Open commands a connection, 1 to 4096 [256]"),
+    (
+        "window",
+        None,
+        "N",
+        "Open commands of each connection, 1 to 4096 [256]",
+    ),
     (
         "connections",
+        None,
         "N",
-        "Ends after this many connections, 1 to 4294967295",
+        "Exits after this many connections, 1 to 4294967295",
     ),
     (
         "drop-in",
+        None,
         "",
         "Follows memcached 1.6 where its rules differ",
     ),
-    ("items", "N", ""),
+    ("items", None, "N", ""),
     (
         "idle-timeout",
+        None,
         "SECONDS",
-        "Closes what moves no byte for this long, 1 to 31536000",
+        "Closes connections idle for this long, 1 to 31536000",
     ),
-    ("verbose", "", "Tells each connection on standard error"),
+    (
+        "verbose",
+        Some('v'),
+        "",
+        "Logs each connection to standard error",
+    ),
     (
         "metrics",
+        None,
         "ADDRESS",
-        "Tells metrics by HTTP there, [127.0.0.1:]PORT",
+        "Serves metrics by HTTP at [127.0.0.1:]PORT",
     ),
+    (
+        "drain",
+        None,
+        "SECONDS",
+        "Ends at most so long after a blocked SIGTERM, 0 to 86400 [5]",
+    ),
+    (
+        "port",
+        Some('p'),
+        "N",
+        "Port of --listen where it names none, 1 to 65535 [11211]",
+    ),
+    (
+        "memory-limit",
+        Some('m'),
+        "N",
+        "The same as --memory, in megabytes",
+    ),
+    ("udp-port", Some('U'), "N", ""),
+    (
+        "unix-socket",
+        Some('s'),
+        "PATH",
+        "Unix socket to listen on; with --listen both",
+    ),
+    (
+        "unix-mask",
+        Some('a'),
+        "MODE",
+        "Mode of Unix sockets, in octal [700]",
+    ),
+    ("daemon", Some('d'), "", ""),
+    ("user", Some('u'), "NAME", ""),
+    ("pidfile", Some('P'), "FILE", ""),
 ];
 
 /// The program with its options.
@@ -103,7 +189,7 @@ fn with_options<'a>(
 ) -> Result<Command<'a>, AllocError>
     ensures { IfOk result (λ more. app_of more ≡
         with_rules (app_of program.entry)
-        (map (λ told. told_rule told.0.now told.1.now) options.now)) }
+        (map (λ told. told_rule told.0.now told.1 told.2.now) options.now)) }
 {
     let mut more = program;
     for option in options {
@@ -119,16 +205,39 @@ fn with_option<'a>(
     told: &Told<'a>,
 ) -> Result<Command<'a>, AllocError>
     ensures { IfOk result (λ more. app_of more ≡
-        with_rule (app_of program.entry) (told_rule told.now.0.now told.now.1.now)) }
+        with_rule (app_of program.entry)
+        (told_rule told.now.0.now told.now.1 told.now.2.now)) }
 {
-    let (name, value, help) = *told;
-    let option = Arg::new(alloc, name)
+    let (name, letter, value, help) = *told;
+    let named = Arg::new(alloc, name)
         .long(name)
         .help(help)
         .hide(help.is_empty());
+    let option = by_letter(named, letter);
     if value.is_empty() {
         program.arg(option.action(ArgAction::SetTrue))
     } else {
-        program.arg(option.action(ArgAction::Set).value_name(value))
+        program.arg(option.action(action_of(value)).value_name(value))
+    }
+}
+
+/// What another use of an option does whose value has this name: it adds to the values, or is refused.
+fn action_of(value: &str) -> ArgAction
+    ensures { result ≡ action_of value.now }
+{
+    if value.as_bytes().ends_with(b"..") {
+        ArgAction::Append
+    } else {
+        ArgAction::Set
+    }
+}
+
+/// The option, which one dash and the letter give too.
+fn by_letter<'a>(option: Arg<'a>, letter: Option<char>) -> Arg<'a>
+    ensures { result ≡ by_letter letter option.entry }
+{
+    match letter {
+        Some(letter) => option.short(letter),
+        None => option,
     }
 }

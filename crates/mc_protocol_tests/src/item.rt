@@ -2,7 +2,7 @@
 ghost use Rattle.std.specs.Prelude.{◌≤◌, length};
 
 use crate::asserting::{equal, holds};
-use mc_item::{Answer, Expiry, Item, Kind, NoMemory, Op, PackedExpiry, Value, expiry};
+use mc_item::{Answer, Expiry, Item, Kind, NoMemory, Op, PackedExpiry, Reserve, Value, expiry};
 use mc_wire::Key;
 use std::alloc::Global;
 use std::process::Abort;
@@ -42,6 +42,25 @@ fn value_of(alloc: Global, text: &[u8]) -> Result<Value, NoMemory>
 {
     let bytes = Vec::from_slice(alloc, text)?;
     Value::new(bytes)
+}
+
+/// A value that shares its bytes leaves the reserve, which is for copies alone.
+#[test]
+fn sharing_uses_up_no_reserve(rt: HostRuntime) -> Result<(), Fail> {
+    let a = rt.alloc();
+    let mut reserve = Some(Reserve::new(a)?);
+    for text in [b"".as_slice(), b"some bytes".as_slice()] {
+        holds(&rt, text.len() <= 100);
+        let value = value_of(a, text)?;
+        holds(&rt, reserve.is_some());
+        let shared = value.shared(&mut reserve);
+        equal(&rt, shared.bytes(), text);
+        holds(&rt, reserve.is_some());
+        let again = shared.shared(&mut reserve);
+        equal(&rt, again.bytes(), text);
+    }
+    holds(&rt, reserve.is_some());
+    Ok(())
 }
 
 /// The number that a value of this text holds.

@@ -13,6 +13,8 @@ mod meta_lines;
 #[cfg(test)]
 mod reader;
 #[cfg(test)]
+mod secret;
+#[cfg(test)]
 mod store;
 #[cfg(test)]
 mod wire;

@@ -20,7 +20,7 @@ use std::test::Fail;
 /// The first of two shards, whose items may cost `budget` bytes.
 fn new_shard(rt: &impl RandomSource, alloc: Global, budget: usize) -> Result<Shard, Fail>
     requires least { 1024 ≤ budget }
-    requires most { budget ≤ 1073741824 }
+    requires most { budget ≤ 68719476736 }
 {
     Ok(Shard::new(alloc, RandomState::new(rt)?, 0, 2, budget, 0, 1_048_576)?)
 }
@@ -51,7 +51,7 @@ fn ask_new<R: Abort + RandomSource>(
     rows: &[Row],
 ) -> Result<(), Fail>
     requires least { 1024 ≤ budget }
-    requires most { budget ≤ 1073741824 }
+    requires most { budget ≤ 68719476736 }
 {
     let mut shard = new_shard(rt, alloc, budget)?;
     ask_all(rt, alloc, &mut shard, rows)
@@ -223,7 +223,7 @@ static COUNTED: [Row; 10] = [
         1000,
         "a",
         Ask::Stats,
-        "get 1/1 set 1/0 touch 1/0 stats 0/0 n1 b365 of 1024 e0",
+        "get 1/1 set 1/0 touch 1/0 other 0/0 n1 b365 of 1024 e0",
     ),
     (1000, "c", Ask::Long(400), "stored"),
     (1000, "d", Ask::Long(400), "stored"),
@@ -232,7 +232,7 @@ static COUNTED: [Row; 10] = [
         1000,
         "a",
         Ask::Stats,
-        "get 1/1 set 3/0 touch 1/0 stats 1/0 n2 b930 of 1024 e1",
+        "get 1/1 set 3/0 touch 1/0 other 1/0 n2 b930 of 1024 e1",
     ),
     (1000, "a", Ask::ResetStats, "reset"),
     // The reset is counted, in the counts that it begins.
@@ -240,7 +240,7 @@ static COUNTED: [Row; 10] = [
         1000,
         "a",
         Ask::Stats,
-        "get 0/0 set 0/0 touch 0/0 stats 1/0 n2 b930 of 1024 e0",
+        "get 0/0 set 0/0 touch 0/0 other 1/0 n2 b930 of 1024 e0",
     ),
 ];
 
@@ -273,6 +273,28 @@ fn a_dead_item_takes_room(rt: HostRuntime) -> Result<(), Fail> {
     ask_all(&rt, a, &mut shard, &DEAD_ITEM)?;
     equal(&rt, shard.len(), 2);
     ask_all(&rt, a, &mut shard, &DEAD_ITEM_MET)
+}
+
+// The first two get a turn. The first is looked at while it lives, so its turn comes again.
+static TURNS: [Row; 2] = [
+    (1000, "a", Ask::LongFor(5, 100), "stored"),
+    (1000, "c", Ask::LongFor(2000, 100), "stored"),
+];
+
+static TURNS_COME: [Row; 2] = [
+    (2000, "e", Ask::Long(100), "stored"),
+    (2000, "c", Ask::Get, "0 3 100 bytes"),
+];
+
+#[test]
+fn a_dead_item_gives_its_room_back(rt: HostRuntime) -> Result<(), Fail> {
+    let a = rt.alloc();
+    let mut shard = new_shard(&rt, a, 1_024)?;
+    ask_all(&rt, a, &mut shard, &TURNS)?;
+    equal(&rt, shard.len(), 2);
+    ask_all(&rt, a, &mut shard, &TURNS_COME)?;
+    equal(&rt, (shard.len(), shard.evicted()), (2, 0));
+    Ok(())
 }
 
 // An item of 959 bytes under one byte of a key costs 1,024.
@@ -799,7 +821,7 @@ static SHORT: [(Row, bool); 18] = [
             1000,
             KEY_E,
             Ask::Stats,
-            "get 4/1 set 4/0 touch 1/0 stats 0/0 n0 b0 of 1024 e0",
+            "get 4/1 set 4/0 touch 1/0 other 1/0 n0 b0 of 1024 e0",
         ),
         false,
     ),

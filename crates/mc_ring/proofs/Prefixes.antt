@@ -1,12 +1,8 @@
 -- A beginning of a list, seen through a function.
-use Rattle.std.proofs.Common.{List, ◌∷◌, ◌++◌, sym, ap, ◌∙◌, map}
+use Rattle.std.proofs.Common.{List, ◌++◌, sym, ap, ◌∙◌, map}
 use Rattle.std.proofs.lemmas.List.{map-append}
 use Rattle.std.proofs.Common.{append_assoc}
 use mathlib.Core.List.{IsPrefix}
-
--- What begins a list with a known first element begins it still once a function is applied to every element.
-pub map_prefix : {A B : Type 0} (f : A → B) (xs : List A) (y : A) (ys : List A) → IsPrefix xs (y ∷ ys) → IsPrefix (map f xs) (f y ∷ map f ys)
-map_prefix f xs y ys p = (map f p.0, sym (map-append f xs p.0) ∙ ap (map f) p.1)
 
 -- What begins a list begins it still once a function is applied to every element of both.
 pub map_longer : {A B : Type 0} (f : A → B) (xs ys : List A) → IsPrefix xs ys → IsPrefix (map f xs) (map f ys)

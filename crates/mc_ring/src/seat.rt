@@ -5,7 +5,7 @@ ghost use Rattle.mc_ring.specs.Ends.{AreSameEnds, AtLane, LooksFor, Receives, Se
 
 use crate::parcel::Parcel;
 use crate::reply::Reply;
-use rtrb::{Consumer, Producer, PushError};
+use rtrb::{Consumer, Producer};
 use std::marker::Model;
 
 /// A seat's end of one lane.
@@ -42,23 +42,26 @@ impl Model for SeatLane {
 
 impl SeatLane {
     /// Sends a parcel, or hands it back where the ring is full.
+    #[inline(always)]
     pub(crate) fn send(&mut self, parcel: Parcel) -> Result<(), Parcel>
         ensures { Sends (λ sent. sent) parcel result self.old self.new }
     {
-        if let Err(PushError::Full(parcel)) = self.parcels.push(parcel) {
+        if self.parcels.is_full() {
             return Err(parcel);
         }
+        self.parcels.push_reserved(parcel);
         Ok(())
     }
 
     /// Receives the reply that has waited longest, if one waits.
+    #[inline(always)]
     pub(crate) fn receive(&mut self) -> Option<Reply>
         ensures { Receives shown result self.old self.new }
     {
-        let Ok(reply) = self.replies.pop() else {
+        if self.replies.is_empty() {
             return None;
-        };
-        Some(reply)
+        }
+        Some(self.replies.pop_known())
     }
 
     /// Whether a reply waits. No memory is taken.

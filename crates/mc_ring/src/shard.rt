@@ -5,7 +5,7 @@ ghost use Rattle.mc_ring.specs.Ends.{AreSameEnds, AtLane, LooksFor, Receives, Se
 
 use crate::parcel::Parcel;
 use crate::reply::Reply;
-use rtrb::{Consumer, Producer, PushError};
+use rtrb::{Consumer, Producer};
 use std::alloc::{AllocError, Global};
 use std::marker::Model;
 
@@ -43,22 +43,25 @@ impl Model for ShardLane {
 
 impl ShardLane {
     /// Takes the parcel that has waited longest, if one waits.
+    #[inline(always)]
     pub(crate) fn take(&mut self) -> Option<Parcel>
         ensures { Receives (λ parcel. parcel) result self.old self.new }
     {
-        let Ok(parcel) = self.parcels.pop() else {
+        if self.parcels.is_empty() {
             return None;
-        };
-        Some(parcel)
+        }
+        Some(self.parcels.pop_known())
     }
 
     /// Gives a reply, or hands it back where the ring is full.
+    #[inline(always)]
     pub(crate) fn give(&mut self, reply: Reply) -> Result<(), Reply>
         ensures { Sends shown reply result self.old self.new }
     {
-        if let Err(PushError::Full(reply)) = self.replies.push(reply) {
+        if self.replies.is_full() {
             return Err(reply);
         }
+        self.replies.push_reserved(reply);
         Ok(())
     }
 

@@ -39,6 +39,7 @@ step_on_is_step state (op.Store asked) = refl
 step_on_is_step state (op.Fetch key touch) = refl
 step_on_is_step state (op.Count key direction amount) = refl
 step_on_is_step state (op.Delete key) = refl
+step_on_is_step state (op.Discard key) = refl
 step_on_is_step state (op.Touch key exptime) = refl
 step_on_is_step state (op.Flush delay) = refl
 step_on_is_step state op.Stats = refl
@@ -56,7 +57,7 @@ block text behind = record { line = text; behind = behind }
 
 -- the first of two shards, which has given this number of uniques
 abbrev shard : ℕ → State
-shard given = record { items = empty; uses = 0; time = 1000; flush = None; given = given; index = 0; shards = 2; budget = 16777216; limit = 1048576; tally = no_counts; evicted = 0 }
+shard given = record { items = empty; turns = []; uses = 0; time = 1000; flush = None; given = given; index = 0; shards = 2; budget = 16777216; limit = 1048576; tally = no_counts; evicted = 0 }
 
 -- an item with this value and the unique 1, just stored
 abbrev item : List ℕ → Item
@@ -324,10 +325,10 @@ record Shards : Type 0 where
       ≡ (Touched, first (shard 1) (codes "a") (record (item (codes "x")) { fetched = true; expiry = At 1030 })) ∷ []
   -- and so does incr, which leaves the marks too;
   incr_keeps_fetched_and_stale : outcomes_on (shard 2) (line (codes "incr a 1\r")) (there (record (item (codes "5")) { fetched = true; stale = true; sent = true }))
-      ≡ (Number 6, entered (with_given (shard 2)) (codes "a") (record (item (codes "6")) { unique = 5; fetched = true; stale = true; sent = true })) ∷ []
+      ≡ (Number 6, entered (with_given (shard 2)) None (codes "a") (record (item (codes "6")) { unique = 5; fetched = true; stale = true; sent = true })) ∷ []
   -- what append has made was not fetched yet;
   append_clears_fetched : outcomes_on (shard 1) (block (codes "append a 9 9 1\r") (codes "y\r\n")) (there (record (item (codes "x")) { flags = 7; fetched = true }))
-      ≡ (Stored, entered (with_given (shard 1)) (codes "a") (record (item (codes "xy")) { unique = 3; flags = 7 })) ∷ []
+      ≡ (Stored, entered (with_given (shard 1)) None (codes "a") (record (item (codes "xy")) { unique = 3; flags = 7 })) ∷ []
   -- gat fetches, and sets the expiry.
   a_get_and_touch_fetches : outcomes_on (shard 1) (line (codes "gat 30 a\r")) (there (item (codes "x")))
       ≡ (Hit 0 1 (codes "x"), first (shard 1) (codes "a") (record (item (codes "x")) { fetched = true; expiry = At 1030 })) ∷ []

@@ -57,6 +57,7 @@ step_on state (op.Store asked) found = store_step state asked (λ done. Stored) 
 step_on state (op.Count key direction amount) found =
     count_step state (counting key direction amount) (λ done. Number done.number) found
 step_on state (op.Delete key) found = delete_step state key found
+step_on state (op.Discard key) found = delete_step state key found
 step_on state (op.Touch key exptime) found = touch_step state key exptime found
 step_on state (op.Flush delay) found = (Done, flush_step state (coming (expiry_of delay state.time) state.time))
 step_on state op.Stats found = (answer.Stats (stats_of state), state)

@@ -126,8 +126,4 @@ impl Line for MemoryLine<'_> {
         self.ended = count == 0;
         Ok(count)
     }
-
-    fn give_up(&mut self) {
-        self.failed = true;
-    }
 }

@@ -1,20 +1,20 @@
 -- Replies that were handed out and wait for their line: what is seen of the line once it took them.
-use Rattle.std.proofs.Common.{◌≡◌, ℕ, ◌-◌, ◌≤◌, inl, Bool, true, List, [], ◌++◌, length, take, drop, refl, sym, ap, subst, ◌∙◌, arith, append_assoc, append-nil}
+use Rattle.std.proofs.Common.{◌≡◌, ℕ, ◌-◌, ◌<◌, ◌≤◌, inl, inr, Bool, true, List, [], ◌++◌, length, take, drop, refl, sym, ap, subst, ◌∙◌, arith, append_assoc, append-nil}
 use Rattle.std.specs.List.{concat}
-use Rattle.std.proofs.lemmas.List.{take-append-drop}
+use Rattle.std.proofs.lemmas.List.{take-append-drop, take_all}
 use Rattle.std.proofs.lemmas.List.Folds.{concat-append}
 use Rattle.mc_wire.specs.Outlet.{Listed, Sight, Trace, broke, sight_out, took, with_bytes}
 use Rattle.mc_wire.proofs.Outlets.{took-append}
 use Rattle.mc_ring.specs.Reply.{Shown}
-use Rattle.mc_join.specs.internal.Gathered.{told as bytes_told}
-use Rattle.mc_join.proofs.Gatherings.{told-grows, traces}
 use Rattle.mc_conn.specs.declared.conn.Conn.{Conn}
 use Rattle.mc_conn.specs.Conn.{HandsOut, IsConn}
 use Rattle.mc_conn.specs.Told.{Told, all_texts, commands_of, waiting_text}
 use Rattle.mc_conn.proofs.Staying.{is_sound}
-use Rattle.mc_seat.specs.Lines.{HasGrown}
+use Rattle.mc_seat.specs.Lines.{HasGrown, told as bytes_told}
+use Rattle.mc_seat.specs.Story.{Breaks}
 use Rattle.mc_seat.specs.internal.Stands.{Serving, handed_texts}
 use Rattle.mc_seat.specs.internal.Steps.{IsServed, all_handed}
+use Rattle.mc_seat.proofs.Traces.{told-grows, traces}
 use Rattle.mc_seat.proofs.Standing.{all_owed_later, commands-length}
 use Rattle.mc_reader.proofs.Fronts.{begin_more}
 
@@ -43,6 +43,7 @@ serving_broke : (received : ℕ → List Shown) (begin now : Sight) (unread : Li
 serving_broke received begin now unread told serving = record {
   read_is = serving.read_is;
   ended_is = serving.ended_is;
+  open_is = serving.open_is;
   taken_is = serving.taken_is;
   counted = serving.counted;
   reads = serving.reads;
@@ -50,9 +51,9 @@ serving_broke received begin now unread told serving = record {
   owes_nothing = serving.owes_nothing;
 }
 
--- the line failed while replies waited: it took a beginning of those handed out
-pub breaks_waiting : (received : ℕ → List Shown) (begin now : Sight) (waits unread : List ℕ) (told : Told) (conn : Conn) → IsConn conn (record told { broken = true }) → now.failed ≡ true → HasGrown begin now → Serving received begin (took waits now) unread told → IsServed received begin now told true conn
-breaks_waiting received begin now waits unread told conn is failed grown serving =
+-- the line broke while replies waited: it took a beginning of those handed out
+pub breaks_waiting : (received : ℕ → List Shown) (begin now : Sight) (waits unread : List ℕ) (told : Told) (conn : Conn) → IsConn conn (record told { broken = true }) → Breaks begin now (all_texts told) → HasGrown begin now → Serving received begin (took waits now) unread told → IsServed received begin now told true conn
+breaks_waiting received begin now waits unread told conn is breaks grown serving =
     let sound = is_sound conn (record told { broken = true }) is in
     let counted = serving.counted in
     let texts = handed_texts told in
@@ -78,7 +79,7 @@ breaks_waiting received begin now waits unread told conn is failed grown serving
         );
         may = sound.may;
         finished = λ e. absurd cc;
-        failed = λ e. failed;
+        breaks = λ e. breaks;
       };
       reads = λ f. record {
         reads = serving.reads;
@@ -88,15 +89,16 @@ breaks_waiting received begin now waits unread told conn is failed grown serving
     }
 
 -- the line was given up while replies waited
-pub breaks_given_up : (received : ℕ → List Shown) (begin old new : Sight) (waits unread : List ℕ) (told : Told) (conn : Conn) → IsConn conn (record told { broken = true }) → new ≡ broke old → HasGrown begin old → Serving received begin (took waits old) unread told → IsServed received begin new told true conn
-breaks_given_up received begin old new waits unread told conn is fails grown serving =
-    let P : Sight → Type 0 = λ now. IsServed received begin now told true conn in
-    subst P (sym fails) (breaks_waiting received begin (broke old) waits unread told conn is refl grown (serving_broke received begin (took waits old) unread told serving))
+pub breaks_given_up : (received : ℕ → List Shown) (begin now : Sight) (waits unread : List ℕ) (told : Told) (conn : Conn) → IsConn conn (record told { broken = true }) → told.handed < length (all_texts told) → HasGrown begin now → Serving received begin (took waits now) unread told → IsServed received begin now told true conn
+breaks_given_up received begin now waits unread told conn is more grown serving =
+    breaks_waiting received begin now waits unread told conn is (inr (record { count = told.handed; more = more; rest = waits; owed = serving.taken_is })) grown serving
 
 -- the line failed while it took replies that waited
-pub breaks_flushing : (received : ℕ → List Shown) (begin old new : Sight) (waited waits unread : List ℕ) (told : Told) (conn : Conn) → IsConn conn (record (all_handed told) { broken = true }) → took waits new ≡ broke (took waited old) → HasGrown begin new → Serving received begin (took waited old) unread (all_handed told) → IsServed received begin new told true conn
-breaks_flushing received begin old new waited waits unread told conn is fails grown serving =
+pub breaks_flushing : (received : ℕ → List Shown) (begin old new : Sight) (waited waits unread : List ℕ) (told : Told) (conn : Conn) → IsConn conn (record (all_handed told) { broken = true }) → 0 < length waits → took waits new ≡ broke (took waited old) → HasGrown begin new → Serving received begin (took waited old) unread (all_handed told) → IsServed received begin new told true conn
+breaks_flushing received begin old new waited waits unread told conn is some fails grown serving =
     let P : Sight → Type 0 = λ now. Serving received begin now unread (all_handed told) in
     let failed : new.failed ≡ true = ap (λ (s : Sight). s.failed) fails in
-    let served = breaks_waiting received begin new waits unread (all_handed told) conn is failed grown (subst P (sym fails) (serving_broke received begin (took waited old) unread (all_handed told) serving)) in
+    let whole : concat (handed_texts (all_handed told)) ≡ concat (all_texts told) = ap concat (take_all (length (all_texts told)) (all_texts told) (omega arith)) in
+    let owed : with_bytes new.taken waits ≡ with_bytes begin.taken (concat (all_texts told)) = ap (λ (s : Sight). s.taken) fails ∙ (serving.taken_is ∙ ap (λ bytes. with_bytes begin.taken bytes) whole) in
+    let served = breaks_waiting received begin new waits unread (all_handed told) conn is (inl (failed, inr (record { rest = waits; some = some; owed = owed }))) grown (subst P (sym fails) (serving_broke received begin (took waited old) unread (all_handed told) serving)) in
     record { handed = served.handed; conn_is = served.conn_is; over = served.over; rest = served.rest; story = served.story; reads = served.reads }

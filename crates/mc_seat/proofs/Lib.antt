@@ -7,3 +7,5 @@ pub mod Pieces
 pub mod Buffers
 pub mod Serving
 pub mod More
+pub mod Traces
+mod RowsLazy

@@ -1,5 +1,6 @@
 -- The pieces that one write offers are a beginning of what waits.
-use Rattle.std.proofs.Common.{◌≡◌, ℕ, zero, suc, ◌+◌, ◌-◌, ◌<◌, ◌≤◌, List, [], ◌∷◌, ◌++◌, length, length-append, take, drop, refl, sym, ap, ◌∙◌, arith, append_assoc, append-nil, slice_get, Some, Result, Ok, Err, IfOk}
+use Rattle.std.proofs.Common.{◌≡◌, ◌==◌, Bool, true, false, not, IsTrue, ℕ, zero, suc, ◌+◌, ◌-◌, ◌<◌, ◌≤◌, List, [], ◌∷◌, ◌++◌, length, length-append, take, drop, refl, sym, ap, ◌∙◌, arith, append_assoc, append-nil, slice_get, Some, Result, Ok, Err, IfOk}
+use Rattle.std.proofs.lemmas.Bool.{eqb-false}
 use Rattle.std.proofs.lemmas.List.{take-append-le}
 use Rattle.std.proofs.Math.Seq.{drop-append-add}
 use Rattle.std.specs.List.{flat_map}
@@ -109,3 +110,14 @@ passes_on front after count more within =
       within = omega (arith, more, within, length-append front after);
       same = sym (drop-append-add front after left) ∙ ap (λ n. drop n (front ++ after)) count_is;
     }
+
+-- Where what is left of the front isn't empty, something waits.
+pub some_waits : (rest offered behind : List ℕ) → offered ≡ rest → false ≡ (length offered == 0) → 0 < length (rest ++ behind)
+some_waits rest offered behind same some =
+    let apart = eqb-false (length offered) 0 (sym some) in
+    omega (arith, apart, ap length same, length-append rest behind)
+
+-- A test that fails is false.
+pub not_empty : (empty count : Bool) → empty ≡ count → IsTrue (not empty) → false ≡ count
+not_empty true count is fails = absurd cc
+not_empty false count is fails = is

@@ -1,5 +1,5 @@
 -- A line is served step by step, whatever its shards sent.
-use Rattle.std.proofs.Common.{◌≡◌, ℕ, ◌+◌, ◌-◌, ◌^◌, min, Bool, List, [], ◌∷◌, ◌++◌, length, refl, sym, ap, subst, ◌∙◌, arith, append_assoc, append-nil, length-append}
+use Rattle.std.proofs.Common.{◌≡◌, ℕ, ◌+◌, ◌-◌, ◌<◌, ◌≤◌, ◌^◌, min, Bool, List, [], ◌∷◌, ◌++◌, length, refl, sym, ap, subst, ◌∙◌, arith, append_assoc, append-nil, length-append}
 use Rattle.std.specs.List.{slice_get}
 use Rattle.std.proofs.lemmas.List.{length-map}
 use Rattle.mc_wire.specs.Outlet.{Listed, Sight, sight_out, took}
@@ -16,19 +16,19 @@ use Rattle.mc_conn.specs.History.{Taken}
 use Rattle.mc_conn.specs.Told.{KeepsHanded, Told, all_texts, commands_of, told_nothing}
 use Rattle.mc_conn.proofs.Fitting.{due-append}
 use Rattle.mc_conn.proofs.Gets.{get_front}
-use Rattle.mc_conn.proofs.Staying.{keeps_take}
+use Rattle.mc_conn.proofs.Staying.{is_sound, keeps_take}
 use Rattle.mc_seat.specs.declared.seat.Seat.{Seat}
 use Rattle.mc_seat.specs.declared.service.Service.{Service}
 use Rattle.mc_seat.specs.declared.unwritten.Unwritten.{Unwritten}
 use Rattle.mc_seat.specs.Later.{text_in}
 use Rattle.mc_seat.specs.Lines.{HasGrown}
-use Rattle.mc_seat.specs.Service.{HasStopped, IsNew, IsServing, ServesOn}
+use Rattle.mc_seat.specs.Service.{HasStopped, IsNew, IsServing, ServesOn, TakesAll}
 use Rattle.mc_seat.specs.internal.Stands.{Serving, handed_texts}
 use Rattle.mc_seat.specs.internal.Steps.{GoesOn, StopsAt, all_handed}
 use Rattle.mc_seat.proofs.Along.{serving_along, stops_along}
 use Rattle.mc_seat.proofs.Fronts.{begins_length}
 use Rattle.mc_seat.proofs.Later.{grown_since, hands_waiting}
-use Rattle.mc_seat.proofs.Standing.{stands_first, stands_over, stands_take}
+use Rattle.mc_seat.proofs.Standing.{commands-length, stands_first, stands_over, stands_take}
 use Rattle.mc_seat.proofs.Turns.{hands}
 use Rattle.mc_command.specs.declared.rules.Rules.{Rules}
 use Rattle.mc_ring.proofs.Lists.{all_push}
@@ -76,58 +76,69 @@ serving_take received may_answer begin now told service conn later moment ticket
       counted = omega (arith, later_is, number, short, length-map taken (λ (x : Taken). x.entry), length-append told.taken (opens.one ∷ []));
     }
 
--- some commands more were taken
-pub record TakesSome (received : ℕ → List Shown) (may_answer : ℕ → Type 0) (begin now : Sight) (told : Told) (service : Service) : Type 0 where
+-- some commands more were taken, in each round one
+pub record TakesSome (received : ℕ → List Shown) (may_answer : ℕ → Type 0) (begin now : Sight) (told : Told) (rounds : ℕ) (service : Service) : Type 0 where
   pub taken : List Taken
   pub more : List Taken
   pub taken_is : taken ≡ told.taken ++ more
+  pub rounds_are : rounds ≤ length more
   pub serves : IsServing received may_answer begin now (record told { taken = taken }) service
 
 -- Before any is taken it is served as it was.
-pub takes_none : (received : ℕ → List Shown) (may_answer : ℕ → Type 0) (begin now : Sight) (told : Told) (service : Service) → IsServing received may_answer begin now told service → TakesSome received may_answer begin now told service
-takes_none received may_answer begin now told service serves = record { taken = told.taken; more = []; taken_is = sym (append-nil told.taken); serves = serves }
+pub takes_none : (received : ℕ → List Shown) (may_answer : ℕ → Type 0) (begin now : Sight) (told : Told) (service : Service) → IsServing received may_answer begin now told service → TakesSome received may_answer begin now told 0 service
+takes_none received may_answer begin now told service serves = record { taken = told.taken; more = []; taken_is = sym (append-nil told.taken); rounds_are = omega arith; serves = serves }
 
 -- The next command was taken, at a moment that may be.
-pub takes_next : (received : ℕ → List Shown) (may_answer : ℕ → Type 0) (begin now : Sight) (told : Told) (service : Service) (conn : Conn) (later moment : ℕ) (ticket : Ticket) → may_answer moment → TakeSays service.conn moment (took.Opened ticket) conn → later ≡ min (ticket.0 + 1) (2 ^ 64 - 1) →
-    TakesSome received may_answer begin now told service → TakesSome received may_answer begin now told (record service { conn = conn; commands = later })
-takes_next received may_answer begin now told service conn later moment ticket may says later_is some =
+pub takes_next : (received : ℕ → List Shown) (may_answer : ℕ → Type 0) (begin now : Sight) (told : Told) (rounds : ℕ) (service : Service) (conn : Conn) (later moment : ℕ) (ticket : Ticket) → may_answer moment → TakeSays service.conn moment (took.Opened ticket) conn → later ≡ min (ticket.0 + 1) (2 ^ 64 - 1) →
+    TakesSome received may_answer begin now told rounds service → TakesSome received may_answer begin now told (rounds + 1) (record service { conn = conn; commands = later })
+takes_next received may_answer begin now told rounds service conn later moment ticket may says later_is some =
     let opens : TakesCommand (record told { taken = some.taken }) moment ticket conn = says (record told { taken = some.taken }) some.serves.conn_is in
+    let so_far = some.rounds_are in
     record {
       taken = some.taken ++ opens.one ∷ [];
       more = some.more ++ opens.one ∷ [];
       taken_is = ap (λ taken. taken ++ opens.one ∷ []) some.taken_is ∙ append_assoc told.taken some.more (opens.one ∷ []);
+      rounds_are = omega (arith, so_far, length-append some.more (opens.one ∷ []));
       serves = serving_take received may_answer begin now (record told { taken = some.taken }) service conn later moment ticket may opens later_is some.serves;
     }
 
 -- the same, of the connection as it is now, for this reason
-stops_now : (received : ℕ → List Shown) (may_answer : ℕ → Type 0) (begin now : Sight) (told : Told) (service : Service) (conn : Conn) (stop : Took) (some : TakesSome received may_answer begin now told service) → IsConn conn (record told { taken = some.taken }) → StopsAt stop (record told { taken = some.taken })
-    → ServesOn received may_answer begin now told (record service { conn = conn; stop = stop })
-stops_now received may_answer begin now told service conn stop some is stops = record {
-  fed = told.fed;
-  ended = told.ended;
-  handed = told.handed;
-  taken = some.taken;
-  more = some.more;
-  taken_is = some.taken_is;
-  stopped = record {
-    serves = record { conn_is = is; serving = some.serves.serving; grown = some.serves.grown; moments = some.serves.moments; unbroken = some.serves.unbroken; counted = some.serves.counted };
-    stops = stops;
+stops_now : (received : ℕ → List Shown) (may_answer : ℕ → Type 0) (begin now : Sight) (told : Told) (service : Service) (conn : Conn) (stop : Took) (rounds : ℕ) (some : TakesSome received may_answer begin now told rounds service) → IsConn conn (record told { taken = some.taken }) → StopsAt stop (record told { taken = some.taken }) → (stop ≡ took.Full → length some.taken ≡ told.handed + told.window)
+    → TakesAll received may_answer begin now told (record service { conn = conn; stop = stop })
+stops_now received may_answer begin now told service conn stop rounds some is stops full = record {
+  on = record {
+    fed = told.fed;
+    ended = told.ended;
+    handed = told.handed;
+    taken = some.taken;
+    more = some.more;
+    taken_is = some.taken_is;
+    stopped = record {
+      serves = record { conn_is = is; serving = some.serves.serving; grown = some.serves.grown; moments = some.serves.moments; unbroken = some.serves.unbroken; counted = some.serves.counted };
+      stops = stops;
+    };
   };
+  full = full;
 }
 
 -- No further command was taken, and the call says why.
-pub takes_stop : (received : ℕ → List Shown) (may_answer : ℕ → Type 0) (begin now : Sight) (told : Told) (service : Service) (conn : Conn) (moment : ℕ) (stop : Took) → TakeSays service.conn moment stop conn → ((ticket : Ticket) → stop ≡ took.Opened ticket → ⊥) →
-    TakesSome received may_answer begin now told service → ServesOn received may_answer begin now told (record service { conn = conn; stop = stop })
-takes_stop received may_answer begin now told service conn moment (took.Opened ticket) says other some = absurd (other ticket refl)
-takes_stop received may_answer begin now told service conn moment took.NeedMore says other some =
-    let needs = says (record told { taken = some.taken }) some.serves.conn_is in stops_now _ _ _ _ told _ conn took.NeedMore some needs.now (needs.all, needs.comes)
-takes_stop received may_answer begin now told service conn moment took.Full says other some = stops_now _ _ _ _ told _ conn took.Full some (says (record told { taken = some.taken }) some.serves.conn_is).now tt
-takes_stop received may_answer begin now told service conn moment took.Closed says other some =
-    let over = says (record told { taken = some.taken }) some.serves.conn_is in stops_now _ _ _ _ told _ conn took.Closed some over.1 over.0
+pub takes_stop : (received : ℕ → List Shown) (may_answer : ℕ → Type 0) (begin now : Sight) (told : Told) (service : Service) (conn : Conn) (moment : ℕ) (stop : Took) → TakeSays service.conn moment stop conn → ((ticket : Ticket) → stop ≡ took.Opened ticket → ⊥) → (rounds : ℕ) →
+    TakesSome received may_answer begin now told rounds service → TakesAll received may_answer begin now told (record service { conn = conn; stop = stop })
+takes_stop received may_answer begin now told service conn moment (took.Opened ticket) says other rounds some = absurd (other ticket refl)
+takes_stop received may_answer begin now told service conn moment took.NeedMore says other rounds some =
+    let needs = says (record told { taken = some.taken }) some.serves.conn_is in stops_now _ _ _ _ told _ conn took.NeedMore rounds some needs.now (needs.all, needs.comes) (λ e. absurd cc)
+takes_stop received may_answer begin now told service conn moment took.Full says other rounds some =
+    let fills = says (record told { taken = some.taken }) some.serves.conn_is in let full = fills.full in stops_now _ _ _ _ told _ conn took.Full rounds some fills.now (omega (arith, full)) (λ e. full)
+takes_stop received may_answer begin now told service conn moment took.Closed says other rounds some =
+    let over = says (record told { taken = some.taken }) some.serves.conn_is in stops_now _ _ _ _ told _ conn took.Closed rounds some over.1 over.0 (λ e. absurd cc)
 
--- As many were taken as there may be.
-pub takes_full : (received : ℕ → List Shown) (may_answer : ℕ → Type 0) (begin now : Sight) (told : Told) (service : Service) → TakesSome received may_answer begin now told service → ServesOn received may_answer begin now told (record service { stop = took.Full })
-takes_full received may_answer begin now told service some = stops_now received may_answer begin now told service service.conn took.Full some some.serves.conn_is tt
+-- No connection has so many commands.
+pub takes_full : (received : ℕ → List Shown) (may_answer : ℕ → Type 0) (begin now : Sight) (told : Told) (service : Service) (rounds : ℕ) → 2 ^ 63 < rounds → TakesSome received may_answer begin now told rounds service → ⊥
+takes_full received may_answer begin now told service rounds many some =
+    let so_far = some.rounds_are in
+    let sound = is_sound service.conn (record told { taken = some.taken }) some.serves.conn_is in
+    let bound = begins_length told.rules told.fed (commands_of some.taken) sound.begin in
+    omega (arith, many, so_far, bound, commands-length some.taken, ap length some.taken_is, length-append told.taken some.more)
 
 -- Pieces have left and replies were accepted: the line is served as before, by the replies that were received since.
 pub stops_carried : (received later : ℕ → List Shown) (may_answer : ℕ → Type 0) (begin now : Sight) (told : Told) (service : Service) (conn : Conn) (out : ℕ) (lent : Bool) (accepted : List Shown) → (KeysFit told.shards told.taken later → KeysFit told.shards told.taken received) →
@@ -136,7 +147,7 @@ stops_carried received later may_answer begin now told service conn out lent acc
     let serves = stopped.serves in
     let seen = took (text_in service.unwritten) now in
     let unread = service.seat.unread in
-    let stands = stands_over {after = KeysFit told.shards told.taken later} weaker serves.serving.read_is serves.serving.ended_is refl refl serves.serving in
+    let stands = stands_over {after = KeysFit told.shards told.taken later} weaker serves.serving.read_is serves.serving.ended_is serves.serving.open_is refl refl serves.serving in
     record {
       serves = record {
         conn_is = is;
@@ -193,7 +204,7 @@ serves_handed received may_answer begin now told service stopped =
 -- what is known of a line that took all replies
 pub record IsWritten (received : ℕ → List Shown) (begin now : Sight) (told : Told) (service : Service) : Type 0 where
   pub serving : Serving received begin now service.seat.unread (all_handed told)
-  pub stops : StopsAt service.stop told
+  pub stops : StopsAt service.stop (all_handed told)
 
 -- Where none waits the line took all replies.
 pub written : (received : ℕ → List Shown) (may_answer : ℕ → Type 0) (begin now : Sight) (told : Told) (service : Service) → text_in service.unwritten ≡ [] → HasStopped received may_answer begin now (all_handed told) service → IsWritten received begin now told service
@@ -201,7 +212,7 @@ written received may_answer begin now told service none stopped =
     let P : Sight → Type 0 = λ seen. Serving received begin seen service.seat.unread (all_handed told) in
     record {
       serving = subst P (nothing_waits (text_in service.unwritten) now none) stopped.serves.serving;
-      stops = stops_along service.stop (all_handed told) told.out told.lent told.accepted told.handed stopped.stops;
+      stops = stopped.stops;
     }
 
 -- The line was read, or asked in vain: it is served as before, and commands may be taken.
@@ -219,6 +230,7 @@ serving_read received may_answer begin before now told service conn seat none st
     }
 
 -- And commands were taken, as far as there are any.
-pub serves_read : (received : ℕ → List Shown) (may_answer : ℕ → Type 0) (begin now : Sight) (told : Told) (fed : List ℕ) (ended : Bool) (service : Service) → ServesOn received may_answer begin now (record (all_handed told) { fed = fed; ended = ended }) service → ServesOn received may_answer begin now told service
-serves_read received may_answer begin now told fed ended service on =
+pub serves_read : (received : ℕ → List Shown) (may_answer : ℕ → Type 0) (begin now : Sight) (told : Told) (fed : List ℕ) (ended : Bool) (service : Service) → TakesAll received may_answer begin now (record (all_handed told) { fed = fed; ended = ended }) service → ServesOn received may_answer begin now told service
+serves_read received may_answer begin now told fed ended service takes =
+    let on = takes.on in
     record { fed = on.fed; ended = on.ended; handed = on.handed; taken = on.taken; more = on.more; taken_is = on.taken_is; stopped = on.stopped }

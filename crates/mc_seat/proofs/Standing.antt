@@ -18,6 +18,7 @@ pub with_reads-nil : (reads : Option (List Read)) → with_reads reads [] ≡ re
 with_reads-nil None = refl
 with_reads-nil (Some reads) = ap (λ rs. Some rs) (append-nil reads)
 
+-- The reads that are told, and then more, and more.
 pub with_reads-append : (before : Option (List Read)) (reads more : List Read) → with_reads (with_reads before reads) more ≡ with_reads before (reads ++ more)
 with_reads-append None reads more = refl
 with_reads-append (Some before) reads more = ap (λ rs. Some rs) (append_assoc before reads more)
@@ -27,6 +28,7 @@ pub stands_first : (rules : Rules) (fits : Type 0) (now : Sight) → GaveAndTook
 stands_first rules fits now = record {
   read_is = sym (with_bytes-nil now.given);
   ended_is = λ e. absurd cc;
+  open_is = λ e ended. ended;
   taken_is = sym (with_bytes-nil now.taken);
   counted = omega arith;
   reads = [];
@@ -62,6 +64,7 @@ stands_take rules fits after begin now unread fed ended taken texts one weaker s
     record {
       read_is = stands.read_is;
       ended_is = stands.ended_is;
+      open_is = stands.open_is;
       taken_is = stands.taken_is;
       counted = omega (arith, counted, length-append taken (one ∷ []));
       reads = stands.reads;
@@ -73,11 +76,12 @@ stands_take rules fits after begin now unread fed ended taken texts one weaker s
 
 -- neither was more taken of the line nor was it asked for more: what it gave may be read and fed now, and be its end
 pub stands_over : {rules : Rules} {fits after : Type 0} {begin before now : Sight} {unread left fed more : List ℕ} {ended over : Bool} {taken : List Taken} {texts : List (List ℕ)} → (after → fits) →
-    now.given ≡ with_bytes begin.given (more ++ left) → (over ≡ true → (now.ended ≡ true) × (left ≡ [])) → now.taken ≡ before.taken → now.reads ≡ before.reads →
+    now.given ≡ with_bytes begin.given (more ++ left) → (over ≡ true → (now.ended ≡ true) × (left ≡ [])) → (over ≡ false → now.ended ≡ true → begin.ended ≡ true) → now.taken ≡ before.taken → now.reads ≡ before.reads →
     GaveAndTook rules fits begin before unread fed ended taken texts → GaveAndTook rules after begin now left more over taken texts
-stands_over weaker read_is ended_is same_taken same_reads stands = record {
+stands_over weaker read_is ended_is open_is same_taken same_reads stands = record {
   read_is = read_is;
   ended_is = ended_is;
+  open_is = open_is;
   taken_is = same_taken ∙ stands.taken_is;
   counted = stands.counted;
   reads = stands.reads;
@@ -93,6 +97,7 @@ stands_asked rules fits begin before fed ended taken texts all complete stands =
     record {
       read_is = stands.read_is;
       ended_is = stands.ended_is;
+      open_is = stands.open_is;
       taken_is = stands.taken_is;
       counted = stands.counted;
       reads = stands.reads ++ read ∷ [];

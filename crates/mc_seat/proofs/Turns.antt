@@ -1,10 +1,10 @@
 -- How a turn ends.
-use Rattle.std.proofs.Common.{◌≡◌, ℕ, true, false, ◌⊎◌, inl, inr, List, [], ◌++◌, ◌==◌, length, take, drop, IsTrue, refl, sym, ap, subst, ◌∙◌, arith, append_assoc, append-nil}
+use Rattle.std.proofs.Common.{◌≡◌, ℕ, Bool, true, false, ◌⊎◌, inl, inr, List, [], ◌∷◌, ◌++◌, ◌==◌, length, take, drop, IsTrue, refl, sym, ap, subst, ◌∙◌, arith, append_assoc, append-nil}
 use Rattle.std.specs.List.{concat}
 use Rattle.std.proofs.lemmas.Bool.{eqb-true}
 use Rattle.std.proofs.lemmas.List.{nil_from_length, take-append-drop, take_all}
 use Rattle.std.proofs.lemmas.List.Folds.{concat-append}
-use Rattle.mc_wire.specs.Outlet.{BreaksOff, Sight, asked, broke, gave, with_bytes}
+use Rattle.mc_wire.specs.Outlet.{BreaksOff, Read, Sight, asked, broke, gave, with_bytes, with_reads}
 use Rattle.mc_wire.proofs.Outlets.{took-nil, with_bytes-append}
 use Rattle.mc_ring.specs.Reply.{Shown}
 use Rattle.mc_reader.specs.Spelling.{AreCommands, is_closed}
@@ -16,7 +16,8 @@ use Rattle.mc_conn.proofs.Staying.{is_sound}
 use Rattle.mc_seat.specs.internal.Stands.{Serving, handed_texts}
 use Rattle.mc_seat.specs.internal.Steps.{GoesOn, IsServed, all_handed}
 use Rattle.mc_seat.proofs.Fronts.{closed_more}
-use Rattle.mc_seat.proofs.Standing.{all_owed_later, commands-length, stands_asked, stands_over}
+use Rattle.mc_seat.specs.Story.{FailsAtRead}
+use Rattle.mc_seat.proofs.Standing.{all_owed_later, commands-length, stands_asked, stands_over, with_reads-append}
 use Rattle.mc_reader.proofs.Fronts.{begin_more}
 
 handed_all : (told : Told) → handed_texts (all_handed told) ≡ all_texts told
@@ -35,6 +36,7 @@ hands received begin before now unread told conn new count is out serving =
       record {
         read_is = ap (λ (s : Sight). s.given) out.written ∙ serving.read_is;
         ended_is = λ e. let was = serving.ended_is e in (ap (λ (s : Sight). s.ended) out.written ∙ was.0, was.1);
+        open_is = λ e ended. serving.open_is e (sym (ap (λ (s : Sight). s.ended) out.written) ∙ ended);
         taken_is = ap (λ (s : Sight). s.taken) out.written
             ∙ (ap (λ t. with_bytes t (concat later)) serving.taken_is
             ∙ (with_bytes-append begin.taken (concat texts) (concat later) ∙ ap (λ t. with_bytes begin.taken t) (sym (concat-append texts later) ∙ ap concat all)));
@@ -74,14 +76,14 @@ ends received begin now unread told conn is whole over serving =
         writes = refl;
         may = sound.may;
         finished = λ e. read.1;
-        failed = λ e. absurd cc;
+        breaks = λ e. absurd cc;
       };
       reads = λ f. record { reads = stands.reads; reads_are = stands.reads_are; each = stands.owes_nothing f };
     }
 
--- the line failed while replies were handed out
-pub breaks_hand : (received : ℕ → List Shown) (begin before now : Sight) (unread : List ℕ) (told : Told) (conn : Conn) → IsConn conn (record told { broken = true }) → BreaksOff (waiting_text told) before now → Serving received begin before unread told → IsServed received begin now told true conn
-breaks_hand received begin before now unread told conn is off serving =
+-- the line failed at a read
+breaks_asked : (received : ℕ → List Shown) (begin before now : Sight) (unread : List ℕ) (told : Told) (conn : Conn) → IsConn conn (record told { broken = true }) → BreaksOff (waiting_text told) before now → FailsAtRead begin now → Serving received begin before unread told → IsServed received begin now told true conn
+breaks_asked received begin before now unread told conn is off fails serving =
     let sound = is_sound conn (record told { broken = true }) is in
     let counted = serving.counted in
     let texts = handed_texts told in
@@ -106,7 +108,7 @@ breaks_hand received begin before now unread told conn is off serving =
         );
         may = sound.may;
         finished = λ e. absurd cc;
-        failed = λ e. ap (λ (s : Sight). s.failed) off.sight;
+        breaks = λ e. inl (ap (λ (s : Sight). s.failed) off.sight, inl fails);
       };
       reads = λ f. record {
         reads = serving.reads;
@@ -115,7 +117,8 @@ breaks_hand received begin before now unread told conn is off serving =
       };
     }
 
-none_in : (bytes : List ℕ) → (length bytes == 0) ≡ true → bytes ≡ []
+-- what has no length is empty
+pub none_in : (bytes : List ℕ) → (length bytes == 0) ≡ true → bytes ≡ []
 none_in bytes empty = nil_from_length bytes (eqb-true (length bytes) 0 empty)
 
 -- all that was read is fed, every command of it taken and answered: the line is asked for more
@@ -124,12 +127,19 @@ asks : (received : ℕ → List Shown) (begin before : Sight) (unread : List ℕ
 asks received begin before unread told all complete empty serving =
     stands_asked told.rules (KeysFit told.shards told.taken received) begin before told.fed told.ended told.taken (handed_texts (all_handed told)) all (λ f. ap length (handed_all told) ∙ complete f) (rw (none_in unread empty) at serving)
 
--- the line failed at a read
+-- it was asked for more, and failed
+fails_at : (begin before now : Sight) (reads : List Read) → before.reads ≡ with_reads begin.reads reads → (before.ended ≡ true → begin.ended ≡ true) → now ≡ broke (asked before) → FailsAtRead begin now
+fails_at begin before now reads reads_are open_is fails =
+    let P : Sight → Type 0 = λ seen. FailsAtRead begin seen in
+    let read : Read = record { given = before.given; taken = before.taken } in
+    subst P (sym fails) (record { before = reads; reads_are = ap (λ rs. with_reads rs (read ∷ [])) reads_are ∙ with_reads-append begin.reads reads (read ∷ []); open_is = open_is })
+
+-- the line failed at a read, once all replies were written
 pub breaks_read : (received : ℕ → List Shown) (begin before now : Sight) (unread : List ℕ) (told : Told) (conn : Conn) → IsConn conn (record (all_handed told) { broken = true }) → IsAllTaken told
-    → (KeysFit told.shards told.taken received → length (all_texts told) ≡ length told.taken) → now ≡ broke (asked before) → (length unread == 0) ≡ true → Serving received begin before unread (all_handed told) → IsServed received begin now told true conn
-breaks_read received begin before now unread told conn is all complete fails empty serving =
+    → (KeysFit told.shards told.taken received → length (all_texts told) ≡ length told.taken) → told.ended ≡ false → now ≡ broke (asked before) → (length unread == 0) ≡ true → Serving received begin before unread (all_handed told) → IsServed received begin now told true conn
+breaks_read received begin before now unread told conn is all complete open_is fails empty serving =
     let off : BreaksOff (waiting_text (all_handed told)) (asked before) now = record { count = 0; within = omega arith; sight = fails ∙ ap broke (sym (took-nil (asked before))) } in
-    let served = breaks_hand received begin (asked before) now [] (all_handed told) conn is off (asks received begin before unread told all complete empty serving) in
+    let served = breaks_asked received begin (asked before) now [] (all_handed told) conn is off (fails_at begin before now serving.reads serving.reads_are (serving.open_is open_is) fails) (asks received begin before unread told all complete empty serving) in
     record { handed = served.handed; conn_is = served.conn_is; over = served.over; rest = served.rest; story = served.story; reads = served.reads }
 
 -- some of what was read is fed
@@ -141,19 +151,20 @@ goes_feed received begin now unread told count conn open_is is serving =
       fed = told.fed ++ take count unread;
       ended = told.ended;
       conn_is = is;
-      serving = stands_over (λ f. f) (serving.read_is ∙ ap (λ u. with_bytes begin.given u) (sym all)) (λ e. absurd cc) refl refl serving;
+      serving = stands_over (λ f. f) (serving.read_is ∙ ap (λ u. with_bytes begin.given u) (sym all)) (λ e. absurd cc) serving.open_is refl refl serving;
     }
 
--- the line gave more
-pub reads_more : (received : ℕ → List Shown) (begin before now : Sight) (unread more : List ℕ) (told : Told) → IsAllTaken told
-    → (KeysFit told.shards told.taken received → length (all_texts told) ≡ length told.taken) → told.ended ≡ false → now ≡ gave more (asked before) → (length unread == 0) ≡ true → Serving received begin before unread (all_handed told) → Serving received begin now more (all_handed told)
-reads_more received begin before now unread more told all complete open_is gives empty serving =
+-- the line gave more, or none at its end
+pub reads_more : (received : ℕ → List Shown) (begin before now : Sight) (unread more : List ℕ) (told : Told) (over : Bool) → IsAllTaken told → (KeysFit told.shards told.taken received → length (all_texts told) ≡ length told.taken)
+    → (over ≡ true → more ≡ []) → (over ≡ false → (length more == 0) ≡ false) → now ≡ gave more (asked before) → (length unread == 0) ≡ true → Serving received begin before unread (all_handed told) → Serving received begin now more (record (all_handed told) { ended = over })
+reads_more received begin before now unread more told over all complete none some gives empty serving =
     let after = asks received begin before unread told all complete empty serving in
     let given : before.given ≡ with_bytes begin.given told.fed = after.read_is ∙ ap (λ u. with_bytes begin.given u) (append-nil told.fed) in
     stands_over (λ f. f) (ap (λ (s : Sight). s.given) gives ∙ (ap (λ g. with_bytes g more) given ∙ with_bytes-append begin.given told.fed more))
-    (λ e. absurd cc) (ap (λ (s : Sight). s.taken) gives) (ap (λ (s : Sight). s.reads) gives) after
+    (λ e. (ap (λ (s : Sight). s.ended) gives ∙ ap (λ (xs : List ℕ). length xs == 0) (none e), none e))
+    (λ e ended. absurd (let bad : true ≡ false = sym ended ∙ (ap (λ (s : Sight). s.ended) gives ∙ some e) in cc))
+    (ap (λ (s : Sight). s.taken) gives) (ap (λ (s : Sight). s.reads) gives) after
 
 -- it gave none: its input is at its end
-pub goes_end : (received : ℕ → List Shown) (begin now : Sight) (left : List ℕ) (told : Told) (conn : Conn) → now.ended ≡ (length left == 0) → (length left == 0) ≡ true → IsConn conn (record (all_handed told) { ended = true }) → Serving received begin now left (all_handed told) → GoesOn received begin now told conn left
-goes_end received begin now left told conn ended_is empty is serving =
-    record { fed = told.fed; ended = true; conn_is = is; serving = stands_over (λ f. f) serving.read_is (λ e. (ended_is ∙ empty, none_in left empty)) refl refl serving }
+pub goes_end : (received : ℕ → List Shown) (begin now : Sight) (left : List ℕ) (told : Told) (conn : Conn) → IsConn conn (record (all_handed told) { ended = true }) → Serving received begin now left (record (all_handed told) { ended = true }) → GoesOn received begin now told conn left
+goes_end received begin now left told conn is serving = record { fed = told.fed; ended = true; conn_is = is; serving = serving }

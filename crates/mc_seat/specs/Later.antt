@@ -1,5 +1,5 @@
 -- What waits for a line to take it.
-use Rattle.std.specs.Prelude.{ℕ, zero, suc, ◌+◌, List, [], ◌∷◌, ◌++◌, drop, length}
+use Rattle.std.specs.Prelude.{ℕ, zero, suc, ◌+◌, ◌<◌, vec_capacity, vec_len, List, [], ◌∷◌, ◌++◌, drop, length}
 use Rattle.std.specs.List.{flat_map}
 use Rattle.mc_seat.specs.declared.unwritten.Chunk.{Chunk}
 use Rattle.mc_seat.specs.declared.unwritten.Unwritten.{Unwritten}
@@ -23,3 +23,7 @@ piece_behind (chunk ∷ chunks) tail (suc place) = piece_behind chunks tail plac
 -- how much stands behind the front: the chunks, each as one, and the bytes of the tail
 abbrev pub ahead : Unwritten → ℕ
 ahead unwritten = length unwritten.later.items + length unwritten.tail.items
+
+-- There is no room for a text of this length, unless memory is got for it.
+abbrev pub LacksRoom : ℕ → Unwritten → Type 0
+LacksRoom count unwritten = vec_capacity unwritten.tail < vec_len unwritten.tail + count

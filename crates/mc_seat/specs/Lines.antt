@@ -1,13 +1,18 @@
 -- What a line is read by.
-use Rattle.std.specs.Prelude.{ℕ, ◌≡◌, ◌≤◌, List, take, Option, Some, None, Result, Ok, Err}
-use Rattle.mc_wire.specs.Outlet.{Sight, asked, broke, gave}
-use Rattle.mc_join.specs.internal.Gathered.{told}
+use Rattle.std.specs.Prelude.{ℕ, ◌≡◌, ◌≤◌, List, length, take, Option, Some, None, Result, Ok, Err}
+use Rattle.mc_wire.specs.Outlet.{Sight, Trace, Untold, Counted, Listed, asked, broke, gave}
 
 -- It was read where it had something to give: the first count bytes of the room, or none where it failed. Else it is as it was.
 abbrev pub ReadsIfReady : {E : Type 0} → List ℕ → Result (Option ℕ) E → Sight → Sight → Type 0
 ReadsIfReady room (Ok (Some count)) old new = new ≡ gave (take count room) (asked old)
 ReadsIfReady room (Ok None) old new = new ≡ old
 ReadsIfReady room (Err fault) old new = new ≡ broke (asked old)
+
+-- the number of bytes, as far as it is told
+abbrev pub told : Trace → ℕ
+told Untold = 0
+told (Counted count) = count
+told (Listed bytes) = length bytes
 
 -- The line has taken all the bytes that it had taken, as far as it tells how many they are.
 abbrev pub HasGrown : Sight → Sight → Type 0

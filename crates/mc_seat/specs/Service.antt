@@ -1,8 +1,9 @@
 -- How one line is served, whatever its shards sent.
-use Rattle.std.specs.Prelude.{ℕ, ◌≡◌, Bool, false, List, [], ◌++◌, length}
+use Rattle.std.specs.Prelude.{ℕ, ◌≡◌, ◌+◌, ◌<◌, Bool, false, ◌⊎◌, List, [], ◌++◌, length}
 use Rattle.std.specs.List.{AllByRecursion}
 use Rattle.mc_wire.specs.Outlet.{Sight, took}
 use Rattle.mc_ring.specs.Reply.{Shown}
+use Rattle.mc_conn.specs.declared.conn.Taken.TheVariants as took
 use Rattle.mc_conn.specs.Conn.{IsConn}
 use Rattle.mc_conn.specs.History.{Taken}
 use Rattle.mc_conn.specs.Told.{Told, told_nothing}
@@ -62,10 +63,18 @@ ServiceSays stepped.Did received may_answer begin now told service = ServesOn re
 ServiceSays stepped.Waits received may_answer begin now told service = ServesOn received may_answer begin now told service
 ServiceSays (stepped.Ended served) received may_answer begin now told service = WasServed received begin now told served.broke served.commands service
 
--- The commands of the line were taken, as far as there are any.
+-- Commands of the line were taken, as far as there are any: until more bytes are needed, none comes any more, or the window is full.
+pub record TakesAll (received : ℕ → List Shown) (may_answer : ℕ → Type 0) (begin now : Sight) (told : Told) (service : Service) : Type 0 where
+  pub on : ServesOn received may_answer begin now told service
+  pub full : service.stop ≡ took.Full → length on.taken ≡ told.handed + told.window
+
 abbrev pub TakesFor : (ℕ → Type 0) → Service → Service → Type 0
 TakesFor may_answer old new =
-    (received : ℕ → List Shown) (begin now : Sight) (told : Told) → IsServing received may_answer begin now told old → ServesOn received may_answer begin now told new
+    (received : ℕ → List Shown) (begin now : Sight) (told : Told) → IsServing received may_answer begin now told old → TakesAll received may_answer begin now told new
+
+-- The line is waited for: it has to take replies, or to give more bytes.
+abbrev pub WaitsForLine : Service → Type 0
+WaitsForLine service = (0 < length (text_in service.unwritten)) ⊎ (service.stop ≡ took.NeedMore)
 
 -- What going on does, once all commands taken are answered.
 abbrev pub GoOnSays : LineStep → (ℕ → Type 0) → Service → Sight → Service → Sight → Type 0

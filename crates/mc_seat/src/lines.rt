@@ -80,9 +80,10 @@ pub trait Line: Outlet {
         self.write_if_ready(first_filled(bufs))
     }
 
-    /// Gives the line up: it counts as failed from now on.
-    fn give_up(&mut self)
-        ensures { Self.sight self.new ≡ broke (Self.sight self.old) };
+    /// Notes that so many of its commands were taken so far, and whether none is taken any more. Nothing that is seen of it changes.
+    fn note_taken(&mut self, _commands: u64, _is_over: bool)
+        ensures { Self.sight self.new ≡ Self.sight self.old }
+    {}
 
     /// Tells the line that it may give bytes or take some again. Nothing that is seen of it changes.
     fn rouse(&mut self, _ready: Ready)

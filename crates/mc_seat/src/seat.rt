@@ -54,8 +54,9 @@ impl Seat {
         stop: Taken,
         rooms: &mut Rooms,
     ) -> AfterTurn
-        ensures { HandedSays result stop conn.old self.old.unread (L.sight line.old) conn.new
+        ensures says { HandedSays result stop conn.old self.old.unread (L.sight line.old) conn.new
             self.new.unread (L.sight line.new) }
+        ensures waits { result ≡ AfterTurn.Waits → stop ≡ Taken.NeedMore }
     {
         match stop {
             Taken::NeedMore => self.read_on(conn, line, rooms),

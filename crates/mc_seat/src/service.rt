@@ -61,7 +61,7 @@ impl Drop for Service {
 impl Service {
     ghost use Rattle.mc_conn.specs.Conn.{IfConn};
     ghost use Rattle.mc_conn.specs.Told.{IsAtRest, IsOver};
-    ghost use Rattle.mc_seat.specs.Service.{GoOnSays, IsNew, TakesFor};
+    ghost use Rattle.mc_seat.specs.Service.{GoOnSays, IsNew, TakesFor, WaitsForLine};
     ghost use Rattle.mc_seat.specs.internal.Reading.{ReadingSays};
 
     /// Of a line of which nothing was taken yet.
@@ -102,19 +102,19 @@ impl Service {
 
     /// Goes on once all commands taken are answered: hands their replies out, and once the line took them all, reads on and takes
     /// commands. Nothing waits here, where the line doesn't. Where memory for replies that the line doesn't take at once is
-    /// refused, the line is given up. The rooms are those of the thread, to read into.
+    /// refused, the line is given up: nothing more is read of it or written to it. The rooms are those of the thread, to read into.
     pub fn go_on<L: Line, K: Clock>(
         &mut self,
         line: &mut L,
         clock: &K,
         rooms: &mut Rooms,
     ) -> LineStep
-        ensures { GoOnSays result (K.may_answer clock.now) self.old (L.sight line.old) self.new
+        ensures says { GoOnSays result (K.may_answer clock.now) self.old (L.sight line.old) self.new
             (L.sight line.new) }
+        ensures waits { result ≡ LineStep.Waits → WaitsForLine self.new }
     {
         self.unwritten.borrow_room(rooms);
         if let Err(_refused) = self.conn.hand(&mut self.unwritten) {
-            line.give_up();
             return self.ended(true);
         }
         match self.unwritten.flush(line) {
@@ -122,7 +122,8 @@ impl Service {
                 self.unwritten.return_room(rooms);
                 self.go_on_reading(line, clock, rooms)
             }
-            Ok(false) => LineStep::Waits,
+            Ok(false) if self.unwritten.waits() => LineStep::Waits,
+            Ok(false) => LineStep::Did,
             Err(_fault) => {
                 self.conn.broken();
                 self.ended(true)
@@ -137,18 +138,25 @@ impl Service {
         clock: &K,
         rooms: &mut Rooms,
     ) -> LineStep
-        ensures { ReadingSays result (K.may_answer clock.now) self.old (L.sight line.old) self.new
-            (L.sight line.new) }
+        ensures says { ReadingSays result (K.may_answer clock.now) self.old (L.sight line.old)
+            self.new (L.sight line.new) }
+        ensures waits { result ≡ LineStep.Waits → self.new.stop ≡ Taken.NeedMore }
     {
         match self.seat.go_on(&mut self.conn, line, self.stop, rooms) {
             AfterTurn::Continues => {
                 self.take_all(clock);
+                line.note_taken(self.commands, self.has_closed());
                 LineStep::Did
             }
             AfterTurn::Waits => LineStep::Waits,
             AfterTurn::Ended => self.ended(false),
             AfterTurn::Failed => self.ended(true),
         }
+    }
+
+    /// Whether no command of the line is taken any more.
+    fn has_closed(&self) -> bool {
+        matches!(self.stop, Taken::Closed)
     }
 
     /// What became of the line.

@@ -62,7 +62,7 @@ pub struct Unwritten {
 }
 
 impl Unwritten {
-    ghost use Rattle.mc_seat.specs.Later.{ahead, behind, piece_behind, text_in};
+    ghost use Rattle.mc_seat.specs.Later.{LacksRoom, ahead, behind, piece_behind, text_in};
 
     /// No replies. It takes no memory.
     pub fn new(alloc: Global) -> Unwritten
@@ -131,6 +131,13 @@ impl Unwritten {
         ensures { IsTrue result → (self.now.later.items ≡ []) × (self.now.tail.items ≡ []) }
     {
         self.later.is_empty() && self.tail.is_empty()
+    }
+
+    /// Whether the line has to take some of them at once.
+    pub(crate) fn waits(&self) -> bool
+        ensures { IsTrue result → 0 < length (text_in self.now) }
+    {
+        !self.rest().is_empty()
     }
 
     /// What stands at `place` behind the front, from 0: a chunk, then the tail, and nothing behind that.
@@ -212,6 +219,7 @@ impl Unwritten {
     fn add(&mut self, text: &[u8]) -> Result<(), AllocError>
         ensures ok { OnOk result (text_in self.new ≡ text_in self.old ++ text.now) }
         ensures err { OnErr result (text_in self.new ≡ text_in self.old) }
+        ensures full { OnErr result (LacksRoom (length text.now) self.old) }
         ensures refused { self.new.refused ≡ self.old.refused }
     {
         self.tail.reserve(text.len())?;
@@ -244,6 +252,7 @@ impl Unwritten {
         ensures err { OnErr result
             (took (text_in self.new) (L.sight line.new) ≡
             broke (took (text_in self.old) (L.sight line.old))) }
+        ensures some { OnErr result (0 < length (text_in self.new)) }
         ensures grows { HasGrown (L.sight line.old) (L.sight line.new) }
     {
         for _ in 0..u64::MAX {
@@ -265,11 +274,21 @@ impl Unwritten {
 }
 
 impl Outlet for Unwritten {
-    ghost use Rattle.mc_seat.specs.Later.{text_in};
+    ghost use Rattle.mc_seat.specs.Later.{LacksRoom, text_in};
 
     ghost sight = { λ unwritten. sight_out (Listed (text_in unwritten)) unwritten.refused };
 
-    fn write(&mut self, bytes: &[u8]) -> Result<usize, OutFault> {
+    fn write(&mut self, bytes: &[u8]) -> Result<usize, OutFault>
+        ensures within { IfOk result (λ count. count ≤ length bytes.now) }
+        ensures some { IfOk result (λ count. 0 < length bytes.now → 0 < count) }
+        ensures ok { IfOk result (λ count. sight_out (Listed (text_in self.new)) self.new.refused ≡
+            took (take count bytes.now) (sight_out (Listed (text_in self.old)) self.old.refused)) }
+        ensures err { OnErr result (sight_out (Listed (text_in self.new)) self.new.refused ≡
+            broke (sight_out (Listed (text_in self.old)) self.old.refused)) }
+        // Once it took all so far, it refuses only what there is no room for without more memory.
+        ensures full { OnErr result
+            (self.old.refused ≡ false → LacksRoom (length bytes.now) self.old) }
+    {
         if self.refused || self.add(bytes).is_err() {
             self.refused = true;
             return Err(OutFault);

@@ -1,104 +1,232 @@
--- Connections over TCP, by what is told of the doors that let them in.
-use Rattle.std.proofs.Common.{◌≡◌, ℕ, suc, ◌+◌, ◌-◌, ◌^◌, ◌≤◌, min, Bool, true, false, List, [], ◌∷◌, length, map, Option, None, refl, sym, ap, subst, ◌∙◌, arith}
-use Rattle.std.specs.List.{AllByRecursion}
+-- Connections over streams, by what is told of the doors that let them in.
+use Rattle.std.proofs.Common.{◌≡◌, ℕ, suc, ◌+◌, ◌-◌, ◌^◌, ◌≤◌, min, Bool, true, false, List, [], ◌∷◌, ◌++◌, length, map, Option, Some, None, refl, sym, ap, subst, ◌∙◌, append_assoc, append-nil, arith}
+use Rattle.std.specs.List.{AllByRecursion, slice_get}
 use Rattle.std.proofs.lemmas.List.{length-map}
-use Rattle.mc_wire.specs.Outlet.{Sight}
+use Rattle.std.specs.Io.KnownBytes.{Appends, Consumes}
+use Rattle.std.specs.declared.snapshot.Snapshot.{Snapshot}
+use Rattle.mc_wire.specs.Outlet.{Counted, Listed, Read, Sight, Trace, Untold, with_reads}
+use Rattle.mc_wake.specs.Zips.{Zips}
+use Rattle.mc_ring.proofs.Lists.{get_map}
 use Rattle.mc_sizes.specs.declared.sizes.Sizes.{Sizes}
-use Rattle.mc_seat.specs.Explains.{LineTold}
-use Rattle.mc_doors.specs.Told.{DoorTold, IsFree, TellsLines, TellsNothing, closed}
-use Rattle.mc_serve.specs.Served.{PassEach, PassesAll, ServesDoors}
-use Rattle.mc_doors.specs.Tcp.{gone_count, gone_line, new_line, told_tcp}
-use Rattle.mc_serve.specs.Connections.{ServesConnections, how_many}
-use Rattle.mc_doors.specs.declared.tcp_door.ClosedConnection.{ClosedConnection}
+use Rattle.mc_conn.specs.History.{AnsweredCommand}
+use Rattle.mc_seat.specs.Explains.{IsLogOfLines, LineTold}
+use Rattle.mc_doors.specs.declared.stream.Stream.{Ghosts}
+use Rattle.mc_doors.specs.declared.stream_door.ClosedConnection.{ClosedConnection}
+use Rattle.mc_doors.specs.declared.tcp_line.TcpLine.{TcpLine}
+use Rattle.mc_doors.specs.Told.{Comes, DoorTold, IsDone, IsFree, TellsLines, TellsNothing, closed}
+use Rattle.mc_doors.specs.Tcp.{IsServed, gone_count, gone_line, gone_lines, new_door, new_line, new_lines, note_of, told_door, trace_of}
+use Rattle.mc_serve.specs.Served.{ExplainsHistory, PassEach, PassesAll, ServesDoors}
+use Rattle.mc_serve.specs.Connections.{AreServed, ServesConnections, how_many, seats_of}
+use Rattle.mc_serve.specs.declared.outcome.Outcome.{Outcome}
+use Rattle.mc_model.proofs.Lists.{all_from}
+use Rattle.mc_threads.proofs.Orders.{map_one}
+use Rattle.mc_serve.proofs.Lanes.{map_map}
 
--- a door by which nothing came in yet
-abbrev pub new_door : DoorTold
-new_door = TellsLines None None [] false
+-- bytes that a trace lists
+of_trace : Trace → Option (List ℕ)
+of_trace Untold = None
+of_trace (Counted count) = None
+of_trace (Listed bytes) = Some bytes
 
--- Each line that went back was new when it came in.
-abbrev pub BeginsNew : DoorTold → Type 0
-BeginsNew TellsNothing = Unit {0}
-BeginsNew (TellsLines coming out back over) = AllByRecursion (λ line. line.begin ≡ new_line) back
+of_trace-of : (bytes : Option (List ℕ)) → of_trace (trace_of bytes) ≡ bytes
+unfolding of_trace
+of_trace-of None = refl
+of_trace-of (Some bytes) = refl
 
-lines_new : (gone : List (ClosedConnection × Unit {0})) → AllByRecursion (λ line. line.begin ≡ new_line) (map (λ one. gone_line one.0) gone)
-lines_new [] = tt
-lines_new (one ∷ gone) = (refl, lines_new gone)
+-- Bytes of which the same is told are the same.
+bytes_same : (these those : Option (List ℕ)) → trace_of these ≡ trace_of those → these ≡ those
+bytes_same these those same = sym (of_trace-of these) ∙ (ap of_trace same ∙ of_trace-of those)
 
--- Each connection that went back to a seat's door over TCP was new when it came in.
-pub tcp_new : (out : Bool) (gone : List (ClosedConnection × Unit {0})) (over : Bool) → BeginsNew (told_tcp out gone over)
-tcp_new true gone over = lines_new gone
-tcp_new false gone over = lines_new gone
+untold : Read
+untold = record { given = Untold; taken = Untold }
 
--- how many went back to the door
-pub gone_one : (out : Bool) (gone : List (ClosedConnection × Unit {0})) (over : Bool) (rest : List DoorTold) → gone_count (told_tcp out gone over ∷ rest) ≡ length gone + gone_count rest
-gone_one true gone over rest = ap (λ n. n + gone_count rest) (length-map gone (λ (one : ClosedConnection × Unit {0}). gone_line one.0))
-gone_one false gone over rest = ap (λ n. n + gone_count rest) (length-map gone (λ (one : ClosedConnection × Unit {0}). gone_line one.0))
+-- the first of these notes
+first_note : Option (List Read) → Read
+first_note None = untold
+first_note (Some []) = untold
+first_note (Some (note ∷ notes)) = note
 
--- what came in by a new door is what went back
-record IsAllBack (lines : List LineTold) (after : DoorTold) : Type 0 where
-  coming : Option (List Sight)
-  back : after ≡ TellsLines coming None lines true
+-- A line's notes are those before, and then some.
+pub record KeepsNotes (line : LineTold) : Type 0 where
+  reads : List Read
+  are : line.now.reads ≡ with_reads line.begin.reads reads
 
-all_back : (before : DoorTold) (lines : List LineTold) (after : DoorTold) → before ≡ new_door → PassesAll before lines after → IsAllBack lines after
-all_back before lines after new passes =
-    let P : DoorTold → Type 0 = λ door. PassesAll door lines after in
-    let all : PassesAll new_door lines after = subst P new passes in
-    record { coming = all.passes.0; back = all.over ∙ ap closed all.passes.2 }
+notes_kept : (sizes : Sizes) (may_answer : ℕ → Type 0) (lines : List LineTold) (histories : List (List AnsweredCommand)) → Zips (ExplainsHistory sizes may_answer) lines histories → AllByRecursion KeepsNotes lines
+notes_kept sizes may_answer [] [] zips = tt
+notes_kept sizes may_answer [] (history ∷ histories) zips = absurd zips
+notes_kept sizes may_answer (line ∷ lines) [] zips = absurd zips
+notes_kept sizes may_answer (line ∷ lines) (history ∷ histories) zips = (record { reads = zips.0.reads.reads; are = zips.0.reads.reads_are }, notes_kept sizes may_answer lines histories zips.1)
 
--- The connections of all doors.
-record AreConnections (befores : List DoorTold) (seats : List (List LineTold)) (afters : List DoorTold) : Type 0 where
-  as_many : length seats ≡ length befores
-  counted : gone_count afters ≡ how_many seats
-  begins : AllByRecursion (λ lines. AllByRecursion (λ line. line.begin ≡ new_line) lines) seats
-
-connections : (befores : List DoorTold) (seats : List (List LineTold)) (afters : List DoorTold) → AllByRecursion (λ door. door ≡ new_door) befores → AllByRecursion BeginsNew afters → PassEach befores seats afters → AreConnections befores seats afters
-connections [] [] [] new begins each = record { as_many = refl; counted = refl; begins = tt }
-connections [] [] (after ∷ afters) new begins each = absurd each
-connections [] (lines ∷ seats) afters new begins each = absurd each
-connections (before ∷ befores) [] afters new begins each = absurd each
-connections (before ∷ befores) (lines ∷ seats) [] new begins each = absurd each
-connections (before ∷ befores) (lines ∷ seats) (after ∷ afters) new begins each =
-    let rest = connections befores seats afters new.1 begins.1 each.1 in
-    let this = all_back before lines after new.0 each.0 in
-    let B : DoorTold → Type 0 = λ door. BeginsNew door in
+-- A connection that came in over this stream was over it to the end.
+is_served : {S : Type 0} {g : Ghosts S} (stream : S) (one : ClosedConnection S g) → new_line (g.remaining stream) (g.contents stream) ≡ (gone_line one).begin → KeepsNotes (gone_line one) → IsServed stream one
+unfolding first_note
+is_served {S} {g} stream one is kept =
+    let begin = one.line.value.tap.begin.value in
+    let note : note_of (g.remaining begin) (g.contents begin) ≡ note_of (g.remaining stream) (g.contents stream) = ap first_note kept.are ∙ ap (λ (sight : Sight). first_note sight.reads) (sym is) in
+    let remaining : g.remaining begin ≡ g.remaining stream = bytes_same (g.remaining begin) (g.remaining stream) (ap (λ (read : Read). read.given) note) in
+    let contents : g.contents begin ≡ g.contents stream = bytes_same (g.contents begin) (g.contents stream) (ap (λ (read : Read). read.taken) note) in
+    let tap = one.line.value.tap in
     record {
-      as_many = ap suc rest.as_many;
-      counted = ap (λ door. gone_count (door ∷ afters)) this.back ∙ ap (λ n. length lines + n) rest.counted;
-      begins = (subst B this.back begins.0, rest.begins);
+      gave = let P : Option (List ℕ) → Type 0 = λ bytes. Consumes bytes (g.remaining tap.stream) tap.given in subst P remaining tap.gave;
+      took = let P : Option (List ℕ) → Type 0 = λ bytes. Appends bytes (g.contents tap.stream) tap.taken in subst P contents tap.took;
     }
 
-all_told : {D : Type 0} (P : DoorTold → Type 0) (told : D → DoorTold) (doors : List D) → AllByRecursion (λ door. P (told door)) doors → AllByRecursion P (map told doors)
-all_told P told [] all = tt
-all_told P told (door ∷ doors) all = (all.0, all_told P told doors all.1)
+first_of : Sight → List Sight → Sight
+first_of none [] = none
+first_of none (line ∷ lines) = line
 
-all_begin : {D : Type 0} (told : D → DoorTold) → ((door : D) → BeginsNew (told door)) → (doors : List D) → AllByRecursion BeginsNew (map told doors)
-all_begin told each [] = tt
-all_begin told each (door ∷ doors) = (each door, all_begin told each doors)
+rest_of : List Sight → List Sight
+rest_of [] = []
+rest_of (line ∷ lines) = lines
 
--- No connection is out of a new door.
-pub new_free : {D : Type 0} (told : D → DoorTold) (doors : List D) → AllByRecursion (λ door. told door ≡ new_door) doors → AllByRecursion (λ door. IsFree (told door)) doors
-new_free told [] all = tt
-new_free told (door ∷ doors) all = let P : DoorTold → Type 0 = λ d. IsFree d in (subst P (sym all.0) refl, new_free told doors all.1)
+-- The same of all streams of a seat.
+all_served : {S : Type 0} {g : Ghosts S} (streams : List S) (gone : List (ClosedConnection S g × Unit {0})) → map (λ stream. new_line (g.remaining stream) (g.contents stream)) streams ≡ map (λ line. line.begin) (gone_lines gone) → AllByRecursion KeepsNotes (gone_lines gone)
+    → Zips (λ stream one. IsServed stream one.0) streams gone
+unfolding first_of rest_of
+all_served [] [] came kept = tt
+all_served [] (one ∷ gone) came kept = absurd (cc)
+all_served (stream ∷ streams) [] came kept = absurd (cc)
+all_served (stream ∷ streams) (one ∷ gone) came kept = (is_served stream one.0 (ap (first_of (gone_line one.0).begin) came) kept.0, all_served streams gone (ap rest_of came) kept.1)
 
--- One log explains all connections.
-pub all_connections : {D : Type 0} (sizes : Sizes) (may_answer : ℕ → Type 0) (told : D → DoorTold) (doors back : List D) (ended : ℕ) → length doors ≡ sizes.seats → AllByRecursion (λ door. told door ≡ new_door) doors → ((door : D) → BeginsNew (told door))
-    → ServesDoors sizes may_answer (map told doors) (map told back) → ended ≡ min (gone_count (map told back)) (2 ^ 64 - 1) → ServesConnections sizes may_answer ended
-all_connections sizes may_answer told doors back ended count new begins serves counted =
-    let are = connections (map told doors) serves.seats (map told back) (all_told (λ door. door ≡ new_door) told doors new) (all_begin told begins back) serves.back in
-    record {
-      seats = serves.seats;
-      as_many = are.as_many ∙ (length-map doors told ∙ count);
-      counted = counted ∙ ap (λ n. min n (2 ^ 64 - 1)) are.counted;
-      begins = are.begins;
-      log = serves.log;
-      log_is = serves.log_is;
-      each = serves.each;
-    }
+-- Each connection was over its own stream.
+pub all_own : {S : Type 0} {g : Ghosts S} (gone : List (ClosedConnection S g × Unit {0})) → AreServed None gone
+all_own [] = tt
+all_own (one ∷ gone) = (record { gave = one.0.line.value.tap.gave; took = one.0.line.value.tap.took }, all_own gone)
+
+own_seats : {S : Type 0} {g : Ghosts S} (seats : List (List (ClosedConnection S g × Unit {0}))) → AllByRecursion (AreServed None) seats
+own_seats [] = tt
+own_seats (gone ∷ seats) = (all_own gone, own_seats seats)
+
+-- What came in by a new door is what went back.
+record IsAllBack (coming : Option (List Sight)) (lines : List LineTold) (after : DoorTold) : Type 0 where
+  rest : Option (List Sight)
+  back : after ≡ TellsLines rest None lines true
+  comes : Comes coming (map (λ line. line.begin) lines) rest
+  done : IsDone (TellsLines rest None lines false)
+
+all_back : (coming : Option (List Sight)) (lines : List LineTold) (after : DoorTold) → PassesAll (TellsLines coming None [] false) lines after → IsAllBack coming lines after
+all_back coming lines after all =
+    let is = all.passes.2 in
+    record { rest = all.passes.0; back = all.over ∙ ap closed is; comes = all.passes.1; done = let D : DoorTold → Type 0 = λ door. IsDone door in subst D is all.done }
+
+-- Where no more come, all that were to come did.
+all_came : (coming lines : List Sight) (rest : Option (List Sight)) (back : List LineTold) → Comes (Some coming) lines rest → IsDone (TellsLines rest None back false) → coming ≡ lines
+all_came coming lines rest back comes done =
+    let D : Option (List Sight) → Type 0 = λ left. IsDone (TellsLines left None back false) in
+    let none : comes.0 ≡ [] = subst D comes.2 done in
+    comes.1 ∙ (ap (λ left. lines ++ left) none ∙ append-nil lines)
+
+seat_served : {S : Type 0} {g : Ghosts S} (coming : Option (List S)) (gone : List (ClosedConnection S g × Unit {0})) (after : DoorTold) → IsAllBack (new_lines g.remaining g.contents coming) (gone_lines gone) after → AllByRecursion KeepsNotes (gone_lines gone) → AreServed coming gone
+seat_served None gone after all kept = all_own gone
+seat_served {g = g} (Some streams) gone after all kept = all_served streams gone (all_came (map (λ stream. new_line (g.remaining stream) (g.contents stream)) streams) (map (λ line. line.begin) (gone_lines gone)) all.rest (gone_lines gone) all.comes all.done) kept
+
+-- the lines that went back to a door
+back_lines : DoorTold → List LineTold
+back_lines TellsNothing = []
+back_lines (TellsLines coming out back over) = back
+
+-- Doors of streams, and what is known of each.
+module _ {S A D : Type 0} {g : Ghosts S} (coming : A → Option (List S)) (coming_by : D → Option (List S)) (out : D → Option (Snapshot (TcpLine S g))) (gone : D → List (ClosedConnection S g × Unit {0})) (over : D → Bool) where
+  abbrev told : D → DoorTold
+  told door = told_door (coming_by door) (out door) (gone door) (over door)
+
+  abbrev fresh : A → DoorTold
+  fresh one = new_door g.remaining g.contents (coming one)
+
+  -- What the seats' lines are, and that they were served.
+  record AreSeats (arrivals : List A) (seats : List (List LineTold)) (back : List D) : Type 0 where
+    lines : seats ≡ map (λ door. gone_lines (gone door)) back
+    count : length back ≡ length arrivals
+    served : AllByRecursion (AllByRecursion KeepsNotes) seats → Zips AreServed (map coming arrivals) (map gone back)
+
+  are_seats : (arrivals : List A) (seats : List (List LineTold)) (back : List D) → PassEach (map fresh arrivals) seats (map told back) → AreSeats arrivals seats back
+  unfolding back_lines
+  are_seats [] [] [] each = record { lines = refl; count = refl; served = λ kept. tt }
+  are_seats [] [] (door ∷ back) each = absurd each
+  are_seats [] (lines ∷ seats) back each = absurd each
+  are_seats (one ∷ arrivals) [] back each = absurd each
+  are_seats (one ∷ arrivals) (lines ∷ seats) [] each = absurd each
+  are_seats (one ∷ arrivals) (lines ∷ seats) (door ∷ back) each =
+      let this = all_back (new_lines g.remaining g.contents (coming one)) lines (told door) each.0 in
+      let are : gone_lines (gone door) ≡ lines = ap back_lines this.back in
+      let rest = are_seats arrivals seats back each.1 in
+      let B : List LineTold → Type 0 = λ told_lines. IsAllBack (new_lines g.remaining g.contents (coming one)) told_lines (told door) in
+      let K : List LineTold → Type 0 = λ told_lines. AllByRecursion KeepsNotes told_lines in
+      record {
+        lines = ap (λ first. first ∷ seats) (sym are) ∙ ap (λ others. gone_lines (gone door) ∷ others) rest.lines;
+        count = ap suc rest.count;
+        served = λ kept. (seat_served (coming one) (gone door) (told door) (subst B (sym are) this) (subst K (sym are) kept.0), rest.served kept.1);
+      }
+
+  -- how many went back to all doors
+  pub all_gone : (back : List D) → gone_count (map told back) ≡ how_many (map gone back)
+  all_gone [] = refl
+  all_gone (door ∷ back) = ap (λ n. n + gone_count (map told back)) (length-map (gone door) (λ one. gone_line one.0)) ∙ ap (λ n. length (gone door) + n) (all_gone back)
+
+  all_fresh : (arrivals : List A) → AllByRecursion IsFree (map fresh arrivals)
+  all_fresh [] = tt
+  all_fresh (one ∷ arrivals) = (refl, all_fresh arrivals)
+
+  all_untold : (doors : List D) → AllByRecursion IsFree (map told doors) → AllByRecursion (λ door. IsFree (told door)) doors
+  all_untold [] all = tt
+  all_untold (door ∷ doors) all = (all.0, all_untold doors all.1)
+
+  -- No connection is out of a new door.
+  pub all_free : (doors : List D) (arrivals : List A) → map told doors ≡ map fresh arrivals → AllByRecursion (λ door. IsFree (told door)) doors
+  all_free doors arrivals same =
+      let F : List DoorTold → Type 0 = λ tolds. AllByRecursion IsFree tolds in
+      all_untold doors (subst F (sym same) (all_fresh arrivals))
+
+  -- as many doors as arrivals
+  pub as_many : (doors : List D) (arrivals : List A) → map told doors ≡ map fresh arrivals → length doors ≡ length arrivals
+  as_many doors arrivals same = sym (length-map doors told) ∙ (ap length same ∙ length-map arrivals fresh)
+
+  -- One log explains all connections, and all streams were served.
+  pub record AreConnections (sizes : Sizes) (may_answer : ℕ → Type 0) (arrivals : List A) (served : Outcome S g) : Type 0 where
+    pub explained : ServesConnections sizes may_answer served
+    pub streams : Zips AreServed (map coming arrivals) (seats_of served)
+
+  pub all_connections : (sizes : Sizes) (may_answer : ℕ → Type 0) (arrivals : List A) (back : List D) (served : Outcome S g) → length arrivals ≡ sizes.seats → ServesDoors sizes may_answer (map fresh arrivals) (map told back)
+      → served.ended ≡ min (gone_count (map told back)) (2 ^ 64 - 1) → seats_of served ≡ map gone back → AreConnections sizes may_answer arrivals served
+  all_connections sizes may_answer arrivals back served count serves counted are =
+      let seats = are_seats arrivals serves.seats back serves.back in
+      let lines : serves.seats ≡ map gone_lines (seats_of served) = seats.lines ∙ (map_map gone gone_lines back ∙ ap (map gone_lines) (sym are)) in
+      let kept = all_from (AllByRecursion KeepsNotes) serves.seats (λ i told_lines here. (let explains = serves.each i told_lines here in notes_kept sizes may_answer told_lines explains.histories explains.each)) in
+      let many : length (seats_of served) ≡ length arrivals = ap length are ∙ (length-map back gone ∙ seats.count) in
+      let Z : List (List (ClosedConnection S g × Unit {0})) → Type 0 = λ these. Zips AreServed (map coming arrivals) these in
+      let L : ℕ → Type 0 = λ n. IsLogOfLines sizes n serves.log in
+      record {
+        explained = record {
+          as_many = many ∙ count;
+          counted = counted ∙ ap (λ n. min n (2 ^ 64 - 1)) (all_gone back ∙ ap how_many (sym are));
+          whole = own_seats (seats_of served);
+          log = serves.log;
+          log_is = subst L (ap length lines ∙ length-map (seats_of served) gone_lines) serves.log_is;
+          each = λ seat these here. serves.each seat (gone_lines these) (ap (λ all. slice_get all seat) lines ∙ get_map gone_lines (seats_of served) seat these here);
+        };
+        streams = subst Z (sym are) (seats.served kept);
+      }
+
+  -- The same, by what is known of the doors.
+  pub joined : (sizes : Sizes) (may_answer : ℕ → Type 0) (arrivals : List A) (doors back : List D) (served : Outcome S g) → map told doors ≡ map fresh arrivals → ServesDoors (record sizes { seats = length doors }) may_answer (map told doors) (map told back)
+      → (served.ended ≡ min (gone_count (map told back)) (2 ^ 64 - 1)) × (seats_of served ≡ map gone back) → AreConnections (record sizes { seats = length arrivals }) may_answer arrivals served
+  joined sizes may_answer arrivals doors back served same serves got =
+      let P : ℕ → List DoorTold → Type 0 = λ n before. ServesDoors (record sizes { seats = n }) may_answer before (map told back) in
+      let all = subst (λ n. P n (map fresh arrivals)) (as_many doors arrivals same) (subst (λ before. P (length doors) before) same serves) in
+      all_connections (record sizes { seats = length arrivals }) may_answer arrivals back served refl all got.0 got.1
 
 -- One door more is counted, where each count stays at its greatest value.
 pub count_more : (ended next one gone rest left all : ℕ) → next ≡ min (ended + one) (2 ^ 64 - 1) → one ≡ min gone (2 ^ 64 - 1) → left ≡ gone + rest → min (ended + left) (2 ^ 64 - 1) ≡ all → min (next + rest) (2 ^ 64 - 1) ≡ all
-count_more ended next one gone rest left all next_is is left_is same = omega (arith, next_is, is, left_is, same)
+count_more ended next one gone rest left all next_is one_is left_is same = omega (arith, next_is, one_is, left_is, same)
 
 -- Where no lines are left to count, a count that is at most 2^64 - 1 is the count of all.
 pub count_all : (ended left all : ℕ) → ended ≤ 2 ^ 64 - 1 → left ≡ 0 → min (ended + left) (2 ^ 64 - 1) ≡ all → ended ≡ all
 count_all ended left all within none same = omega (arith, within, none, same)
+
+-- One more is noted of those that are left.
+pub note_more : {A B D : Type 0} (f : A → B) (h : D → B) (old new : List A) (one : A) (door : D) (left rest : List D) (all : List B) → new ≡ old ++ one ∷ [] → f one ≡ h door → left ≡ door ∷ rest → map f old ++ map h left ≡ all → map f new ++ map h rest ≡ all
+note_more f h old new one door left rest all are same next so_far =
+    ap (λ xs. map f xs ++ map h rest) are
+    ∙ (ap (λ ys. ys ++ map h rest) (map_one f old one ∙ ap (λ y. map f old ++ y ∷ []) same)
+    ∙ (append_assoc (map f old) (h door ∷ []) (map h rest)
+    ∙ (ap (λ ds. map f old ++ map h ds) (sym next) ∙ so_far)))

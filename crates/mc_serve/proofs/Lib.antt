@@ -12,3 +12,5 @@ pub mod AtDoors
 pub mod Parts
 pub mod One
 pub mod Connections
+mod RowsConnections
+mod StreamSent

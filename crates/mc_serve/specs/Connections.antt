@@ -1,25 +1,37 @@
--- What is told of all connections over TCP once their threads are joined.
-use Rattle.std.specs.Prelude.{ℕ, ◌≡◌, ◌+◌, ◌-◌, ◌^◌, min, List, [], ◌∷◌, Some, length}
+-- What is told of all connections once their threads are joined.
+use Rattle.std.specs.Prelude.{ℕ, ◌≡◌, ◌+◌, ◌-◌, ◌^◌, min, List, [], ◌∷◌, Option, Some, None, length, map}
 use Rattle.std.specs.List.{AllByRecursion, slice_get}
 use Rattle.mc_sizes.specs.declared.sizes.Sizes.{Sizes}
 use Rattle.mc_model.specs.Log.{Entry}
-use Rattle.mc_seat.specs.Explains.{IsLogOfLines, LineTold}
-use Rattle.mc_doors.specs.Tcp.{new_line}
+use Rattle.mc_wake.specs.Zips.{Zips}
+use Rattle.mc_seat.specs.Explains.{IsLogOfLines}
+use Rattle.mc_doors.specs.declared.stream.Stream.{Ghosts}
+use Rattle.mc_doors.specs.declared.stream_door.ClosedConnection.{ClosedConnection}
+use Rattle.mc_doors.specs.Tcp.{IsServed, gone_lines}
 use Rattle.mc_serve.specs.Served.{ExplainsSeat}
+use Rattle.mc_serve.specs.declared.outcome.Outcome.{Outcome}
+
+-- the connections of each seat, one after another
+abbrev pub seats_of : {S : Type 0} {g : Ghosts S} → Outcome S g → List (List (ClosedConnection S g × Unit {0}))
+seats_of served = map (λ seat. seat.0.items) served.seats.items
 
 -- how many connections all seats have served
-abbrev pub how_many : List (List LineTold) → ℕ
+abbrev pub how_many : {A : Type 0} → List (List A) → ℕ
 how_many [] = 0
 how_many (lines ∷ seats) = length lines + how_many seats
 
--- As many connections have ended as ended says, each served by one of the seats from its first byte on, and one log explains
--- what was read of them, what was written to them and what the shards did. The count stays at its greatest value.
-pub record ServesConnections (sizes : Sizes) (may_answer : ℕ → Type 0) (ended : ℕ) : Type 0 where
-  -- of each seat its connections, one after another
-  pub seats : List (List LineTold)
-  pub as_many : length seats ≡ sizes.seats
-  pub counted : ended ≡ min (how_many seats) (2 ^ 64 - 1)
-  pub begins : AllByRecursion (λ lines. AllByRecursion (λ line. line.begin ≡ new_line) lines) seats
+-- Of a seat: just the streams that were to come were served, in their order, where they are known; where they aren't, just what
+-- came in was.
+abbrev pub AreServed : {S : Type 0} {g : Ghosts S} → Option (List S) → List (ClosedConnection S g × Unit {0}) → Type 0
+AreServed None gone = AllByRecursion (λ one. IsServed one.0.line.value.tap.begin.value one.0) gone
+AreServed (Some streams) gone = Zips (λ stream one. IsServed stream one.0) streams gone
+
+-- As many connections have ended as is said, and are listed, each served by one of the seats from the first byte of its stream on, and
+-- one log explains what was read of them, what was written to them and what the shards did. The count stays at its greatest value.
+pub record ServesConnections {S : Type 0} {g : Ghosts S} (sizes : Sizes) (may_answer : ℕ → Type 0) (served : Outcome S g) : Type 0 where
+  pub as_many : length (seats_of served) ≡ sizes.seats
+  pub counted : served.ended ≡ min (how_many (seats_of served)) (2 ^ 64 - 1)
+  pub whole : AllByRecursion (AreServed None) (seats_of served)
   pub log : List Entry
-  pub log_is : IsLogOfLines sizes (length seats) log
-  pub each : (seat : ℕ) (lines : List LineTold) → slice_get seats seat ≡ Some lines → ExplainsSeat sizes may_answer log seat lines
+  pub log_is : IsLogOfLines sizes (length (seats_of served)) log
+  pub each : (seat : ℕ) (gone : List (ClosedConnection S g × Unit {0})) → slice_get (seats_of served) seat ≡ Some gone → ExplainsSeat sizes may_answer log seat (gone_lines gone)

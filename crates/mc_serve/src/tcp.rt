@@ -1,23 +1,21 @@
-//! Serves connections over TCP.
-ghost use Rattle.std.specs.Prelude.{◌≡◌, ◌<◌, ◌^◌, ◌-◌, [], None, false, IfOk, length, map, min};
-ghost use Rattle.std.specs.List.{AllByRecursion};
-ghost use Rattle.mc_command.specs.Rules.{is_drop_in};
-ghost use Rattle.mc_sizes.specs.Sizes.{MayServe, rules_of};
-ghost use Rattle.mc_doors.specs.Tcp.{gone_count, told_tcp};
+//! Serves connections over sockets.
+ghost use Rattle.std.specs.Prelude.{◌≡◌, ◌<◌, IfOk, length};
+ghost use Rattle.mc_sizes.specs.Sizes.{MayServe};
 ghost use Rattle.mc_serve.specs.Connections.{ServesConnections};
-ghost use Rattle.mc_doors.specs.Told.{TellsLines};
 
+use crate::outcome::Outcome;
 use crate::refusal::ServeRefusal;
-use crate::serving::serve;
 use crate::shard_watch::ShardWatch;
+use crate::streams::serve_streams;
 use crate::warden::Warden;
-use mc_doors::{Bell, Entrance, TcpDoor};
+use mc_doors::{Bell, Entrance, Listener, Socket, Way};
 use mc_seat::Clock;
 use mc_sizes::Sizes;
 use mc_wake::{Patience, Sleeper};
 use mc_watch::Watch;
 use std::alloc::{AllocError, Global};
-use std::net::{Net, TcpListener};
+use std::io::ErrorKind;
+use std::net::Net;
 use std::random::RandomSource;
 use std::sync::Wait;
 use std::thread::{JoinHandle, Threads};
@@ -30,22 +28,24 @@ const AT_ONCE: Patience = Patience {
     yields: 0,
 };
 
-/// Serves the connections that come in by the listener, each by one of the seats, until `connections` have ended, or for good.
-/// There is a thread for each shard, which serves its share of the seats too, and one that accepts; connections beyond the seats
-/// wait to be accepted. It gives how many connections have ended, a count that stays at its greatest value. What is watched of
-/// them is told to the watch; a connection that is idle for longer than it allows breaks. `Bind`: an accept failed for good.
+/// Serves the connections that come in by the listeners, over TCP or Unix sockets, each by one of the seats, until `connections`
+/// have ended, or forever. There is a thread for each shard, which serves its share of the seats too, and one that accepts;
+/// connections beyond the seats wait to be accepted, or by memcached's rules are refused. What is counted of them is reported to the
+/// watch; a connection that is idle for longer than it allows breaks. Where a signal asks for it by the watch, none is accepted any
+/// more, and each connection breaks once nothing comes and its replies are written, or time is up. `Bind`: an accept failed for
+/// good.
 pub fn serve_tcp<
     R: Threads + Wait + RandomSource + time::Clock + Net + Copy + Send + Drop + 'static,
     K: Clock + Copy + Send + Drop + 'static,
 >(
     rt: &R,
     alloc: Global,
-    listener: TcpListener,
+    listeners: Vec<Listener>,
     sizes: Sizes,
     connections: Option<u64>,
     clock: K,
     watch: Watch,
-) -> Result<u64, ServeRefusal>
+) -> Result<Outcome<Socket>, ServeRefusal>
     requires { MayServe sizes }
     // One log explains what was read of all connections, what was written to them and what the shards did.
     ensures { IfOk result (ServesConnections sizes (K.may_answer clock)) }
@@ -53,59 +53,58 @@ pub fn serve_tcp<
     let Ok(sleepers) = polling_sleepers(rt, alloc, sizes.seats, sizes.shards) else {
         return Err(ServeRefusal::Thread);
     };
-    let opened = Opened::to(rt, alloc, listener, sizes, connections, watch, &sleepers)?;
-    let served = serve(rt, alloc, opened.doors, sleepers, sizes, opened.gate, clock);
-    opened.beside.end(rt);
-    let back = served?;
-    count_ended(back)
+    let opened = Opened::to(rt, alloc, listeners, sizes, connections, watch, &sleepers)?;
+    let Opened { ways, gate, beside } = opened;
+    let served = serve_streams(rt, alloc, ways, sleepers, sizes, gate, clock);
+    beside.end(rt);
+    served
 }
 
-/// What is there before the first connection comes: a door for each seat, what watches the shards, and what goes on beside.
+/// What is there before the first connection comes: a way to each seat, what watches the shards, and what goes on beside.
 #[derive(Drop)]
-struct Opened<R: time::Clock> {
-    doors: Vec<TcpDoor<R>>,
+struct Opened {
+    ways: Vec<Way>,
     gate: ShardWatch,
     beside: Beside,
 }
 
-impl<R: Threads + Wait + time::Clock + Copy + Send + Drop + 'static> Opened<R> {
-    /// Opens the doors to those who come in by the listener. The sleepers are those of the threads of the seats.
-    fn to(
+impl Opened {
+    /// Opens the ways for those who come in by the listeners. The sleepers are those of the threads of the seats.
+    fn to<R: Threads + Wait + time::Clock + Net + Copy + Send + Drop + 'static>(
         rt: &R,
         alloc: Global,
-        listener: TcpListener,
+        listeners: Vec<Listener>,
         sizes: Sizes,
         connections: Option<u64>,
         watch: Watch,
         sleepers: &[Sleeper],
-    ) -> Result<Opened<R>, ServeRefusal>
-        ensures count { IfOk result (λ opened. length opened.doors.items ≡ sizes.seats) }
-        ensures new { IfOk result (λ opened.
-            AllByRecursion (λ door.
-            told_tcp door.is_out door.gone.items door.is_over ≡ TellsLines None None [] false)
-            opened.doors.items) }
-        ensures wary { IfOk result (λ opened.
-            AllByRecursion (λ door. door.is_wary ≡ is_drop_in (rules_of sizes))
-            opened.doors.items) }
+    ) -> Result<Opened, ServeRefusal>
+        ensures { IfOk result (λ opened. length opened.ways.items ≡ sizes.seats) }
     {
         let mut watch = watch;
-        let mut entrance = Entrance::new(
+        let refuses = sizes.rules().is_drop_in();
+        let entrance = Entrance::new(
+            rt,
             alloc,
-            listener,
+            listeners,
             connections,
+            refuses,
             sleepers,
             watch.entrance()?,
-        )?;
-        let doors = doors_to(rt, alloc, &mut entrance, sizes, &mut watch)?;
+        );
+        let mut entrance = match entrance {
+            Ok(entrance) => entrance,
+            Err(fault) if fault.kind() == ErrorKind::OutOfMemory => {
+                return Err(ServeRefusal::Memory);
+            }
+            Err(_) => return Err(ServeRefusal::Thread),
+        };
+        let ways = ways_to(alloc, &mut entrance, sizes.seats, &mut watch)?;
         let gate = ShardWatch {
             shards: watch.shards(alloc)?,
         };
-        let beside = Beside::start(rt, alloc, entrance, &watch, sleepers)?;
-        Ok(Opened {
-            doors,
-            gate,
-            beside,
-        })
+        let beside = Beside::start(rt, alloc, entrance, watch, sleepers)?;
+        Ok(Opened { ways, gate, beside })
     }
 }
 
@@ -123,11 +122,11 @@ impl Beside {
         rt: &R,
         alloc: Global,
         entrance: Entrance,
-        watch: &Watch,
+        watch: Watch,
         sleepers: &[Sleeper],
     ) -> Result<Beside, ServeRefusal> {
         let bell = entrance.bell()?;
-        let warden = Warden::start(rt, alloc, watch, sleepers)?;
+        let warden = Warden::start(rt, alloc, watch, entrance.bell()?, sleepers)?;
         let own = *rt;
         let Ok(accepting) = thread::spawn(rt, move || entrance.run(&own)) else {
             warden.dismiss(rt);
@@ -171,46 +170,18 @@ fn polling_sleepers<R: Net>(
     Ok(sleepers)
 }
 
-/// A door for each seat, all to the same entrance. By memcached's rules they are wary.
-fn doors_to<R: time::Clock + Copy + Drop>(
-    rt: &R,
+/// A way from the entrance to each seat.
+fn ways_to(
     alloc: Global,
     entrance: &mut Entrance,
-    sizes: Sizes,
+    seats: usize,
     watch: &mut Watch,
-) -> Result<Vec<TcpDoor<R>>, AllocError>
-    ensures count { IfOk result (λ doors. length doors.items ≡ sizes.seats) }
-    ensures new { IfOk result (λ doors.
-        AllByRecursion (λ door.
-        told_tcp door.is_out door.gone.items door.is_over ≡ TellsLines None None [] false)
-        doors.items) }
-    ensures wary { IfOk result (λ doors.
-        AllByRecursion (λ door. door.is_wary ≡ is_drop_in (rules_of sizes)) doors.items) }
+) -> Result<Vec<Way>, AllocError>
+    ensures { IfOk result (λ ways. length ways.items ≡ seats) }
 {
-    let is_wary = sizes.rules().is_drop_in();
-    let mut doors = Vec::with_capacity(alloc, sizes.seats)?;
-    for _ in 0..sizes.seats {
-        let way = entrance.next_way(alloc, watch)?;
-        doors.push(TcpDoor::new(*rt, way, is_wary))?;
+    let mut ways = Vec::with_capacity(alloc, seats)?;
+    for _ in 0..seats {
+        ways.push(entrance.next_way(alloc, watch)?)?;
     }
-    Ok(doors)
-}
-
-/// How many connections came in by the doors, all of which have ended.
-fn count_ended<R: time::Clock + Drop>(doors: Vec<TcpDoor<R>>) -> Result<u64, ServeRefusal>
-    ensures { IfOk result (λ ended.
-        ended ≡
-        min
-        (gone_count
-        (map (λ door. told_tcp door.is_out door.gone.items door.is_over) doors.items))
-        (2 ^ 64 - 1)) }
-{
-    let mut ended = 0u64;
-    for door in doors {
-        if door.failed {
-            return Err(ServeRefusal::Bind);
-        }
-        ended = ended.saturating_add(door.ended);
-    }
-    Ok(ended)
+    Ok(ways)
 }

@@ -52,7 +52,7 @@ turns_first sizes may_answer line window service after shards some count backs n
     let told : Told = told_nothing sizes.shards (rules_of sizes) window in
     turns_on sizes may_answer line line told after shards [] (omega arith)
     (record { some = some; same = refl; rules_are = refl; count = count; backs = backs; mine = tt; ran = refl; fits = fits_none sizes.shards })
-    (takes (replies_on []) line line told (serving_first may_answer line sizes.shards (rules_of sizes) window service new))
+    (takes (replies_on []) line line told (serving_first may_answer line sizes.shards (rules_of sizes) window service new)).on
 
 -- all commands taken were answered
 pub record Answered (sizes : Sizes) (may_answer : ℕ → Type 0) (begin now : Sight) (service : Service) (shards : List Shard) : Type 0 where

@@ -1,6 +1,6 @@
-//! The machine's clock, and one that stands still.
-ghost use Rattle.std.specs.Prelude.{◌≡◌, ◌/◌, IfOk, OnErr};
-ghost use Rattle.std.specs.Duration.{as_nanos};
+//! The machine's time, and a clock that stands still.
+ghost use Rattle.std.specs.Prelude.{◌≡◌, ◌+◌, ◌/◌, IfOk, OnErr, min};
+ghost use Rattle.std.specs.Duration.{as_nanos, max_nanos};
 
 use mc_seat::Clock;
 use std::time::Duration;
@@ -18,25 +18,45 @@ impl Clock for StillClock {
     }
 }
 
-/// The machine's clock. It answers 0 where it can't be read, and no clause tells what else.
+/// The machine's time, which nobody sets once it has begun: the wall clock's at the start, and by the monotonic clock from there
+/// on. It answers 0 where a clock can't be read, and no clause tells what else.
 #[derive(Clone, Copy)]
-pub struct MachineClock<R>(pub R);
+pub struct MachineClock<R> {
+    rt: R,
+    /// The time since 1970 at which the monotonic clock began, by both clocks at the start.
+    begin: Option<Duration>,
+}
+
+impl<R: time::Clock> MachineClock<R> {
+    /// It starts now.
+    pub fn start(rt: R) -> MachineClock<R> {
+        let begin = match (rt.since_1970(), rt.monotonic()) {
+            (Ok(wall), Ok(monotonic)) => Some(wall.saturating_sub(monotonic)),
+            _ => None,
+        };
+        MachineClock { rt, begin }
+    }
+}
 
 impl<R: time::Clock> Clock for MachineClock<R> {
     ghost may_answer = { λ _ _. Unit {0} };
 
     fn now(&self) -> u64 {
-        seconds(self.0.since_1970())
+        match self.begin {
+            Some(begin) => seconds(begin, self.rt.monotonic()),
+            None => 0,
+        }
     }
 }
 
-/// The whole seconds of a time; 0 where the clock can't be read.
-fn seconds(time: io::Result<Duration>) -> u64
-    ensures read { IfOk time (λ duration. result ≡ as_nanos duration / 1_000_000_000) }
-    ensures unread { OnErr time (result ≡ 0) }
+/// The whole seconds of a time since 1970, and of what has passed since then; 0 where the clock can't be read.
+fn seconds(begin: Duration, passed: io::Result<Duration>) -> u64
+    ensures read { IfOk passed (λ passed.
+        result ≡ min (as_nanos begin + as_nanos passed) max_nanos / 1_000_000_000) }
+    ensures unread { OnErr passed (result ≡ 0) }
 {
-    match time {
-        Ok(duration) => duration.as_secs(),
+    match passed {
+        Ok(passed) => begin.saturating_add(passed).as_secs(),
         Err(_) => 0,
     }
 }

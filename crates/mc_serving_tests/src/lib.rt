@@ -12,6 +12,8 @@ mod line;
 #[cfg(test)]
 mod memory_line;
 #[cfg(test)]
+mod memory_stream;
+#[cfg(test)]
 mod options;
 #[cfg(test)]
 mod portions;

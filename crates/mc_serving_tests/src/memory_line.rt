@@ -73,8 +73,4 @@ impl Line for MemoryLine {
         self.ended = count == 0;
         Ok(count)
     }
-
-    fn give_up(&mut self) {
-        self.failed = true;
-    }
 }

@@ -35,11 +35,10 @@ fn words_of(alloc: Global, line: &str) -> Result<Vec<String>, AllocError> {
 }
 
 #[test]
-fn each_call(rt: HostRuntime) -> Result<(), Fail> {
+fn no_option(rt: HostRuntime) -> Result<(), Fail> {
     let alloc = rt.alloc();
     let words = words_of(alloc, "mcd")?;
-    let options = read_options(alloc, words.as_slice())?;
-    let sizes = Sizes {
+    let wanted = Sizes {
         profile: Profile::Own,
         seats: 1_024,
         shards: 2,
@@ -49,18 +48,36 @@ fn each_call(rt: HostRuntime) -> Result<(), Fail> {
         line: 65_536,
         window: 256,
     };
-    holds(
-        &rt,
-        options
-            == Options::Listen {
-                address: "127.0.0.1:11211",
-                connections: None,
-                idle_timeout: None,
-                verbose: false,
-                metrics: None,
-                sizes,
-            },
-    );
+    match read_options(alloc, words.as_slice())? {
+        Options::Listen {
+            places,
+            path,
+            mode,
+            port,
+            connections,
+            idle_timeout,
+            verbose,
+            metrics,
+            plan,
+            ignores,
+            drain,
+            sizes,
+        } => {
+            holds(&rt, places.as_slice() == ["127.0.0.1"].as_slice());
+            equal(&rt, (path, metrics, port), (None, None, "11211"));
+            equal(&rt, (connections, idle_timeout), (None, None));
+            equal(&rt, (verbose, plan, ignores), (false, false, false));
+            equal(&rt, (mode, drain), (0o700, 5));
+            holds(&rt, sizes == wanted);
+        }
+        _ => holds(&rt, false),
+    }
+    Ok(())
+}
+
+#[test]
+fn each_call(rt: HostRuntime) -> Result<(), Fail> {
+    let alloc = rt.alloc();
     let words = words_of(
         alloc,
         "mcd --stdio --at 1000 --drop-in --shards 016 --bytes 1024 --value-limit=8388608 --window 1",
@@ -94,6 +111,43 @@ fn each_call(rt: HostRuntime) -> Result<(), Fail> {
 }
 
 #[test]
+fn places(rt: HostRuntime) -> Result<(), Fail> {
+    let alloc = rt.alloc();
+    let calls = [
+        ("mcd", ["127.0.0.1"].as_slice(), None, 0o700),
+        ("mcd -s a", [].as_slice(), Some("a"), 0o700),
+        (
+            "mcd -l a,b --listen unix:c -a 0770",
+            ["a,b", "unix:c"].as_slice(),
+            None,
+            0o770,
+        ),
+        (
+            "mcd -l 1 --unix-socket a --unix-mask 7",
+            ["1"].as_slice(),
+            Some("a"),
+            7,
+        ),
+    ];
+    for (call, wanted, at, bits) in calls {
+        let words = words_of(alloc, call)?;
+        match read_options(alloc, words.as_slice())? {
+            Options::Listen {
+                places,
+                path,
+                mode,
+                ..
+            } => {
+                holds(&rt, places.as_slice() == wanted);
+                equal(&rt, (call, path, mode), (call, at, bits));
+            }
+            _ => assert!(rt; false, "{call}"),
+        }
+    }
+    Ok(())
+}
+
+#[test]
 fn numbers_of_bytes(rt: HostRuntime) -> Result<(), Fail> {
     let alloc = rt.alloc();
     let calls = [
@@ -113,6 +167,8 @@ fn numbers_of_bytes(rt: HostRuntime) -> Result<(), Fail> {
             1_048_576,
         ),
         ("mcd --stdio --memory 2048 --shards 2", 1_024, 1_048_576),
+        ("mcd --stdio -m 64 -I 2MB", 33_554_432, 2_097_152),
+        ("mcd --stdio --memory 129gb", 46_170_898_432, 1_048_576),
     ];
     for (call, bytes, value) in calls {
         let words = words_of(alloc, call)?;
@@ -150,7 +206,7 @@ fn line_limits(rt: HostRuntime) -> Result<(), Fail> {
 fn faults(rt: HostRuntime) -> Result<(), Fail> {
     let alloc = rt.alloc();
     let calls = [
-        ("mcd --stdio --shards 17", 2),
+        ("mcd --stdio --shards 65", 2),
         ("mcd --stdio --bytes 1023", 2),
         ("mcd --stdio --value-limit 1023", 2),
         ("mcd --stdio --line-limit 2047", 2),
@@ -161,13 +217,18 @@ fn faults(rt: HostRuntime) -> Result<(), Fail> {
         ("mcd --stdio --at 1 --at 1", 2),
         ("mcd --items 5", 2),
         ("mcd --at 5", 2),
-        ("mcd --seats 4097", 2),
+        ("mcd --seats 65537", 2),
+        ("mcd -s a -a 778", 2),
+        ("mcd -a 1000", 2),
+        ("mcd --stdio -s a", 2),
+        ("mcd --replay a --unix-mask 700", 2),
+        ("mcd -s a -s b", 2),
         ("mcd --connections 0", 2),
         ("mcd --replay a --stdio", 2),
         ("mcd --replay a --shards 2", 2),
         ("mcd --replay a --drop-in", 2),
         ("mcd --drop-in=true", 2),
-        ("mcd --port 11211", 2),
+        ("mcd --tcp-port 11211", 2),
         ("mcd --bytes 64k --memory 1m", 2),
         ("mcd --memory 2047", 2),
         ("mcd --bytes k", 2),

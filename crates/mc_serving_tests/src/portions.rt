@@ -34,10 +34,6 @@ impl<L: Line> Line for Portions<L> {
         let (front, _) = bytes.split_at(bytes.len().min(most));
         self.line.write(front)
     }
-
-    fn give_up(&mut self) {
-        self.line.give_up();
-    }
 }
 
 /// Flushes the replies until none wait. Whether that comes within a thousand times.

@@ -47,8 +47,8 @@ fn bad_lines_are_told(rt: HostRuntime) {
         (b"\n".as_slice(), 1),
         (b"sim 1 1 1024".as_slice(), 1),
         (b"sim 0 1 1024 1".as_slice(), 1),
-        (b"sim 4097 1 1024 1".as_slice(), 1),
-        (b"sim 1 17 1024 1".as_slice(), 1),
+        (b"sim 65537 1 1024 1".as_slice(), 1),
+        (b"sim 1 65 1024 1".as_slice(), 1),
         (b"sim 1 1 1023 1".as_slice(), 1),
         (b"sim 1 1 1024 1025".as_slice(), 1),
         (b"sim 1 1 1024 1 1024".as_slice(), 1),
@@ -93,7 +93,7 @@ fn what_was_done_is_told(rt: HostRuntime) -> Result<(), Fail> {
 #[test]
 fn a_size_out_of_its_limits_is_refused(rt: HostRuntime) -> Result<(), Fail> {
     let mut plan = read_schedule(rt.alloc(), ENDS)?;
-    plan.sizes.seats = 4_097;
+    plan.sizes.seats = 65_537;
     let mut told = MemoryLine::new(rt.alloc(), b"")?;
     let refused = replay(&rt, rt.alloc(), &plan, &mut told);
     equal(&rt, refused, Err(ReplayFault::Size(SizeFault::Seats)));

@@ -33,10 +33,6 @@ impl<L: Line> Line for Counted<L> {
         self.calls.fetch_add(1, Ordering::SeqCst);
         self.line.read(room)
     }
-
-    fn give_up(&mut self) {
-        self.line.give_up();
-    }
 }
 
 /// Two lines that send what takes no memory once they are served.

@@ -1,7 +1,7 @@
 //! A connection over a stream that takes and gives little at a call, and whose calls a signal interrupts.
 use crate::asserting::{equal, holds};
 use crate::sizes::SMALL;
-use mc_doors::{Peek, TcpLine, VectoredWrite};
+use mc_doors::{Stream, TcpLine};
 use mc_seat::{Line, Ready, Unwritten};
 use mc_server::{StillClock, serve_one};
 use mc_sizes::Sizes;
@@ -9,7 +9,7 @@ use mc_watch::Meter;
 use mc_wire::{Outlet, put_all};
 use std::alloc::Global;
 use std::io;
-use std::io::{ErrorKind, Read, Write};
+use std::io::{ErrorKind, IoSlice, Write};
 use std::sync::ArcSlice;
 use std::test::Fail;
 
@@ -42,30 +42,6 @@ impl Slow {
     }
 }
 
-impl Read for Slow {
-    fn read(&mut self, room: &mut [u8]) -> io::Result<usize> {
-        if self.is_interrupted() {
-            return Err(io::Error::from(ErrorKind::Interrupted));
-        }
-        let count = room.len().min(self.input.len()).min(MOST);
-        let (front, rest) = self.input.split_at(count);
-        let (place, _) = room.split_at_mut(count);
-        place.copy_from_slice(front);
-        self.input = rest;
-        Ok(count)
-    }
-}
-
-impl Peek for Slow {
-    fn peek(&self, room: &mut [u8]) -> io::Result<usize> {
-        let count = room.len().min(self.input.len());
-        let (front, _) = self.input.split_at(count);
-        let (place, _) = room.split_at_mut(count);
-        place.copy_from_slice(front);
-        Ok(count)
-    }
-}
-
 impl Write for Slow {
     fn write(&mut self, bytes: &[u8]) -> io::Result<usize> {
         if self.is_interrupted() {
@@ -81,7 +57,39 @@ impl Write for Slow {
     }
 }
 
-impl VectoredWrite for Slow {}
+impl Stream for Slow {
+    fn read(&mut self, room: &mut [u8]) -> io::Result<usize> {
+        if self.is_interrupted() {
+            return Err(io::Error::from(ErrorKind::Interrupted));
+        }
+        let count = room.len().min(self.input.len()).min(MOST);
+        let (front, rest) = self.input.split_at(count);
+        let (place, _) = room.split_at_mut(count);
+        place.copy_from_slice(front);
+        self.input = rest;
+        Ok(count)
+    }
+
+    fn peek(&self, room: &mut [u8]) -> io::Result<usize> {
+        let count = room.len().min(self.input.len());
+        let (front, _) = self.input.split_at(count);
+        let (place, _) = room.split_at_mut(count);
+        place.copy_from_slice(front);
+        Ok(count)
+    }
+
+    fn write(&mut self, bytes: &[u8]) -> io::Result<usize> {
+        Write::write(self, bytes)
+    }
+
+    fn write_vectored(&mut self, bufs: &[IoSlice<'_>]) -> io::Result<usize> {
+        Write::write_vectored(self, bufs)
+    }
+
+    fn end_output(&mut self) -> io::Result<()> {
+        Ok(())
+    }
+}
 
 #[test]
 fn what_is_written_goes_out_whole_and_once(rt: HostRuntime) -> Result<(), Fail> {
@@ -146,7 +154,7 @@ const LINES: [&[u8]; 3] = [b"get /key\r\n", b"GET a\r\n", b"\x16\x02\r\n"];
 /// How many bytes the first read of a line gives, wary or not, and how many are left.
 fn read_first(alloc: Global, input: &'static [u8], wary: bool) -> (Option<usize>, usize) {
     let mut stream = Slow::new(alloc, input);
-    let mut line = TcpLine::polled(&mut stream, Meter::unwatched(), wary);
+    let mut line = TcpLine::begin(&mut stream, Meter::unwatched(), true, wary);
     line.rouse(Ready::Open);
     let mut room = [0; 16];
     let given = line.read_if_ready(&mut room).unwrap_or(None);

@@ -3,10 +3,11 @@ ghost use Rattle.std.specs.Prelude.{◌≤◌};
 
 use crate::asserting::equal;
 use crate::sizes::SMALL;
+use mc_doors::Listener;
 use mc_serve::serve_tcp;
 use mc_server::StillClock;
 use mc_sizes::Sizes;
-use mc_watch::{Counts, IdleLimit, Seconds, ShardTotals, Totals, Watch};
+use mc_watch::{Counts, EndTotals, IdleLimit, Seconds, ShardTotals, Totals, Watch};
 use std::alloc::Global;
 use std::io::{Read, Write};
 use std::net::{Net, SocketAddr, TcpListener, TcpStream};
@@ -52,6 +53,8 @@ fn serve_client<
 {
     let listener = TcpListener::bind(rt, "127.0.0.1:0")?;
     let server = listener.local_addr()?;
+    let mut listeners = Vec::new(alloc);
+    listeners.push(Listener::of(listener)?)?;
     let own = *rt;
     let client = thread::spawn(rt, move || talk(&own, alloc, server, commands))?;
     let sizes = Sizes {
@@ -60,8 +63,16 @@ fn serve_client<
         ..SMALL
     };
     let watch = Watch::nothing(alloc);
-    let ended = serve_tcp(rt, alloc, listener, sizes, Some(1), StillClock(1000), watch).ok();
-    Ok((client.join(rt)?, ended))
+    let served = serve_tcp(
+        rt,
+        alloc,
+        listeners,
+        sizes,
+        Some(1),
+        StillClock(1000),
+        watch,
+    );
+    Ok((client.join(rt)?, served.ok().map(|served| served.ended)))
 }
 
 #[test]
@@ -74,7 +85,7 @@ fn a_client_is_served(rt: HostRuntime) -> Result<(), Fail> {
     Ok(())
 }
 
-/// Serves three clients by `seats` seats; whether each had its replies, and how many connections ended.
+/// Serves three clients, one of them at another address, by `seats` seats; whether each had its replies, and how many connections ended.
 fn serve_three<
     R: Threads
         + Wait
@@ -89,10 +100,15 @@ fn serve_three<
 {
     let listener = TcpListener::bind(rt, "127.0.0.1:0")?;
     let server = listener.local_addr()?;
+    let beside = TcpListener::bind(rt, "127.0.0.1:0")?;
+    let other = beside.local_addr()?;
+    let mut listeners = Vec::new(alloc);
+    listeners.push(Listener::of(listener)?)?;
+    listeners.push(Listener::of(beside)?)?;
     let own = *rt;
     let first = thread::spawn(rt, move || talk(&own, alloc, server, b"mn\r\nquit\r\n"))?;
     let second = thread::spawn(rt, move || talk(&own, alloc, server, b"get a\r\nquit\r\n"))?;
-    let third = thread::spawn(rt, move || talk(&own, alloc, server, b"mg a b\r\nquit\r\n"))?;
+    let third = thread::spawn(rt, move || talk(&own, alloc, other, b"mg a b\r\nquit\r\n"))?;
     let sizes = Sizes {
         seats,
         ring: 1,
@@ -100,7 +116,16 @@ fn serve_three<
         ..SMALL
     };
     let watch = Watch::nothing(alloc);
-    let ended = serve_tcp(rt, alloc, listener, sizes, Some(3), StillClock(1000), watch).ok();
+    let served = serve_tcp(
+        rt,
+        alloc,
+        listeners,
+        sizes,
+        Some(3),
+        StillClock(1000),
+        watch,
+    );
+    let ended = served.ok().map(|served| served.ended);
     let no_op = first.join(rt)?.as_slice() == b"MN\r\n".as_slice();
     let miss = second.join(rt)?.as_slice() == b"END\r\n".as_slice();
     let bad = third.join(rt)?.as_slice() == b"CLIENT_ERROR bad key\r\n".as_slice();
@@ -130,6 +155,8 @@ fn serve_idle<
 >(rt: &R, alloc: Global) -> io::Result<(Vec<u8>, Totals)> {
     let listener = TcpListener::bind(rt, "127.0.0.1:0")?;
     let server = listener.local_addr()?;
+    let mut listeners = Vec::new(alloc);
+    listeners.push(Listener::of(listener)?)?;
     let own = *rt;
     let client = thread::spawn(
         rt,
@@ -142,7 +169,16 @@ fn serve_idle<
         seconds: Seconds::new(alloc)?,
         limit: 1,
     });
-    let ended = serve_tcp(rt, alloc, listener, SMALL, Some(1), StillClock(1000), watch).ok();
+    let served = serve_tcp(
+        rt,
+        alloc,
+        listeners,
+        SMALL,
+        Some(1),
+        StillClock(1000),
+        watch,
+    );
+    let ended = served.ok().map(|served| served.ended);
     let mut totals = counts.totals();
     // The connection that has ended is the one that was counted.
     totals.ended = totals.ended.min(ended.unwrap_or(0));
@@ -162,6 +198,10 @@ fn an_idle_client_is_given_up(rt: HostRuntime) -> Result<(), Fail> {
         commands: 1,
         read: 18,
         written: 4,
+        ends: EndTotals {
+            idle: 1,
+            ..EndTotals::default()
+        },
         // Nothing of it came to a shard.
         shards: ShardTotals::default(),
     };

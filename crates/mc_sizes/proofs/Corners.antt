@@ -8,7 +8,7 @@ abbrev least : Sizes
 least = record { profile = Own; seats = 1; shards = 1; bytes = 1024; ring = 1; value = 1024; line = 2048; window = 1 }
 
 abbrev most : Sizes
-most = record { profile = Own; seats = 4096; shards = 16; bytes = 1073741824; ring = 1024; value = 8388608; line = 8388608; window = 4096 }
+most = record { profile = Own; seats = 65536; shards = 64; bytes = 68719476736; ring = 1024; value = 8388608; line = 8388608; window = 4096 }
 
 least_is_within : AreWithin least
 least_is_within = record {
@@ -41,9 +41,9 @@ record AreOut : Type 0 where
   short_value : ¬ AreWithin (record least { value = 1023 })
   short_line : ¬ AreWithin (record least { line = 2047 })
   no_window : ¬ AreWithin (record least { window = 0 })
-  many_seats : ¬ AreWithin (record most { seats = 4097 })
-  many_shards : ¬ AreWithin (record most { shards = 17 })
-  many_bytes : ¬ AreWithin (record most { bytes = 1073741825 })
+  many_seats : ¬ AreWithin (record most { seats = 65537 })
+  many_shards : ¬ AreWithin (record most { shards = 65 })
+  many_bytes : ¬ AreWithin (record most { bytes = 68719476737 })
   many_places : ¬ AreWithin (record most { ring = 1025 })
   long_value : ¬ AreWithin (record most { value = 8388609 })
   long_line : ¬ AreWithin (record most { line = 8388609 })
@@ -58,9 +58,9 @@ are_out = record {
   short_value = λ all. let bad : 1024 ≤ 1023 = all.value.0 in absurd (omega (arith, bad));
   short_line = λ all. let bad : 2048 ≤ 2047 = all.line.0 in absurd (omega (arith, bad));
   no_window = λ all. let bad : 1 ≤ 0 = all.window.0 in absurd (omega (arith, bad));
-  many_seats = λ all. let bad : 4097 ≤ 4096 = all.seats.1 in absurd (omega (arith, bad));
-  many_shards = λ all. let bad : 17 ≤ 16 = all.shards.1 in absurd (omega (arith, bad));
-  many_bytes = λ all. let bad : 1073741825 ≤ 1073741824 = all.bytes.1 in absurd (omega (arith, bad));
+  many_seats = λ all. let bad : 65537 ≤ 65536 = all.seats.1 in absurd (omega (arith, bad));
+  many_shards = λ all. let bad : 65 ≤ 64 = all.shards.1 in absurd (omega (arith, bad));
+  many_bytes = λ all. let bad : 68719476737 ≤ 68719476736 = all.bytes.1 in absurd (omega (arith, bad));
   many_places = λ all. let bad : 1025 ≤ 1024 = all.ring.1 in absurd (omega (arith, bad));
   long_value = λ all. let bad : 8388609 ≤ 8388608 = all.value.1 in absurd (omega (arith, bad));
   long_line = λ all. let bad : 8388609 ≤ 8388608 = all.line.1 in absurd (omega (arith, bad));

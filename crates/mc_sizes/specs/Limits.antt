@@ -5,12 +5,12 @@ use Rattle.mc_sizes.specs.declared.TheConstants.{DEFAULT_BUDGET, DEFAULT_RING, D
 -- What the constants of the code are. Budgets are in bytes.
 pub record LimitsAre : Type 0 where
   pub least : LEAST ≡ 1
-  pub greatest_seats : GREATEST_SEATS ≡ 4096
+  pub greatest_seats : GREATEST_SEATS ≡ 65536
   pub default_seats : DEFAULT_SEATS ≡ 1024
-  pub greatest_shards : GREATEST_SHARDS ≡ 16
+  pub greatest_shards : GREATEST_SHARDS ≡ 64
   pub default_shards : DEFAULT_SHARDS ≡ 2
   pub least_budget : LEAST_BUDGET ≡ 1024
-  pub greatest_budget : GREATEST_BUDGET ≡ 2 ^ 30
+  pub greatest_budget : GREATEST_BUDGET ≡ 2 ^ 36
   pub default_budget : DEFAULT_BUDGET ≡ 16 * 2 ^ 20
   pub greatest_ring : GREATEST_RING ≡ 1024
   pub default_ring : DEFAULT_RING ≡ 20

@@ -10,13 +10,13 @@ pub use sizes::{SizeFault, Sizes, limits};
 pub const LEAST: usize = 1;
 
 /// The greatest number of seats.
-pub const GREATEST_SEATS: usize = 4_096;
+pub const GREATEST_SEATS: usize = 65_536;
 
 /// The default number of seats.
 pub const DEFAULT_SEATS: usize = 1_024;
 
 /// The greatest number of shards.
-pub const GREATEST_SHARDS: usize = 16;
+pub const GREATEST_SHARDS: usize = 64;
 
 /// The default number of shards.
 pub const DEFAULT_SHARDS: usize = 2;
@@ -25,7 +25,7 @@ pub const DEFAULT_SHARDS: usize = 2;
 pub const LEAST_BUDGET: usize = 1_024;
 
 /// The greatest budget of a shard, in bytes.
-pub const GREATEST_BUDGET: usize = 1_073_741_824;
+pub const GREATEST_BUDGET: usize = 68_719_476_736;
 
 /// The default budget of a shard, in bytes.
 pub const DEFAULT_BUDGET: usize = 16_777_216;

@@ -30,7 +30,7 @@ other_pieces : (pieces_of 3 (command.FlushAll (pos 5) true)
     ≡ record { shard = 0; op = op.Flush (pos 5) } ∷ record { shard = 1; op = op.Flush (pos 5) } ∷ record { shard = 2; op = op.Flush (pos 5) } ∷ [])
     × (pieces_of 2 (command.Count (codes "d") direction.Decrement 9 true) ≡ record { shard = 1; op = op.Count (codes "d") direction.Decrement 9 } ∷ [])
     × (pieces_of 2 command.Quit ≡ [])
-    × (pieces_of 2 (command.Discard (codes "d") TooLarge) ≡ record { shard = 1; op = op.Delete (codes "d") } ∷ [])
+    × (pieces_of 2 (command.Discard (codes "d") TooLarge) ≡ record { shard = 1; op = op.Discard (codes "d") } ∷ [])
 unfolding pieces_of fnv_of
 other_pieces = (refl, refl, refl, refl)
 

@@ -36,5 +36,5 @@ pieces_of shards (command.MetaGet get) = asked_of shards get.asked.key (op.MetaG
 pieces_of shards (command.MetaSet set) = asked_of shards set.asked.key (op.MetaStore set.asked) ∷ []
 pieces_of shards (command.MetaDelete delete) = asked_of shards delete.asked.key (op.MetaDelete delete.asked) ∷ []
 pieces_of shards (command.MetaArithmetic arithmetic) = asked_of shards arithmetic.asked.key (op.MetaCount arithmetic.asked) ∷ []
-pieces_of shards (command.Discard key refusal) = asked_of shards key (op.Delete key) ∷ []
+pieces_of shards (command.Discard key refusal) = asked_of shards key (op.Discard key) ∷ []
 pieces_of shards command = []

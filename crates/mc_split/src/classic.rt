@@ -146,7 +146,7 @@ impl Splitter {
     {
         let shard = key.place(self.shards);
         let shape = Shape::Fixed(Fixed::Refused(refusal));
-        self.one(queue, shape, shard, Op::Delete { key })
+        self.one(queue, shape, shard, Op::Discard { key })
     }
 
     /// `incr`, `decr`.

@@ -22,11 +22,11 @@ none_fits : (budget : ℕ) → costs nothing ≤ budget
 none_fits budget = omega (arith, costs_nothing)
 
 -- A new shard, which is one of the given number of shards, shows the empty state.
-pub new_keeps : (index shards budget given limit : ℕ) → index < shards → Keeps (record { entries = []; budget = budget; limit = limit; time = 0; flush = None; given = given; index = index; shards = shards; tally = no_counts; evicted = 0 }) (empty_state index shards budget given limit)
+pub new_keeps : (index shards budget given limit : ℕ) → index < shards → Keeps (record { entries = []; turns = []; budget = budget; limit = limit; time = 0; flush = None; given = given; index = index; shards = shards; tally = no_counts; evicted = 0 }) (empty_state index shards budget given limit)
 new_keeps index shards budget given limit place = assumption (none_below 1, none_fits budget)
 
 -- A shard that drops all its items and its pending flush shows the flushed state.
-pub flush_all : (held : ShardContents) (state : State) → Keeps held state → Keeps (record held { entries = []; flush = None }) (flushed state)
+pub flush_all : (held : ShardContents) (state : State) → Keeps held state → Keeps (record held { entries = []; turns = []; flush = None }) (flushed state)
 flush_all held state h = assumption (none_below (state.uses + 1), none_fits state.budget)
 
 -- the state once its time was moved

@@ -1,26 +1,26 @@
 -- Worked rows of the counts, each computed: a shard that is asked, shows its counts, and begins them anew.
-use Rattle.std.proofs.Common.{◌≡◌, ℕ, List, None, refl}
+use Rattle.std.proofs.Common.{◌≡◌, ℕ, List, [], None, refl}
 use Rattle.std.specs.Prelude.{codes}
 use Rattle.std.specs.FinMap.{len}
 use Rattle.mc_item.specs.declared.op.Op.TheVariants as op
 use Rattle.mc_item.specs.declared.answer.Answer.TheVariants as answer
-use Rattle.mc_item.specs.declared.tally.CountedAs.TheVariants.{Get, Set, Stats}
+use Rattle.mc_item.specs.declared.tally.CountedAs.TheVariants.{Get, Set, Other}
 use Rattle.mc_item.specs.declared.tally.Status.TheVariants.{Hit, Miss}
-use Rattle.mc_item.specs.Tally.{asked_of, counted, no_counts, status_of}
+use Rattle.mc_item.specs.Tally.{counted, counting_of, no_counts, status_of}
 use Rattle.mc_store.specs.State.{Items, State, evicting, fitting}
 use Rattle.mc_store.specs.Step.{noted_in, stats_of, step_of}
 
 -- a shard that was asked nothing, with these items, where evicted is the number that went to make room for others
 abbrev fresh : Items → ℕ → State
-fresh items evicted = record { items = items; uses = 7; time = 1000; flush = None; given = 1; index = 0; shards = 2; budget = 1024; limit = 1048576; tally = no_counts; evicted = evicted }
+fresh items evicted = record { items = items; turns = []; uses = 7; time = 1000; flush = None; given = 1; index = 0; shards = 2; budget = 1024; limit = 1048576; tally = no_counts; evicted = evicted }
 
 -- after two gets, of which one found its item
 abbrev two_gets : Items → State
-two_gets items = noted_in (noted_in (fresh items 3) (op.Fetch (codes "a") None) (answer.Hit 0 1 (codes "x"))) (op.Fetch (codes "b") None) answer.Miss
+two_gets items = noted_in (fresh items 3) (noted_in (fresh items 3) (fresh items 3) (op.Fetch (codes "a") None) (answer.Hit 0 1 (codes "x"))) (op.Fetch (codes "b") None) answer.Miss
 
 -- and after stats reset
 abbrev begun_anew : Items → State
-begun_anew items = noted_in (step_of (two_gets items) op.ResetStats).1 op.ResetStats answer.Reset
+begun_anew items = noted_in (two_gets items) (step_of (two_gets items) op.ResetStats).1 op.ResetStats answer.Reset
 
 record CountRows : Type 0 where
   -- what stats shows of two gets
@@ -30,7 +30,7 @@ record CountRows : Type 0 where
   no_set : (m : Items) → counted (stats_of (two_gets m)).tally Set Hit ≡ 0
   went : (m : Items) → (stats_of (two_gets m)).evicted ≡ 3
   -- the reset is counted in the counts that it begins, and no other
-  reset : (m : Items) → counted (stats_of (begun_anew m)).tally Stats Hit ≡ 1
+  reset : (m : Items) → counted (stats_of (begun_anew m)).tally Other Hit ≡ 1
   no_hit : (m : Items) → counted (stats_of (begun_anew m)).tally Get Hit ≡ 0
   no_miss : (m : Items) → counted (stats_of (begun_anew m)).tally Get Miss ≡ 0
   none_went : (m : Items) → (stats_of (begun_anew m)).evicted ≡ 0
@@ -39,7 +39,7 @@ record CountRows : Type 0 where
   starts_anew : (m : Items) (key : List ℕ) → len m ≡ 3 → len (fitting m 1024 key) ≡ 1 → (evicting (fresh m 18446744073709551615) key).evicted ≡ 1
 
 all_counted : CountRows
-unfolding step_of asked_of status_of
+unfolding step_of counting_of status_of
 all_counted = record {
   shown = λ _. refl;
   hit = λ _. refl;

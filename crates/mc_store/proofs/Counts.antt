@@ -16,7 +16,7 @@ use Rattle.mc_item.specs.Kind.{kind_of, is_lawful}
 use Rattle.mc_store.specs.internal.Found.{live}
 use Rattle.mc_store.specs.State.{State, without_dead, entered}
 use Rattle.mc_store.specs.Rows.{counted_item, done_of}
-use Rattle.mc_store.specs.Step.{Outcome, Reply, is_other, numbered, counted, changes, counting, absent_count, count_step, step_of}
+use Rattle.mc_store.specs.Step.{Outcome, Reply, is_other, numbered, new_number, changes, counting, absent_count, count_step, step_of}
 use Rattle.mc_store.specs.Shard.{ShardContents, Keeps}
 use Rattle.mc_store.proofs.Writes.{Closes, along, met_time}
 use Rattle.mc_store.proofs.Outcomes.{Ends, ends, absent_as, present_as, unchanged_as}
@@ -24,7 +24,7 @@ use Rattle.mc_store.proofs.Stores.{fresh, fresh_of}
 
 -- what is written, with a new unique and what is answered of it
 abbrev pub done_with : State → List ℕ → Option ℕ → (ℕ → Item) → ℕ → Reply → Outcome
-done_with settled key token item_of number reply = numbered settled token (λ unique given. (reply (done_of (item_of unique) number settled.time), entered given key (item_of unique)))
+done_with settled key token item_of number reply = numbered settled token (λ unique given. (reply (done_of (item_of unique) number settled.time), entered given token key (item_of unique)))
 
 pub written_as : (settled : State) (key : List ℕ) (token : Option ℕ) (item made : Item) (number : ℕ) (reply : Reply) (answer : Answer) (new : ShardContents) → item ≡ made → Closes settled (done_with settled key token (λ unique. record item { unique = unique }) number reply) answer new → Closes settled (done_with settled key token (λ unique. record made { unique = unique }) number reply) answer new
 written_as settled key token item made number reply answer new is closes = subst (λ i. Closes settled (done_with settled key token (λ unique. record i { unique = unique }) number reply) answer new) is closes
@@ -69,12 +69,12 @@ count_fails held state item asked reply h is other none =
 
 -- the item with its new number, before it has a new unique
 pub counted_as : (held : ShardContents) (state : State) (item : Item) (asked : op.MetaCount) (reply : Reply) (number : ℕ) (new_item : Item) (answer : Answer) (new : ShardContents) → Keeps held state → Some item ≡ live held.time (lookup (pointwise nat_eq asked.key) held.entries) →
-    is_other asked.compare item.unique ≡ false → Some number ≡ number_in item.value → new_item ≡ counted_item item (counted asked.direction number asked.amount) asked.exptime held.time item.unique →
-    Closes (without_dead state (Some asked.key)) (done_with (without_dead state (Some asked.key)) asked.key asked.unique (λ unique. record new_item { unique = unique }) (counted asked.direction number asked.amount) reply) answer new →
+    is_other asked.compare item.unique ≡ false → Some number ≡ number_in item.value → new_item ≡ counted_item item (new_number asked.direction number asked.amount) asked.exptime held.time item.unique →
+    Closes (without_dead state (Some asked.key)) (done_with (without_dead state (Some asked.key)) asked.key asked.unique (λ unique. record new_item { unique = unique }) (new_number asked.direction number asked.amount) reply) answer new →
     Closes (without_dead state (Some asked.key)) (count_step (without_dead state (Some asked.key)) asked reply (get (without_dead state (Some asked.key)).items asked.key)) answer new
 counted_as held state item asked reply number new_item answer new h is other number_is made closes =
     let settled = without_dead state (Some asked.key) in
-    let to = counted asked.direction number asked.amount in
+    let to = new_number asked.direction number asked.amount in
     let time : settled.time ≡ held.time = met_time state asked.key ∙ h.time in
     let same : done_with settled asked.key asked.unique (λ unique. counted_item item to asked.exptime held.time unique) to reply ≡ changes settled item asked to reply
     = subst (λ t. done_with settled asked.key asked.unique (λ unique. counted_item item to asked.exptime t unique) to reply ≡ changes settled item asked to reply) time refl in
@@ -88,7 +88,7 @@ counted_as held state item asked reply number new_item answer new h is other num
 
 -- the same, where the new number was computed
 pub counted_by : (held : ShardContents) (state : State) (item : Item) (asked : op.MetaCount) (reply : Reply) (number to : ℕ) (new_item : Item) (answer : Answer) (new : ShardContents) → Keeps held state → Some item ≡ live held.time (lookup (pointwise nat_eq asked.key) held.entries) →
-    is_other asked.compare item.unique ≡ false → Some number ≡ number_in item.value → to ≡ counted asked.direction number asked.amount → new_item ≡ counted_item item to asked.exptime held.time item.unique →
+    is_other asked.compare item.unique ≡ false → Some number ≡ number_in item.value → to ≡ new_number asked.direction number asked.amount → new_item ≡ counted_item item to asked.exptime held.time item.unique →
     Closes (without_dead state (Some asked.key)) (done_with (without_dead state (Some asked.key)) asked.key asked.unique (λ unique. record new_item { unique = unique }) to reply) answer new →
     Closes (without_dead state (Some asked.key)) (count_step (without_dead state (Some asked.key)) asked reply (get (without_dead state (Some asked.key)).items asked.key)) answer new
 counted_by held state item asked reply number to new_item answer new h is other number_is to_is made closes =

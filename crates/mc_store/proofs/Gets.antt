@@ -106,18 +106,18 @@ abbrev pub empty_item : Expiry → ℕ → Item
 empty_item expiry unique = record { value = []; flags = 0; expiry = expiry; unique = unique; last_access = 0; fetched = false; stale = false; sent = true }
 
 pub vivified_is : (held : ShardContents) (state : State) (key : List ℕ) (exptime : ℤ) → Keeps held state →
-    numbered (without_dead state (Some key)) None (λ unique given. (MetaHit (made_hit (empty_item (expiry_of exptime held.time) unique) held.time), entered given key (empty_item (expiry_of exptime held.time) unique))) ≡ absent_meta_get (without_dead state (Some key)) key (Some exptime)
+    numbered (without_dead state (Some key)) None (λ unique given. (MetaHit (made_hit (empty_item (expiry_of exptime held.time) unique) held.time), entered given None key (empty_item (expiry_of exptime held.time) unique))) ≡ absent_meta_get (without_dead state (Some key)) key (Some exptime)
 vivified_is held state key exptime h =
     let time : (without_dead state (Some key)).time ≡ held.time = met_time state key ∙ h.time in
-    subst (λ t. numbered (without_dead state (Some key)) None (λ unique given. (MetaHit (made_hit (empty_item (expiry_of exptime t) unique) t), entered given key (empty_item (expiry_of exptime t) unique))) ≡ absent_meta_get (without_dead state (Some key)) key (Some exptime)) time refl
+    subst (λ t. numbered (without_dead state (Some key)) None (λ unique given. (MetaHit (made_hit (empty_item (expiry_of exptime t) unique) t), entered given None key (empty_item (expiry_of exptime t) unique))) ≡ absent_meta_get (without_dead state (Some key)) key (Some exptime)) time refl
 
 -- To write an empty item with its expiry and the shard's next unique is what `mg` does where it makes one of a miss.
 pub vivified_item_as : (held : ShardContents) (state : State) (key : List ℕ) (exptime : ℤ) (item : Item) (answer : Answer) (new : ShardContents) → Keeps held state → item ≡ empty_item (expiry_of exptime held.time) 0 →
-    Closes (without_dead state (Some key)) (numbered (without_dead state (Some key)) None (λ unique given. (MetaHit (made_hit (record item { unique = unique }) held.time), entered given key (record item { unique = unique })))) answer new → Closes (without_dead state (Some key)) (absent_meta_get (without_dead state (Some key)) key (Some exptime)) answer new
+    Closes (without_dead state (Some key)) (numbered (without_dead state (Some key)) None (λ unique given. (MetaHit (made_hit (record item { unique = unique }) held.time), entered given None key (record item { unique = unique })))) answer new → Closes (without_dead state (Some key)) (absent_meta_get (without_dead state (Some key)) key (Some exptime)) answer new
 vivified_item_as held state key exptime item answer new h is closes =
-    along (without_dead state (Some key)) (numbered (without_dead state (Some key)) None (λ unique given. (MetaHit (made_hit (empty_item (expiry_of exptime held.time) unique) held.time), entered given key (empty_item (expiry_of exptime held.time) unique)))) (absent_meta_get (without_dead state (Some key)) key (Some exptime)) answer new
+    along (without_dead state (Some key)) (numbered (without_dead state (Some key)) None (λ unique given. (MetaHit (made_hit (empty_item (expiry_of exptime held.time) unique) held.time), entered given None key (empty_item (expiry_of exptime held.time) unique)))) (absent_meta_get (without_dead state (Some key)) key (Some exptime)) answer new
     (vivified_is held state key exptime h)
-    (subst (λ i. Closes (without_dead state (Some key)) (numbered (without_dead state (Some key)) None (λ unique given. (MetaHit (made_hit (record i { unique = unique }) held.time), entered given key (record i { unique = unique })))) answer new) is closes)
+    (subst (λ i. Closes (without_dead state (Some key)) (numbered (without_dead state (Some key)) None (λ unique given. (MetaHit (made_hit (record i { unique = unique }) held.time), entered given None key (record i { unique = unique })))) answer new) is closes)
 
 -- the same, where the exptime is given as an option
 pub vivified_as : (settled : State) (key : List ℕ) (vivify : Option ℤ) (exptime : ℤ) (answer : Answer) (new : ShardContents) → vivify ≡ Some exptime → Closes settled (absent_meta_get settled key (Some exptime)) answer new → Closes settled (absent_meta_get settled key vivify) answer new

@@ -14,11 +14,11 @@ use Rattle.mc_item.specs.Expiry.{expiry_of, is_dead, seconds_left}
 use Rattle.mc_item.specs.Tally.{no_counts}
 use Rattle.mc_store.specs.State.{Used, Items, State, is_dead_at, next_unique}
 use Rattle.mc_store.specs.Rows.{joined_item, stale_item, marks_of, hit_of, vivified_item, made_hit}
-use Rattle.mc_store.specs.Step.{Outcome, store_step, numbered, counted, coming}
+use Rattle.mc_store.specs.Step.{Outcome, store_step, numbered, new_number, coming}
 
 -- the first of two shards, where given is the number of uniques that it has given
 abbrev at : Items → ℕ → State
-at items given = record { items = items; uses = 7; time = 1000; flush = None; given = given; index = 0; shards = 2; budget = 1024; limit = 1048576; tally = no_counts; evicted = 0 }
+at items given = record { items = items; turns = []; uses = 7; time = 1000; flush = None; given = given; index = 0; shards = 2; budget = 1024; limit = 1048576; tally = no_counts; evicted = 0 }
 
 -- an item with the value x
 abbrev item : ℕ → Item
@@ -55,8 +55,8 @@ record WorkedRows : Type 0 where
   last_unique : (m : Items) → next_unique (at m 9223372036854775807) ≡ 18446744073709551615
   none_after_the_last : (m : Items) (f : ℕ → State → Outcome) → numbered (at m 9223372036854775808) None f ≡ (NoCas, at m 9223372036854775808)
   -- arithmetic
-  wraps : counted Increment 18446744073709551615 1 ≡ 0
-  not_below_zero : counted Decrement 5 9 ≡ 0
+  wraps : new_number Increment 18446744073709551615 1 ≡ 0
+  not_below_zero : new_number Decrement 5 9 ≡ 0
   -- expiry: alive at its last second, dead at the next one
   alive : is_dead_at 1000 (Some (used (record (item 1) { expiry = At 1001 }))) ≡ false
   dead : is_dead_at 1001 (Some (used (record (item 1) { expiry = At 1001 }))) ≡ true

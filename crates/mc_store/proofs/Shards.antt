@@ -10,7 +10,7 @@ use Rattle.mc_item.specs.declared.item.Item.{Item}
 use Rattle.mc_item.specs.Expiry.{is_dead}
 use Rattle.mc_store.specs.internal.Found.{live, given_after}
 use Rattle.mc_store.specs.internal.Listed.{gone, within}
-use Rattle.mc_store.specs.State.{Used, Items, State, is_dead_at, with_items, without_dead, first, cost, costs, fitting, entered, with_given}
+use Rattle.mc_store.specs.State.{Used, Items, State, is_dead_at, with_items, without_dead, first, cost, costs, fitting, evicting, with_given}
 use Rattle.mc_store.specs.Shard.{AllBelow, Shows, ShardContents, Keeps}
 use Rattle.mc_store.proofs.Lists.{same, used, same_is, not_same, get_nothing, get_gone, get_here, get_other, get_apart, inserted_all, insert_gone, insert_apart, remove_none, AllBelow-remove, lookup-Shows, len-Shows, Shows-remove, Shows-first}
 use Rattle.mc_store.proofs.Listed.{first_is, cost_within}
@@ -43,7 +43,7 @@ numbered_first es m n key item h below =
     Shows-first (remove_entry (pointwise nat_eq key) es) m key item n (Shows-remove es m key h) (AllBelow-remove m key n below)
 
 -- an item that enters, before which others go
-pub put_first : (held : ShardContents) (state : State) (key : List ℕ) (item : Item) → Keeps held state → cost key item.value ≤ state.budget → Keeps (with_put held key (at_now item state.time)) (entered state key item)
+pub put_first : (held : ShardContents) (state : State) (key : List ℕ) (item : Item) → Keeps held state → cost key item.value ≤ state.budget → Keeps (with_put held key (at_now item state.time)) (evicting (first state key item) key)
 put_first held state key item h small =
     let n = state.uses + 1 in
     let it = at_now item state.time in
@@ -58,7 +58,7 @@ put_first held state key item h small =
     let below = AllBelow-fitting new state.budget key (n + 1) (AllBelow-insert state.items key it n h.below) in
     let fits : costs (fitting new state.budget key) ≤ state.budget =
     rw (costs_shown (within state.budget es) (fitting new state.budget key) shown) (cost_within state.budget es) in
-    let evicted : (entered state key item).evicted ≡ (with_put held key it).evicted =
+    let evicted : (evicting (first state key item) key).evicted ≡ (with_put held key it).evicted =
     rw (h.evicted, len-Shows es new first_shown, len-Shows (within held.budget es) (fitting new state.budget key) order) in
     assumption
 

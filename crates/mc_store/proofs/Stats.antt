@@ -1,5 +1,8 @@
 -- What a shard counted and holds, by the state that it shows.
-use Rattle.std.proofs.Common.{◌≡◌, length, refl, ap, inl, inr}
+use Rattle.std.specs.Prelude.{◌==◌}
+use Rattle.std.proofs.Common.{◌≡◌, ℕ, List, Option, Some, None, length, refl, ap, inl, inr}
+use Rattle.std.proofs.lemmas.Bool.{cases_Bool}
+use Rattle.std.specs.FinMap.{get}
 use Rattle.mc_item.specs.declared.op.Op.{Op}
 use Rattle.mc_item.specs.declared.op.Op.TheVariants as op
 use Rattle.mc_item.specs.declared.answer.Answer.{Answer}
@@ -7,9 +10,10 @@ use Rattle.mc_item.specs.declared.answer.Answer.TheVariants.{NoMemory, Reset}
 use Rattle.mc_item.specs.declared.answer.Answer.TheVariants as answer
 use Rattle.mc_item.specs.declared.stats.Stats.{Stats}
 use Rattle.mc_item.specs.Kind.{kind_of, is_lawful}
-use Rattle.mc_item.specs.Tally.{asked_of, no_counts, noted, status_of}
-use Rattle.mc_store.specs.State.{State}
-use Rattle.mc_store.specs.Step.{Answers, noted_in, stats_of, step_of}
+use Rattle.mc_item.specs.declared.tally.Counting.{Counting}
+use Rattle.mc_item.specs.Tally.{counted_in, counting_of, no_counts, status_of}
+use Rattle.mc_store.specs.State.{State, is_dead_at, without_dead}
+use Rattle.mc_store.specs.Step.{Answers, makes, noted_in, stats_of, step_of}
 use Rattle.mc_store.specs.Shard.{ShardContents, Keeps}
 use Rattle.mc_store.specs.internal.Listed.{listed_cost}
 use Rattle.mc_store.proofs.Lists.{len-Shows}
@@ -38,7 +42,16 @@ unfolding Answers step_of
 stats_reset held state h = (record state { tally = no_counts; evicted = 0 }, inr refl, assumption)
 
 -- one more is counted
-pub noted_keeps : (held : ShardContents) (state : State) (asked : Op) (said : Answer) → Keeps held state → Keeps (record held { tally = noted held.tally (asked_of asked) (status_of said) }) (noted_in state asked said)
-noted_keeps held state asked said h =
-    let tally : noted state.tally (asked_of asked) (status_of said) ≡ noted held.tally (asked_of asked) (status_of said) = rw h.tally in
+pub noted_keeps : (held : ShardContents) (settled state : State) (asked : Op) (said : Answer) (counting : Counting) → counting ≡ counting_of (settled.index == 0) (makes settled asked) asked → Keeps held state →
+    Keeps (record held { tally = counted_in held.tally counting (status_of said) }) (noted_in settled state asked said)
+noted_keeps held settled state asked said counting is h =
+    let tally : counted_in state.tally (counting_of (settled.index == 0) (makes settled asked) asked) (status_of said) ≡ counted_in held.tally counting (status_of said) = rw (is, h.tally) in
     assumption
+
+-- Where a dead item goes, the shard stays the one that it was.
+pub settled_index : (state : State) (key : Option (List ℕ)) → (without_dead state key).index ≡ state.index
+settled_index state None = refl
+settled_index state (Some key) = elim (cases_Bool (is_dead_at state.time (get state.items key))) [
+  | inl dead ↦ rw dead refl
+  | inr alive ↦ rw alive refl
+]

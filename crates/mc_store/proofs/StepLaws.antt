@@ -1,5 +1,5 @@
 -- The laws of the step.
-use Rattle.std.proofs.Common.{◌≡◌, ℕ, ◌+◌, ◌*◌, ◌<◌, ◌^◌, ℤ, Bool, true, false, ◌⊎◌, List, ◌++◌, Option, Some, None, refl, sym, ap, ◌∙◌, inl, inr, arith, nat_lt, max, min, subst}
+use Rattle.std.proofs.Common.{◌≡◌, ℕ, ◌+◌, ◌*◌, ◌<◌, ◌^◌, ℤ, Bool, true, false, ◌⊎◌, List, [], ◌++◌, Option, Some, None, refl, sym, ap, ◌∙◌, inl, inr, arith, nat_lt, max, min, subst}
 use Rattle.std.specs.Prelude.{◌||◌, not, if◌then◌else◌}
 use Rattle.std.specs.FinMap.{get, insert, remove}
 use Rattle.std.proofs.lemmas.Bool.{cases_Bool, both_ways, not-true, and_parts, or_right}
@@ -10,7 +10,7 @@ use Rattle.mc_command.specs.declared.command.StoreMode.TheVariants.{Set, Add, Ap
 use Rattle.mc_wire.specs.Limits.{latest_moment}
 use Rattle.mc_item.specs.declared.item.Item.{Item}
 use Rattle.mc_item.specs.declared.op.Op.{Op}
-use Rattle.mc_item.specs.declared.op.Op.TheVariants.{Store, Fetch, Count, Delete, Touch, Flush, Stats, ResetStats, MetaGet, MetaStore, MetaDelete, MetaCount}
+use Rattle.mc_item.specs.declared.op.Op.TheVariants.{Store, Fetch, Count, Delete, Discard, Touch, Flush, Stats, ResetStats, MetaGet, MetaStore, MetaDelete, MetaCount}
 use Rattle.mc_command.specs.declared.meta.MetaRemoval as op
 use Rattle.mc_command.specs.declared.meta.MetaFetch as mg
 use Rattle.mc_command.specs.declared.command.StoreRequest.{StoreRequest}
@@ -28,13 +28,14 @@ use Rattle.mc_item.specs.Expiry.{expiry_of, seconds_left}
 use Rattle.mc_item.specs.Value.{number_in}
 use Rattle.mc_item.specs.Kind.{kind_of, key_of, is_lawful}
 use Rattle.mc_item.specs.Tally.{no_counts}
-use Rattle.mc_store.specs.State.{Used, Items, State, is_due, arrived, is_dead_at, with_items, without_dead, settle, first, entered, next_unique, with_given}
+use Rattle.mc_store.specs.State.{Used, Items, Turn, State, is_due, arrived, is_dead_at, with_items, without_dead, settle, first, evicting, used_since, costs, entered, next_unique, with_given}
 use Rattle.mc_store.specs.Rows.{fetched_item, touched_item, stored_item, joined_item, counted_item, counter_item, vivified_item, stale_item, shown_item, hit_of, made_hit, done_of, is_won, has_fewer_left}
-use Rattle.mc_store.specs.Step.{Outcome, Reply, is_other, compared, numbered, is_too_large, writes, stores, joins, absent_store, present_store, store_step, counting, absent_count, counts, count_step, fetch_step, touch_step, absent_meta_get, meta_get_step, shows, delete_step, stales, meta_delete_step, counted, coming, flush_step, stats_of, noted_in, step_of, Answers, IsStep}
-use Rattle.mc_store.specs.Laws.{StaysUnless, tells_stored, IsEvicted, SameStored, IsKept, HasNewUnique, token_of, is_sent, may_clear_sent, AnswersAreLawful, StepsAgree, OthersStay, UniquesRise, UniquesDiffer, UniquesTell, TokensAreTaken, TimeRises, WinnersAreFirst, SentStays}
+use Rattle.mc_store.specs.Step.{Outcome, Reply, is_other, compared, numbered, is_too_large, writes, stores, joins, absent_store, present_store, store_step, counting, absent_count, counts, count_step, fetch_step, touch_step, absent_meta_get, meta_get_step, shows, delete_step, stales, meta_delete_step, new_number, coming, flush_step, stats_of, noted_in, step_of, Answers, IsStep}
+use Rattle.mc_store.specs.Laws.{StaysUnless, tells_stored, IsEvicted, IsReclaimed, SameStored, IsKept, HasNewUnique, token_of, is_sent, may_clear_sent, AnswersAreLawful, StepsAgree, OthersStay, UniquesRise, UniquesDiffer, UniquesTell, TokensAreTaken, TimeRises, WinnersAreFirst, SentStays}
 use Rattle.mc_store.proofs.Lists.{same, same_is, by_key, nothing, get_nothing, get_gone, get_apart, get_here, get_other, get_kept, inserted_all}
 use Rattle.mc_store.proofs.Costs.{fitting_key, fitting_other}
 use Rattle.mc_store.proofs.Shards.{at_now}
+use Rattle.mc_store.proofs.Turns.{twice_other, twice_entering}
 
 -- what a step leaves of the place and the budget of its shard
 pub record SamePlace (old new : State) : Type 0 where
@@ -44,7 +45,7 @@ pub record SamePlace (old new : State) : Type 0 where
 
 -- Why another item may go
 abbrev Reason : State → Kind → Option (List ℕ) → Answer → Items → List ℕ → Type 0
-Reason settled asked key answer new other = (asked ≡ kind.Flush) ⊎ IsEvicted settled key answer new other
+Reason settled asked key answer new other = (asked ≡ kind.Flush) ⊎ (IsEvicted settled key answer new other ⊎ IsReclaimed settled key answer other)
 
 -- What an outcome of an operation on the key, which gives this unique of the client's, keeps of the settled state
 record Follows (settled : State) (asked : Kind) (token : Option ℕ) (key : Option (List ℕ)) (outcome : Outcome) : Type 0 where
@@ -67,10 +68,10 @@ record Leaves (s : State) (asked : Kind) (token : Option ℕ) (key : Option (Lis
 abbrev HasUnique : Option ℕ → Answer → Type 0
 HasUnique token answer = (unique : ℕ) → token ≡ Some unique → ¬ (answer ≡ NoCas)
 
-follows : (s : State) (asked : Kind) (token : Option ℕ) (key : Option (List ℕ)) (answer : Answer) (items : Items) (uses : ℕ) (flush : Option ℕ) (tally : Tally) (evicted : ℕ) →
+follows : (s : State) (asked : Kind) (token : Option ℕ) (key : Option (List ℕ)) (answer : Answer) (items : Items) (turns : List Turn) (uses : ℕ) (flush : Option ℕ) (tally : Tally) (evicted : ℕ) →
     HasUnique token answer → is_lawful asked answer ≡ true → Leaves s asked token key answer items → Follows s asked token key
-    (answer, record s { items = items; uses = uses; flush = flush; tally = tally; evicted = evicted })
-follows s asked token key answer items uses flush tally evicted has lawful leaves = record {
+    (answer, record s { items = items; turns = turns; uses = uses; flush = flush; tally = tally; evicted = evicted })
+follows s asked token key answer items turns uses flush tally evicted has lawful leaves = record {
   given = inl refl;
   taken = λ unique is. (refl, has unique is);
   time = refl;
@@ -105,14 +106,15 @@ by_shard s new asked key answer by_client =
 itself : (m : Items) (k : List ℕ) (u : Used) → get m k ≡ Some u → IsKept m k u.item
 itself m k u h = (u, h, assumption)
 
-apart : (key other : List ℕ) → ¬ (Some key ≡ Some other) → same other key ≡ false
+-- Two keys that aren't one differ.
+pub apart : (key other : List ℕ) → ¬ (Some key ≡ Some other) → same other key ≡ false
 apart key other differ = elim (cases_Bool (same other key)) [
   | inl t ↦ absurd (differ (ap (λ k. Some k) (sym (same_is other key t))))
   | inr f ↦ f
 ]
 
 -- an item, as it is put first
-abbrev put_at : State → Item → Used
+abbrev pub put_at : State → Item → Used
 put_at s item = record { item = at_now item s.time; number = s.uses + 1 }
 
 -- the items where one was put, and those where others went for it
@@ -129,7 +131,7 @@ sent_inserted m key u keeps k = by_key (λ q. is_sent m q ≡ true → is_sent (
 
 unchanged : (s : State) (asked : Kind) (token : Option ℕ) (key : Option (List ℕ)) (answer : Answer) → HasUnique token answer →
     is_lawful asked answer ≡ true → Follows s asked token key (answer, s)
-unchanged s asked token key answer has lawful = follows s asked token key answer s.items s.uses s.flush s.tally s.evicted has lawful (record {
+unchanged s asked token key answer has lawful = follows s asked token key answer s.items s.turns s.uses s.flush s.tally s.evicted has lawful (record {
   others = λ _ _. inl refl;
   items_are = λ k u h. inl (itself s.items k u h);
   sent = λ _ k h. inr h;
@@ -140,45 +142,83 @@ uses : (s : State) (asked : Kind) (token : Option ℕ) (key : List ℕ) (u : Use
     Follows s asked token (Some key) (answer, first s key item)
 uses s asked token key u item answer has is stored keeps lawful =
     let items = insert s.items key (put_at s item) in
-    follows s asked token (Some key) answer items (s.uses + 1) s.flush s.tally s.evicted has lawful (record {
+    follows s asked token (Some key) answer items s.turns (s.uses + 1) s.flush s.tally s.evicted has lawful (record {
       others = λ other differ. inl (get_other s.items key other (put_at s item) (apart key other differ));
       items_are = inserted_are s.items token key (put_at s item) (inl (u, is, assumption));
       sent = λ _ k h. inr (sent_inserted s.items key (put_at s item) (λ had. keeps (rw is at had)) k h);
     })
 
-enters : (s : State) (asked : Kind) (key : List ℕ) (item : Item) (answer : Answer) → ¬ (answer ≡ NoCas) → tells_stored answer (get s.items key) ≡ true →
+-- the items where one was put
+abbrev all_with : State → List ℕ → Item → Items
+all_with s key item = insert s.items key (put_at s item)
+
+-- the state before turns are looked at
+abbrev evicted_for : State → List ℕ → Item → State
+evicted_for s key item = evicting (first s key item) key
+
+-- What becomes of an item once another entered: it stays, or it costs too much, or it was dead.
+abbrev Fate : State → Option ℕ → List ℕ → Item → List ℕ → Type 0
+Fate s token key item k =
+    (get (entered s token key item).items k ≡ get (all_with s key item) k)
+    ⊎ (((get (entered s token key item).items k ≡ None) × (s.budget < costs (used_since (all_with s key item) k)))
+    ⊎ ((get (entered s token key item).items k ≡ None) × (is_dead_at s.time (get (all_with s key item) k) ≡ true)))
+
+fate : (s : State) (token : Option ℕ) (key : List ℕ) (item : Item) (k : List ℕ) → Fate s token key item k
+fate s token key item k = elim (twice_other item.unique (evicted_for s key item) k) [
+  | inl same_there ↦ elim (fitting_other (all_with s key item) s.budget key k) [
+    | inl stays ↦ inl (same_there ∙ stays)
+    | inr gone ↦ inr (inl (same_there ∙ gone.0, gone.1))
+  ]
+  | inr dead ↦ elim (fitting_other (all_with s key item) s.budget key k) [
+    | inl stays ↦ inr (inr (dead.0, rw (← stays) dead.1))
+    | inr gone ↦ inr (inl (dead.0, gone.1))
+  ]
+]
+
+-- The item that entered is there.
+entered_here : (s : State) (token : Option ℕ) (key : List ℕ) (item : Item) → get (entered s token key item).items key ≡ Some (put_at s item)
+entered_here s token key item =
+    twice_entering item.unique (evicted_for s key item) key (put_at s item)
+    (fitting_key (all_with s key item) s.budget key ∙ get_here s.items key (put_at s item)) refl
+
+enters : (s : State) (asked : Kind) (token : Option ℕ) (key : List ℕ) (item : Item) (answer : Answer) → ¬ (answer ≡ NoCas) → tells_stored answer (get s.items key) ≡ true →
     (may_clear_sent asked ≡ false → is_sent s.items key ≡ true → item.sent ≡ true) → is_lawful asked answer ≡ true →
-    Follows s asked (Some item.unique) (Some key) (answer, entered s key item)
-enters s asked key item answer not_no_cas told keeps lawful =
-    let all = insert s.items key (put_at s item) in
-    follows s asked (Some item.unique) (Some key) answer (entered s key item).items (s.uses + 1) s.flush s.tally (entered s key item).evicted (λ _ _. not_no_cas) lawful (record {
-      others = λ other differ. elim (fitting_other all s.budget key other) [
-        | inl e ↦ inl (e ∙ get_other s.items key other (put_at s item) (apart key other differ))
-        | inr gone ↦ inr (
-          gone.0,
-          inr (record {
-            asked = key;
-            key_is = refl;
-            told = told;
-            stored = put_at s item;
-            stands = fitting_key all s.budget key ∙ get_here s.items key (put_at s item);
-            too_much = gone.1;
-          }),
-        )
+    Follows s asked (Some item.unique) (Some key) (answer, entered s token key item)
+enters s asked token key item answer not_no_cas told keeps lawful =
+    let new = entered s token key item in
+    follows s asked (Some item.unique) (Some key) answer new.items new.turns (s.uses + 1) s.flush s.tally new.evicted (λ _ _. not_no_cas) lawful (record {
+      others = λ other differ.
+          let before = get_other s.items key other (put_at s item) (apart key other differ) in
+          elim (fate s token key item other) [
+            | inl stays ↦ inl (stays ∙ before)
+            | inr goes ↦ elim goes [
+              | inl gone ↦ inr (
+                gone.0,
+                inr (inl (record {
+                  asked = key;
+                  key_is = refl;
+                  told = told;
+                  stored = put_at s item;
+                  stands = entered_here s token key item;
+                  too_much = gone.1;
+                })),
+              )
+              | inr dead ↦ inr (dead.0, inr (inr (record { asked = key; key_is = refl; told = told; dead = rw (← before) dead.1 })))
+            ]
+          ];
+      items_are = λ k u h. elim (fate s token key item k) [
+        | inl stays ↦ inserted_are s.items (Some item.unique) key (put_at s item) (inr refl) k u (sym stays ∙ h)
+        | inr goes ↦ absurd (let none : get new.items k ≡ None = elim goes [ inl gone ↦ gone.0 | inr dead ↦ dead.0 ] in cc)
       ];
-      items_are = λ k u h. elim (fitting_other all s.budget key k) [
-        | inl e ↦ inserted_are s.items (Some item.unique) key (put_at s item) (inr refl) k u (sym e ∙ h)
-        | inr gone ↦ absurd (let none = gone.0 in cc)
-      ];
-      sent = λ may k h. elim (fitting_other all s.budget key k) [
-        | inl e ↦ inr (rw e (sent_inserted s.items key (put_at s item) (keeps may) k h))
-        | inr gone ↦ inl gone.0
+      sent = λ may k h. elim (fate s token key item k) [
+        | inl stays ↦ inr (rw stays (sent_inserted s.items key (put_at s item) (keeps may) k h))
+        | inr goes ↦ inl (elim goes [ inl gone ↦ gone.0 | inr dead ↦ dead.0 ])
       ];
     })
 
 goes : (s : State) (asked : Kind) (token : Option ℕ) (key : List ℕ) (answer : Answer) → HasUnique token answer → is_lawful asked answer ≡ true →
     Follows s asked token (Some key) (answer, with_items s (remove s.items key))
-goes s asked token key answer has lawful = follows s asked token (Some key) answer (remove s.items key) s.uses s.flush s.tally s.evicted has lawful (record {
+goes s asked token key answer has lawful = follows s asked token (Some key) answer (remove s.items key) s.turns s.uses s.flush s.tally s.evicted has lawful (record {
   others = λ other differ. inl (get_apart s.items key other (apart key other differ));
   items_are = λ k u h. inl (itself s.items k u (get_kept s.items key k u h));
   sent = λ _ k. by_key (λ q. is_sent s.items q ≡ true → (get (remove s.items key) q ≡ None) ⊎ (is_sent (remove s.items key) q ≡ true)) key k
@@ -200,10 +240,10 @@ numbers_first : (s : State) (asked : Kind) (token : Option ℕ) (key : List ℕ)
     ((unique : ℕ) → ¬ (reply unique ≡ NoCas)) → ((unique : ℕ) → tells_stored (reply unique) (get s.items key) ≡ true) →
     (may_clear_sent asked ≡ false → is_sent s.items key ≡ true → item.sent ≡ true) →
     is_lawful asked NoCas ≡ true → ((unique : ℕ) → is_lawful asked (reply unique) ≡ true) →
-    Follows s asked token (Some key) (numbered s token (λ unique after. (reply unique, entered after key (record item { unique = unique }))))
+    Follows s asked token (Some key) (numbered s token (λ unique after. (reply unique, entered after token key (record item { unique = unique }))))
 numbers_first s asked token key reply item not_no_cas told keeps refused lawful =
-    numbers s asked token (Some key) reply (λ unique after. entered after key (record item { unique = unique })) (λ _. refl) refused
-    (λ unique. enters s asked key (record item { unique = unique }) (reply unique) (not_no_cas unique) (told unique) keeps (lawful unique))
+    numbers s asked token (Some key) reply (λ unique after. entered after token key (record item { unique = unique })) (λ _. refl) refused
+    (λ unique. enters s asked token key (record item { unique = unique }) (reply unique) (not_no_cas unique) (told unique) keeps (lawful unique))
 
 compares : (s : State) (asked : Kind) (token : Option ℕ) (key : Option (List ℕ)) (compare : Option ℕ) (item : Item) (outcome : Outcome) → is_lawful asked Exists ≡ true → Follows s asked token key outcome → Follows s asked token key (compared s compare item outcome)
 compares s asked token key compare item outcome refused done = elim (cases_Bool (is_other compare item.unique)) [
@@ -274,7 +314,7 @@ module _ (s : State) (asked : Kind) (key : List ℕ) (reply : Reply) (may : Coun
   numbers_to : (token : Option ℕ) (item : Item) (number : ℕ) → (is_sent s.items key ≡ true → item.sent ≡ true) →
       Follows s asked token (Some key)
       (numbered s token (λ unique after.
-      (reply (done_of (record item { unique = unique }) number s.time), entered after key (record item { unique = unique }))))
+      (reply (done_of (record item { unique = unique }) number s.time), entered after token key (record item { unique = unique }))))
   numbers_to token item number keeps =
       let shown : ℕ → done.MetaDone = λ u. done_of (record item { unique = u }) number s.time in
       numbers_first s asked token key (λ u. reply (shown u)) item (λ u. may.not_no_cas (shown u)) (λ u. may.told (shown u) (get s.items key)) (λ _. keeps) may.no_cas (λ u. may.replies (shown u))
@@ -290,7 +330,7 @@ module _ (s : State) (asked : Kind) (what : ma.MetaCount) (reply : Reply) (may :
       Follows s asked what.unique (Some what.key) (counts s u.item what reply number)
   counting_present u is None = unchanged s asked what.unique (Some what.key) NonNumeric (λ _ _ e. cc) may.no_number
   counting_present u is (Some number) =
-      let to = counted what.direction number what.amount in
+      let to = new_number what.direction number what.amount in
       numbers_to s asked what.key reply may what.unique (counted_item u.item to what.exptime s.time 0) to (λ had. rw is at had)
 
 -- Each kind
@@ -326,7 +366,7 @@ meta_get_follows s key touch vivify recache false (Some u) is =
     (assumption) (λ h. rw h) refl
 meta_get_follows s key touch vivify recache true (Some u) is =
     let keeps : u.item.sent ≡ true → (seen s u touch recache).item.sent ≡ true = λ h. rw h in
-    follows s kind.MetaGet None (Some key) (MetaHit (hit_of u.item touch recache s.time)) (insert s.items key (seen s u touch recache)) s.uses s.flush s.tally s.evicted
+    follows s kind.MetaGet None (Some key) (MetaHit (hit_of u.item touch recache s.time)) (insert s.items key (seen s u touch recache)) s.turns s.uses s.flush s.tally s.evicted
     (λ _ _ e. cc) refl (record {
       others = λ other differ. inl (get_other s.items key other (seen s u touch recache) (apart key other differ));
       items_are = inserted_are s.items None key (seen s u touch recache) (inl (u, is, assumption));
@@ -344,7 +384,7 @@ stale_follows s asked u =
     let stale : ℕ → Used = λ unique. record u { item = stale_item u.item asked.exptime s.time unique } in
     numbers s kind.MetaDelete asked.unique (Some asked.key) (λ _. Done) (λ unique after. with_items after (insert s.items asked.key (stale unique)))
     (λ _. refl) refl
-    (λ unique. follows s kind.MetaDelete (Some unique) (Some asked.key) Done (insert s.items asked.key (stale unique)) s.uses s.flush s.tally s.evicted
+    (λ unique. follows s kind.MetaDelete (Some unique) (Some asked.key) Done (insert s.items asked.key (stale unique)) s.turns s.uses s.flush s.tally s.evicted
     (λ _ _ e. cc) refl (record {
       others = λ other differ. inl (get_other s.items asked.key other (stale unique) (apart asked.key other differ));
       items_are = inserted_are s.items (Some unique) asked.key (stale unique) (inr refl);
@@ -361,12 +401,12 @@ meta_delete_follows s asked (Some u) = compares s kind.MetaDelete asked.unique (
 
 flush_follows : (s : State) (o : Option ℕ) → Follows s kind.Flush None None (Done, flush_step s o)
 unfolding is_lawful
-flush_follows s None = follows s kind.Flush None None Done nothing s.uses None s.tally s.evicted (λ _ _ e. cc) refl (record {
+flush_follows s None = follows s kind.Flush None None Done nothing [] s.uses None s.tally s.evicted (λ _ _ e. cc) refl (record {
   others = λ other _. inr (get_nothing other, inl refl);
   items_are = λ k u h. absurd (let h' = rw (get_nothing k) at h in cc);
   sent = λ _ k _. inl (get_nothing k);
 })
-flush_follows s (Some second) = follows s kind.Flush None None Done s.items s.uses (Some second) s.tally s.evicted (λ _ _ e. cc) refl (record {
+flush_follows s (Some second) = follows s kind.Flush None None Done s.items s.turns s.uses (Some second) s.tally s.evicted (λ _ _ e. cc) refl (record {
   others = λ _ _. inl refl;
   items_are = λ k u h. inl (itself s.items k u h);
   sent = λ _ k h. inr h;
@@ -374,7 +414,7 @@ flush_follows s (Some second) = follows s kind.Flush None None Done s.items s.us
 
 reset_follows : (s : State) → Follows s kind.ResetStats None None (Reset, record s { tally = no_counts; evicted = 0 })
 unfolding is_lawful
-reset_follows s = follows s kind.ResetStats None None Reset s.items s.uses s.flush no_counts 0 (λ _ _ e. cc) refl (record {
+reset_follows s = follows s kind.ResetStats None None Reset s.items s.turns s.uses s.flush no_counts 0 (λ _ _ e. cc) refl (record {
   others = λ _ _. inl refl;
   items_are = λ k u h. inl (itself s.items k u h);
   sent = λ _ k h. inr h;
@@ -397,6 +437,7 @@ step_follows s (Fetch key touch) = fetch_follows s key touch (get s.items key) r
 step_follows s (Store asked) = storing_follows s kind.Store asked (λ _. Stored) (record { clears = refl; absent = refl; not_stored = refl; exists = refl; large = refl; no_cas = refl; replies = λ _. refl; not_no_cas = λ _ e. cc; told = λ _ _. refl }) (get s.items asked.key) refl
 step_follows s (Count key direction amount) = classic_count_follows s (counting key direction amount) (λ shown. Number shown.number) refl (record { absent = refl; no_number = refl; no_cas = refl; replies = λ _. refl; not_no_cas = λ _ e. cc; told = λ _ _. refl }) (get s.items key) refl
 step_follows s (Delete key) = delete_follows s key (get s.items key)
+step_follows s (Discard key) = delete_follows s key (get s.items key)
 step_follows s (Touch key exptime) = touch_follows s key exptime (get s.items key) refl
 step_follows s (Flush delay) = flush_follows s (coming (expiry_of delay s.time) s.time)
 step_follows s Stats = unchanged s kind.Stats None None (shown.Stats (stats_of s)) (λ _ _ e. cc) refl
@@ -456,8 +497,8 @@ answered_is settled new op answer (inl none) = rw (none.0, none.2) (unchanged se
 answered_is settled new op answer (inr is) = subst (λ o. Follows settled (kind_of op) (token_of op) (key_of op) o) (sym is) (step_follows settled op)
 
 -- counting what was asked changes nothing of that
-noted_follows : (s new : State) (asked : Kind) (token : Option ℕ) (key : Option (List ℕ)) (op : Op) (answer : Answer) → Follows s asked token key (answer, new) → Follows s asked token key (answer, noted_in new op answer)
-noted_follows s new asked token key op answer done = record {
+noted_follows : (s settled new : State) (asked : Kind) (token : Option ℕ) (key : Option (List ℕ)) (op : Op) (answer : Answer) → Follows s asked token key (answer, new) → Follows s asked token key (answer, noted_in settled new op answer)
+noted_follows s settled new asked token key op answer done = record {
   given = done.given;
   taken = done.taken;
   time = done.time;
@@ -472,7 +513,7 @@ step_is : (old new : State) (op : Op) (moment : ℕ) (answer : Answer) → IsSte
 unfolding IsStep
 step_is old new op moment answer step =
     let settled = settle old (key_of op) moment in
-    rw step.2 (noted_follows settled step.0 (kind_of op) (token_of op) (key_of op) op answer (answered_is settled step.0 op answer step.1))
+    rw step.2 (noted_follows settled settled step.0 (kind_of op) (token_of op) (key_of op) op answer (answered_is settled step.0 op answer step.1))
 
 -- An answer is one that its kind of operation may have.
 pub answers_are_lawful : AnswersAreLawful
@@ -490,7 +531,7 @@ pub others_stay : OthersStay
 others_stay old new op moment answer step other differ =
     let settled = settle old (key_of op) moment in
     stays_through (is_due old.flush (max old.time (min moment latest_moment)) ≡ true) (kind_of op ≡ kind.Flush)
-    (IsEvicted settled (key_of op) answer new.items other) old.items settled.items new.items other
+    (IsEvicted settled (key_of op) answer new.items other ⊎ IsReclaimed settled (key_of op) answer other) old.items settled.items new.items other
     ((settle_settles old (key_of op) moment).others other differ) ((step_is old new op moment answer step).others other differ)
 
 given_through : (a b c : ℕ) → b ≡ a → (c ≡ b) ⊎ (c ≡ b + 1) → (c ≡ a) ⊎ (c ≡ a + 1)
@@ -543,8 +584,8 @@ made_wins s key (Some exptime) shown new none is = elim (cases_Bool (nat_lt (nex
   | inl t ↦
       let item = vivified_item exptime s.time (next_unique s) in
       let is' = rw t at is in
-      let after : new ≡ entered (with_given s) key item = ap (λ o. o.1) is' in
-      (rw none, rw (after, fitting_key (insert s.items key (put_at s item)) s.budget key, get_here s.items key (put_at s item)))
+      let after : new ≡ entered (with_given s) None key item = ap (λ o. o.1) is' in
+      (rw none, rw (after, entered_here (with_given s) None key item))
   | inr f ↦ absurd (let is' = rw f at is in let answer : MetaHit shown ≡ NoCas = ap (λ o. o.0) is' in cc)
 ]
 
@@ -601,7 +642,7 @@ pub steps_agree : StepsAgree
 unfolding IsStep
 steps_agree old one other op moment answer second a b had had_too =
     let both = answers_agree (settle old (key_of op) moment) a.0 b.0 op answer second a.1 b.1 had had_too in
-    (ap (λ o. o.0) both, a.2 ∙ ap (λ o. noted_in o.1 op o.0) both ∙ sym b.2)
+    (ap (λ o. o.0) both, a.2 ∙ ap (λ o. noted_in (settle old (key_of op) moment) o.1 op o.0) both ∙ sym b.2)
 
 -- no multiple of the number of shards lies between two places
 same_next : (shards index given other more : ℕ) → index < shards → other < shards → index + 1 + shards * given ≡ other + 1 + shards * more →

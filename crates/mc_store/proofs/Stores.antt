@@ -54,14 +54,14 @@ stored_as held state asked item reply answer new h made closes =
 -- a set whose value is not too large
 pub set_stored : (held : ShardContents) (state : State) (asked : StoreRequest (List ℕ)) (item : Item) (answer : Answer) (new : ShardContents) → Keeps held state → item ≡ fresh_of asked.value asked.flags (expiry_of asked.exptime held.time) →
     is_too_large (without_dead state (Some asked.key)) asked.key asked.value ≡ false →
-    Closes (without_dead state (Some asked.key)) (numbered (without_dead state (Some asked.key)) asked.unique (λ unique after. (Stored, entered after asked.key (record item { unique = unique })))) answer new →
+    Closes (without_dead state (Some asked.key)) (numbered (without_dead state (Some asked.key)) asked.unique (λ unique after. (Stored, entered after asked.unique asked.key (record item { unique = unique })))) answer new →
     Closes (without_dead state (Some asked.key)) (stores (without_dead state (Some asked.key)) asked (λ _. Stored)) answer new
 set_stored held state asked item answer new h made small closes =
     let settled = without_dead state (Some asked.key) in
     let item_of : ℕ → Item = λ unique. record item { unique = unique } in
     let is : is_too_large settled asked.key item.value ≡ false = rw made small in
     stored_as held state asked item (λ _. Stored) answer new h made
-    (along settled (numbered settled asked.unique (λ unique after. (Stored, entered after asked.key (item_of unique)))) (writes settled asked.key asked.unique item.value item_of (λ _. Stored)) answer new
+    (along settled (numbered settled asked.unique (λ unique after. (Stored, entered after asked.unique asked.key (item_of unique)))) (writes settled asked.key asked.unique item.value item_of (λ _. Stored)) answer new
     (writes_is settled asked.key asked.unique item.value item_of (λ _. Stored) is) closes)
 
 -- Under an absent key

@@ -12,7 +12,7 @@ use Rattle.mc_item.specs.Expiry.{is_dead}
 use Rattle.mc_item.specs.declared.answer.Answer.{Answer}
 use Rattle.mc_item.specs.declared.answer.Answer.TheVariants.{NoCas, NoMemory, TooLarge}
 use Rattle.mc_store.specs.Rows.{done_of}
-use Rattle.mc_store.specs.State.{Used, State, with_items, without_dead, item_overhead, cost, evicting, entered, next_unique, with_given}
+use Rattle.mc_store.specs.State.{Used, State, with_items, without_dead, item_overhead, cost, first, evicting, looked, with_turn, entered, next_unique, with_given}
 use Rattle.mc_store.specs.internal.Found.{unique_for, given_after}
 use Rattle.mc_store.specs.Step.{Outcome, Reply, numbered, is_too_large, writes}
 use Rattle.mc_store.specs.Shard.{ShardContents, Keeps}
@@ -74,36 +74,48 @@ write_refused held state key new token outcome h none after =
     (without_dead state (Some key), inr (sym (numbered_none (without_dead state (Some key)) token outcome (unique_there held state key token None h none))), after)
 
 -- to put an item in place of a dead one is to put it where that has gone
-entered_removed : (state : State) (key : List ℕ) (item : Item) → entered (with_items state (remove state.items key)) key item ≡ entered state key item
-entered_removed state key item = ap (λ m. evicting (record state { items = m; uses = state.uses + 1 }) key) (insert-remove state.items key (used (at_now item state.time) (state.uses + 1)))
+entered_removed : (state : State) (token : Option ℕ) (key : List ℕ) (item : Item) → entered (with_items state (remove state.items key)) token key item ≡ entered state token key item
+entered_removed state token key item = ap (λ m. with_turn (looked item.unique (looked item.unique (evicting (record state { items = m; uses = state.uses + 1 }) key))) token key item) (insert-remove state.items key (used (at_now item state.time) (state.uses + 1)))
 
-giving_removed : (state : State) (key : List ℕ) (item : Item) (token : Option ℕ) → entered (giving token (with_items state (remove state.items key))) key item ≡ entered (giving token state) key item
-giving_removed state key item (Some token) = entered_removed state key item
-giving_removed state key item None = entered_removed (with_given state) key item
+giving_removed : (state : State) (key : List ℕ) (item : Item) (token : Option ℕ) → entered (giving token (with_items state (remove state.items key))) token key item ≡ entered (giving token state) token key item
+giving_removed state key item (Some token) = entered_removed state (Some token) key item
+giving_removed state key item None = entered_removed (with_given state) None key item
 
-entered_met : (state : State) (key : List ℕ) (item : Item) (token : Option ℕ) → entered (giving token (without_dead state (Some key))) key item ≡ entered (giving token state) key item
-entered_met state key item token = by_met (λ s. entered (giving token s) key item ≡ entered (giving token state) key item) state key refl (λ _ _. giving_removed state key item token)
+entered_met : (state : State) (key : List ℕ) (item : Item) (token : Option ℕ) → entered (giving token (without_dead state (Some key))) token key item ≡ entered (giving token state) token key item
+entered_met state key item token = by_met (λ s. entered (giving token s) token key item ≡ entered (giving token state) token key item) state key refl (λ _ _. giving_removed state key item token)
 
 giving_keeps : (state : State) (token : Option ℕ) → ((giving token state).time ≡ state.time) × ((giving token state).budget ≡ state.budget)
 giving_keeps state (Some token) = (refl, refl)
 giving_keeps state None = (refl, refl)
 
 -- A write that fits the budget puts its item first with a new unique, and others go for it.
-pub write_done : (held : ShardContents) (state : State) (key : List ℕ) (item : Item) (token : Option ℕ) (unique : ℕ) (reply : ℕ → Answer) → Keeps held state → cost key item.value ≤ held.budget → Some unique ≡ unique_for token (next_of held) →
-    Closes (without_dead state (Some key)) (numbered (without_dead state (Some key)) token (λ number after. (reply number, entered after key (record item { unique = number })))) (reply unique)
-    (record (with_put held key (record item { unique = unique; last_access = held.time })) { given = given_after token held.given })
-write_done held state key item token unique reply h small is =
+pub write_placed : (held : ShardContents) (state : State) (key : List ℕ) (item : Item) (token : Option ℕ) (unique : ℕ) → Keeps held state → cost key item.value ≤ held.budget →
+    Keeps (record (with_put held key (record item { unique = unique; last_access = held.time })) { given = given_after token held.given })
+    (evicting (first (giving token state) key (record item { unique = unique })) key)
+write_placed held state key item token unique h small =
     let new_item : Item = record item { unique = unique } in
     let same_things = giving_keeps state token in
     let time : (giving token state).time ≡ held.time = same_things.0 ∙ h.time in
     let fits : cost key item.value ≤ (giving token state).budget = rw (same_things.1, h.budget) small in
     let placed = put_first (record held { given = given_after token held.given }) (giving token state) key new_item (gives held state token h) fits in
-    let outcome : ℕ → State → Outcome = λ number after. (reply number, entered after key (record item { unique = number })) in
+    subst (λ t. Keeps (record (with_put held key (record item { unique = unique; last_access = t })) { given = given_after token held.given }) (evicting (first (giving token state) key new_item) key)) time placed
+
+-- Once the next turns were looked at, and the item has its own, the write is done.
+pub write_done : (held : ShardContents) (state : State) (key : List ℕ) (item : Item) (token : Option ℕ) (unique : ℕ) (reply : ℕ → Answer) (new : ShardContents) → Keeps held state → Some unique ≡ unique_for token (next_of held) →
+    Keeps new (entered (giving token state) token key (record item { unique = unique })) →
+    Closes (without_dead state (Some key)) (numbered (without_dead state (Some key)) token (λ number after. (reply number, entered after token key (record item { unique = number })))) (reply unique) new
+write_done held state key item token unique reply new h is shown =
+    let new_item : Item = record item { unique = unique } in
+    let outcome : ℕ → State → Outcome = λ number after. (reply number, entered after token key (record item { unique = number })) in
     let there = numbered_some (without_dead state (Some key)) token unique outcome (unique_there held state key token (Some unique) h is) in (
-      entered (giving token state) key new_item,
+      entered (giving token state) token key new_item,
       inr (sym (there ∙ ap (λ s. (reply unique, s)) (entered_met state key new_item token))),
-      subst (λ t. Keeps (record (with_put held key (record item { unique = unique; last_access = t })) { given = given_after token held.given }) (entered (giving token state) key new_item)) time placed,
+      shown,
     )
+
+-- Where memory is refused before anything is put, a dead item under the key has gone, and nothing else.
+pub write_refused_memory : (settled : State) (outcome : Outcome) (new : ShardContents) → Keeps new settled → Closes settled outcome NoMemory new
+write_refused_memory settled outcome new h = (settled, inl (refl, refl), h)
 
 none_of : (o : Option Item) → (IsSome o → ⊥) → o ≡ None
 none_of None h = refl
@@ -140,7 +152,7 @@ pub too_large : (settled : State) (key : List ℕ) (token : Option ℕ) (value :
 too_large settled key token value item_of reply new large h = (settled, inr (rw large), h)
 
 -- an outcome of writing an item, where its value is not too large
-pub writes_is : (settled : State) (key : List ℕ) (token : Option ℕ) (value : List ℕ) (item_of : ℕ → Item) (reply : Reply) → is_too_large settled key value ≡ false → numbered settled token (λ unique after. (reply (done_of (item_of unique) 0 settled.time), entered after key (item_of unique))) ≡ writes settled key token value item_of reply
+pub writes_is : (settled : State) (key : List ℕ) (token : Option ℕ) (value : List ℕ) (item_of : ℕ → Item) (reply : Reply) → is_too_large settled key value ≡ false → numbered settled token (λ unique after. (reply (done_of (item_of unique) 0 settled.time), entered after token key (item_of unique))) ≡ writes settled key token value item_of reply
 writes_is settled key token value item_of reply small = rw small
 
 -- a value that is not too large fits the budget

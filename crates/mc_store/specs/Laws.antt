@@ -1,5 +1,5 @@
 -- What follows from the step, whatever the operations and their moments.
-use Rattle.std.specs.Prelude.{ℕ, ◌≡◌, ◌+◌, ◌<◌, ◌⊎◌, Bool, true, false, max, min, List, Option, Some, None}
+use Rattle.std.specs.Prelude.{ℕ, ◌≡◌, ◌+◌, ◌-◌, ◌<◌, ◌≤◌, ◌⊎◌, Bool, true, false, max, min, List, ◌∷◌, ◌++◌, length, Option, Some, None}
 use Rattle.std.specs.Option.{option_map_or}
 use Rattle.std.specs.FinMap.{get, insert}
 use Rattle.mc_wire.specs.Limits.{latest_moment}
@@ -12,7 +12,7 @@ use Rattle.mc_item.specs.declared.answer.Answer.{Answer}
 use Rattle.mc_item.specs.declared.answer.Answer.TheVariants.{NoCas, NoMemory, Stored, Number, MetaDone, MetaHit}
 use Rattle.mc_item.specs.declared.answer.MetaHit as hit
 use Rattle.mc_item.specs.Kind.{kind_of, key_of, is_lawful}
-use Rattle.mc_store.specs.State.{Used, Items, State, is_due, settle, costs, used_since, next_unique}
+use Rattle.mc_store.specs.State.{Used, Items, Turn, State, is_due, is_dead_at, settle, costs, used_since, entered, next_unique}
 use Rattle.mc_store.specs.Step.{IsStep}
 
 -- An answer is lawful for the kind of its operation.
@@ -48,14 +48,42 @@ pub record IsEvicted (settled : State) (key : Option (List ℕ)) (answer : Answe
   pub stands : get new asked ≡ Some stored
   pub too_much : settled.budget < costs (used_since (insert settled.items asked stored) other)
 
+-- An item was stored under the operation's key, and the item under the other key was dead then.
+pub record IsReclaimed (settled : State) (key : Option (List ℕ)) (answer : Answer) (other : List ℕ) : Type 0 where
+  pub asked : List ℕ
+  pub key_is : key ≡ Some asked
+  pub told : tells_stored answer (get settled.items asked) ≡ true
+  pub dead : is_dead_at settled.time (get settled.items other) ≡ true
+
 -- A pending flush was due, or the operation is a flush.
 abbrev pub IsFlushed : State → Op → ℕ → Type 0
 IsFlushed old op moment = (is_due old.flush (max old.time (min moment latest_moment)) ≡ true) ⊎ (kind_of op ≡ kind.Flush)
 
--- No operation changes an item under another key, but by a flush, or by eviction for the item that it stored.
+-- No operation changes an item under another key, but by a flush, by eviction for the item that it stored, or, where it
+-- stored one, because the other was dead.
 abbrev pub OthersStay : Type 0
 OthersStay = (old new : State) (op : Op) (moment : ℕ) (answer : Answer) → IsStep old op moment answer new → (other : List ℕ) → ¬ (key_of op ≡ Some other) →
-    StaysUnless (IsFlushed old op moment ⊎ IsEvicted (settle old (key_of op) moment) (key_of op) answer new.items other) old.items new.items other
+    StaysUnless
+    (IsFlushed old op moment
+    ⊎ (IsEvicted (settle old (key_of op) moment) (key_of op) answer new.items other
+    ⊎ IsReclaimed (settle old (key_of op) moment) (key_of op) answer other)) old.items new.items other
+
+-- Dead items
+
+-- The turn waits, behind this many others.
+pub record Waits (state : State) (turn : Turn) (ahead : ℕ) : Type 0 where
+  pub before : List Turn
+  pub after : List Turn
+  pub turns : state.turns ≡ before ++ turn ∷ after
+  pub place : length before ≡ ahead
+
+-- Whenever an item enters, a dead one whose turn waits is gone then, or its turn comes two places nearer. So it is gone
+-- once half as many items entered as turns wait ahead of it, and one more. The item that enters has another key and
+-- another unique.
+abbrev pub DeadGo : Type 0
+DeadGo = (state : State) (token : Option ℕ) (key : List ℕ) (item : Item) (turn : Turn) (ahead : ℕ) (used : Used) → get state.items turn.0 ≡ Some used → used.item.unique ≡ turn.1 →
+    is_dead_at state.time (Some used) ≡ true → ¬ (turn.0 ≡ key) → ¬ (turn.1 ≡ item.unique) → Waits state turn ahead →
+    (get (entered state token key item).items turn.0 ≡ None) ⊎ ((2 ≤ ahead) × Waits (entered state token key item) turn (ahead - 2))
 
 -- Uniques
 

@@ -6,7 +6,7 @@ use Rattle.mc_item.specs.declared.op.Op.{Op}
 use Rattle.mc_item.specs.declared.answer.Answer.{Answer}
 use Rattle.mc_item.specs.declared.tally.Tally.{Tally}
 use Rattle.mc_store.specs.declared.shard.Shard.{Shard}
-use Rattle.mc_store.specs.State.{Used, Items, State, costs}
+use Rattle.mc_store.specs.State.{Used, Items, Turn, State, costs}
 use Rattle.mc_store.specs.Step.{IsStep}
 
 -- Each number in the map is below this one.
@@ -19,9 +19,10 @@ Shows [] items = items ≡ empty
 Shows (e ∷ es) items =
     (number : ℕ) × (get items e.0 ≡ Some (record { item = e.1; number = number })) × AllBelow (remove items e.0) number × Shows es (remove items e.0)
 
--- what a shard holds: the list, what it may cost, its numbers, and its counts
+-- what a shard holds: the list, the turns, what the items may cost, its numbers, and its counts
 pub record ShardContents : Type 0 where
   pub entries : List (List ℕ × Item)
+  pub turns : List Turn
   pub budget : ℕ
   pub limit : ℕ
   pub time : ℕ
@@ -35,6 +36,7 @@ pub record ShardContents : Type 0 where
 abbrev pub held_of : Shard → ShardContents
 held_of shard = record {
   entries = shard.items.entries;
+  turns = shard.turns.items;
   budget = shard.items.budget;
   limit = shard.limit;
   time = shard.time;
@@ -51,6 +53,7 @@ pub record Keeps (held : ShardContents) (state : State) : Type 0 where
   pub order : Shows held.entries state.items
   pub below : AllBelow state.items (state.uses + 1)
   pub fits : costs state.items ≤ state.budget
+  pub turns : state.turns ≡ held.turns
   pub budget : state.budget ≡ held.budget
   pub limit : state.limit ≡ held.limit
   pub time : state.time ≡ held.time

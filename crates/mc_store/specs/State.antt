@@ -1,6 +1,6 @@
 -- The state of a shard: a finite map from keys to items, each with the number of its last use. The map has
 -- no order of its own.
-use Rattle.std.specs.Prelude.{ℕ, ◌+◌, ◌-◌, ◌*◌, ◌%◌, ◌^◌, Bool, false, ◌||◌, max, min, nat_le, List, length, Option, Some, None, if◌then◌else◌}
+use Rattle.std.specs.Prelude.{ℕ, ◌+◌, ◌-◌, ◌*◌, ◌%◌, ◌^◌, Bool, true, false, not, ◌||◌, ◌&&◌, ◌==◌, max, min, nat_le, List, [], ◌∷◌, ◌++◌, length, Option, Some, None, is_none, if◌then◌else◌}
 use Rattle.std.specs.Option.{option_map_or}
 use Rattle.std.specs.List.{sum_by}
 use Rattle.std.specs.Ordering.{nat_cmp}
@@ -9,6 +9,8 @@ use Rattle.std.specs.FinMap.{FinMap, empty, get, insert, remove, retain_keys, en
 use Rattle.mc_wire.specs.SameKey.{same_key}
 use Rattle.mc_wire.specs.Limits.{latest_moment}
 use Rattle.mc_item.specs.declared.item.Item.{Item}
+use Rattle.mc_item.specs.declared.item.Expiry.{Expiry}
+use Rattle.mc_item.specs.declared.item.Expiry.TheVariants.{Never, At}
 use Rattle.mc_item.specs.declared.tally.Tally.{Tally}
 use Rattle.mc_item.specs.Expiry.{is_dead}
 use Rattle.mc_item.specs.Tally.{no_counts}
@@ -21,8 +23,14 @@ pub record Used : Type 0 where
 abbrev pub Items : Type 0
 Items = FinMap (slice_cmp nat_cmp) Used
 
+-- an item's turn to be looked at: its key, and the unique that it had when it got the turn
+abbrev pub Turn : Type 0
+Turn = List ℕ × ℕ
+
 pub record State : Type 0 where
   pub items : Items
+  -- the turns that wait, the next one first
+  pub turns : List Turn
   -- how many uses of items there were
   pub uses : ℕ
   -- the greatest moment so far
@@ -43,7 +51,7 @@ pub record State : Type 0 where
   pub evicted : ℕ
 
 abbrev pub empty_state : ℕ → ℕ → ℕ → ℕ → ℕ → State
-empty_state index shards budget given limit = record { items = empty; uses = 0; time = 0; flush = None; given = given; index = index; shards = shards; budget = budget; limit = limit; tally = no_counts; evicted = 0 }
+empty_state index shards budget given limit = record { items = empty; turns = []; uses = 0; time = 0; flush = None; given = given; index = index; shards = shards; budget = budget; limit = limit; tally = no_counts; evicted = 0 }
 
 -- Settling, which comes before every operation (protocol.txt, "flush_all" and "Expiration times")
 
@@ -51,9 +59,9 @@ empty_state index shards budget given limit = record { items = empty; uses = 0; 
 abbrev pub is_due : Option ℕ → ℕ → Bool
 is_due flush time = option_map_or (λ second. nat_le second time) flush false
 
--- No item is left, and no flush is pending.
+-- No item is left, no turn waits, and no flush is pending.
 abbrev pub flushed : State → State
-flushed state = record state { items = empty; flush = None }
+flushed state = record state { items = empty; turns = []; flush = None }
 
 abbrev pub at_time : State → ℕ → State
 at_time state time = if is_due state.flush time then flushed (record state { time = time }) else record state { time = time }
@@ -129,10 +137,64 @@ evicting state key = record state {
   evicted = (state.evicted + (len state.items - len (fitting state.items state.budget key))) % 2 ^ 64;
 }
 
+-- Dead items, which give their room back
+--
+-- An item with an expiry waits for its turn. Whenever an item enters, the next two turns are looked at. Where the turn's
+-- item is dead, both go, and that is no eviction. Where it lives, its turn comes again after all others. Where it was
+-- stored anew or is gone, the turn is dropped.
+--
+-- Say that a, b and c wait in this order, that a was deleted, and that b is dead. When d is stored, the turn of a is
+-- dropped, and b goes: c and d wait. When e is stored, c and d are looked at, and live: c, d and e wait. Had c died by
+-- then, it would go, and d and e would wait.
+
+-- The item that is found is the one that got the turn.
+abbrev pub is_of_turn : Turn → Option Used → Bool
+is_of_turn turn found = option_map_or (λ used. used.item.unique == turn.1) found false
+
+-- The turn's item goes: it is dead, and it isn't the one that enters, which has this unique.
+abbrev pub is_reclaimed : ℕ → ℕ → Items → Turn → Bool
+is_reclaimed entering time items turn =
+    is_of_turn turn (get items turn.0) && (is_dead_at time (get items turn.0) && not (turn.1 == entering))
+
+-- The turn comes again: its item is there, and stays.
+abbrev pub comes_again : ℕ → ℕ → Items → Turn → Bool
+comes_again entering time items turn = is_of_turn turn (get items turn.0) && not (is_reclaimed entering time items turn)
+
+-- the items once the next turn was looked at
+unfoldable pub items_after : ℕ → ℕ → Items → List Turn → Items
+items_after entering time items [] = items
+items_after entering time items (turn ∷ rest) = if is_reclaimed entering time items turn then remove items turn.0 else items
+
+-- the turns that wait then
+unfoldable pub turns_after : ℕ → ℕ → Items → List Turn → List Turn
+turns_after entering time items [] = []
+turns_after entering time items (turn ∷ rest) = if comes_again entering time items turn then rest ++ turn ∷ [] else rest
+
+-- the state once the next turn was looked at, for the item of this unique, which enters
+abbrev pub looked : ℕ → State → State
+looked entering state = record state {
+  items = items_after entering state.time state.items state.turns;
+  turns = turns_after entering state.time state.items state.turns;
+}
+
+-- whether an item with this expiry ever dies
+abbrev pub expires : Expiry → Bool
+expires Never = false
+expires (At second) = true
+
+-- An item that enters waits for its turn, where it has an expiry, and where the shard gave its unique, not a client. So no
+-- two turns are alike, and at most about twice as many wait as there were items.
+abbrev pub waits : Option ℕ → Item → Bool
+waits token item = is_none token && expires item.expiry
+
+abbrev pub with_turn : State → Option ℕ → List ℕ → Item → State
+with_turn state token key item = record state { turns = if waits token item then state.turns ++ (key, item.unique) ∷ [] else state.turns }
+
 -- The item enters, or changes its size, and is the most recently used one; others go where the costs would pass the
--- budget.
-abbrev pub entered : State → List ℕ → Item → State
-entered state key item = evicting (first state key item) key
+-- budget. Then two turns are looked at, and the item gets its own, where no client gave its unique as a token. What the
+-- dead leave is room for the next item.
+abbrev pub entered : State → Option ℕ → List ℕ → Item → State
+entered state token key item = with_turn (looked item.unique (looked item.unique (evicting (first state key item) key))) token key item
 
 -- Uniques
 

@@ -1,6 +1,7 @@
 -- What a shard answers to an operation, and what its state is then. Within one operation the tests stand in this
 -- order: absent or present, the unique, the number, the size, whether a unique is left.
-use Rattle.std.specs.Prelude.{ℕ, ◌≡◌, ◌+◌, ◌-◌, ◌%◌, ◌^◌, Bool, true, false, not, IsTrue, ◌||◌, ℤ, ◌⊎◌, ◌++◌, List, length, Option, Some, None, nat_le, nat_lt, ◌==◌, if◌then◌else◌}
+use Rattle.std.specs.Prelude.{ℕ, ◌≡◌, ◌+◌, ◌-◌, ◌%◌, ◌^◌, Bool, true, false, not, IsTrue, ◌||◌, ◌&&◌, ℤ, ◌⊎◌, ◌++◌, List, length, Option, Some, None, is_none, nat_le, nat_lt, ◌==◌, if◌then◌else◌}
+use Rattle.std.specs.Option.{is_some}
 use Rattle.std.specs.FinMap.{get, insert, remove, len}
 use Rattle.mc_command.specs.declared.command.StoreMode.{StoreMode}
 use Rattle.mc_command.specs.declared.command.StoreMode.TheVariants.{Set, Add, Append, Prepend}
@@ -11,7 +12,7 @@ use Rattle.mc_item.specs.declared.item.Item.{Item}
 use Rattle.mc_item.specs.declared.item.Expiry.{Expiry}
 use Rattle.mc_item.specs.declared.item.Expiry.TheVariants.{Never, At}
 use Rattle.mc_item.specs.declared.op.Op.{Op}
-use Rattle.mc_item.specs.declared.op.Op.TheVariants.{Store, Fetch, Count, Delete, Touch, Flush, MetaGet, MetaStore, MetaDelete, MetaCount}
+use Rattle.mc_item.specs.declared.op.Op.TheVariants.{Store, Fetch, Count, Delete, Discard, Touch, Flush, MetaGet, MetaStore, MetaDelete, MetaCount}
 use Rattle.mc_item.specs.declared.op.Op.TheVariants as op
 use Rattle.mc_command.specs.declared.meta.MetaFetch as mg
 use Rattle.mc_command.specs.declared.meta.MetaRemoval as md
@@ -25,7 +26,7 @@ use Rattle.mc_item.specs.declared.answer.Answer.TheVariants.{Stored, NotStored, 
 use Rattle.mc_item.specs.Expiry.{expiry_of}
 use Rattle.mc_item.specs.Value.{number_in}
 use Rattle.mc_item.specs.Kind.{kind_of, key_of, is_lawful}
-use Rattle.mc_item.specs.Tally.{asked_of, no_counts, noted, status_of}
+use Rattle.mc_item.specs.Tally.{counted_in, counting_of, no_counts, status_of}
 use Rattle.mc_store.specs.State.{Used, State, settle, flushed, with_items, first, cost, costs, entered, next_unique, with_given}
 use Rattle.mc_store.specs.Rows.{fetched_item, touched_item, stored_item, joined_item, counted_item, counter_item, vivified_item, stale_item, shown_item, hit_of, made_hit, done_of}
 
@@ -46,7 +47,7 @@ numbered state None outcome = if nat_lt (next_unique state) (2 ^ 64) then outcom
 -- The item that is made with its unique enters, and the answer tells of it.
 abbrev pub puts : State → List ℕ → Option ℕ → (ℕ → Item) → (Item → Answer) → Outcome
 puts state key given item_of answer_of =
-    numbered state given (λ unique after. (answer_of (item_of unique), entered after key (item_of unique)))
+    numbered state given (λ unique after. (answer_of (item_of unique), entered after given key (item_of unique)))
 
 -- A unique is asked for, and it is not this one.
 abbrev pub is_other : Option ℕ → ℕ → Bool
@@ -126,9 +127,9 @@ abbrev pub counting : List ℕ → Direction → ℕ → ma.MetaCount
 counting key direction amount = record { key = key; compare = None; unique = None; direction = direction; amount = amount; exptime = None; vivify = None }
 
 -- It grows modulo 2^64, and falls to 0 at least.
-abbrev pub counted : Direction → ℕ → ℕ → ℕ
-counted Increment number amount = (number + amount) % 2 ^ 64
-counted Decrement number amount = number - amount
+abbrev pub new_number : Direction → ℕ → ℕ → ℕ
+new_number Increment number amount = (number + amount) % 2 ^ 64
+new_number Decrement number amount = number - amount
 
 -- the item with its new number and a new unique
 abbrev pub changes : State → Item → ma.MetaCount → ℕ → Reply → Outcome
@@ -137,7 +138,7 @@ changes state item asked number reply =
 
 abbrev pub counts : State → Item → ma.MetaCount → Reply → Option ℕ → Outcome
 counts state item asked reply None = (NonNumeric, state)
-counts state item asked reply (Some number) = changes state item asked (counted asked.direction number asked.amount) reply
+counts state item asked reply (Some number) = changes state item asked (new_number asked.direction number asked.amount) reply
 
 -- under an absent key
 abbrev pub absent_count : State → List ℕ → Option ℕ → Reply → Option Vivify → Outcome
@@ -185,9 +186,16 @@ flush_step state (Some second) = record state { flush = Some second }
 abbrev pub stats_of : State → Stats
 stats_of state = record { tally = state.tally; evicted = state.evicted; items = len state.items; bytes = costs state.items; budget = state.budget }
 
--- What was asked is counted, with what came of it.
-abbrev pub noted_in : State → Op → Answer → State
-noted_in state op answer = record state { tally = noted state.tally (asked_of op) (status_of answer) }
+-- the operation makes an item of a miss, by the flag N
+abbrev pub makes : State → Op → Bool
+makes settled (MetaGet asked) = is_some asked.vivify && is_none (get settled.items asked.key)
+makes settled (MetaCount asked) = is_some asked.vivify && is_none (get settled.items asked.key)
+makes settled op = false
+
+-- What was asked of the settled state is counted, with what came of it. The first shard counts for all of them.
+abbrev pub noted_in : State → State → Op → Answer → State
+noted_in settled done op answer =
+    record done { tally = counted_in done.tally (counting_of (settled.index == 0) (makes settled op) op) (status_of answer) }
 
 -- The step
 
@@ -198,6 +206,7 @@ step_of state (Store asked) = store_step state asked (λ done. Stored) (get stat
 step_of state (Count key direction amount) =
     count_step state (counting key direction amount) (λ done. Number done.number) (get state.items key)
 step_of state (Delete key) = delete_step state key (get state.items key)
+step_of state (Discard key) = delete_step state key (get state.items key)
 step_of state (Touch key exptime) = touch_step state key exptime (get state.items key)
 step_of state (Flush delay) = (Done, flush_step state (coming (expiry_of delay state.time) state.time))
 step_of state op.Stats = (answer.Stats (stats_of state), state)
@@ -215,4 +224,5 @@ Answers settled op answer new =
 
 -- one step of a shard: the state, the operation, its moment, the answer, and the state after it, in which it is counted
 unfoldable pub IsStep : State → Op → ℕ → Answer → State → Type 0
-IsStep old op moment answer new = (done : State) × Answers (settle old (key_of op) moment) op answer done × (new ≡ noted_in done op answer)
+IsStep old op moment answer new =
+    (done : State) × Answers (settle old (key_of op) moment) op answer done × (new ≡ noted_in (settle old (key_of op) moment) done op answer)

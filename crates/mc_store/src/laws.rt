@@ -1,6 +1,6 @@
 //! The laws of the step, for whoever reasons about runs of one shard or of several.
 ghost use Rattle.std.specs.Prelude.{◌≡◌};
-ghost use Rattle.mc_store.specs.Laws.{AnswersAreLawful, StepsAgree, OthersStay, UniquesRise, UniquesDiffer, UniquesTell, TokensAreTaken, TimeRises, WinnersAreFirst, SentStays};
+ghost use Rattle.mc_store.specs.Laws.{AnswersAreLawful, StepsAgree, OthersStay, DeadGo, UniquesRise, UniquesDiffer, UniquesTell, TokensAreTaken, TimeRises, WinnersAreFirst, SentStays};
 ghost use Rattle.mc_store.specs.State.{item_overhead};
 ghost use Rattle.mc_store.specs.RunLaws.{RunsAreOrderly, RunsShareNoUnique, RunsLeaveOthers, NewIsGiven, SameUniqueSameItem, ToldAlone};
 
@@ -11,6 +11,7 @@ pub fn every_step()
     ensures lawful { AnswersAreLawful }
     ensures determined { StepsAgree }
     ensures others { OthersStay }
+    ensures dead_go { DeadGo }
     ensures uniques_rise { UniquesRise }
     ensures uniques_differ { UniquesDiffer }
     ensures uniques_tell { UniquesTell }

@@ -1,13 +1,14 @@
 //! The shard: what it holds, how its time moves, and which kind of operation goes where.
 ghost use Rattle.std.specs.FinMap;
-ghost use Rattle.std.specs.Prelude.{◌≡◌, ◌+◌, ◌*◌, ◌^◌, ◌<◌, ◌≤◌, ◌⊎◌, ◌||◌, ℕ, length, nat_lt, true, false, IfOk, IfErr, None};
+ghost use Rattle.std.specs.FinMap.{get};
+ghost use Rattle.std.specs.Prelude.{◌≡◌, ◌+◌, ◌*◌, ◌^◌, ◌<◌, ◌≤◌, ◌⊎◌, ◌||◌, ◌&&◌, ℕ, length, nat_lt, true, false, IfOk, IfErr, None, Some, is_none};
 ghost use Rattle.std.specs.Option.{option_copied, IsSome};
 ghost use Rattle.std.specs.Map.{lookup};
 ghost use Rattle.mc_wire.specs.SameKey.{same_key};
 ghost use Rattle.mc_wire.specs.declared.TheConstants.{GREATEST_VALUE_LIMIT, LATEST_MOMENT};
 ghost use Rattle.mc_item.specs.declared.answer.Answer.{Answer as TheAnswer};
 ghost use Rattle.mc_item.specs.declared.answer.MetaDone.{MetaDone as TheDone};
-ghost use Rattle.mc_item.specs.Kind.{kind_of, is_lawful};
+ghost use Rattle.mc_item.specs.Kind.{kind_of, key_of, is_lawful};
 ghost use Rattle.mc_store.specs.internal.Found.{live, unique_for, given_after};
 ghost use Rattle.mc_store.specs.internal.Listed.{FitsBudget};
 ghost use Rattle.mc_store.specs.Rows.{expiry_from, done_of};
@@ -15,16 +16,19 @@ ghost use Rattle.mc_store.specs.Rows.{expiry_from, done_of};
 mod counting;
 mod deleting;
 mod reading;
+mod reclaiming;
 mod running;
 mod stats;
 mod storing;
 
 use crate::access;
 use crate::items::{Items, cost_of};
-use mc_item::{Answer, CountedAs, Item, MetaDone, Op, PackedExpiry, Status, Tally, Value};
+use crate::shard::reclaiming::make_turn;
+use mc_item::{Answer, Counting, Item, MetaDone, Op, PackedExpiry, Status, Tally, Value};
 use mc_sizes::{GREATEST_BUDGET, LEAST_BUDGET};
 use mc_wire::{GREATEST_VALUE_LIMIT, Key, LATEST_MOMENT};
 use std::alloc::{AllocError, Global};
+use std::collections::VecDeque;
 use std::hash::RandomState;
 use std::random::RandomSource;
 use thiserror::Error;
@@ -49,6 +53,8 @@ impl From<AllocError> for StoreFault {
 /// One shard: items by key, in the order of their last use.
 pub struct Shard {
     items: Items,
+    /// The turns of items with an expiry, the next one first: the key of each, and the unique that its item had then.
+    turns: VecDeque<(Key, u64)>,
     /// A value has at most this many bytes.
     limit: usize,
     /// The greatest moment so far.
@@ -71,6 +77,7 @@ impl Drop for Shard {
     fn drop(self) {
         let Shard {
             items: _items,
+            turns: _turns,
             limit: _limit,
             time: _time,
             flush: _flush,
@@ -84,9 +91,9 @@ impl Drop for Shard {
 
 impl Shard {
     ghost use Rattle.mc_store.specs.State.{State, empty_state, arrived, is_due, flushed, without_dead, item_overhead, costs, entered};
-    ghost use Rattle.mc_store.specs.Step.{numbered};
+    ghost use Rattle.mc_store.specs.Step.{makes, numbered};
     ghost use Rattle.mc_store.specs.Shard.{IsShard, Steps, held_of};
-    ghost use Rattle.mc_store.specs.internal.Parts.{Does, Handles, answered};
+    ghost use Rattle.mc_store.specs.internal.Parts.{Acts, Does, answered};
 
     /// An empty shard: the one at `index` of `shards` shards. Its items may cost `budget` bytes together, its
     /// values have at most `limit` bytes each, and `given` uniques were given before. It takes no room for its items
@@ -110,6 +117,7 @@ impl Shard {
         let items = Items::new(alloc, hasher, budget)?;
         Ok(Shard {
             items,
+            turns: VecDeque::new(alloc),
             limit,
             time: 0,
             flush: None,
@@ -147,20 +155,49 @@ impl Shard {
         ensures step { Steps self.old op moment result self.new }
         ensures lawful { is_lawful (kind_of op) result ≡ true }
     {
-        let asked = CountedAs::of(&op);
-        let answer = self.answer(alloc, op, moment);
-        self.tally.note(asked, Status::of(&answer));
+        self.arrive(moment);
+        let counting = Counting::of(&op, self.index == 0, self.makes(&op));
+        let answer = self.answer(alloc, op);
+        self.tally.count_in(counting, Status::of(&answer));
         answer
     }
 
-    /// The same, without counting it.
+    /// Whether the operation is to make an item of a miss.
+    #[inline(always)]
+    #[tactic(auto, unfolding(mc_item::specs::Kind::key_of))]
+    fn makes(&self, op: &Op) -> bool
+        ensures { (state : State) → IsShard self.now state →
+            result ≡ makes (without_dead state (key_of op.now)) op.now }
+    {
+        match op {
+            Op::MetaGet(asked) => self.fills(asked.vivify.is_some(), &asked.key),
+            Op::MetaCount(asked) => self.fills(asked.vivify.is_some(), &asked.key),
+            _ => false,
+        }
+    }
+
+    /// Whether a miss is to be filled, and no item that lives stands under the key.
+    fn fills(&self, asked: bool, key: &Key) -> bool
+        ensures { (state : State) → IsShard self.now state →
+            result ≡
+            (asked && is_none (get (without_dead state (Some key.now)).items key.now)) }
+    {
+        if !asked {
+            return false;
+        }
+        match self.find(key) {
+            Some(_) => false,
+            None => true,
+        }
+    }
+
+    /// Does what it is asked, at its own time, without counting it.
     #[inline(always)]
     #[tactic(auto, unfolding(mc_item::specs::Kind::is_lawful, mc_item::specs::Kind::kind_of))]
-    fn answer(&mut self, alloc: Global, op: Op, moment: u64) -> Answer
-        ensures handles { Handles self.old op moment result self.new }
+    fn answer(&mut self, alloc: Global, op: Op) -> Answer
+        ensures acts { Acts self.old op result self.new }
         ensures lawful { is_lawful (kind_of op) result ≡ true }
     {
-        self.arrive(moment);
         match op {
             Op::Store(asked) => self.store_classic(alloc, asked),
             Op::Fetch { key, touch } => self.fetch(&key, touch),
@@ -170,6 +207,7 @@ impl Shard {
                 amount,
             } => self.count_classic(alloc, key, direction, amount),
             Op::Delete { key } => self.delete(&key),
+            Op::Discard { key } => self.delete(&key),
             Op::Touch { key, exptime } => self.touch(&key, exptime),
             Op::Flush { delay } => self.flush_at(delay),
             Op::Stats => self.stats(alloc),
@@ -238,11 +276,12 @@ impl Shard {
         }
     }
 
-    /// Removes all items, and a pending flush.
+    /// Removes all items, their turns, and a pending flush.
     fn remove_all(&mut self)
         ensures { (state : State) → IsShard self.old state → IsShard self.new (flushed state) }
     {
         self.items.clear();
+        self.turns.clear();
         self.flush = None;
     }
 
@@ -288,8 +327,9 @@ impl Shard {
     /// Counts a unique that the shard gave.
     fn count_given(&mut self, token: Option<u64>)
         requires { token ≡ None → self.old.given + 1 < 2 ^ 64 }
-        ensures { held_of self.new ≡
+        ensures held { held_of self.new ≡
             record (held_of self.old) { given = given_after token self.old.given } }
+        ensures turns { self.new.turns ≡ self.old.turns }
     {
         if token.is_none() {
             self.given += 1;
@@ -314,13 +354,14 @@ impl Shard {
         access::expiry_from(exptime, old, self.time)
     }
 
-    /// Puts the item under the key as the most recently used one, with a new unique, which it answers.
+    /// Puts the item under the key as the most recently used one, with a new unique, which it answers. Then two turns are
+    /// looked at, and the item gets its own. Where memory is refused, for the item or for its turn, nothing changes.
     fn write(&mut self, key: Key, mut item: Item, token: Option<u64>) -> Result<u64, Answer>
         requires fits { FitsBudget self.old.items.budget key item.value }
         ensures does { (reply : ℕ → TheAnswer) →
             Does self.old key (λ settled.
             numbered settled token (λ unique after.
-            (reply unique, entered after key (record item { unique = unique }))))
+            (reply unique, entered after token key (record item { unique = unique }))))
             (answered reply result) self.new }
         ensures refused { IfErr result
             (λ answer. (answer ≡ Answer.NoCas) ⊎ (answer ≡ Answer.NoMemory)) }
@@ -329,12 +370,17 @@ impl Shard {
             self.remove_dead(&key);
             return Err(Answer::NoCas);
         };
+        let Ok(turn) = make_turn(&mut self.turns, token, &key, item.expiry) else {
+            self.remove_dead(&key);
+            return Err(Answer::NoMemory);
+        };
         item.unique = unique;
         item.last_access = self.time;
         let Ok(()) = self.items.put(key, item) else {
             return Err(Answer::NoMemory);
         };
         self.count_given(token);
+        self.take_turns(turn, unique);
         Ok(unique)
     }
 
@@ -352,7 +398,7 @@ impl Shard {
             numbered settled token (λ unique after. (
               reply (done_of (record item { unique = unique }) number settled.time),
               entered
-                  after key (record item { unique = unique }),
+                  after token key (record item { unique = unique }),
             ))) (answered reply result)
             self.new }
         ensures refused { IfErr result

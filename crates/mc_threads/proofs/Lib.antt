@@ -1,7 +1,9 @@
 pub mod Fresh
 pub mod Orders
 pub mod Calling
+pub mod Credit
 pub mod Carrying
 pub mod Ending
 pub mod Serving
 pub mod Sessions
+mod RowsCredit

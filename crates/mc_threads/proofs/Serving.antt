@@ -31,6 +31,7 @@ use Rattle.mc_threads.specs.Service.{IsServedBy, LineSays}
 use Rattle.mc_threads.specs.Serving.{IsIdle}
 use Rattle.mc_threads.specs.internal.Carrying.{AllOutWhere, Carries, CourierGoesOn, KeepsReceived, carried, sent_to}
 use Rattle.mc_threads.proofs.Carrying.{some_shards}
+use Rattle.mc_threads.proofs.Credit.{credit_by_counts}
 use Rattle.mc_command.specs.declared.rules.Rules.{Rules}
 use Rattle.mc_ring.proofs.Lists.{all_at, get_below}
 
@@ -85,6 +86,7 @@ serves_on shards rules may_answer begin now before courier told received service
       rules_are = rules_are;
       carries = subst P (sym on.taken_is) (carries_on before courier.ends courier.under_way.items told received on.fed on.ended on.handed on.more within carries);
       stopped = on.stopped;
+      credit = credit_by_counts courier.places before courier.ends courier.under_way.items told received courier.in_credit carries;
     }
 
 -- What is new, at lanes where nothing is under way, serves a line that begins, once commands of it were taken.
@@ -94,7 +96,7 @@ serves_first may_answer line rules window courier service after idle new takes =
     let shards = length courier.ends.lanes in
     let told : Told = told_nothing shards rules window in
     serves_on shards rules may_answer line line courier.ends courier told (λ s. []) after refl refl (omega arith)
-    (carries_first courier.ends courier.under_way.items rules window courier.each_shard idle) (takes (λ s. []) line line told (serving_first may_answer line shards rules window service new))
+    (carries_first courier.ends courier.under_way.items rules window courier.each_shard idle) (takes (λ s. []) line line told (serving_first may_answer line shards rules window service new)).on
 
 -- Pieces and replies were carried: the line is served as before.
 pub serves_carried : (says : Told → ℕ → Type 0) (shards : ℕ) (rules : Rules) (may_answer : ℕ → Type 0) (begin now : Sight) (before : Ends Near) (courier courier' : Courier) (service : Service) (conn : Conn) → CourierGoesOn says courier service.conn courier' conn → IsServedBy shards rules may_answer begin now before courier service
@@ -109,6 +111,7 @@ serves_carried says shards rules may_answer begin now before courier courier' se
       rules_are = serves.rules_are;
       carries = on.carries;
       stopped = stops_carried serves.received on.later may_answer begin now told service conn on.out on.lent on.accepted (keys_kept told.shards told.taken serves.received on.later on.kept) on.conn_is on.handed serves.stopped;
+      credit = credit_by_counts courier'.places before courier'.ends courier'.under_way.items (carried told on.out on.lent on.accepted) on.later courier'.in_credit on.carries;
     }
 
 -- all pieces of the commands taken were sent, and as many replies received

@@ -17,6 +17,10 @@ use Rattle.mc_command.specs.declared.rules.Rules.{Rules}
 abbrev pub seat_ends : Session → Ends Near
 seat_ends session = session.courier.ends
 
+-- how many places each of its rings has
+abbrev pub seat_ring : Session → ℕ
+seat_ring session = session.courier.places
+
 -- The room for a line is as new, or is made for this number of shards, for these rules and with this window.
 abbrev pub IsReady : ℕ → Rules → ℕ → Session → Option Service → Type 0
 IsReady shards rules window session None = (session.sizes.shards ≡ shards) × (rules_of session.sizes ≡ rules) × (session.sizes.window ≡ window)

@@ -1,8 +1,9 @@
 //! Carries the pieces of a connection to the shards, and their replies back.
 ghost use Rattle.mc_command.specs.declared.rules.Rules.{Rules};
-ghost use Rattle.std.specs.Prelude.{◌≡◌, ◌<◌, ◌==◌, ℕ, [], false, true, IfOk, IsTrue, length};
+ghost use Rattle.std.specs.Prelude.{◌≡◌, ◌<◌, ◌==◌, ◌⊎◌, ℕ, [], false, true, IfOk, IsTrue, length};
 ghost use Rattle.std.specs.Bool.{OnFalse, OnTrue};
 ghost use Rattle.std.specs.List.{list_all};
+ghost use Rattle.mc_threads.specs.Credit.{AreWithin};
 ghost use Rattle.mc_threads.specs.Serving.{AreCalled};
 
 use mc_conn::Conn;
@@ -17,8 +18,8 @@ pub struct Courier {
     pub(crate) ends: SeatEnds,
     /// How many pieces were sent to each shard whose replies were not received yet.
     under_way: Vec<usize>,
-    /// The most pieces that are under way on a lane: as many as its ring of replies has places. So a shard never finds that
-    /// ring full.
+    /// How many places each ring has. No more pieces are under way on a lane, so that a shard never finds its ring of replies
+    /// full.
     places: usize,
     /// A piece could not be sent yet.
     blocked: bool,
@@ -27,6 +28,8 @@ pub struct Courier {
     shards: Caller,
     ghost each_shard: { length under_way.items ≡ length ends.lanes },
     ghost all_called: { uncalled ≡ false → AreCalled shards under_way.items },
+    // Between any two sends and receives.
+    ghost in_credit: { AreWithin places under_way.items },
 }
 
 impl Courier {
@@ -34,7 +37,8 @@ impl Courier {
     ghost use Rattle.mc_ring.specs.Lane.{Near};
     ghost use Rattle.mc_ring.specs.Ends.{Ends};
     ghost use Rattle.mc_threads.specs.Ending.{EndsOne, StandsStill};
-    ghost use Rattle.mc_threads.specs.Service.{IsServedBy, LineSays, ServesSomeLine};
+    ghost use Rattle.mc_seat.specs.Service.{WaitsForLine};
+    ghost use Rattle.mc_threads.specs.Service.{AwaitsShards, IsServedBy, LineSays, ServesSomeLine};
     ghost use Rattle.mc_threads.specs.Serving.{IsIdle};
     ghost use Rattle.mc_threads.specs.internal.Carrying.{AllOutWhere, AnyOut, CanCarry, CourierGoesOn, NoneOut};
 
@@ -47,6 +51,7 @@ impl Courier {
     ) -> Result<Courier, AllocError>
         ensures ends { IfOk result (λ courier. courier.ends ≡ ends) }
         ensures idle { IfOk result (λ courier. IsIdle courier.under_way.items) }
+        ensures places { IfOk result (λ courier. courier.places ≡ places) }
     {
         let under_way = vec![in alloc; 0; ends.shards()]?;
         let shards = Caller::new(shards, ends.number());
@@ -58,17 +63,6 @@ impl Courier {
             uncalled: false,
             shards,
         })
-    }
-
-    /// Whether every piece was sent, and its reply received.
-    pub(crate) fn is_settled(&self) -> bool
-        ensures sent { IsTrue result → self.now.blocked ≡ false }
-        ensures idle { IsTrue result → IsIdle self.now.under_way.items }
-    {
-        if self.blocked {
-            return false;
-        }
-        self.is_idle()
     }
 
     /// Whether no reply is awaited.
@@ -85,6 +79,7 @@ impl Courier {
         ensures goes { CourierGoesOn (AllOutWhere ((result ≡ false) × (self.new.blocked ≡ false)))
             self.old conn.old self.new conn.new }
         ensures called { self.new.uncalled ≡ false }
+        ensures places { self.new.places ≡ self.old.places }
     {
         if self.send_all(conn) {
             self.receive_all(conn);
@@ -99,6 +94,7 @@ impl Courier {
         ensures goes { CourierGoesOn (AllOutWhere ((result ≡ false) × (self.new.blocked ≡ false)))
             self.old conn.old self.new conn.new }
         ensures called { self.new.uncalled ≡ false }
+        ensures places { self.new.places ≡ self.old.places }
     {
         if !self.send_next(conn) {
             self.call_shards();
@@ -112,7 +108,8 @@ impl Courier {
     /// Sends pieces while there is room.
     fn send_more(&mut self, conn: &mut Conn)
         requires { CanCarry self.old conn.old }
-        ensures { CourierGoesOn AnyOut self.old conn.old self.new conn.new }
+        ensures goes { CourierGoesOn AnyOut self.old conn.old self.new conn.new }
+        ensures places { self.new.places ≡ self.old.places }
     {
         for _ in 0..u64::MAX {
             if !self.send_next(conn) {
@@ -129,6 +126,7 @@ impl Courier {
             self.old conn.old self.new conn.new }
         // No shard was called since.
         ensures noted { IsTrue result → self.new.shards ≡ [] }
+        ensures places { self.new.places ≡ self.old.places }
     {
         self.blocked = false;
         let Some((shard, piece)) = conn.next_piece() else {
@@ -163,6 +161,7 @@ impl Courier {
         ensures ends { self.new.ends ≡ self.old.ends }
         ensures under_way { self.new.under_way ≡ self.old.under_way }
         ensures blocked { self.new.blocked ≡ self.old.blocked }
+        ensures places { self.new.places ≡ self.old.places }
     {
         if !self.uncalled {
             return;
@@ -181,6 +180,7 @@ impl Courier {
         ensures goes { CourierGoesOn NoneOut self.old conn.old self.new conn.new }
         ensures blocked { self.new.blocked ≡ self.old.blocked }
         ensures called { self.new.uncalled ≡ self.old.uncalled }
+        ensures places { self.new.places ≡ self.old.places }
     {
         let mut received = false;
         for shard in 0..self.under_way.len() {
@@ -199,6 +199,7 @@ impl Courier {
         ensures blocked { self.new.blocked ≡ self.old.blocked }
         ensures called { self.new.uncalled ≡ self.old.uncalled }
         ensures same { length self.new.under_way.items ≡ length self.old.under_way.items }
+        ensures places { self.new.places ≡ self.old.places }
     {
         let mut received = false;
         for _ in 0..self.under_way[shard] {
@@ -218,6 +219,7 @@ impl Courier {
         ensures blocked { self.new.blocked ≡ self.old.blocked }
         ensures called { self.new.uncalled ≡ self.old.uncalled }
         ensures same { length self.new.under_way.items ≡ length self.old.under_way.items }
+        ensures places { self.new.places ≡ self.old.places }
     {
         let Some(left) = self.under_way[shard].checked_sub(1) else {
             return false;
@@ -249,12 +251,20 @@ impl Courier {
         // Where it waits, each shard of which replies are awaited was called after the last piece was sent.
         ensures called { result ≡ LineStep.Waits →
             AreCalled self.new.shards self.new.under_way.items }
+        // It waits for nothing but replies of shards, and once all have come for its line.
+        ensures waits { result ≡ LineStep.Waits →
+            AwaitsShards self.new ⊎ WaitsForLine service.new }
+        ensures places { self.new.places ≡ self.old.places }
     {
         if self.carry(&mut service.conn) {
             return LineStep::Did;
         }
-        if !self.is_settled() {
+        if !self.is_idle() {
             return LineStep::Waits;
+        }
+        if self.blocked {
+            // No reply would end this wait.
+            return LineStep::Did;
         }
         service.go_on(line, clock, rooms)
     }
@@ -272,6 +282,7 @@ impl Courier {
         requires { shard < length self.old.ends.lanes }
         ensures ended { OnTrue result (EndsOne shard self.old.ends self.new.ends) }
         ensures full { OnFalse result (StandsStill self.old.ends self.new.ends) }
+        ensures places { self.new.places ≡ self.old.places }
     {
         match self.ends.send(shard, Parcel::End) {
             Ok(()) => {

@@ -1,6 +1,6 @@
 //! A seat serves lines step by step, one after another.
 ghost use Rattle.mc_command.specs.declared.rules.Rules.{Rules};
-ghost use Rattle.std.specs.Prelude.{◌≡◌, ◌<◌, ◌↔◌, ℕ, Some, IfOk, IsTrue, OnErr, OnOk, length};
+ghost use Rattle.std.specs.Prelude.{◌≡◌, ◌<◌, ◌↔◌, ◌⊎◌, ℕ, Some, IfOk, IsSomeAnd, IsTrue, OnErr, OnOk, length};
 ghost use Rattle.std.specs.Bool.{OnFalse, OnTrue};
 ghost use Rattle.mc_sizes.specs.Sizes.{SuitLines, rules_of};
 
@@ -21,6 +21,7 @@ pub struct Session {
     /// What lines are served by, once the first has come.
     service: Option<Service>,
     ghost suited: { SuitLines sizes },
+    ghost ring: { courier.places ≡ sizes.ring },
 }
 
 impl Drop for Session {
@@ -42,10 +43,11 @@ impl Session {
     ghost use Rattle.mc_conn.specs.Conn.{IsConn};
     ghost use Rattle.mc_conn.specs.Told.{Told, IsAtRest, IsOver};
     ghost use Rattle.mc_seat.specs.declared.service.Service.{Service};
-    ghost use Rattle.mc_seat.specs.Service.{IsNew};
+    ghost use Rattle.mc_seat.specs.Service.{IsNew, WaitsForLine};
+    ghost use Rattle.mc_threads.specs.Service.{AwaitsShards};
     ghost use Rattle.mc_threads.specs.Ending.{EndsOne, StandsStill};
     ghost use Rattle.mc_threads.specs.Serving.{AreCalled, IsIdle};
-    ghost use Rattle.mc_threads.specs.Session.{IsServingLine, IsVacant, MayStep, StepSays, seat_ends};
+    ghost use Rattle.mc_threads.specs.Session.{IsServingLine, IsVacant, MayStep, StepSays, seat_ends, seat_ring};
 
     /// A seat that serves no line yet, over new ends of its lanes. The wakers are those of the shards.
     pub fn new(
@@ -59,6 +61,7 @@ impl Session {
         ensures vacant { IfOk result
             (λ session. IsVacant (rules_of sizes) sizes.window session) }
         ensures ends { IfOk result (λ session. seat_ends session ≡ ends) }
+        ensures ring { IfOk result (λ session. seat_ring session ≡ sizes.ring) }
     {
         let courier = Courier::new(alloc, ends, shards, sizes.ring)?;
         Ok(Session {
@@ -77,6 +80,7 @@ impl Session {
             (K.may_answer clock.now) line line (seat_ends self.old) self.new) }
         ensures refused { OnErr result (self.new ≡ self.old) }
         ensures ends { seat_ends self.new ≡ seat_ends self.old }
+        ensures ring { seat_ring self.new ≡ seat_ring self.old }
     {
         let mut service = self.take_service()?;
         service.take_all(clock);
@@ -98,7 +102,8 @@ impl Session {
         }
     }
 
-    /// Serves the line a step further, as [`Courier::step`] does.
+    /// Serves the line a step further, as [`Courier::step`] does. At each moment at most `sizes.ring` of its pieces are under way
+    /// to each shard.
     pub fn step<L: Line, K: Clock>(
         &mut self,
         line: &mut L,
@@ -114,6 +119,11 @@ impl Session {
         // Where it waits, each shard of which replies are awaited was called after the last piece was sent.
         ensures called { result ≡ LineStep.Waits →
             AreCalled self.new.courier.shards self.new.courier.under_way.items }
+        // It waits for nothing but replies of shards, and once all have come for its line.
+        ensures waits { result ≡ LineStep.Waits →
+            IsSomeAnd self.new.service (λ service.
+            AwaitsShards self.new.courier ⊎ WaitsForLine service) }
+        ensures ring { seat_ring self.new ≡ seat_ring self.old }
     {
         let Some(service) = &mut self.service else {
             unreachable!()
@@ -131,6 +141,7 @@ impl Session {
             told.shards ≡ length (seat_ends self.old).lanes →
             IsIdle self.old.courier.under_way.items → IsVacant told.rules told.window self.new }
         ensures ends { seat_ends self.new ≡ seat_ends self.old }
+        ensures ring { seat_ring self.new ≡ seat_ring self.old }
     {
         let Some(service) = &mut self.service else {
             return true;
@@ -150,6 +161,7 @@ impl Session {
         requires { shard < length (seat_ends self.old).lanes }
         ensures ended { OnTrue result (EndsOne shard (seat_ends self.old) (seat_ends self.new)) }
         ensures full { OnFalse result (StandsStill (seat_ends self.old) (seat_ends self.new)) }
+        ensures ring { seat_ring self.new ≡ seat_ring self.old }
     {
         self.courier.end_lane(shard)
     }

@@ -1,14 +1,17 @@
 //! A worker, and which of its seats it has to serve.
-ghost use Rattle.std.specs.Prelude.{◌≡◌, ◌<◌, ◌≤◌, Some, IfOk, length};
+ghost use Rattle.std.specs.Prelude.{◌≡◌, ◌≢◌, ◌<◌, ◌%◌, ◌⊎◌, ℕ, Some, true, IfOk, length};
 ghost use Rattle.std.specs.Bool.{OnTrue};
+ghost use Rattle.std.specs.Int.{bit_at};
 ghost use Rattle.std.specs.List.{slice_get};
 ghost use Rattle.mc_ring.specs.Ends.{AreSameEnds};
 ghost use Rattle.mc_ring.specs.Made.{IsLane, LooksAtBoth};
 ghost use Rattle.mc_worker.specs.Desk.{Desk, Goes};
+ghost use Rattle.mc_worker.specs.Serves.{ServesSeat};
+ghost use Rattle.mc_worker.specs.Turns.{FindsNothing};
 ghost use Rattle.mc_threads.specs.Working.{Finishes};
 
 use mc_ring::SeatEnds;
-use mc_wake::Wakers;
+use mc_wake::{Marked, Wakers};
 use mc_worker::{Gate, Worker};
 use std::alloc::{AllocError, Global};
 use std::sync::Arc;
@@ -16,21 +19,20 @@ use std::sync::Arc;
 /// Seats a block, each with a bit of a word.
 const BLOCK: usize = 64;
 
-/// A worker, with all that its turns need. It serves the seats in blocks of 64, and passes over the blocks in which no seat has
-/// anything for it.
+/// A worker, with all that its turns need. It serves the seats in blocks of 64, and in a block those alone that called, or whose
+/// lanes may hold more.
 pub struct Working<G> {
     pub worker: Worker,
     gate: Arc<G, Global>,
     seats: Wakers,
-    /// Per seat: its lane may hold more pieces.
-    waiting: Vec<bool>,
-    /// Per block: the lane of one of its seats may hold more pieces.
-    blocks: Vec<bool>,
+    /// Per block a word, which has a bit for each seat whose lane may hold more pieces, the lowest for the first.
+    waiting: Vec<u64>,
     /// Per seat: a reply was given to it since it was last roused.
     given: Vec<bool>,
     alloc: Global,
     ghost each_seat: { length given.items ≡ length worker.ends.lanes },
-    ghost each_lane: { length waiting.items ≡ length worker.ends.lanes },
+    // Between two turns none is left to be roused.
+    ghost none_left: { (seat : ℕ) → slice_get given.items seat ≢ Some true },
 }
 
 impl<G: Drop> Drop for Working<G> {
@@ -41,7 +43,6 @@ impl<G: Drop> Drop for Working<G> {
             gate: _gate,
             seats: _seats,
             waiting: _waiting,
-            blocks: _blocks,
             given: _given,
             alloc: _alloc,
         } = self;
@@ -59,15 +60,13 @@ impl<G: Gate + Drop> Working<G> {
         ensures { IfOk result (λ working. working.worker ≡ worker) }
     {
         let count = worker.seats();
-        let waiting = vec![in alloc; false; count]?;
-        let blocks = vec![in alloc; false; count.div_ceil(BLOCK)]?;
+        let waiting = vec![in alloc; 0u64; count.div_ceil(BLOCK)]?;
         let given = vec![in alloc; false; count]?;
         Ok(Working {
             worker,
             gate,
             seats,
             waiting,
-            blocks,
             given,
             alloc,
         })
@@ -95,67 +94,55 @@ impl<G: Gate + Drop> Working<G> {
     fn serve_block(&mut self, block: usize, called: u64) -> bool
         ensures { Goes self.old.worker self.new.worker }
     {
-        let Some(waiting) = self.blocks.get(block) else {
+        let Some(waiting) = self.waiting.get(block) else {
             return false;
         };
-        if called == 0 && !*waiting {
+        let due = called | *waiting;
+        if due == 0 {
             return false;
         }
-        let first = block.saturating_mul(BLOCK);
-        let last = first.saturating_add(BLOCK).min(self.waiting.len());
-        let busy = self.serve_seats(first, last, called);
-        if let Some(waiting) = self.blocks.get_mut(block) {
-            *waiting = busy;
+        let more = self.serve_due(block, due);
+        if let Some(waiting) = self.waiting.get_mut(block) {
+            *waiting = more;
         }
-        busy
+        more != 0
     }
 
-    /// The same, of the seats from the first on to before the last.
-    fn serve_seats(&mut self, first: usize, last: usize, called: u64) -> bool
-        requires { last ≤ length self.old.waiting.items }
+    /// Serves the seats of a block that are marked in a word, and marks in another those whose lanes may hold more.
+    fn serve_due(&mut self, block: usize, due: u64) -> u64
         ensures { Goes self.old.worker self.new.worker }
     {
-        let mut called = called;
-        let mut busy = false;
-        for seat in first..last {
-            let served = self.serve_seat(seat, called & 1 == 1);
-            self.rouse_given(seat);
-            busy |= served;
-            called >>= 1;
+        let mut more = 0;
+        for seat in Marked::of(block, due) {
+            more = self.serve_seat(seat, more);
         }
-        busy
-    }
-
-    /// Serves the seat where it called, or where its lane may hold more. Whether there was anything to do.
-    fn serve_seat(&mut self, seat: usize, called: bool) -> bool
-        requires { seat < length self.old.waiting.items }
-        ensures goes { Goes self.old.worker self.new.worker }
-        ensures as_many { length self.new.waiting.items ≡ length self.old.waiting.items }
-        // What it notes of the seat is what its turn answered.
-        ensures noted { slice_get self.new.waiting.items seat ≡ Some result }
-    {
-        if !called && !self.waiting[seat] {
-            return false;
-        }
-        let more = self
-            .worker
-            .serve(self.alloc, seat, &*self.gate, &mut self.given);
-        self.waiting[seat] = more;
         more
     }
 
-    /// Rouses the seat where a reply was given to it.
-    fn rouse_given(&mut self, seat: usize)
-        ensures worker { self.new.worker ≡ self.old.worker }
-        ensures waiting { self.new.waiting ≡ self.old.waiting }
+    /// Serves the seat, where there is one of this number, and rouses each seat that a reply was given to. It marks the seat in
+    /// the word where there was something to do.
+    fn serve_seat(&mut self, seat: usize, more: u64) -> u64
+        ensures goes { Goes self.old.worker self.new.worker }
+        ensures rests { seat < length self.old.worker.ends.lanes → bit_at result (seat % 64) ≡ 0 →
+            FindsNothing self.old.worker seat self.new.worker }
+        ensures serves { bit_at result (seat % 64) ≡ 1 →
+            (bit_at more (seat % 64) ≡ 1) ⊎ ServesSeat self.old.worker seat self.new.worker }
+        ensures others { (place : ℕ) → place ≢ seat % 64 →
+            bit_at result place ≡ bit_at more place }
     {
-        let Some(given) = self.given.get_mut(seat) else {
-            return;
-        };
-        if *given {
-            *given = false;
-            self.seats.rouse(seat);
+        if seat >= self.given.len() {
+            return more;
         }
+        let holder = self.worker.holder();
+        let found = self
+            .worker
+            .serve(self.alloc, seat, &*self.gate, &mut self.given);
+        rouse_given(&mut self.given, &self.seats, holder);
+        rouse_given(&mut self.given, &self.seats, Some(seat));
+        if !found {
+            return more;
+        }
+        marked(more, seat)
     }
 
     /// Whether the End of every lane has come.
@@ -176,4 +163,32 @@ impl<G: Gate + Drop> Working<G> {
     {
         self.worker.beside(seat)
     }
+}
+
+/// Rouses the seat, if there is one, where it is marked as given a reply, and takes its mark.
+fn rouse_given(given: &mut [bool], seats: &Wakers, seat: Option<usize>)
+    ensures many { length given.new ≡ length given.old }
+    ensures taken { (one : ℕ) → seat ≡ Some one → slice_get given.new one ≢ Some true }
+    ensures others { (other : ℕ) → seat ≢ Some other →
+        slice_get given.new other ≡ slice_get given.old other }
+{
+    let Some(seat) = seat else {
+        return;
+    };
+    if seat >= given.len() {
+        return;
+    }
+    if !given[seat] {
+        return;
+    }
+    given[seat] = false;
+    seats.rouse(seat);
+}
+
+/// The word, with a mark at the place of the seat.
+fn marked(word: u64, seat: usize) -> u64
+    ensures seat { bit_at result (seat % 64) ≡ 1 }
+    ensures others { (place : ℕ) → place ≢ seat % 64 → bit_at result place ≡ bit_at word place }
+{
+    word | 1u64 << (seat % BLOCK)
 }

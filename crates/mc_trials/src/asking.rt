@@ -152,10 +152,6 @@ impl Line for Asking {
             }
         }
     }
-
-    fn give_up(&mut self) {
-        self.failed = true;
-    }
 }
 
 /// Adds the words of a text, each with a space behind it.

@@ -48,10 +48,6 @@ impl<L: Line> Line for Gathered<L> {
         }
         self.line.read(room)
     }
-
-    fn give_up(&mut self) {
-        self.line.give_up();
-    }
 }
 
 /// Whether `all` have come, after as many looks as are made.

@@ -5,7 +5,9 @@ use Rattle.std.specs.List.{FoldsTo}
 use Rattle.std.specs.declared.sync.Arc.{Arc}
 use Rattle.crossbeam_utils.specs.declared.cache_padded.CachePadded.{CachePadded}
 use Rattle.mc_item.specs.declared.tally.Tally.{Tally}
-use Rattle.mc_watch.specs.Counts.{shared_value, shared_values}
+use Rattle.mc_watch.specs.declared.shard_counts.ShardCounts.{ShardCounts}
+use Rattle.mc_watch.specs.declared.shard_counts.ShardTotals.{ShardTotals}
+use Rattle.mc_watch.specs.Counts.{AreShown, EachIsShown, shared_value, shared_values}
 use Rattle.mc_watch.specs.Totals.{totals_counted}
 
 -- what the first of them share, and what one more shares
@@ -27,6 +29,19 @@ folds_on R p (y ∷ ys) q x r steps one = (steps.0, steps.1, folds_on R steps.0 
 pub folds_shared : {P X Z : Type 0} (R : P → X → P → Type 0) (p : P) (all : List (Arc (CachePadded X) Z)) (place : ℕ) (q : P) (one : Arc (CachePadded X) Z) (r : P) → place < length all → one ≡ get_or all place one → FoldsTo R p (shared_values (take place all)) q → R q (shared_value one) r → FoldsTo R p (shared_values (take (place + 1) all)) r
 folds_shared R p all place q one r within is steps next =
     subst (λ ys. FoldsTo R p ys r) (sym (shared_next all place one within is)) (folds_on R p (shared_values (take place all)) q (shared_value one) r steps next)
+
+-- shards with what each shows, and one more
+shown_more : {C : Type 0} (told : C → ℕ → Type 0) (shards : List (ShardCounts C)) (all : List ShardTotals) (shard : ShardCounts C) (totals : ShardTotals) → EachIsShown told shards all → AreShown told shard totals → EachIsShown told (shards ++ shard ∷ []) (all ++ totals ∷ [])
+shown_more told [] [] shard totals each one = (one, each)
+shown_more told [] (first ∷ rest) shard totals each one = absurd each
+shown_more told (first ∷ others) [] shard totals each one = absurd each
+shown_more told (first ∷ others) (next ∷ rest) shard totals each one = (each.0, shown_more told others rest shard totals each.1 one)
+
+-- what the first of the shards show, and what the next one shows
+pub shown_next : {C Z : Type 0} (told : C → ℕ → Type 0) (shards : List (Arc (CachePadded (ShardCounts C)) Z)) (place : ℕ) (one : Arc (CachePadded (ShardCounts C)) Z) (all : List ShardTotals) (totals : ShardTotals) (after : List ShardTotals) → place < length shards → one ≡ get_or shards place one → after ≡ all ++ totals ∷ [] → EachIsShown told (shared_values (take place shards)) all → AreShown told (shared_value one) totals → EachIsShown told (shared_values (take (place + 1) shards)) after
+shown_next told shards place one all totals after within is are each shown =
+    subst (λ them. EachIsShown told (shared_values (take (place + 1) shards)) them) (sym are)
+    (subst (λ them. EachIsShown told them (all ++ totals ∷ [])) (sym (shared_next shards place one within is)) (shown_more told (shared_values (take place shards)) all (shared_value one) totals each shown))
 
 -- the same counts make the same totals
 pub same_totals : {items bytes evicted items' bytes' evicted' : ℕ} {tally tally' : Tally} → items ≡ items' → bytes ≡ bytes' → evicted ≡ evicted' → tally ≡ tally'

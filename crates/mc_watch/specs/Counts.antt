@@ -1,5 +1,5 @@
 -- What the threads of a server count, and what is told of it.
-use Rattle.std.specs.Prelude.{ℕ, ◌≡◌, Bool, List, map, length, Option, Some, None, option_map, slice_get}
+use Rattle.std.specs.Prelude.{ℕ, ◌≡◌, ◌-◌, Bool, List, [], ◌∷◌, map, length, Option, Some, None, option_map, slice_get, ⊤}
 use Rattle.std.specs.Arc.{arc_value}
 use Rattle.std.specs.Int.{from_bool}
 use Rattle.std.specs.List.{FoldsTo}
@@ -7,9 +7,13 @@ use Rattle.std.specs.declared.sync.Arc.{Arc}
 use Rattle.crossbeam_utils.specs.Padded.{padded_value}
 use Rattle.crossbeam_utils.specs.declared.cache_padded.CachePadded.{CachePadded}
 use Rattle.mc_watch.specs.declared.counts.Counts.{Counts}
+use Rattle.mc_watch.specs.declared.counts.EndCounts.{EndCounts}
+use Rattle.mc_watch.specs.declared.counts.EndTotals.{EndTotals}
 use Rattle.mc_watch.specs.declared.counts.EntranceCounts.{EntranceCounts}
 use Rattle.mc_watch.specs.declared.counts.SeatCounts.{SeatCounts}
 use Rattle.mc_watch.specs.declared.counts.Totals.{Totals}
+use Rattle.mc_watch.specs.declared.event.Manner.{Manner}
+use Rattle.mc_watch.specs.declared.event.Manner.TheVariants.{ByClient, Quit, LineTooLong, Binary, Http, Tls, Idle, ReadFailed, WriteFailed, NoMemory, Shutdown}
 use Rattle.mc_watch.specs.declared.shard_counts.ShardCounts.{ShardCounts}
 use Rattle.mc_watch.specs.declared.shard_counts.ShardTotals.{ShardTotals}
 use Rattle.mc_watch.specs.Told.{EachShown}
@@ -52,10 +56,25 @@ pub record SameCounts {C : Type 0} (one other : Counts C) : Type 0 where
   pub shards : shards_of one ≡ shards_of other
 
 module _ {C : Type 0} (added : C → ℕ → Type 0) where
-  -- a connection that took this number of commands has ended, and was broken or not
-  pub record CountsEnd (counts : SeatCounts C) (commands : ℕ) (broke : Bool) : Type 0 where
-    pub commands_are : added counts.commands commands
+  -- one more connection has ended for this reason, where that is counted
+  abbrev pub CountsManner : EndCounts C → Manner → Type 0
+  CountsManner counts ByClient = ⊤
+  CountsManner counts Quit = ⊤
+  CountsManner counts LineTooLong = added counts.line_too_long 1
+  CountsManner counts Binary = added counts.binary 1
+  CountsManner counts Http = added counts.http 1
+  CountsManner counts Tls = added counts.tls 1
+  CountsManner counts Idle = added counts.idle 1
+  CountsManner counts ReadFailed = added counts.failed 1
+  CountsManner counts WriteFailed = added counts.failed 1
+  CountsManner counts NoMemory = added counts.refused_memory 1
+  CountsManner counts Shutdown = ⊤
+
+  -- A connection has ended for this reason, and was broken or not; of the commands that it took so many were counted before.
+  pub record CountsEnd (counts : SeatCounts C) (counted commands : ℕ) (broke : Bool) (manner : Manner) : Type 0 where
+    pub commands_are : added counts.commands (commands - counted)
     pub broken : added counts.broken (from_bool broke)
+    pub ends : CountsManner counts.ends manner
     pub ended : added counts.ended 1
 
   -- a connection that was accepted has ended unserved
@@ -63,9 +82,13 @@ module _ {C : Type 0} (added : C → ℕ → Type 0) where
     pub broken : added counts.broken 1
     pub ended : added counts.ended 1
 
+-- no connection has ended
+abbrev pub no_ends : EndTotals
+no_ends = record { binary = 0; http = 0; tls = 0; line_too_long = 0; idle = 0; failed = 0; refused_memory = 0 }
+
 -- nothing was counted
 abbrev pub no_totals : Totals
-no_totals = record { accepted = 0; failed = 0; ended = 0; broken = 0; commands = 0; read = 0; written = 0; shards = no_shards }
+no_totals = record { accepted = 0; failed = 0; ended = 0; broken = 0; commands = 0; read = 0; written = 0; ends = no_ends; shards = no_shards }
 
 module _ {C : Type 0} (told : C → ℕ → Type 0) where
   -- what the counter told is added
@@ -74,6 +97,16 @@ module _ {C : Type 0} (told : C → ℕ → Type 0) where
     pub is_told : told counter count
     pub sum : after ≡ sum_of before count
 
+  -- what a thread told of the reasons is added
+  pub record AddsEnds (before : EndTotals) (thread : EndCounts C) (after : EndTotals) : Type 0 where
+    pub binary : Adds thread.binary before.binary after.binary
+    pub http : Adds thread.http before.http after.http
+    pub tls : Adds thread.tls before.tls after.tls
+    pub line_too_long : Adds thread.line_too_long before.line_too_long after.line_too_long
+    pub idle : Adds thread.idle before.idle after.idle
+    pub failed : Adds thread.failed before.failed after.failed
+    pub refused_memory : Adds thread.refused_memory before.refused_memory after.refused_memory
+
   -- what a thread told that serves connections is added, and what others count stays
   pub record AddsThread (before : Totals) (thread : SeatCounts C) (after : Totals) : Type 0 where
     pub ended : Adds thread.ended before.ended after.ended
@@ -81,15 +114,27 @@ module _ {C : Type 0} (told : C → ℕ → Type 0) where
     pub commands : Adds thread.commands before.commands after.commands
     pub read : Adds thread.read before.read after.read
     pub written : Adds thread.written before.written after.written
+    pub ends : AddsEnds before.ends thread.ends after.ends
     pub accepted : after.accepted ≡ before.accepted
     pub failed : after.failed ≡ before.failed
     pub shards : after.shards ≡ before.shards
 
+  -- the totals of a shard are what its own counters told, and of all its commands for which no memory was left the sum
+  pub record AreShown (shard : ShardCounts C) (totals : ShardTotals) : Type 0 where
+    pub is_told : EachShown told shard totals
+    pub summed : IsSummed totals
+
+  -- the same of each shard, by its number
+  abbrev pub EachIsShown : List (ShardCounts C) → List ShardTotals → Type 0
+  EachIsShown [] [] = ⊤
+  EachIsShown [] (totals ∷ rest) = ⊥
+  EachIsShown (shard ∷ shards) [] = ⊥
+  EachIsShown (shard ∷ shards) (totals ∷ rest) = AreShown shard totals × EachIsShown shards rest
+
   -- what a shard told is added
   pub record AddsShard (before : ShardTotals) (shard : ShardCounts C) (after : ShardTotals) : Type 0 where
     pub totals : ShardTotals
-    pub is_told : EachShown told shard totals
-    pub summed : IsSummed totals
+    pub are_shown : AreShown shard totals
     pub sum : after ≡ shards_of_both before totals
 
   -- the totals are what all counters told, each thread and each shard in turn

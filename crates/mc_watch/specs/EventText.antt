@@ -1,21 +1,38 @@
 -- What is written of an event.
-use Rattle.std.specs.Prelude.{ℕ, List, ◌++◌, Option, Some, None, codes, decimal}
+use Rattle.std.specs.Prelude.{ℕ, List, ◌++◌, Option, Some, None, codes, decimal, nat_eq, if◌then◌else◌}
 use Rattle.std.specs.Net.Text.{socket_text}
 use Rattle.mc_watch.specs.declared.event.ConnectionEvent.{ConnectionEvent}
-use Rattle.mc_watch.specs.declared.event.ConnectionEvent.TheVariants.{Opened, Closed, NotAccepted}
+use Rattle.mc_watch.specs.declared.event.ConnectionEvent.TheVariants.{Opened, Closed, NotAccepted, SeatsTaken, SeatFree}
 use Rattle.mc_watch.specs.declared.event.Manner.{Manner}
-use Rattle.mc_watch.specs.declared.event.Manner.TheVariants.{Ended, Broke, Idle}
+use Rattle.mc_watch.specs.declared.event.Manner.TheVariants.{ByClient, Quit, LineTooLong, Binary, Http, Tls, Idle, ReadFailed, WriteFailed, NoMemory, Shutdown}
 
 abbrev pub manner_text : Manner → List ℕ
-manner_text Ended = codes "ended"
-manner_text Broke = codes "broke"
-manner_text Idle = codes "was idle for too long"
+manner_text ByClient = codes "its client closed it"
+manner_text Quit = codes "its client quit"
+manner_text LineTooLong = codes "a line was too long"
+manner_text Binary = codes "it speaks memcached's binary protocol"
+manner_text Http = codes "it speaks HTTP"
+manner_text Tls = codes "it speaks TLS"
+manner_text Idle = codes "it was idle for too long"
+manner_text ReadFailed = codes "a read failed"
+manner_text WriteFailed = codes "a write failed"
+manner_text NoMemory = codes "no memory was left for its replies"
+manner_text Shutdown = codes "the server ends"
+
+-- a number of things, by the word for one of them
+abbrev pub counted_text : ℕ → List ℕ → List ℕ
+counted_text count one =
+    if nat_eq count 1 then codes "1 " ++ one else decimal count ++ (codes " " ++ (one ++ codes "s"))
 
 -- the text of an event, but of a failed accept with its fault, for which the system has the words
 abbrev pub event_text : ConnectionEvent → Option (List ℕ)
 event_text (Opened peer seat) =
     Some (socket_text peer ++ (codes " on seat " ++ (decimal seat ++ codes ": opened")))
 event_text (Closed peer seat manner commands read written) =
-    Some (socket_text peer ++ (codes " on seat " ++ (decimal seat ++ (codes ": " ++ (manner_text manner ++ (codes "; " ++ (decimal commands ++ (codes " commands, " ++ (decimal read ++ (codes " bytes read, " ++ (decimal written ++ codes " bytes written")))))))))))
+    Some (socket_text peer ++ (codes " on seat " ++ (decimal seat ++ (codes ": " ++ (manner_text manner ++ (codes "; "
+    ++ (counted_text commands (codes "command") ++ (codes ", " ++ (counted_text read (codes "byte") ++ (codes " read, "
+    ++ (counted_text written (codes "byte") ++ codes " written")))))))))))
 event_text (NotAccepted None) = Some (codes "accept failed")
 event_text (NotAccepted (Some fault)) = None
+event_text SeatsTaken = Some (codes "all seats are taken")
+event_text SeatFree = Some (codes "a seat is free again")

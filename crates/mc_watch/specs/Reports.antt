@@ -11,7 +11,7 @@ use Rattle.mc_watch.specs.declared.reporter.Reporter.{Reporter}
 
 -- the most events of a reporter that may wait
 abbrev pub room : ℕ
-room = 8
+room = 512
 
 module _ {A P : Type 0} where
   -- The event found room, and went into the queue with the number of those that were dropped before it.

@@ -45,6 +45,8 @@ impl Counter {
     }
 }
 
+/// What the word holds no clause knows, since any thread may change it: so these hold of any number. A clause that cites them says
+/// nothing of a `Counter`, and something wherever it is proved for anything that counts, as in this crate.
 impl Count for Counter {
     ghost was_added = { λ _ _. ⊤ };
 

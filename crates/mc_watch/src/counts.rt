@@ -1,12 +1,32 @@
 //! What the threads of a server count.
 ghost use Rattle.std.specs.Prelude.{◌≡◌, ◌-◌, IfOk, length, option_map, slice_get};
-ghost use Rattle.mc_watch.specs.Counts.{AddsThread, AreTotals, SameCounts, shard_count, shared_value, shared_values, shards_of};
+ghost use Rattle.mc_watch.specs.Counts.{AddsEnds, AddsThread, AreTotals, CountsManner, EachIsShown, SameCounts, shard_count, shared_value, shared_values, shards_of};
 
 use crate::counter::{Count, Counter};
+use crate::event::Manner;
 use crate::shard_counts::{ShardCounts, ShardTotals};
 use crossbeam_utils::CachePadded;
 use std::alloc::{AllocError, Global};
 use std::sync::Arc;
+
+/// Connections that have ended for a reason that an operator may want to look into, by that reason.
+#[derive(Drop)]
+pub struct EndCounts<C = Counter> {
+    /// They began as memcached's binary protocol does.
+    pub binary: C,
+    /// They began as HTTP does.
+    pub http: C,
+    /// They began as TLS does.
+    pub tls: C,
+    /// They sent a line that is too long.
+    pub line_too_long: C,
+    /// They moved no byte for too long.
+    pub idle: C,
+    /// A read or a write of them failed.
+    pub failed: C,
+    /// Memory for their replies was refused.
+    pub refused_memory: C,
+}
 
 /// What a thread counts that serves connections.
 #[derive(Drop)]
@@ -15,12 +35,14 @@ pub struct SeatCounts<C = Counter> {
     pub ended: C,
     /// Connections that broke or were idle for too long.
     pub broken: C,
-    /// Commands of the connections that have ended.
+    /// Commands that were taken.
     pub commands: C,
     /// Bytes that were read.
     pub read: C,
     /// Bytes that were written.
     pub written: C,
+    /// Connections that have ended, by some of the reasons.
+    pub ends: EndCounts<C>,
 }
 
 /// What the thread counts that accepts connections.
@@ -30,6 +52,18 @@ pub struct EntranceCounts<C = Counter> {
     pub accepted: C,
     /// Accepts that failed.
     pub failed: C,
+}
+
+/// How many connections have ended, by the reasons of `EndCounts`.
+#[derive(Clone, Copy, Debug, Default, PartialEq, Eq)]
+pub struct EndTotals {
+    pub binary: u64,
+    pub http: u64,
+    pub tls: u64,
+    pub line_too_long: u64,
+    pub idle: u64,
+    pub failed: u64,
+    pub refused_memory: u64,
 }
 
 /// What all threads of a server have counted together. It was read counter by counter, while they went on.
@@ -43,12 +77,14 @@ pub struct Totals {
     pub ended: u64,
     /// Connections that broke or were idle for too long.
     pub broken: u64,
-    /// Commands of the connections that have ended.
+    /// Commands that were taken.
     pub commands: u64,
     /// Bytes that were read.
     pub read: u64,
     /// Bytes that were written.
     pub written: u64,
+    /// Connections that have ended, by some of the reasons.
+    pub ends: EndTotals,
     /// What the shards hold and were asked.
     pub shards: ShardTotals,
 }
@@ -71,6 +107,57 @@ impl<C: Drop> Drop for Counts<C> {
     }
 }
 
+impl EndCounts<Counter> {
+    fn new() -> EndCounts {
+        EndCounts {
+            binary: Counter::new(),
+            http: Counter::new(),
+            tls: Counter::new(),
+            line_too_long: Counter::new(),
+            idle: Counter::new(),
+            failed: Counter::new(),
+            refused_memory: Counter::new(),
+        }
+    }
+}
+
+impl<C: Count> EndCounts<C> {
+    /// One more has ended so. Where its client or the server ended it as it should, nothing counts.
+    pub fn count(&self, manner: Manner)
+        ensures { CountsManner C.was_added self.now manner }
+    {
+        match manner {
+            Manner::Binary => self.binary.add(1),
+            Manner::Http => self.http.add(1),
+            Manner::Tls => self.tls.add(1),
+            Manner::LineTooLong => self.line_too_long.add(1),
+            Manner::Idle => self.idle.add(1),
+            Manner::ReadFailed | Manner::WriteFailed => self.failed.add(1),
+            Manner::NoMemory => self.refused_memory.add(1),
+            Manner::ByClient | Manner::Quit | Manner::Shutdown => {}
+        }
+    }
+}
+
+impl EndTotals {
+    /// Adds what a thread has counted.
+    fn add<C: Count>(&mut self, counts: &EndCounts<C>)
+        ensures { AddsEnds C.has_told self.old counts.now self.new }
+    {
+        self.binary = self.binary.saturating_add(counts.binary.get());
+        self.http = self.http.saturating_add(counts.http.get());
+        self.tls = self.tls.saturating_add(counts.tls.get());
+        self.line_too_long = self
+            .line_too_long
+            .saturating_add(counts.line_too_long.get());
+        self.idle = self.idle.saturating_add(counts.idle.get());
+        self.failed = self.failed.saturating_add(counts.failed.get());
+        self.refused_memory = self
+            .refused_memory
+            .saturating_add(counts.refused_memory.get());
+    }
+}
+
 impl SeatCounts<Counter> {
     fn new() -> SeatCounts {
         SeatCounts {
@@ -79,6 +166,7 @@ impl SeatCounts<Counter> {
             commands: Counter::new(),
             read: Counter::new(),
             written: Counter::new(),
+            ends: EndCounts::new(),
         }
     }
 }
@@ -100,6 +188,7 @@ impl Totals {
         self.commands = self.commands.saturating_add(counts.commands.get());
         self.read = self.read.saturating_add(counts.read.get());
         self.written = self.written.saturating_add(counts.written.get());
+        self.ends.add(&counts.ends);
     }
 }
 
@@ -169,6 +258,14 @@ impl<C: Count> Counts<C> {
         share_each(alloc, &self.shards)
     }
 
+    /// What each shard shows, by its number.
+    pub fn shard_totals(&self, alloc: Global) -> Result<Vec<ShardTotals>, AllocError>
+        ensures { IfOk result
+            (λ totals. EachIsShown C.has_told (shards_of self.now) totals.items) }
+    {
+        totals_of_each(alloc, &self.shards)
+    }
+
     /// What all threads have counted so far. The connections that ended are read first, so that no more have ended than were
     /// accepted.
     pub fn totals(&self) -> Totals
@@ -197,6 +294,21 @@ fn share_each<T: Drop>(
         shared.push(Arc::try_clone(one)?)?;
     }
     Ok(shared)
+}
+
+/// What each of the shards shows.
+fn totals_of_each<C: Count>(
+    alloc: Global,
+    shards: &[Arc<CachePadded<ShardCounts<C>>, Global>],
+) -> Result<Vec<ShardTotals>, AllocError>
+    ensures { IfOk result
+        (λ totals. EachIsShown C.has_told (shared_values shards.now) totals.items) }
+{
+    let mut totals = Vec::with_capacity(alloc, shards.len())?;
+    for shard in shards {
+        totals.push(shard.totals())?;
+    }
+    Ok(totals)
 }
 
 /// What `count` shards show, each of which was asked nothing yet.

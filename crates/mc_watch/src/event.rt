@@ -1,16 +1,32 @@
-//! What happens to connections, as it is told to who runs the server.
+//! What happens to connections, as it is reported to operators.
 use std::net::SocketAddr;
 use std::{fmt, io};
 
-/// How a connection ended.
+/// Why a connection ended.
 #[derive(Clone, Copy)]
 pub enum Manner {
-    /// Its client ended it, by `quit` or by closing its side.
-    Ended,
-    /// A read or a write of it failed, or memory for its replies was refused.
-    Broke,
+    /// Its client closed its side.
+    ByClient,
+    /// Its client sent `quit`.
+    Quit,
+    /// Its client sent a line that is too long.
+    LineTooLong,
+    /// It began as memcached's binary protocol does.
+    Binary,
+    /// It began as an HTTP request does.
+    Http,
+    /// It began as TLS does.
+    Tls,
     /// It moved no byte for too long.
     Idle,
+    /// A read failed.
+    ReadFailed,
+    /// A write failed.
+    WriteFailed,
+    /// Memory for its replies was refused.
+    NoMemory,
+    /// The server ends.
+    Shutdown,
 }
 
 /// What happened.
@@ -37,6 +53,17 @@ pub enum ConnectionEvent {
     NotAccepted {
         fault: Option<i32>,
     },
+    /// No seat is free: further connections wait to be accepted.
+    SeatsTaken,
+    /// A seat is free again.
+    SeatFree,
+}
+
+/// A number of things, by the word for one of them.
+#[derive(Clone, Copy)]
+struct Counted {
+    count: u64,
+    one: &'static str,
 }
 
 impl fmt::Display for Manner {
@@ -47,10 +74,34 @@ impl fmt::Display for Manner {
 
     fn fmt<W: fmt::Write>(&self, f: &mut fmt::Formatter<W>) -> fmt::Result {
         f.write_str(match self {
-            Manner::Ended => "ended",
-            Manner::Broke => "broke",
-            Manner::Idle => "was idle for too long",
+            Manner::ByClient => "its client closed it",
+            Manner::Quit => "its client quit",
+            Manner::LineTooLong => "a line was too long",
+            Manner::Binary => "it speaks memcached's binary protocol",
+            Manner::Http => "it speaks HTTP",
+            Manner::Tls => "it speaks TLS",
+            Manner::Idle => "it was idle for too long",
+            Manner::ReadFailed => "a read failed",
+            Manner::WriteFailed => "a write failed",
+            Manner::NoMemory => "no memory was left for its replies",
+            Manner::Shutdown => "the server ends",
         })
+    }
+}
+
+impl fmt::Display for Counted {
+    ghost use Rattle.std.specs.Prelude.{Some};
+    ghost use Rattle.mc_watch.specs.EventText.{counted_text};
+
+    ghost output = { λ counted. Some (counted_text counted.count counted.one.now) };
+
+    fn fmt<W: fmt::Write>(&self, f: &mut fmt::Formatter<W>) -> fmt::Result {
+        let Counted { count, one } = *self;
+        if count == 1 {
+            write!(f, "1 {one}")
+        } else {
+            write!(f, "{count} {one}s")
+        }
     }
 }
 
@@ -69,14 +120,30 @@ impl fmt::Display for ConnectionEvent {
                 commands,
                 read,
                 written,
-            } => write!(
-                f,
-                "{peer} on seat {seat}: {manner}; {commands} commands, {read} bytes read, {written} bytes written"
-            ),
+            } => {
+                let commands = Counted {
+                    count: *commands,
+                    one: "command",
+                };
+                let read = Counted {
+                    count: *read,
+                    one: "byte",
+                };
+                let written = Counted {
+                    count: *written,
+                    one: "byte",
+                };
+                write!(
+                    f,
+                    "{peer} on seat {seat}: {manner}; {commands}, {read} read, {written} written"
+                )
+            }
             ConnectionEvent::NotAccepted { fault: Some(fault) } => {
                 write!(f, "accept failed: {}", io::Error::from_raw_os_error(*fault))
             }
             ConnectionEvent::NotAccepted { fault: None } => write!(f, "accept failed"),
+            ConnectionEvent::SeatsTaken => write!(f, "all seats are taken"),
+            ConnectionEvent::SeatFree => write!(f, "a seat is free again"),
         }
     }
 }

@@ -11,7 +11,7 @@ use std::sync::Wait;
 use std::time::Duration;
 
 /// The most events of one reporter that wait.
-const ROOM: usize = 8;
+const ROOM: usize = 512;
 
 /// Milliseconds from one look for what happened to the next.
 const LOOK_MILLIS: u64 = 20;
@@ -93,14 +93,14 @@ impl Reporter {
 }
 
 impl Reports {
-    /// Writes each event to standard error, a line each, until it is told to end and all was written. Those of one reporter come
-    /// in their order.
-    pub fn write_all<R: Eprint + Wait>(self, rt: &R, dismissal: &Dismissal) {
+    /// Writes each event to standard error, a line each with this text before it, until it is told to end and all was written.
+    /// Those of one reporter come in their order.
+    pub fn write_all<R: Eprint + Wait>(self, rt: &R, prefix: &str, dismissal: &Dismissal) {
         let mut reports = self;
         for _ in rt.forever() {
             // Looked at first: what was told before is written then.
             let is_last = dismissal.is_said();
-            let wrote = reports.write_some(rt);
+            let wrote = reports.write_some(rt, prefix);
             if is_last && !wrote {
                 return;
             }
@@ -112,24 +112,34 @@ impl Reports {
     }
 
     /// Writes what was told, and tells whether there was anything.
-    fn write_some<R: Eprint>(&mut self, rt: &R) -> bool {
+    fn write_some<R: Eprint>(&mut self, rt: &R, prefix: &str) -> bool {
         let mut wrote = false;
         for queue in &mut self.queues {
-            if let Ok(report) = queue.pop() {
-                wrote = true;
-                write(rt, report);
-            }
+            wrote = write_each(rt, prefix, queue) || wrote;
         }
         wrote
     }
 }
 
+/// Writes what one reporter told, as much as may wait, and tells whether there was anything.
+fn write_each<R: Eprint>(rt: &R, prefix: &str, queue: &mut Consumer<Record>) -> bool {
+    let mut wrote = false;
+    for _ in 0..ROOM {
+        let Ok(report) = queue.pop() else {
+            return wrote;
+        };
+        wrote = true;
+        write(rt, prefix, report);
+    }
+    wrote
+}
+
 /// Writes one event. Where standard error takes nothing, nobody reads it.
-fn write<R: Eprint>(rt: &R, report: Record) {
+fn write<R: Eprint>(rt: &R, prefix: &str, report: Record) {
     let event = report.event;
     if report.dropped > 0 {
         let dropped = report.dropped;
-        let _ = eprintln!(rt; "mcd: {dropped} lines were dropped here");
+        let _ = eprintln!(rt; "{prefix}{dropped} lines were dropped here");
     }
-    let _ = eprintln!(rt; "mcd: {event}");
+    let _ = eprintln!(rt; "{prefix}{event}");
 }

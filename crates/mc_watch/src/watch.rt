@@ -1,18 +1,20 @@
 //! What is watched of the connections of a server, and of each of its seats.
 ghost use Rattle.std.specs.Prelude.{◌≡◌, ◌∷◌, ◌++◌, ◌<◌, [], None, Some, IfNone, IfOk, IfSome, OnErr, option_map, vec_len};
-ghost use Rattle.mc_watch.specs.Closing.{IsManner, TellsClosed};
+ghost use Rattle.mc_watch.specs.Closing.{TellsClosed};
 ghost use Rattle.mc_watch.specs.Counts.{CountsEnd, CountsUnserved, entrance_of, shards_of, shared_value, shared_values, thread_of};
 ghost use Rattle.mc_watch.specs.Pulse.{clock_of, idle_limit_of, pulse_of};
 ghost use Rattle.mc_watch.specs.Reports.{Tells};
-ghost use Rattle.mc_watch.specs.declared.event.ConnectionEvent.TheVariants.{NotAccepted, Opened};
+ghost use Rattle.mc_watch.specs.Shutdown.{drain_stage, stage_of};
+ghost use Rattle.mc_watch.specs.declared.event.ConnectionEvent.TheVariants.{NotAccepted, Opened, SeatFree, SeatsTaken};
 
 use crate::counter::{Count, Counter};
 use crate::counts::{Counts, EntranceCounts, SeatCounts};
-use crate::event::{ConnectionEvent, Manner};
+use crate::event::ConnectionEvent;
 use crate::meter::Meter;
 use crate::pulse::{Pulse, Seconds};
 use crate::reporter::Reporter;
 use crate::shard_counts::ShardCounts;
+use crate::shutdown::{Drain, Shutdown};
 use crossbeam_utils::CachePadded;
 use std::alloc::{AllocError, Global};
 use std::net::SocketAddr;
@@ -35,6 +37,8 @@ pub struct Watch<C = Counter> {
     pub counts: Option<Counts<C>>,
     /// Where the seats tell what happens, each by one of them. Where there are none left a seat tells nothing.
     pub reporters: Vec<Reporter>,
+    /// When the server is to end; by nothing but its last connection where nothing is said.
+    pub drain: Option<Drain<C>>,
 }
 
 impl<C: Drop> Drop for Watch<C> {
@@ -44,6 +48,7 @@ impl<C: Drop> Drop for Watch<C> {
             idle_limit: _idle_limit,
             counts: _counts,
             reporters: _reporters,
+            drain: _drain,
         } = self;
     }
 }
@@ -53,6 +58,7 @@ pub struct SeatWatch<C = Counter> {
     seat: usize,
     counts: Option<Arc<CachePadded<SeatCounts<C>>, Global>>,
     idle_limit: Option<IdleLimit<C>>,
+    shutdown: Option<Shutdown<C>>,
     reporter: Reporter,
     /// Who the last connection came from.
     peer: Option<SocketAddr>,
@@ -65,6 +71,7 @@ impl<C: Drop> Drop for SeatWatch<C> {
             seat: _seat,
             counts: _counts,
             idle_limit: _idle_limit,
+            shutdown: _shutdown,
             reporter: _reporter,
             peer: _peer,
         } = self;
@@ -107,11 +114,13 @@ impl<C: Count> Watch<C> {
         ensures timeless { result.idle_limit ≡ None }
         ensures uncounted { result.counts ≡ None }
         ensures unheard { result.reporters.items ≡ [] }
+        ensures endless { result.drain ≡ None }
     {
         Watch {
             idle_limit: None,
             counts: None,
             reporters: Vec::new(alloc),
+            drain: None,
         }
     }
 
@@ -123,6 +132,8 @@ impl<C: Count> Watch<C> {
             (λ watch. idle_limit_of watch.idle_limit ≡ idle_limit_of self.old.idle_limit) }
         ensures counted { IfOk result
             (λ watch. option_map shared_value watch.counts ≡ thread_of self.old.counts thread) }
+        ensures stage { IfOk result
+            (λ watch. option_map stage_of watch.shutdown ≡ drain_stage self.old.drain) }
         ensures heard { IfOk result (λ watch.
             0 < vec_len self.old.reporters →
             self.old.reporters.items ≡ self.new.reporters.items ++ watch.reporter ∷ []) }
@@ -131,9 +142,14 @@ impl<C: Count> Watch<C> {
         ensures err { OnErr result (self.new ≡ self.old) }
         ensures idle_limit { self.new.idle_limit ≡ self.old.idle_limit }
         ensures counts { self.new.counts ≡ self.old.counts }
+        ensures drain { self.new.drain ≡ self.old.drain }
     {
         let idle_limit = match &self.idle_limit {
             Some(idle_limit) => Some(idle_limit.share()?),
+            None => None,
+        };
+        let shutdown = match &self.drain {
+            Some(drain) => Some(drain.shutdown.share()?),
             None => None,
         };
         let counts = match &self.counts {
@@ -144,6 +160,7 @@ impl<C: Count> Watch<C> {
             seat,
             counts,
             idle_limit,
+            shutdown,
             reporter: self.reporter(),
             peer: None,
         })
@@ -176,6 +193,7 @@ impl<C: Count> Watch<C> {
         ensures err { OnErr result (self.new ≡ self.old) }
         ensures idle_limit { self.new.idle_limit ≡ self.old.idle_limit }
         ensures counts { self.new.counts ≡ self.old.counts }
+        ensures drain { self.new.drain ≡ self.old.drain }
     {
         let counts = match &self.counts {
             Some(counts) => Some(counts.entrance()?),
@@ -187,6 +205,20 @@ impl<C: Count> Watch<C> {
         })
     }
 
+    /// How long connections may be idle, and when the server is to end.
+    pub fn into_limits(self) -> (Option<IdleLimit<C>>, Option<Drain<C>>)
+        ensures idle_limit { result.0 ≡ self.idle_limit }
+        ensures drain { result.1 ≡ self.drain }
+    {
+        let Watch {
+            idle_limit,
+            drain,
+            counts: _counts,
+            reporters: _reporters,
+        } = self;
+        (idle_limit, drain)
+    }
+
     /// One of the reporters, or one to which nobody listens where there are none left.
     fn reporter(&mut self) -> Reporter
         ensures heard { 0 < vec_len self.old.reporters →
@@ -194,6 +226,7 @@ impl<C: Count> Watch<C> {
         ensures unheard { self.old.reporters.items ≡ [] → result.queue ≡ None }
         ensures idle_limit { self.new.idle_limit ≡ self.old.idle_limit }
         ensures counts { self.new.counts ≡ self.old.counts }
+        ensures drain { self.new.drain ≡ self.old.drain }
     {
         match self.reporters.pop() {
             Some(reporter) => reporter,
@@ -207,7 +240,11 @@ impl<C: Count> SeatWatch<C> {
     pub fn open(&mut self, peer: SocketAddr) -> Meter<C>
         ensures read { result.read ≡ 0 }
         ensures written { result.written ≡ 0 }
-        // Where nobody says how long a connection may be idle, it may be for good.
+        ensures commands { result.commands ≡ 0 }
+        // Where the server is never asked to end, none ends for that.
+        ensures stage { IfSome result.shutdown
+            (λ shutdown. option_map stage_of self.old.shutdown ≡ Some (stage_of shutdown)) }
+        // Without an idle timeout a connection may be idle forever.
         ensures timeless { self.old.idle_limit ≡ None → result.pulse ≡ None }
         ensures limit { IfSome result.pulse
             (λ pulse. pulse_of (Some pulse) ≡ idle_limit_of self.old.idle_limit) }
@@ -218,35 +255,40 @@ impl<C: Count> SeatWatch<C> {
         ensures seat { self.new.seat ≡ self.old.seat }
         ensures idle_limit { self.new.idle_limit ≡ self.old.idle_limit }
         ensures counts { self.new.counts ≡ self.old.counts }
+        ensures shutdown { self.new.shutdown ≡ self.old.shutdown }
     {
         let seat = self.seat;
         self.peer = Some(peer);
         self.reporter.tell(ConnectionEvent::Opened { peer, seat });
-        Meter::begin(self.counts(), self.pulse())
+        Meter::begin(self.counts(), self.pulse(), self.shutdown())
     }
 
-    /// The connection is served no more: it took `commands` commands, and broke or not.
+    /// The connection is served no more: it took `commands` commands, and broke or not. Its meter has noted why, and which of its
+    /// commands were counted.
     pub fn close(&mut self, meter: &Meter<C>, commands: u64, broke: bool)
-        ensures counted { IfSome self.old.counts
-            (λ counts. CountsEnd C.was_added (shared_value counts) commands broke) }
+        ensures counted { IfSome self.old.counts (λ counts.
+            CountsEnd C.was_added (shared_value counts) meter.now.commands commands broke
+            meter.now.manner) }
         ensures told { IfSome self.old.peer (λ peer.
-            TellsClosed C.has_told peer self.old.seat meter.now commands broke
+            TellsClosed peer self.old.seat meter.now commands
             self.old.reporter self.new.reporter) }
         ensures silent { IfNone self.old.peer (self.new.reporter ≡ self.old.reporter) }
         ensures nobody { self.new.peer ≡ None }
         ensures seat { self.new.seat ≡ self.old.seat }
         ensures idle_limit { self.new.idle_limit ≡ self.old.idle_limit }
         ensures counts { self.new.counts ≡ self.old.counts }
+        ensures shutdown { self.new.shutdown ≡ self.old.shutdown }
     {
         if let Some(counts) = &self.counts {
-            counts.commands.add(commands);
+            counts
+                .commands
+                .add(commands.saturating_sub(meter.commands()));
             counts.broken.add(u64::from(broke));
+            counts.ends.count(meter.manner());
             counts.ended.add(1);
         }
         if let Some(peer) = self.peer.take() {
-            let manner = manner_of(meter, broke);
-            self.reporter
-                .tell(closed(peer, self.seat, manner, commands, meter));
+            self.reporter.tell(closed(peer, self.seat, commands, meter));
         }
     }
 
@@ -267,6 +309,13 @@ impl<C: Count> SeatWatch<C> {
             (λ counts. option_map shared_value self.now.counts ≡ Some (shared_value counts)) }
     {
         Arc::try_clone(self.counts.as_ref()?).ok()
+    }
+
+    fn shutdown(&self) -> Option<Shutdown<C>>
+        ensures { IfSome result
+            (λ shutdown. option_map stage_of self.now.shutdown ≡ Some (stage_of shutdown)) }
+    {
+        self.shutdown.as_ref()?.share().ok()
     }
 
     fn pulse(&self) -> Option<Pulse<C>>
@@ -303,38 +352,41 @@ impl<C: Count> EntranceWatch<C> {
         }
         self.reporter.tell(ConnectionEvent::NotAccepted { fault });
     }
+
+    /// No seat is free: further connections wait to be accepted.
+    pub fn all_taken(&mut self)
+        ensures told { Tells self.old.reporter SeatsTaken self.new.reporter }
+        ensures counts { self.new.counts ≡ self.old.counts }
+    {
+        self.reporter.tell(ConnectionEvent::SeatsTaken);
+    }
+
+    /// A seat is free again.
+    pub fn one_free(&mut self)
+        ensures told { Tells self.old.reporter SeatFree self.new.reporter }
+        ensures counts { self.new.counts ≡ self.old.counts }
+    {
+        self.reporter.tell(ConnectionEvent::SeatFree);
+    }
 }
 
-/// What is told of a connection that is served no more.
+/// What is reported of a connection that is served no more.
 fn closed<C: Count>(
     peer: SocketAddr,
     seat: usize,
-    manner: Manner,
     commands: u64,
     meter: &Meter<C>,
 ) -> ConnectionEvent
     ensures { result ≡
-        ConnectionEvent.Closed peer seat manner commands meter.now.read meter.now.written }
+        ConnectionEvent.Closed peer seat meter.now.manner commands meter.now.read
+        meter.now.written }
 {
     ConnectionEvent::Closed {
         peer,
         seat,
-        manner,
+        manner: meter.manner(),
         commands,
         read: meter.read(),
         written: meter.written(),
-    }
-}
-
-/// How a connection ended.
-fn manner_of<C: Count>(meter: &Meter<C>, broke: bool) -> Manner
-    ensures { IsManner C.has_told meter.now broke result }
-{
-    if !broke {
-        Manner::Ended
-    } else if meter.is_idle() {
-        Manner::Idle
-    } else {
-        Manner::Broke
     }
 }

@@ -11,7 +11,7 @@ ghost use Rattle.mc_store.specs.State.{State};
 ghost use Rattle.mc_model.specs.Sized.{empty_shard};
 ghost use Rattle.mc_worker.specs.Desk.{Goes, HasEnded, HasRun, RunsNoMore};
 ghost use Rattle.mc_worker.specs.Turns.{FindsNothing, Gives, LogGrows, Turned};
-ghost use Rattle.mc_worker.specs.Marks.{Marks};
+ghost use Rattle.mc_worker.specs.Marks.{Marks, MarksNoOther};
 ghost use Rattle.mc_worker.specs.Serves.{ServesSeat};
 
 use crate::gate::Gate;
@@ -205,6 +205,7 @@ impl Worker {
         requires given { length given.old ≡ length self.old.ends.lanes }
         ensures goes { Goes self.old self.new }
         ensures marks { Marks self.old self.new given.old given.new }
+        ensures others { MarksNoOther self.old seat given.old given.new }
         ensures serves { OnTrue result (ServesSeat self.old seat self.new) }
         ensures rests { OnFalse result (FindsNothing self.old seat self.new) }
     {

@@ -7,28 +7,32 @@ use std::io::Eprint;
 /// The files that each shard's thread has open: its poll twice, and what wakes it.
 const FILES_A_SHARD: u64 = 3;
 
-/// The files that are open besides: the three standard ones, the listener, and a connection that waits for a seat.
-const OTHER_FILES: u64 = 5;
+/// The files that are open besides: the three standard ones, the three of the thread that accepts, a connection that waits for a
+/// seat, and what says which signals wait.
+const OTHER_FILES: u64 = 8;
 
-/// How many files are open while each seat has a connection.
-fn files_for(seats: usize, shards: usize) -> u64
+/// How many files are open while each seat has a connection, the listeners among them.
+fn files_for(seats: usize, shards: usize, listeners: usize) -> u64
     ensures { result ≡
-        min (min (seats + min (shards * 3) (2 ^ 64 - 1)) (2 ^ 64 - 1) + 5) (2 ^ 64 - 1) }
+        min
+        (min (min (seats + min (shards * 3) (2 ^ 64 - 1)) (2 ^ 64 - 1) + listeners)
+        (2 ^ 64 - 1) + 8) (2 ^ 64 - 1) }
 {
     let threads = (shards as u64).saturating_mul(FILES_A_SHARD);
     (seats as u64)
         .saturating_add(threads)
+        .saturating_add(listeners as u64)
         .saturating_add(OTHER_FILES)
 }
 
 /// Tells on standard error where fewer files may be open than a connection on each seat needs. Connections that find no file
 /// wait, as those that find no seat.
-pub fn tell_files(rt: &impl Eprint, seats: usize, shards: usize) {
+pub fn tell_files(rt: &impl Eprint, seats: usize, shards: usize, listeners: usize) {
     let mut limit = rlimit {
         rlim_cur: 0,
         rlim_max: 0,
     };
-    let needed = files_for(seats, shards);
+    let needed = files_for(seats, shards, listeners);
     if libc::getrlimit(libc::RLIMIT_NOFILE, &mut limit) == 0 && limit.rlim_cur < needed {
         let most = limit.rlim_cur;
         let _ = eprintln!(rt;

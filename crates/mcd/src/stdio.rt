@@ -32,7 +32,7 @@ pub fn serve_line<R: Wait + RandomSource + time::Clock + Alloc<A = Global>, L: L
 {
     match at {
         Some(moment) => serve_by(rt, line, sizes, &StillClock(moment)),
-        None => serve_by(rt, line, sizes, &MachineClock(rt)),
+        None => serve_by(rt, line, sizes, &MachineClock::start(rt)),
     }
 }
 

@@ -1,11 +1,12 @@
-//! Serves TCP, as the command line says.
+//! Serves those who connect, as the command line says.
 ghost use Rattle.mc_sizes.specs.Sizes.{AreWithin};
 
 use crate::files::tell_files;
+use crate::places::{Opened, Places, refuse_place};
 use crate::refuse;
+use crate::start::{tell_start, tell_warnings};
 use crate::version::VERSION;
-use libc::net::listen as listen_again;
-use mc_metrics::{NotWatching, Wishes, start_watching};
+use mc_metrics::{Ended, NotWatching, Wishes, start_watching};
 use mc_serve::{ServeRefusal, serve_tcp};
 use mc_server::MachineClock;
 use mc_sizes::Sizes;
@@ -13,19 +14,14 @@ use std::alloc::Global;
 use std::fs::File;
 use std::io::Eprint;
 use std::net::{Net, TcpListener, TcpStream};
-use std::os::fd::AsRawFd;
 use std::process::ExitCode;
 use std::random::RandomSource;
 use std::rt::Files;
 use std::sync::Wait;
 use std::thread::Threads;
-use std::{io, time};
+use std::time;
 
-/// The most connections that wait in the system's queue until they are accepted. The system has a limit of its own
-/// (net.core.somaxconn).
-const QUEUE: i32 = 4_096;
-
-/// Listens on the address, and serves who connects; the status with which the program ends.
+/// Listens at the places, and serves who connects; the status with which the program ends.
 pub fn listen<
     R: Threads
         + Wait
@@ -39,45 +35,54 @@ pub fn listen<
         + Send
         + Drop
         + 'static,
->(rt: &R, address: &str, connections: Option<u64>, sizes: Sizes, wishes: Wishes<'_>) -> ExitCode
+>(
+    rt: &R,
+    places: Places<'_>,
+    connections: Option<u64>,
+    sizes: Sizes,
+    wishes: Wishes<'_>,
+) -> ExitCode
     requires { AreWithin sizes }
 {
-    let (listener, port) = match open(rt, address) {
+    let Opened {
+        listeners,
+        names,
+        port,
+    } = match Opened::at(rt, places) {
         Ok(opened) => opened,
-        Err(error) => return refuse_address(rt, "listen", address, &error),
+        Err(status) => return status,
     };
-    tell_files(rt, sizes.seats, sizes.shards);
     let (watch, watching) = match start_watching(rt, VERSION, port, sizes, wishes) {
         Ok(begun) => begun,
         Err(fault) => return refuse_watching(rt, fault, sizes.shards, wishes.metrics),
     };
-    let ended = serve_tcp(
+    tell_start(rt, &sizes, names.as_str());
+    tell_files(rt, sizes.seats, sizes.shards, listeners.len());
+    tell_warnings(rt, &sizes);
+    let served = serve_tcp(
         rt,
         rt.alloc(),
-        listener,
+        listeners,
         sizes,
         connections,
-        MachineClock(*rt),
+        MachineClock::start(*rt),
         watch,
     );
-    watching.end(rt);
-    match ended {
-        Ok(_) => ExitCode::SUCCESS,
+    let ended = watching.end(rt);
+    match served {
+        Ok(_) => report_end(rt, ended),
         Err(refusal) => refuse_serving(rt, refusal, sizes.shards),
     }
 }
 
-/// Listens on the address, and tells so; with the port.
-fn open<R: Net<Listener = TcpListener, Stream = TcpStream> + Eprint>(
-    rt: &R,
-    address: &str,
-) -> io::Result<(TcpListener, u16)> {
-    let listener = TcpListener::bind(rt, address)?;
-    let local = listener.local_addr()?;
-    // Where this fails fewer wait there: 128.
-    let _ = listen_again(listener.as_raw_fd(), QUEUE);
-    let _ = eprintln!(rt; "listening {local}");
-    Ok((listener, local.port()))
+/// Reports that a signal ended the server, where one did; the status with which the program ends.
+fn report_end(rt: &impl Eprint, ended: Ended) -> ExitCode {
+    let _ = match ended {
+        Ended::Unasked => Ok(()),
+        Ended::InOrder => eprintln!(rt; "mcd: ended by a signal, all replies written"),
+        Ended::Cut => eprintln!(rt; "mcd: ended by a signal, connections cut off (--drain)"),
+    };
+    ExitCode::SUCCESS
 }
 
 /// Tells why nothing is watched; the status with which the program ends.
@@ -90,7 +95,7 @@ fn refuse_watching(
     match fault {
         NotWatching::Memory => refuse(rt, "out of memory"),
         NotWatching::Thread => refuse_threads(rt, shards),
-        NotWatching::Metrics(error) => refuse_address(rt, "metrics", metrics.unwrap_or(""), &error),
+        NotWatching::Metrics(error) => refuse_place(rt, "metrics", metrics.unwrap_or(""), &error),
     }
 }
 
@@ -101,13 +106,6 @@ fn refuse_serving(rt: &impl Eprint, refusal: ServeRefusal, shards: usize) -> Exi
         ServeRefusal::Thread => refuse_threads(rt, shards),
         ServeRefusal::Bind => refuse(rt, "cannot listen"),
     }
-}
-
-/// Tells why there is no listening on the address that an option gives; the status with which the program ends.
-fn refuse_address(rt: &impl Eprint, option: &str, address: &str, error: &io::Error) -> ExitCode {
-    let status = refuse(rt, "cannot listen");
-    let _ = eprintln!(rt; "mcd: --{option} {address}: {error}");
-    status
 }
 
 /// Tells how many threads the options ask for, where they can't be started; the status with which the program ends.

@@ -103,7 +103,7 @@ abbrev pub arithmetic_by : Rules → List ℕ → FlagsRead → MetaArithmetic
 arithmetic_by rules key asked = record {
   asked = record {
     key = key;
-    compare = asked.compare;
+    compare = compare_by rules mode.Append asked.compare;
     unique = asked.unique;
     direction = unwrap_or asked.direction Increment;
     amount = unwrap_or asked.amount 1;

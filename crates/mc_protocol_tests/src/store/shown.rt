@@ -64,7 +64,7 @@ fn stats_text(alloc: Global, stats: &Stats) -> Result<String, AllocError> {
     let get = counted_text(alloc, "get", &stats.tally, CountedAs::Get)?;
     let set = counted_text(alloc, "set", &stats.tally, CountedAs::Set)?;
     let touch = counted_text(alloc, "touch", &stats.tally, CountedAs::Touch)?;
-    let own = counted_text(alloc, "stats", &stats.tally, CountedAs::Stats)?;
+    let own = counted_text(alloc, "other", &stats.tally, CountedAs::Other)?;
     format!(in alloc;
         "{get} {set} {touch} {own} n{} b{} of {} e{}",
         stats.items, stats.bytes, stats.budget, stats.evicted

@@ -1,5 +1,5 @@
 -- What stands between a line and its connection while the line is served.
-use Rattle.std.specs.Prelude.{ℕ, ◌≡◌, ◌≤◌, Bool, true, List, [], ◌++◌, length, take}
+use Rattle.std.specs.Prelude.{ℕ, ◌≡◌, ◌≤◌, Bool, true, false, List, [], ◌++◌, length, take}
 use Rattle.std.specs.List.{AllByRecursion, concat}
 use Rattle.mc_wire.specs.Outlet.{with_bytes}
 use Rattle.mc_conn.specs.History.{Taken}
@@ -14,6 +14,7 @@ use Rattle.mc_command.specs.declared.rules.Rules.{Rules}
 pub record GaveAndTook (rules : Rules) (fits : Type 0) (begin now : Sight) (unread fed : List ℕ) (ended : Bool) (taken : List Taken) (texts : List (List ℕ)) : Type 0 where
   pub read_is : now.given ≡ with_bytes begin.given (fed ++ unread)
   pub ended_is : ended ≡ true → (now.ended ≡ true) × (unread ≡ [])
+  pub open_is : ended ≡ false → now.ended ≡ true → begin.ended ≡ true
   pub taken_is : now.taken ≡ with_bytes begin.taken (concat texts)
   pub counted : length texts ≤ length taken
   pub reads : List Read

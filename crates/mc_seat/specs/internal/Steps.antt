@@ -1,5 +1,5 @@
 -- The steps of a seat, by what its connection was told.
-use Rattle.std.specs.Prelude.{ℕ, ◌≡◌, Bool, true, false, List, length}
+use Rattle.std.specs.Prelude.{ℕ, ◌≡◌, ◌≤◌, Bool, true, false, List, length}
 use Rattle.mc_conn.specs.declared.conn.Conn.{Conn}
 use Rattle.mc_conn.specs.declared.conn.Taken.{Taken as Took}
 use Rattle.mc_conn.specs.declared.conn.Taken.TheVariants as took
@@ -16,9 +16,9 @@ use Rattle.mc_seat.specs.Story.{Story}
 
 -- why no further command was taken
 abbrev pub StopsAt : Took → Told → Type 0
-StopsAt (took.Opened ticket) told = Unit {0}
+StopsAt (took.Opened ticket) told = ⊥
 StopsAt took.NeedMore told = IsAllTaken told × (told.ended ≡ false)
-StopsAt took.Full told = Unit {0}
+StopsAt took.Full told = told.window ≤ length told.taken
 StopsAt took.Closed told = IsOver told
 
 -- what is told once the replies whose turn has come are handed out
@@ -57,7 +57,7 @@ TurnSays Failed received begin now told conn unread = IsServed received begin no
 abbrev pub HandedSays : AfterTurn → Took → Conn → List ℕ → Sight → Conn → List ℕ → Sight → Type 0
 HandedSays turn stop old unread before new left now =
     (received : ℕ → List Shown) (begin : Sight) (told : Told) →
-    IsConn old (all_handed told) → Serving received begin before unread (all_handed told) → told.broken ≡ false → StopsAt stop told →
+    IsConn old (all_handed told) → Serving received begin before unread (all_handed told) → told.broken ≡ false → StopsAt stop (all_handed told) →
     IsComplete received told →
     TurnSays turn received begin now told new left
 

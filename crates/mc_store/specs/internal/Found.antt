@@ -1,9 +1,11 @@
 -- What the parts of a step find out.
-use Rattle.std.specs.Prelude.{ℕ, ◌+◌, ◌^◌, nat_lt, Bool, true, false, Option, Some, None, if◌then◌else◌}
+use Rattle.std.specs.Prelude.{ℕ, ◌+◌, ◌^◌, nat_lt, Bool, true, false, ◌&&◌, List, Option, Some, None, is_none, if◌then◌else◌}
 use Rattle.mc_item.specs.declared.item.Item.{Item}
+use Rattle.mc_item.specs.declared.item.Expiry.{Expiry}
 use Rattle.mc_command.specs.declared.command.StoreMode.{StoreMode}
 use Rattle.mc_command.specs.declared.command.StoreMode.TheVariants.{Set, Add, Replace, Append, Prepend}
 use Rattle.mc_item.specs.Expiry.{is_dead}
+use Rattle.mc_store.specs.State.{expires}
 
 -- an item that is dead counts as none
 abbrev pub live : ℕ → Option Item → Option Item
@@ -36,3 +38,7 @@ unique_for None next = if nat_lt next (2 ^ 64) then Some next else None
 abbrev pub given_after : Option ℕ → ℕ → ℕ
 given_after (Some token) given = given
 given_after None given = given + 1
+
+-- the key for the turn of an item with this expiry; none where it never dies, and where a client gives its unique
+abbrev pub turn_of : Option ℕ → List ℕ → Expiry → Option (List ℕ)
+turn_of token key expiry = if is_none token && expires expiry then Some key else None

@@ -5,7 +5,7 @@ use Rattle.mc_item.specs.declared.answer.Answer.{Answer}
 use Rattle.mc_item.specs.declared.answer.Answer.TheVariants.{NoMemory}
 use Rattle.mc_item.specs.Kind.{key_of}
 use Rattle.mc_store.specs.declared.shard.Shard.{Shard}
-use Rattle.mc_store.specs.State.{State, settle, without_dead}
+use Rattle.mc_store.specs.State.{State, without_dead}
 use Rattle.mc_store.specs.Step.{Outcome, Answers}
 use Rattle.mc_store.specs.Shard.{IsShard}
 
@@ -23,12 +23,7 @@ abbrev pub answered : {A : Type 0} → (A → Answer) → Result A Answer → An
 answered reply (Ok done) = reply done
 answered reply (Err answer) = answer
 
--- The shard did the operation.
+-- The shard did the operation, and is still to count it.
 abbrev pub Acts : Shard → Op → Answer → Shard → Type 0
 Acts old op answer new =
     (state : State) → IsShard old state → (after : State) × Answers (without_dead state (key_of op)) op answer after × IsShard new after
-
--- The shard did the operation at the moment, and is still to count it.
-abbrev pub Handles : Shard → Op → ℕ → Answer → Shard → Type 0
-Handles old op moment answer new =
-    (state : State) → IsShard old state → (after : State) × Answers (settle state (key_of op) moment) op answer after × IsShard new after

@@ -5,7 +5,7 @@ ghost use Rattle.mc_item.specs.declared.answer.Answer.{Answer as TheAnswer};
 ghost use Rattle.mc_item.specs.declared.answer.MetaDone.{MetaDone as TheDone};
 ghost use Rattle.mc_item.specs.Kind.{is_lawful};
 ghost use Rattle.mc_item.specs.declared.op.Op.TheVariants as op;
-ghost use Rattle.mc_store.specs.Step.{counted};
+ghost use Rattle.mc_store.specs.Step.{new_number};
 
 use crate::items::is_other;
 use crate::shard::{Shard, fresh_item};
@@ -16,7 +16,7 @@ use std::alloc::Global;
 
 /// The number after it was counted: it grows modulo 2^64, and falls to 0 at least.
 fn counted(direction: Direction, number: u64, amount: u64) -> u64
-    ensures { result ≡ counted direction number amount }
+    ensures { result ≡ new_number direction number amount }
 {
     match direction {
         Direction::Increment => number.wrapping_add(amount),

@@ -1,16 +1,9 @@
 -- The call is the one that is given, or the first thing that is wrong with it is told.
-use Rattle.std.proofs.Common.{◌≡◌, ℕ, List, Option, Some, None, Bor, option_map, ap, sym, ◌∙◌}
-use Rattle.std.specs.Prelude.{unwrap_or}
+use Rattle.std.proofs.Common.{option_map, ap, sym, ◌∙◌}
 use Rattle.clap.proofs.TakesLemmas.{passed_up}
 use Rattle.mc_options.specs.Wrong.{NotOfTcp}
 use Rattle.mc_options.proofs.Behind.{start, step}
 use Rattle.mc_options.proofs.options.listen_in.Goals as goal
-
--- the text is that of what is found, or the other
-text_is : (found : Option (Bor (List ℕ))) (other text : Bor (List ℕ)) (said : Option (List ℕ)) → text ≡ unwrap_or found other → option_map (λ word. word.now) found ≡ said
-    → text.now ≡ unwrap_or said other.now
-text_is None other text said is same = ap (λ (word : Bor (List ℕ)). word.now) is ∙ ap (λ (word : Option (List ℕ)). unwrap_or word other.now) same
-text_is (Some found) other text said is same = ap (λ (word : Bor (List ℕ)). word.now) is ∙ ap (λ (word : Option (List ℕ)). unwrap_or word other.now) same
 
 pub returns-in-Some-clause-refused : goal.returns-in-Some-clause-refused
 returns-in-Some-clause-refused c = (tt, start NotOfTcp _ _ _ (sym c.first_given.ensures ∙ ap (option_map (λ name. name.now)) c.in-Some.is))
@@ -35,6 +28,16 @@ returns-in_err-idle_timeout-clause-refused c =
       start NotOfTcp _ _ _ none ∙ (step _ _ _ c.in_ok-seats.ensures.given ∙ (step _ _ _ c.in_ok-connections.ensures.given ∙ step _ _ _ c.in_err-idle_timeout.ensures.refused.1)),
     )
 
+pub returns-in_err-drain-clause-refused : goal.returns-in_err-drain-clause-refused
+returns-in_err-drain-clause-refused c =
+    let none = sym c.first_given.ensures ∙ ap (option_map (λ name. name.now)) c.in_default.is in
+    passed_up c.from_residual-in_err-drain.result c.in_err-drain.field-0.0 _ c.from_residual-in_err-drain.ensures.1 (
+      c.in_err-drain.ensures.refused.0,
+      start NotOfTcp _ _ _ none
+          ∙ (step _ _ _ c.in_ok-seats.ensures.given
+          ∙ (step _ _ _ c.in_ok-connections.ensures.given ∙ (step _ _ _ c.in_ok-idle_timeout.ensures.given ∙ step _ _ _ c.in_err-drain.ensures.refused.1))),
+    )
+
 pub returns-in_err-sizes-clause-refused : goal.returns-in_err-sizes-clause-refused
 returns-in_err-sizes-clause-refused c =
     let none = sym c.first_given.ensures ∙ ap (option_map (λ name. name.now)) c.in_default.is in
@@ -42,17 +45,44 @@ returns-in_err-sizes-clause-refused c =
       c.in_err-sizes.ensures.refused.0,
       start NotOfTcp _ _ _ none
           ∙ (step _ _ _ c.in_ok-seats.ensures.given
-          ∙ (step _ _ _ c.in_ok-connections.ensures.given ∙ (step _ _ _ c.in_ok-idle_timeout.ensures.given ∙ step _ _ _ c.in_err-sizes.ensures.refused.1))),
+          ∙ (step _ _ _ c.in_ok-connections.ensures.given ∙ (step _ _ _ c.in_ok-idle_timeout.ensures.given ∙ (step _ _ _ c.in_ok-drain.ensures.given ∙ step _ _ _ c.in_err-sizes.ensures.refused.1)))),
+    )
+
+pub returns-in_err-port-clause-refused : goal.returns-in_err-port-clause-refused
+returns-in_err-port-clause-refused c =
+    let none = sym c.first_given.ensures ∙ ap (option_map (λ name. name.now)) c.in_default.is in
+    passed_up c.from_residual-in_err-port.result c.in_err-port.field-0.0 _ c.from_residual-in_err-port.ensures.1 (
+      c.in_err-port.ensures.refused.0,
+      start NotOfTcp _ _ _ none
+          ∙ (step _ _ _ c.in_ok-seats.ensures.given
+          ∙ (step _ _ _ c.in_ok-connections.ensures.given
+          ∙ (step _ _ _ c.in_ok-idle_timeout.ensures.given
+          ∙ (step _ _ _ c.in_ok-drain.ensures.given ∙ (step _ _ _ c.in_ok-sizes.ensures.given ∙ step _ _ _ c.in_err-port.ensures.refused.1))))),
+    )
+
+pub returns-in_err-mode-clause-refused : goal.returns-in_err-mode-clause-refused
+returns-in_err-mode-clause-refused c =
+    let none = sym c.first_given.ensures ∙ ap (option_map (λ name. name.now)) c.in_default.is in
+    passed_up c.from_residual-in_err-mode.result c.in_err-mode.field-0.0 _ c.from_residual-in_err-mode.ensures.1 (
+      c.in_err-mode.ensures.refused.0,
+      start NotOfTcp _ _ _ none
+          ∙ (step _ _ _ c.in_ok-seats.ensures.given
+          ∙ (step _ _ _ c.in_ok-connections.ensures.given
+          ∙ (step _ _ _ c.in_ok-idle_timeout.ensures.given
+          ∙ (step _ _ _ c.in_ok-drain.ensures.given
+          ∙ (step _ _ _ c.in_ok-sizes.ensures.given ∙ (step _ _ _ c.in_ok-port.ensures.given ∙ step _ _ _ c.in_err-mode.ensures.refused.1)))))),
     )
 
 pub returns-clause-given : goal.returns-clause-given
 returns-clause-given c =
     let none = sym c.first_given.ensures ∙ ap (option_map (λ name. name.now)) c.in_default.is in
-    let address = text_is c.get_str.result _ _ _ c.unwrap_or-address.ensures c.get_str.ensures in
-    rw (address, c.is_flag.ensures, c.get_str-2.ensures)
+    rw (c.get_str.ensures, c.is_flag.ensures, c.get_str-2.ensures, c.is_flag-2.ensures, c.is_one_ignored.ensures)
     (start NotOfTcp _ _ _ none
     ∙ (step _ _ _ c.in_ok-seats.ensures.given
-    ∙ (step _ _ _ c.in_ok-connections.ensures.given ∙ (step _ _ _ c.in_ok-idle_timeout.ensures.given ∙ step _ _ _ c.in_ok-sizes.ensures.given))))
+    ∙ (step _ _ _ c.in_ok-connections.ensures.given
+    ∙ (step _ _ _ c.in_ok-idle_timeout.ensures.given
+    ∙ (step _ _ _ c.in_ok-drain.ensures.given
+    ∙ (step _ _ _ c.in_ok-sizes.ensures.given ∙ (step _ _ _ c.in_ok-port.ensures.given ∙ step _ _ _ c.in_ok-mode.ensures.given)))))))
 
 pub returns-clause-within : goal.returns-clause-within
 returns-clause-within c = c.in_ok-sizes.ensures.within

@@ -7,5 +7,5 @@ use Rattle.mc_options.proofs.program.with_options.Given as goal
 
 abbrev pub invariant-loop-option : goal.invariant-loop-option
 invariant-loop-option l =
-    with_rules (app_of l.more) (map (λ told. told_rule told.0.now told.1.now) (drop l.option-index l.options))
-    ≡ with_rules (app_of l.fn.program) (map (λ told. told_rule told.0.now told.1.now) l.options)
+    with_rules (app_of l.more) (map (λ told. told_rule told.0.now told.1 told.2.now) (drop l.option-index l.options))
+    ≡ with_rules (app_of l.fn.program) (map (λ told. told_rule told.0.now told.1 told.2.now) l.options)

@@ -21,7 +21,7 @@ loop-preserved-in-Did g c =
     let answered = answers_stop _ _ _ _ _ c.answer.new.conn _ _ c.answer.ensures c.loop.invariant.2 in (
       tt,
       tt,
-      turns_go _ _ _ _ _ _ c.go_on.new.self _ answered (turn_said _ _ _ _ _ _ c.go_on.new.self _ Did answered c.in-Did.ensures),
+      turns_go _ _ _ _ _ _ c.go_on.new.self _ answered (turn_said _ _ _ _ _ _ c.go_on.new.self _ Did answered c.in-Did.ensures.says),
     )
 
 pub loop-preserved : goal.loop-preserved
@@ -29,11 +29,11 @@ loop-preserved g c =
     let answered = answers_stop _ _ _ _ _ c.answer.new.conn _ _ c.answer.ensures c.loop.invariant.2 in (
       tt,
       tt,
-      turns_go _ _ _ _ _ _ c.go_on.new.self _ answered (turn_said _ _ _ _ _ _ c.go_on.new.self _ Waits answered c.in-Waits.ensures),
+      turns_go _ _ _ _ _ _ c.go_on.new.self _ answered (turn_said _ _ _ _ _ _ c.go_on.new.self _ Waits answered c.in-Waits.ensures.says),
     )
 
 pub returns-in-Ended : goal.returns-in-Ended
 returns-in-Ended g c =
     let answered = answers_stop _ _ _ _ _ c.answer.new.conn _ _ c.answer.ensures c.loop.invariant.2 in
     let served = c.in-Ended.served in
-    record { explained = turn_ends _ _ _ _ _ _ c.go_on.new.self _ served.commands served.broke answered (turn_said _ _ _ _ _ _ c.go_on.new.self _ (Ended served) answered c.in-Ended.ensures); refused = tt }
+    record { explained = turn_ends _ _ _ _ _ _ c.go_on.new.self _ served.commands served.broke answered (turn_said _ _ _ _ _ _ c.go_on.new.self _ (Ended served) answered c.in-Ended.ensures.says); refused = tt }

@@ -7,6 +7,6 @@ use Rattle.mc_doors.proofs.tcp_line.TcpLineLine.read.Given as goal
 abbrev pub invariant-loop : goal.invariant-loop
 invariant-loop g l = record {
   sight : sight_of l.self ≡ sight_of l.initial.self;
-  stream : Keeps (g.S.Read.remaining l.initial.self.stream) (g.S.Read.remaining l.self.stream);
+  stream : Keeps (g.S.Stream.remaining l.initial.self.tap.stream) (g.S.Stream.remaining l.self.tap.stream);
   room : length l.room ≡ length l.initial.room;
 }

@@ -7,5 +7,5 @@ use Rattle.mc_doors.proofs.tcp_line.TcpLineOutlet.write.Given as goal
 abbrev pub invariant-loop : goal.invariant-loop
 invariant-loop g l = record {
   sight : sight_of l.self ≡ sight_of l.initial.self;
-  stream : Keeps (g.S.Write.contents l.initial.self.stream) (g.S.Write.contents l.self.stream);
+  stream : Keeps (g.S.Stream.contents l.initial.self.tap.stream) (g.S.Stream.contents l.self.tap.stream);
 }

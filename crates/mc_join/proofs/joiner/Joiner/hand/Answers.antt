@@ -1,6 +1,6 @@
 use Rattle.std.proofs.Common.{refl, ap, ◌∙◌, length, length-drop, arith}
 use Rattle.mc_join.specs.Replies.{complete}
-use Rattle.mc_join.proofs.Joins.{due_unhanded, join_hand, none_complete}
+use Rattle.mc_join.proofs.Joins.{due_unhanded, join_hand, join_none, none_complete, owes_some}
 use Rattle.mc_join.proofs.Queues.{numbered_drop}
 use Rattle.mc_join.proofs.joiner.Joiner.hand.Goals as goal
 
@@ -26,3 +26,14 @@ returns-clause-none_left g c =
 pub returns-clause-joined : goal.returns-clause-joined
 returns-clause-joined g c =
     rw (← c.self.view_is) (λ _. join_hand _ _ c.count_complete-count.result c.count_complete-count.ensures.count refl c.drop_first.ensures.items)
+
+pub returns-then-count-eq0-clause-turn : goal.returns-then-count-eq0-clause-turn
+returns-then-count-eq0-clause-turn g c = λ opened accepted handed there. due_unhanded c.args.self.now there opened accepted handed
+
+pub returns-then-count-eq0-clause-joined : goal.returns-then-count-eq0-clause-joined
+returns-then-count-eq0-clause-joined g c =
+    rw (← c.self.view_is) (λ _. join_none _ c.count_complete-count.result c.count_complete-count.ensures.count c.if-count-eq0.true)
+
+pub returns-in-Err-clause-owed : goal.returns-in-Err-clause-owed
+returns-in-Err-clause-owed g c =
+    rw (← c.self.view_is) (owes_some _ c.count_complete-count.result c.count_complete-count.ensures.count c.if-count-eq0.false)

@@ -9,4 +9,4 @@ use Rattle.mc_seat.proofs.service.Service.take_all.Given as goal
 
 abbrev pub invariant-loop : goal.invariant-loop
 invariant-loop g l =
-    (received : ℕ → List Shown) (begin now : Sight) (told : Told) → IsServing received (g.K.Clock.may_answer l.fn.clock) begin now told l.fn.self → TakesSome received (g.K.Clock.may_answer l.fn.clock) begin now told l.self
+    (received : ℕ → List Shown) (begin now : Sight) (told : Told) → IsServing received (g.K.Clock.may_answer l.fn.clock) begin now told l.fn.self → TakesSome received (g.K.Clock.may_answer l.fn.clock) begin now told l.counter l.self

@@ -1,12 +1,14 @@
 -- The line took the first bytes of what waits, or what stands behind the front becomes the front.
-use Rattle.std.proofs.Common.{◌≡◌, ℕ, ◌≤◌, List, [], ◌++◌, take, drop, sym, ap, subst, ◌∙◌, arith}
+use Rattle.std.proofs.Common.{◌≡◌, ℕ, ◌≤◌, List, [], ◌++◌, OnErr, Result, Ok, Err, take, drop, sym, ap, subst, ◌∙◌, arith}
+use Rattle.std.specs.Result.{IsErr}
 use Rattle.std.proofs.lemmas.List.{nil_from_length, take-append-drop}
 use Rattle.mc_wire.specs.Outlet.{Sight, took}
 use Rattle.mc_wire.proofs.Outlets.{took-append}
-use Rattle.mc_join.specs.internal.Gathered.{told}
-use Rattle.mc_join.proofs.Gatherings.{told-grows}
 use Rattle.mc_seat.specs.Chunks.{bytes_of}
 use Rattle.mc_seat.specs.Later.{behind, text_in}
+use Rattle.mc_seat.specs.Lines.{told}
+use Rattle.mc_seat.proofs.Traces.{told-grows}
+use Rattle.mc_seat.proofs.Pieces.{some_waits}
 use Rattle.mc_seat.proofs.unwritten.Unwritten.flush.Goals as goal
 use Rattle.mc_seat.proofs.unwritten.Unwritten.flush.Goals.{then-not-is_empty+in_ok-count+else-count-eq0, else-not-is_empty+else-is_last}
 
@@ -38,3 +40,13 @@ loop-preserved g c = elim c.if-not-is_empty.branch [
       let same : text_in w.go_on.new.self ≡ text_in c.loop.self = w.go_on.ensures.text ∙ sym (ap (λ xs. xs ++ behind c.loop.self) none) in
       rw (w.self-is, w.line-is) (ap (λ bytes. took bytes (g.L.Outlet.sight c.loop.line)) same ∙ c.loop.invariant.0, c.loop.invariant.1)
 ]
+
+-- of a fault this is known
+at_fault : {X E : Type 0} (result : Result X E) (Known : Type 0) → IsErr result → Known → OnErr result Known
+at_fault (Ok done) Known failed known = tt
+at_fault (Err fault) Known failed known = known
+
+pub returns-in_err-count-clause-some : goal.returns-in_err-count-clause-some
+returns-in_err-count-clause-some g c =
+    let waits = c.loop.self in
+    at_fault c.from_residual.result _ c.from_residual.ensures.0 (some_waits (drop waits.sent (bytes_of waits.front)) _ (behind waits) c.rest.ensures c.if-not-is_empty.ensures)

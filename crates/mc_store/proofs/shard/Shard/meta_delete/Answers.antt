@@ -32,5 +32,5 @@ unfolding IsShard key_of
 returns-clause-acts c = λ state h.
     let mark : c.args.asked.now.invalidate ≡ true = c.if-not-asked.false in
     let there = (live_item c.args.self.now.time _ c.in-Some.item.now c.in-Some.ensures).0 in
-    rw (c.count_given.ensures, c.mark_stale.ensures c.in-Some.item.now there, c.expiry_from-expiry.ensures)
+    rw (c.count_given.ensures.held, c.mark_stale.ensures c.in-Some.item.now there, c.expiry_from-expiry.ensures)
     (stale_done (held_of c.args.self.now) state c.args.asked.now c.in-Some.item.now c.in-Some-unique_for.unique h c.in-Some.ensures (sym c.if-is_other.ensures) mark c.in-Some-unique_for.ensures.unique)

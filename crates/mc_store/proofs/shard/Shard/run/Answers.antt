@@ -1,15 +1,26 @@
-use Rattle.std.proofs.Common.{refl}
-use Rattle.mc_store.specs.Step.{IsStep, noted_in}
+use Rattle.std.specs.Prelude.{◌==◌}
+use Rattle.std.proofs.Common.{◌≡◌, refl}
+use Rattle.mc_item.specs.Kind.{key_of}
+use Rattle.mc_item.specs.Tally.{counting_of}
+use Rattle.mc_store.specs.State.{arrived, settle}
+use Rattle.mc_store.specs.Step.{IsStep, makes, noted_in}
 use Rattle.mc_store.specs.Shard.{IsShard, held_of}
-use Rattle.mc_store.proofs.Stats.{noted_keeps}
+use Rattle.mc_store.proofs.Stats.{noted_keeps, settled_index}
 use Rattle.mc_store.proofs.shard.Shard.run.Goals as goal
 
 pub returns-clause-step : goal.returns-clause-step
 unfolding IsShard IsStep
 returns-clause-step c = λ state h.
-    let done = c.answer-answer.ensures.handles state h in
-    let after = noted_in done.0 c.args.op c.answer-answer.result in (
+    let now = arrived state c.args.moment in
+    let there = c.arrive.ensures state h in
+    let settled = settle state (key_of c.args.op) c.args.moment in
+    let done = c.answer-answer.ensures.acts now there in
+    let first : (settled.index == 0) ≡ (c.arrive.new.self.index == 0) = rw (settled_index now (key_of c.args.op), there.index) refl in
+    let counting : c.of-counting.result ≡ counting_of (settled.index == 0) (makes settled c.args.op) c.args.op =
+    rw (first, ← c.makes.ensures now there) c.of-counting.ensures in
+    let after = noted_in settled done.0 c.args.op c.answer-answer.result in (
       after,
       (done.0, done.1, refl),
-      rw (c.note.ensures, c.of-asked.ensures, c.of.ensures) (noted_keeps (held_of c.answer-answer.new.self) done.0 c.args.op c.answer-answer.result done.2),
+      rw (c.count_in.ensures, c.of.ensures)
+          (noted_keeps (held_of c.answer-answer.new.self) settled done.0 c.args.op c.answer-answer.result c.of-counting.result counting done.2),
     )

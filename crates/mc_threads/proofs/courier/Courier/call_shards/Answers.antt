@@ -14,6 +14,7 @@ loop-shard-preserved c = elim c.if-index-gt0.branch [
     ends = c.loop-shard.invariant.ends;
     under_way = c.loop-shard.invariant.under_way;
     blocked = c.loop-shard.invariant.blocked;
+    places = c.loop-shard.invariant.places;
     last = c.loop-shard.invariant.last;
   })
   | else-index-gt0 w ↦ rw w.self-is (record {
@@ -28,6 +29,7 @@ loop-shard-preserved c = elim c.if-index-gt0.branch [
     ends = c.loop-shard.invariant.ends;
     under_way = c.loop-shard.invariant.under_way;
     blocked = c.loop-shard.invariant.blocked;
+    places = c.loop-shard.invariant.places;
     last = c.loop-shard.invariant.last;
   })
 ]

@@ -10,5 +10,6 @@ invariant-loop-shard l = record {
   ends : l.self.ends ≡ l.fn.self.ends;
   under_way : l.self.under_way ≡ l.fn.self.under_way;
   blocked : l.self.blocked ≡ l.fn.self.blocked;
+  places : l.self.places ≡ l.fn.self.places;
   last : l.shard-end ≡ length l.fn.self.under_way.items;
 }

@@ -29,6 +29,7 @@ pub invariant_of-self : goal.invariant_of-self
 invariant_of-self c = record {
   each_shard = c.args.self.now.each_shard ∙ sym c.send.ensures.same.count;
   all_called = c.args.self.now.all_called;
+  in_credit = c.args.self.now.in_credit;
 }
 
 pub returns-clause-ended : goal.returns-clause-ended

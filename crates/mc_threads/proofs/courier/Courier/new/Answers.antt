@@ -1,6 +1,7 @@
 -- At the beginning no reply is awaited of any shard.
 use Rattle.std.proofs.Common.{◌∙◌, ℕ, zero, suc, ◌≡◌, List, refl, sym, arith, replicate}
 use Rattle.mc_ring.proofs.Lists.{all_at}
+use Rattle.mc_threads.proofs.Credit.{within_idle}
 use Rattle.mc_threads.specs.Serving.{AreCalled, IsIdle}
 use Rattle.mc_threads.proofs.courier.Courier.new.Goals as goal
 
@@ -21,4 +22,5 @@ pub invariant_of-result : goal.invariant_of-result
 invariant_of-result c = record {
   each_shard = sym c.in_ok-under_way.under_way.ok.0 ∙ (c.in_ok-under_way.ensures.len ∙ c.shards.ensures);
   all_called = λ off. none_awaited _ c.in_ok-under_way.under_way.items (rw (c.in_ok-under_way.ensures.items_if_clones_equal (λ y same. same)) (all_idle c.shards.result));
+  in_credit = within_idle c.args.places c.in_ok-under_way.under_way.items (rw (c.in_ok-under_way.ensures.items_if_clones_equal (λ y same. same)) (all_idle c.shards.result));
 }

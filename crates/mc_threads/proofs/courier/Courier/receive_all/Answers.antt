@@ -5,7 +5,7 @@ use Rattle.mc_threads.proofs.Carrying.{may_still, stays_more, stays_refl}
 use Rattle.mc_threads.proofs.courier.Courier.receive_all.Goals as goal
 
 pub loop-shard-init : goal.loop-shard-init
-loop-shard-init c = record { goes = stays_refl c.args.self.now.ends c.args.self.now.under_way.items c.args.conn.now; blocked = refl; called = refl; same = refl; last = search rules }
+loop-shard-init c = record { goes = stays_refl c.args.self.now.ends c.args.self.now.under_way.items c.args.conn.now; blocked = refl; called = refl; same = refl; places = refl; last = search rules }
 
 pub receive_from-requires : goal.receive_from-requires
 receive_from-requires c = record {
@@ -19,5 +19,6 @@ loop-shard-preserved c = record {
   blocked = c.receive_from.ensures.blocked ∙ c.loop-shard.invariant.blocked;
   called = c.receive_from.ensures.called ∙ c.loop-shard.invariant.called;
   same = c.receive_from.ensures.same ∙ c.loop-shard.invariant.same;
+  places = c.receive_from.ensures.places ∙ c.loop-shard.invariant.places;
   last = c.loop-shard.invariant.last;
 }

@@ -9,5 +9,6 @@ invariant-loop-shard l = record {
   blocked : l.self.blocked ≡ l.fn.self.blocked;
   called : l.self.uncalled ≡ l.fn.self.uncalled;
   same : length l.self.under_way.items ≡ length l.fn.self.under_way.items;
+  places : l.self.places ≡ l.fn.self.places;
   last : l.shard-end ≡ length l.fn.self.under_way.items;
 }

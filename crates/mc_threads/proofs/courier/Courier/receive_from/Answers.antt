@@ -5,7 +5,7 @@ use Rattle.mc_threads.proofs.Carrying.{may_still, stays_more, stays_refl}
 use Rattle.mc_threads.proofs.courier.Courier.receive_from.Goals as goal
 
 pub loop-init : goal.loop-init
-loop-init c = record { goes = stays_refl c.args.self.now.ends c.args.self.now.under_way.items c.args.conn.now; blocked = refl; called = refl; same = refl }
+loop-init c = record { goes = stays_refl c.args.self.now.ends c.args.self.now.under_way.items c.args.conn.now; blocked = refl; called = refl; same = refl; places = refl }
 
 pub receive_next-requires : goal.receive_next-requires
 receive_next-requires c = record {
@@ -19,6 +19,7 @@ returns-then-not-receive_next c = record {
   blocked = c.receive_next.ensures.blocked ∙ c.loop.invariant.blocked;
   called = c.receive_next.ensures.called ∙ c.loop.invariant.called;
   same = c.receive_next.ensures.same ∙ c.loop.invariant.same;
+  places = c.receive_next.ensures.places ∙ c.loop.invariant.places;
 }
 
 pub loop-preserved : goal.loop-preserved
@@ -27,4 +28,5 @@ loop-preserved c = record {
   blocked = c.receive_next.ensures.blocked ∙ c.loop.invariant.blocked;
   called = c.receive_next.ensures.called ∙ c.loop.invariant.called;
   same = c.receive_next.ensures.same ∙ c.loop.invariant.same;
+  places = c.receive_next.ensures.places ∙ c.loop.invariant.places;
 }

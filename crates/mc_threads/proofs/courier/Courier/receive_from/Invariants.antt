@@ -9,4 +9,5 @@ invariant-loop l = record {
   blocked : l.self.blocked ≡ l.fn.self.blocked;
   called : l.self.uncalled ≡ l.fn.self.uncalled;
   same : length l.self.under_way.items ≡ length l.fn.self.under_way.items;
+  places : l.self.places ≡ l.fn.self.places;
 }

@@ -2,6 +2,7 @@
 use Rattle.std.proofs.Common.{◌≡◌, ◌+◌, length, refl, arith}
 use Rattle.std.proofs.lemmas.Option.{slice_get_read}
 use Rattle.mc_threads.proofs.Calling.{called_after}
+use Rattle.mc_threads.proofs.Credit.{within_set}
 use Rattle.mc_threads.proofs.Carrying.{received_one, stays_refl, stays_still, still_none}
 use Rattle.mc_threads.proofs.courier.Courier.receive_next.Goals as goal
 
@@ -25,3 +26,11 @@ invariant_of-self-2-clause-all_called c off =
     let got = slice_get_read ways (length ways) c.args.shard c.index.result.now refl c.requires.shard c.index.ensures in
     let less : c.index.result.now ≡ c.in-Some.left + 1 = omega arith in
     called_after c.args.self.now.shards ways c.args.shard c.in-Some.left c.index.result.now got less (c.args.self.now.all_called off)
+
+pub invariant_of-self-2-clause-in_credit : goal.invariant_of-self-2-clause-in_credit
+invariant_of-self-2-clause-in_credit c =
+    let ways = c.args.self.now.under_way.items in
+    let got = slice_get_read ways (length ways) c.args.shard c.index.result.now refl c.requires.shard c.index.ensures in
+    let few = c.args.self.now.in_credit c.args.shard c.index.result.now got in
+    let less : c.index.result.now ≡ c.in-Some.left + 1 = omega arith in
+    within_set c.args.self.now.places ways c.args.shard c.in-Some.left c.index.result.now got (omega (arith, few, less)) c.args.self.now.in_credit

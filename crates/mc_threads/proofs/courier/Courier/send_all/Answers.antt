@@ -12,4 +12,4 @@ returns-then-not-send_next-clause-goes c = rw (c.call_shards.ensures.ends, c.cal
 pub returns-clause-goes : goal.returns-clause-goes
 returns-clause-goes c =
     rw (c.call_shards-2.ensures.ends, c.call_shards-2.ensures.under_way)
-    (moves_unless AnyOut _ _ _ _ _ _ _ (λ so. let bad = so.0 in absurd (cc)) (moves_more _ AnyOut _ _ _ _ _ _ _ _ _ c.send_next.ensures.goes c.send_more.ensures))
+    (moves_unless AnyOut _ _ _ _ _ _ _ (λ so. let bad = so.0 in absurd (cc)) (moves_more _ AnyOut _ _ _ _ _ _ _ _ _ c.send_next.ensures.goes c.send_more.ensures.goes))

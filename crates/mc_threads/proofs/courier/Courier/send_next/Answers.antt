@@ -2,6 +2,7 @@
 use Rattle.std.proofs.Common.{◌≡◌, ◌+◌, length, refl, arith, rules, vec_len}
 use Rattle.std.proofs.lemmas.Option.{slice_get_read}
 use Rattle.mc_split.specs.declared.plan.Piece.{Piece}
+use Rattle.mc_threads.proofs.Credit.{within_set}
 use Rattle.mc_threads.proofs.Carrying.{PutsBack, back_again, next_there, none_left, same_piece, sent_one, still_back}
 use Rattle.mc_threads.specs.Ending.{StandsStill}
 use Rattle.mc_ring.specs.EndsLaws.{same_ends-refl}
@@ -46,3 +47,12 @@ returns-in-Piece-clause-goes c =
     let same = same_piece c.in-Some.piece c.in-Piece.piece _ _ _ _ c.in-Err.ensures.lane c.in-Piece.is in
     let P : Piece → Type 0 = λ p. PutsBack c.next_piece.new.self c.in-Some.shard p c.not_sent-in-Piece.new.self in
     back_again _ c.args.self.now.ends c.send.new.self c.args.self.now.under_way.items c.args.conn.now c.next_piece.new.self c.not_sent-in-Piece.new.self c.in-Some.shard c.in-Some.piece (λ so. let bad = so.1 in absurd (cc)) still c.in-Some.ensures.some (rw same c.not_sent-in-Piece.ensures)
+
+pub invariant_of-self-in-Ok-clause-in_credit : goal.invariant_of-self-in-Ok-clause-in_credit
+invariant_of-self-in-Ok-clause-in_credit c =
+    let ways = c.args.self.now.under_way.items in
+    let there = next_there _ _ _ _ c.in-Some.shard c.in-Some.piece c.requires c.in-Some.ensures.some in
+    let was = c.index-count.result.now in
+    let got = slice_get_read ways (length ways) c.in-Some.shard was refl there.1 c.index-count.ensures in
+    let room = c.if-count-self.false in
+    within_set c.args.self.now.places ways c.in-Some.shard (was + 1) was got (omega (arith, room)) c.args.self.now.in_credit

@@ -9,3 +9,6 @@ returns-clause-says g c shards rules begin before serving =
     let may_answer = g.K.Clock.may_answer c.args.clock.now in
     let served = some_is _ _ (IsServedBy shards rules may_answer begin (g.L.Outlet.sight c.args.line.now) before c.args.self.now.courier) c.in-Some.is serving in
     steps_on c.step.result shards rules may_answer begin _ before _ c.step.new.service refl (c.step.ensures.says shards rules begin before served)
+
+pub returns-clause-waits : goal.returns-clause-waits
+returns-clause-waits g c waits = c.step.ensures.waits waits

@@ -9,7 +9,7 @@ use Rattle.mc_worker.specs.DeskLaws.{goes_refl, goes_trans}
 use Rattle.mc_worker.specs.Serves.{ServesSeat}
 use Rattle.mc_worker.specs.Turns.{Turned}
 use Rattle.mc_worker.proofs.Turning.{goes_turn}
-use Rattle.mc_worker.proofs.Marking.{is_gave, marks_absurd, marks_gave, marks_none, marks_refl, marks_trans}
+use Rattle.mc_worker.proofs.Marking.{held_turn, is_gave, marks_absurd, marks_gave, marks_held, marks_none, marks_refl, marks_trans}
 use Rattle.mc_worker.proofs.worker.Worker.serve.Goals as goal
 use Rattle.mc_worker.proofs.worker.Worker.serve.Goals.{in-Gave+in-Some, in-Gave+in_default, in-Ran}
 
@@ -35,6 +35,8 @@ pub loop-turns-init : goal.loop-turns-init
 loop-turns-init g c = record {
   goes = goes_refl c.args.self.now;
   marks = marks_refl c.args.self.now c.args.given.now;
+  others = λ other apart apart_first. refl;
+  held = λ other is. inr is;
   begins = λ first. refl;
   serves = none_yet _;
 }
@@ -77,6 +79,12 @@ loop-turns-preserved g c = record {
     | in-Ran w ↦ let none : is_gave c.turn.result ≡ false = elim w.in-Ran.is [ inl is ↦ rw is.3 refl | inr is ↦ rw is refl ] in
         marks_trans c.args.self.now c.loop-turns.self c.turn.new.self c.args.given.now c.loop-turns.given c.match-turn.given c.loop-turns.invariant.marks (rw w.given-is (marks_none c.loop-turns.self c.turn.result c.turn.new.self c.loop-turns.given none c.turn.ensures.gives))
   ];
+  others = elim c.match-turn.branch [
+    | in-Gave+in-Some w ↦ rw w.given-is (marks_held c.args.self.now c.loop-turns.self c.args.seat w.in-Some.holder c.args.given.now c.loop-turns.given (sym c.holder-holder.ensures.held ∙ w.in-Some.is) c.loop-turns.invariant.held c.loop-turns.invariant.others)
+    | in-Gave+in_default w ↦ marks_absurd c.loop-turns.self c.turn.new.self _ w.in-Gave.ensures.turned (sym c.holder-holder.ensures.held ∙ w.in_default.is)
+    | in-Ran w ↦ rw w.given-is c.loop-turns.invariant.others
+  ];
+  held = held_turn c.args.self.now c.loop-turns.self c.turn.new.self c.args.seat c.turn.result c.turn.ensures.turned c.loop-turns.invariant.held;
   begins = next_turn _ _;
   serves = λ some. serves_more c.args.self.now c.loop-turns.self c.turn.new.self _ _ c.turn.result c.loop-turns.invariant.begins c.loop-turns.invariant.serves c.turn.ensures.turned
       (elim c.match-turn.branch [

@@ -1,7 +1,0 @@
--- A read that was interrupted took nothing from the stream.
-use Rattle.std.proofs.Common.{◌≡◌, length}
-use Rattle.std.specs.Io.KnownBytes.{Keeps}
-use Rattle.mc_doors.proofs.tcp_line.read_some.Given as goal
-
-abbrev pub invariant-loop : goal.invariant-loop
-invariant-loop g l = Keeps (g.S.Read.remaining l.initial.stream) (g.S.Read.remaining l.stream) × (length l.room ≡ length l.initial.room)

@@ -1,0 +1,220 @@
+//! A stream of which every byte is noted.
+ghost use Rattle.std.specs.Prelude.{◌≡◌, ◌<◌, ◌++◌, [], false, true, IfOk, OnErr, length, take};
+ghost use Rattle.std.specs.Io.{ReadsAtMost, WritesAtMost};
+ghost use Rattle.std.specs.Io.KnownBytes.{Appends, Consumes, Keeps};
+ghost use Rattle.std.specs.Io.Slices.{io_slices_bytes};
+ghost use Rattle.mc_doors.specs.Foreign.{EndsWhere, ShowsNext};
+ghost use Rattle.mc_doors.specs.Known.{Appends-prop, Consumes-prop};
+
+use crate::foreign::{FIRST_BYTES, is_foreign, protocol_of};
+use crate::stream::Stream;
+use crate::trail::Trail;
+use mc_watch::Manner;
+use std::io;
+use std::io::{ErrorKind, IoSlice};
+use std::snapshot::Snapshot;
+
+/// A stream since it came in. What was read from it and written to it since then is noted for contracts, and it is nothing else:
+/// whoever holds it can reach the stream by its methods alone.
+#[derive(Drop)]
+pub(crate) struct Tap<S: Stream> {
+    stream: S,
+    /// The stream as it came in.
+    begin: Snapshot<S>,
+    pub(crate) given: Trail,
+    pub(crate) taken: Trail,
+    ghost gave: { Consumes (S.remaining begin.value) (S.remaining stream) given } by { Consumes-prop (S.remaining begin.value) (S.remaining stream) given },
+    ghost took: { Appends (S.contents begin.value) (S.contents stream) taken } by { Appends-prop (S.contents begin.value) (S.contents stream) taken },
+}
+
+impl<S: Stream> Tap<S> {
+    /// The stream has just come in.
+    pub(crate) fn new(stream: S) -> Tap<S>
+        ensures stream { result.stream ≡ stream }
+        ensures begin { result.begin.value ≡ stream }
+        ensures given { result.given ≡ [] }
+        ensures taken { result.taken ≡ [] }
+    {
+        Tap {
+            begin: Snapshot::of(&stream),
+            stream,
+            given: Trail::new(),
+            taken: Trail::new(),
+        }
+    }
+
+    /// Reads, again where a signal interrupts it. Where it is wary, and what comes first is another protocol's, it reads nothing, and
+    /// that is the manner in which it ends.
+    pub(crate) fn read(
+        &mut self,
+        room: &mut [u8],
+        is_wary: bool,
+        manner: &mut Manner,
+    ) -> io::Result<usize>
+        ensures bound { ReadsAtMost result room.new }
+        ensures same { length room.new ≡ length room.old }
+        ensures begin { self.new.begin ≡ self.old.begin }
+        ensures taken { self.new.taken ≡ self.old.taken }
+        ensures given { IfOk result (λ count.
+            self.new.given ≡ self.old.given ++ take count room.new) }
+        ensures none { OnErr result (self.new.given ≡ self.old.given) }
+        ensures end { 0 < length room.old →
+            IfOk result (EndsWhere is_wary (S.remaining self.old.stream)) }
+        ensures stream { IfOk result (λ count.
+            Consumes (S.remaining self.old.stream) (S.remaining self.new.stream)
+            (take count room.new)) }
+        ensures fault { OnErr result
+            (Keeps (S.remaining self.old.stream) (S.remaining self.new.stream)) }
+    {
+        let done = if is_wary {
+            read_first(&mut self.stream, room, manner)
+        } else {
+            read_some(&mut self.stream, room)
+        };
+        let count = done?;
+        self.given.add(room.split_at(count).0);
+        Ok(count)
+    }
+
+    /// Writes, again where a signal interrupts it.
+    pub(crate) fn write(&mut self, bytes: &[u8]) -> io::Result<usize>
+        ensures bound { WritesAtMost result bytes.now }
+        ensures begin { self.new.begin ≡ self.old.begin }
+        ensures given { self.new.given ≡ self.old.given }
+        ensures taken { IfOk result (λ count.
+            self.new.taken ≡ self.old.taken ++ take count bytes.now) }
+        ensures none { OnErr result (self.new.taken ≡ self.old.taken) }
+        ensures stream { IfOk result (λ count.
+            Appends (S.contents self.old.stream) (S.contents self.new.stream)
+            (take count bytes.now)) }
+        ensures fault { OnErr result
+            (Keeps (S.contents self.old.stream) (S.contents self.new.stream)) }
+    {
+        let count = write_some(&mut self.stream, bytes)?;
+        self.taken.add(bytes.split_at(count).0);
+        Ok(count)
+    }
+
+    /// The same of the bytes of all the buffers, one after another.
+    pub(crate) fn write_vectored(&mut self, bufs: &[IoSlice<'_>]) -> io::Result<usize>
+        ensures bound { WritesAtMost result (io_slices_bytes bufs.now) }
+        ensures begin { self.new.begin ≡ self.old.begin }
+        ensures given { self.new.given ≡ self.old.given }
+        ensures taken { IfOk result (λ count.
+            self.new.taken ≡ self.old.taken ++ take count (io_slices_bytes bufs.now)) }
+        ensures none { OnErr result (self.new.taken ≡ self.old.taken) }
+        ensures stream { IfOk result (λ count.
+            Appends (S.contents self.old.stream) (S.contents self.new.stream)
+            (take count (io_slices_bytes bufs.now))) }
+        ensures fault { OnErr result
+            (Keeps (S.contents self.old.stream) (S.contents self.new.stream)) }
+    {
+        let count = write_some_of(&mut self.stream, bufs)?;
+        self.taken.add_first(bufs, count);
+        Ok(count)
+    }
+}
+
+impl<S: Stream + Drop> Tap<S> {
+    /// The stream as it is.
+    pub(crate) fn into_stream(self) -> S
+        ensures { result ≡ self.stream }
+    {
+        let Tap {
+            stream,
+            begin: _begin,
+            given: _given,
+            taken: _taken,
+        } = self;
+        stream
+    }
+}
+
+/// Reads, again where a signal interrupts it.
+pub(crate) fn read_some<S: Stream>(stream: &mut S, room: &mut [u8]) -> io::Result<usize>
+    ensures bound { ReadsAtMost result room.new }
+    ensures same { length room.new ≡ length room.old }
+    ensures ok { IfOk result (λ count.
+        Consumes (S.remaining stream.old) (S.remaining stream.new) (take count room.new)) }
+    ensures err { OnErr result (Keeps (S.remaining stream.old) (S.remaining stream.new)) }
+    ensures writes_none { Keeps (S.contents stream.old) (S.contents stream.new) }
+    ensures end { 0 < length room.old → IfOk result (EndsWhere false (S.remaining stream.old)) }
+{
+    for _ in 0..u64::MAX {
+        match stream.read(room) {
+            Err(fault) if fault.kind() == ErrorKind::Interrupted => {}
+            done => return done,
+        }
+    }
+    Err(io::Error::from(ErrorKind::Interrupted))
+}
+
+/// Looks at the bytes that come next, again where a signal interrupts it.
+fn peek_some<S: Stream>(stream: &S, room: &mut [u8]) -> io::Result<usize>
+    ensures bound { ReadsAtMost result room.new }
+    ensures same { length room.new ≡ length room.old }
+    ensures next { IfOk result (ShowsNext (S.remaining stream.now) room.new) }
+{
+    for _ in 0..u64::MAX {
+        match stream.peek(room) {
+            Err(fault) if fault.kind() == ErrorKind::Interrupted => {}
+            done => return done,
+        }
+    }
+    Err(io::Error::from(ErrorKind::Interrupted))
+}
+
+/// Reads what comes first: nothing, and all of it is left, where it is another protocol's, which is the reason then.
+fn read_first<S: Stream>(stream: &mut S, room: &mut [u8], manner: &mut Manner) -> io::Result<usize>
+    ensures bound { ReadsAtMost result room.new }
+    ensures same { length room.new ≡ length room.old }
+    ensures ok { IfOk result (λ count.
+        Consumes (S.remaining stream.old) (S.remaining stream.new) (take count room.new)) }
+    ensures err { OnErr result (Keeps (S.remaining stream.old) (S.remaining stream.new)) }
+    ensures writes_none { Keeps (S.contents stream.old) (S.contents stream.new) }
+    ensures end { 0 < length room.old → IfOk result (EndsWhere true (S.remaining stream.old)) }
+{
+    let mut first = [0; FIRST_BYTES];
+    let count = peek_some(stream, &mut first)?;
+    let (begin, _) = first.split_at(count);
+    if is_foreign(begin) {
+        *manner = protocol_of(begin);
+        return Ok(0);
+    }
+    read_some(stream, room)
+}
+
+/// Writes, again where a signal interrupts it.
+fn write_some<S: Stream>(stream: &mut S, bytes: &[u8]) -> io::Result<usize>
+    ensures bound { WritesAtMost result bytes.now }
+    ensures ok { IfOk result (λ count.
+        Appends (S.contents stream.old) (S.contents stream.new) (take count bytes.now)) }
+    ensures err { OnErr result (Keeps (S.contents stream.old) (S.contents stream.new)) }
+    ensures reads_none { Keeps (S.remaining stream.old) (S.remaining stream.new) }
+{
+    for _ in 0..u64::MAX {
+        match stream.write(bytes) {
+            Err(fault) if fault.kind() == ErrorKind::Interrupted => {}
+            done => return done,
+        }
+    }
+    Err(io::Error::from(ErrorKind::Interrupted))
+}
+
+/// The same of the bytes of all the buffers, one after another.
+fn write_some_of<S: Stream>(stream: &mut S, bufs: &[IoSlice<'_>]) -> io::Result<usize>
+    ensures bound { WritesAtMost result (io_slices_bytes bufs.now) }
+    ensures ok { IfOk result (λ count.
+        Appends (S.contents stream.old) (S.contents stream.new)
+        (take count (io_slices_bytes bufs.now))) }
+    ensures err { OnErr result (Keeps (S.contents stream.old) (S.contents stream.new)) }
+    ensures reads_none { Keeps (S.remaining stream.old) (S.remaining stream.new) }
+{
+    for _ in 0..u64::MAX {
+        match stream.write_vectored(bufs) {
+            Err(fault) if fault.kind() == ErrorKind::Interrupted => {}
+            done => return done,
+        }
+    }
+    Err(io::Error::from(ErrorKind::Interrupted))
+}

@@ -1,0 +1,9 @@
+pub mod Lists
+pub mod Worlds
+pub mod Roles
+pub mod Follows
+pub mod Holds
+pub mod Views
+pub mod Seeing
+pub mod Steps
+pub mod Rows

@@ -1,0 +1,5 @@
+use Rattle.mc_history.proofs.actor.Actor.add.Given as goal
+
+-- the event that is added
+abbrev pub ghosts-note : goal.ghosts-note
+ghosts-note g a = record { event = g.event }

@@ -1,0 +1,5 @@
+pub mod Worlds
+pub mod Lawful
+pub mod Roles
+pub mod Rule
+pub mod Tokens

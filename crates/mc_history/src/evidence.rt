@@ -1,0 +1,60 @@
+//! Evidence of a history, which threads can send to each other.
+ghost use Rattle.std.specs.Prelude.{◌≡◌, []};
+ghost use Rattle.mc_model.specs.Grows.{Lengthens};
+ghost use Rattle.mc_history.specs.Lawful.{IsHistory};
+
+use crate::history::History;
+use crate::knowledge::Knowledge;
+use crate::rule::{Hears, Looks};
+use atomic_table::Seat;
+use std::marker::Model;
+
+/// Evidence that these events happened, in this order, before all others. It takes no bytes.
+#[derive(Drop)]
+pub struct Evidence {
+    pub(crate) seat: Seat<u64, Knowledge>,
+}
+
+impl Model for Evidence {
+    ghost use Rattle.std.specs.Prelude.{◌≡◌, []};
+    ghost use Rattle.mc_history.specs.Lawful.{IsHistory};
+    ghost use Rattle.mc_history.specs.Tokens.{Sight};
+
+    ghost Value = { Sight };
+
+    ghost view = { λ e. record {
+      name = record { table = e.seat.table_id; sizes = e.seat.me.0.sizes };
+      events = e.seat.me.0.seen;
+    } };
+
+    ghost invariant = { λ e. (e.seat.me.1 ≡ []) × IsHistory e.seat.me.0.sizes e.seat.me.0.seen };
+}
+
+impl Evidence {
+    /// Evidence of what this token has seen.
+    pub(crate) fn new(seat: Seat<u64, Knowledge>) -> Evidence
+        requires slots { seat.me.1 ≡ [] }
+        requires lawful { IsHistory seat.me.0.sizes seat.me.0.seen }
+        ensures table { result.name.table ≡ seat.table_id }
+        ensures sizes { result.name.sizes ≡ seat.me.0.sizes }
+        ensures events { result.events ≡ seat.me.0.seen }
+    {
+        Evidence { seat }
+    }
+
+    /// Both show beginnings of one lawful history: of this one, which has all that has happened so far.
+    pub fn agree(self, history: &History, other: Evidence) -> Evidence
+        requires own { self.name ≡ history.now }
+        requires other { other.name ≡ history.now }
+        ensures name { result.name ≡ self.name }
+        ensures first { Lengthens self.events result.events }
+        ensures second { Lengthens other.events result.events }
+        ensures lawful { IsHistory result.name.sizes result.events }
+    {
+        let Evidence { mut seat } = self;
+        let Evidence { seat: other } = other;
+        history.table.shared.join_seat::<Hears>(&mut seat, other);
+        history.table.shared.load::<Looks>(&mut seat, 0);
+        Evidence::new(seat)
+    }
+}

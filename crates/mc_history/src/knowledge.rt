@@ -1,0 +1,26 @@
+//! What a token knows. No value of these types is made.
+use crate::event::Event;
+use mc_sizes::Sizes;
+use std::collections::LinkedList;
+
+/// Whose events a token may add.
+pub enum Role {
+    /// Nobody's.
+    Reader,
+    /// Those of the connection of this number.
+    Connection { number: usize },
+    /// Those of this shard.
+    Shard { index: usize },
+    /// Those of this shard and of all behind it.
+    Shards { from: usize },
+}
+
+/// What a token knows of the history.
+pub struct Knowledge {
+    pub sizes: Sizes,
+    pub role: Role,
+    /// All that had happened at its last look.
+    pub seen: LinkedList<Event>,
+    /// What another token had seen, of which it has not looked yet.
+    pub heard: LinkedList<Event>,
+}

@@ -1,0 +1,94 @@
+//! The rule over all tokens of a history, and what each step of a token does to its knowledge.
+use crate::event::Event;
+use crate::knowledge::Knowledge;
+use atomic_table::{Join, Play, Split, TableRule};
+use mc_sizes::Sizes;
+use std::marker::{Brand, PhantomData};
+
+/// All tokens together know beginnings of one lawful history.
+pub(crate) struct Rule;
+
+impl TableRule<u64, Knowledge, Sizes> for Rule {
+    ghost use Rattle.mc_history.specs.Rule.{IsKept, opening};
+
+    ghost holds = { λ sizes s. IsKept sizes s.views };
+
+    ghost first = { λ sizes. opening sizes };
+}
+
+/// The event that a step adds.
+pub(crate) trait Occurrence {
+    ghost use Rattle.mc_history.specs.declared.event.Event.{Event};
+
+    ghost event: { Event };
+}
+
+impl Occurrence for Brand {
+    ghost use Rattle.mc_history.specs.declared.event.Event.TheVariants.{Opened};
+
+    ghost event = { Opened 0 };
+}
+
+/// An actor's event is added to all that has happened.
+pub(crate) struct AddsEvent<E: Occurrence>(PhantomData<E>);
+
+impl<E: Occurrence> Play<u64, Knowledge> for AddsEvent<E> {
+    ghost use Rattle.std.specs.Prelude.{◌≡◌};
+    ghost use Rattle.mc_history.specs.Rule.{Extends};
+
+    ghost then = { λ s me found new. (new.1 ≡ me.1) × Extends E.event me.0 new.0 };
+}
+
+/// A connection is opened, and a new token may add its events.
+pub(crate) struct OpensConnection<E: Occurrence>(PhantomData<E>);
+
+impl<E: Occurrence> Play<u64, Knowledge> for OpensConnection<E> {
+    ghost use Rattle.std.specs.Prelude.{◌≡◌, []};
+    ghost use Rattle.mc_history.specs.Rule.{IsNew};
+
+    ghost then = { λ s me found new. (new.1 ≡ []) × IsNew E.event me.0 new.0 };
+}
+
+/// A token looks at all that has happened.
+pub(crate) struct Looks;
+
+impl Play<u64, Knowledge> for Looks {
+    ghost use Rattle.std.specs.Prelude.{◌≡◌};
+    ghost use Rattle.mc_history.specs.Rule.{Learns};
+
+    ghost then = { λ s me found new. (new.1 ≡ me.1) × Learns me.0 new.0 };
+}
+
+/// A new token knows what this one has seen, and may add nothing.
+pub(crate) struct Shows;
+
+impl Split<Knowledge> for Shows {
+    ghost use Rattle.mc_history.specs.Rule.{reader};
+
+    ghost left = { λ v. v };
+
+    ghost right = { λ v. reader v.sizes v.seen };
+}
+
+/// A new token may add the events of the first shard of those that this one could.
+pub(crate) struct Deals;
+
+impl Split<Knowledge> for Deals {
+    ghost use Rattle.mc_history.specs.Rule.{first_shard, later_shards};
+
+    ghost left = { later_shards };
+
+    ghost right = { first_shard };
+}
+
+/// A token hears what another has seen. The other one is used up.
+pub(crate) struct Hears;
+
+impl Join<Knowledge> for Hears {
+    ghost use Rattle.std.specs.Prelude.{[]};
+    ghost use Rattle.mc_history.specs.Rule.{hearing, used_up};
+
+    ghost both = { λ v w. hearing v w };
+
+    ghost spent = { used_up };
+}

@@ -1,2 +1,0 @@
--- Definitions that only private contracts name.
-pub mod Gathered

@@ -1,0 +1,34 @@
+-- The bytes that a line took, as far as it tells them.
+use Rattle.std.proofs.Common.{◌≡◌, ℕ, ◌+◌, ◌-◌, ◌≤◌, List, ◌++◌, length, take, length-append, refl, sym, ap, ◌∙◌, arith}
+use Rattle.std.proofs.lemmas.List.{length-take, take_at}
+use Rattle.std.proofs.Math.Seq.{take-append-add}
+use Rattle.mc_wire.specs.Outlet.{Trace, Untold, Counted, Listed, with_bytes}
+use Rattle.mc_seat.specs.Lines.{told}
+
+-- a list that begins with another, where the end was cut off
+front_of : (now waits old text : List ℕ) → now ++ waits ≡ old ++ text → length old ≤ length now
+    → now ≡ old ++ take (length text - length waits) text
+front_of now waits old text same grown =
+    let lengths : length now + length waits ≡ length old + length text = sym (length-append now waits) ∙ (ap length same ∙ length-append old text) in
+    let at : length now ≡ length old + (length text - length waits) = omega (arith, lengths, grown) in
+    sym (take_at now waits (length now) refl)
+    ∙ (ap (take (length now)) same
+    ∙ (ap (λ n. take n (old ++ text)) at ∙ take-append-add old text (length text - length waits)))
+
+-- the bytes that the line took, where the last ones still wait
+pub traces : (old now : Trace) (waits text : List ℕ) → with_bytes now waits ≡ with_bytes old text → told old ≤ told now
+    → now ≡ with_bytes old (take (length text - length waits) text)
+traces Untold Untold waits text same grown = refl
+traces (Counted n) (Counted m) waits text same grown =
+    let sums : m + length waits ≡ n + length text = cc in
+    ap (λ k. Counted k) (omega (arith, sums, grown, length-take (length text - length waits) text))
+traces (Listed ys) (Listed xs) waits text same grown =
+    let all : xs ++ waits ≡ ys ++ text = cc in
+    ap (λ bytes. Listed bytes) (front_of xs waits ys text all grown)
+traces old now waits text same grown = absurd (cc)
+
+-- a line that took more bytes has grown
+pub told-grows : (trace : Trace) (bytes : List ℕ) → told trace ≤ told (with_bytes trace bytes)
+told-grows Untold bytes = omega arith
+told-grows (Counted count) bytes = omega arith
+told-grows (Listed before) bytes = omega (arith, length-append before bytes)

@@ -1,0 +1,12 @@
+-- Two looks, and then the turn of the item that entered.
+use Rattle.std.proofs.Common.{sym, ◌∙◌}
+use Rattle.mc_store.specs.State.{looked}
+use Rattle.mc_store.specs.Shard.{IsShard, held_of}
+use Rattle.mc_store.proofs.Turns.{turn_waits}
+use Rattle.mc_store.proofs.shard.Shard.take_turns.Goals as goal
+
+pub returns-in-Some : goal.returns-in-Some
+unfolding IsShard
+returns-in-Some c = λ state token key item h is same.
+    let shown = c.look-2.ensures.looked (looked c.args.unique state) (c.look.ensures.looked state h) in
+    rw c.push_back_reserved.ensures.items (turn_waits (held_of c.look-2.new.self) (looked c.args.unique (looked c.args.unique state)) token key c.in-Some.own item c.args.unique shown (sym c.in-Some.is ∙ is) same)
