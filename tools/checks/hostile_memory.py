@@ -99,6 +99,19 @@ def a_long_line_leaves_no_room_behind():
         return within(server.resident() - before, 16 * term("line") * MIB)
 
 
+def a_line_of_keys_leaves_no_room_behind():
+    """Each of 16 connections asks for 30,000 keys at once, and stays: the pieces of its line have left no room."""
+    with Server("--seats", 16, "--line-limit", "1m") as server:
+        lines = [Line(server.port) for _ in range(16)]
+        for line in lines:
+            line.ask(b"mn\r\n", b"MN\r\n")
+        before = server.resident()
+        for line in lines:
+            line.ask(b"get" + b" k" * 30_000 + b"\r\n", b"END\r\n")
+        wait_until_still(server)
+        return within(server.resident() - before, 16 * MIB)
+
+
 def values_but_for_a_byte_are_bounded():
     with served() as server:
         bound = SEATS * (term("line") * MIB + term("value") * VALUE_LIMIT)
@@ -191,7 +204,7 @@ def bound_of(seats, budgets):
 
 CHECKS = [
     an_idle_server_is_small, lines_without_end_are_bounded, announced_gigabytes_are_not_held,
-    open_blocks_take_little_address_space, a_long_line_leaves_no_room_behind, values_but_for_a_byte_are_bounded,
+    open_blocks_take_little_address_space, a_long_line_leaves_no_room_behind, a_line_of_keys_leaves_no_room_behind, values_but_for_a_byte_are_bounded,
     lines_of_32766_keys_are_bounded, small_items_take_few_times_their_cost,
     unread_replies_hold_what_they_show, written_replies_leave_their_lines, the_sum_holds_for_all_together,
 ]

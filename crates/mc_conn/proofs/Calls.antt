@@ -1,7 +1,6 @@
 -- What each call makes of what a connection was told.
 use Rattle.std.proofs.Common.{◌≡◌, ℕ, ◌+◌, ◌<◌, ◌≤◌, ◌==◌, ◌↔◌, Bool, true, false, not, inl, inr, List, [], ◌∷◌, ◌++◌, length, drop, Some, None, IsTrue, refl, sym, ap, subst, ◌∙◌, arith, length-drop}
 use Rattle.std.specs.Prelude.{Option, Result, Ok, Err, OnOk, OnErr, IfSome, is_some}
-use Rattle.std.specs.Option.{option_to_list}
 use Rattle.std.specs.List.{slice_get}
 use Rattle.std.proofs.lemmas.Bool.{false≢true}
 use Rattle.std.proofs.lemmas.Bool.Decides.{nat_tests}
@@ -102,8 +101,9 @@ gives old new piece reader joiner shards broken none left told h =
 
 -- The same where none was put back.
 pub gives_front : (result : Option (ℕ × Piece)) (old new : Conn) →
-    new.reader ≡ old.reader → new.dispatcher.joiner ≡ old.dispatcher.joiner → new.dispatcher.splitter.shards ≡ old.dispatcher.splitter.shards → new.broken ≡ old.broken → new.put_back ≡ None → old.put_back ≡ None →
-    old.dispatcher.unsent.items ≡ option_to_list result ++ new.dispatcher.unsent.items →
+    new.reader ≡ old.reader → new.dispatcher.joiner ≡ old.dispatcher.joiner → new.dispatcher.splitter.shards ≡ old.dispatcher.splitter.shards →
+    new.broken ≡ old.broken → new.put_back ≡ None → old.put_back ≡ None →
+    IfSome result (λ piece. old.dispatcher.unsent.items ≡ piece ∷ new.dispatcher.unsent.items) →
     IfSome result (λ piece. (told : Told) → HasBeenTold old told → (slice_get (all_pieces told) told.out ≡ Some piece) × HasBeenTold new (record told { out = told.out + 1; lent = true }))
 gives_front None old new reader joiner shards broken none before left = tt
 gives_front (Some piece) old new reader joiner shards broken none before left =

@@ -185,7 +185,7 @@ impl Conn {
         if self.put_back.is_some() {
             return self.put_back.take();
         }
-        self.dispatcher.unsent.pop_front()
+        self.dispatcher.next_unsent()
     }
 
     /// Puts the piece that was taken out last back in front, with its shard. It takes no memory.

@@ -1,5 +1,5 @@
 //! Where commands are planned and opened: the joiner, and the pieces that have not left.
-ghost use Rattle.std.specs.Prelude.{◌≡◌, ◌<◌, IfOk, length};
+ghost use Rattle.std.specs.Prelude.{◌≡◌, ◌<◌, ◌∷◌, [], IfOk, IfNone, IfSome, length};
 ghost use Rattle.mc_join.specs.Held.{opened_count};
 
 use mc_command::{Command, MetaGet, MetaSet, Profile, Refusal};
@@ -9,6 +9,9 @@ use mc_plain::Commands;
 use mc_reply::Form;
 use mc_split::{Piece, Splitter};
 use std::collections::VecDeque;
+
+/// The most pieces whose room a connection keeps once all have left. A get of many keys needs more for its moment.
+const KEPT_PIECES: usize = 256;
 
 /// Where a connection's commands are planned and opened.
 #[derive(Drop)]
@@ -22,6 +25,22 @@ pub(crate) struct Dispatcher {
 
 impl Dispatcher {
     ghost use Rattle.mc_conn.specs.internal.Dispatcher.{CanOpen, Opens, OpensSplit, refusal_of};
+
+    /// Takes out the oldest piece that has not left. With the last one, room for more than `KEPT_PIECES` is freed.
+    pub(crate) fn next_unsent(&mut self) -> Option<(usize, Piece)>
+        ensures some { IfSome result (λ piece.
+            self.old.unsent.items ≡ piece ∷ self.new.unsent.items) }
+        ensures none { IfNone result (self.old.unsent.items ≡ []) }
+        ensures left { IfNone result (self.new.unsent.items ≡ []) }
+        ensures joiner { self.new.joiner ≡ self.old.joiner }
+        ensures splitter { self.new.splitter ≡ self.old.splitter }
+    {
+        let piece = self.unsent.pop_front()?;
+        if self.unsent.is_empty() && self.unsent.capacity() > KEPT_PIECES {
+            self.unsent = VecDeque::new(self.splitter.alloc);
+        }
+        Some(piece)
+    }
 
     /// Opens a form.
     #[inline(always)]

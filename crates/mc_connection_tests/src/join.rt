@@ -217,6 +217,25 @@ fn accept_in_order(
 }
 
 #[test]
+fn a_get_of_which_a_later_key_found_no_memory_shows_no_value(rt: HostRuntime) -> Result<(), Fail> {
+    let alloc = rt.alloc();
+    let mut joiner = Joiner::new(alloc, 1)?;
+    open_get(&rt, alloc, &mut joiner, 0, &[b"a", b"b"])?;
+    hits(&rt, alloc, &mut joiner, 0, 0, b"x")?;
+    let refused = reply(&rt, 0, 1, Kind::Fetch, Answer::NoMemory);
+    holds(&rt, takes(&mut joiner, refused));
+    hands(
+        &rt,
+        alloc,
+        &mut joiner,
+        1,
+        b"SERVER_ERROR out of memory\r\n",
+    );
+    equal(&rt, joiner.waiting(), 0);
+    Ok(())
+}
+
+#[test]
 fn answers_come_in_every_order(rt: HostRuntime) -> Result<(), Fail> {
     let alloc = rt.alloc();
     let keys: [&[u8]; 4] = [b"a", b"b", b"c", b"d"];

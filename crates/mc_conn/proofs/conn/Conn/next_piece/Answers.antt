@@ -1,4 +1,5 @@
-use Rattle.std.proofs.Common.{refl}
+use Rattle.std.proofs.Common.{ap, refl}
+use Rattle.mc_split.specs.declared.splitter.Splitter.{Splitter}
 use Rattle.mc_conn.specs.Conn.{IsConn}
 use Rattle.mc_conn.proofs.Calls.{gives_back, gives_front, none_back}
 use Rattle.mc_conn.proofs.conn.Conn.next_piece.Goals as goal
@@ -11,4 +12,4 @@ pub returns-clause-some : goal.returns-clause-some
 unfolding IsConn
 returns-clause-some c =
     let none = none_back c.args.self.now.put_back c.is_some.result c.is_some.ensures c.if-is_some.false in
-    gives_front c.pop_front.result c.args.self.now _ refl refl refl refl none none c.pop_front.ensures.items
+    gives_front c.next_unsent.result c.args.self.now _ refl c.next_unsent.ensures.joiner (ap (λ (s : Splitter). s.shards) c.next_unsent.ensures.splitter) refl none none c.next_unsent.ensures.some
