@@ -35,7 +35,7 @@ pub decoded_ok : (word bytes : List ℕ) → decode_of standard word ≡ Ok byte
 unfolding base64_bytes decoded_of
 decoded_ok word bytes h = rw h
 
--- A word that decoding refuses stands for no bytes in base64.
+-- A word that decoding refuses is the base64 text of no bytes.
 pub decoded_err : (word : List ℕ) (e : DecodeError) → decode_of standard word ≡ Err e → base64_bytes word ≡ None
 unfolding base64_bytes decoded_of
 decoded_err word e h = rw h
