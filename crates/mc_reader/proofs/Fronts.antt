@@ -118,7 +118,7 @@ one_list rules input entries others all all' =
 pub closed_more : (rules : Rules) (input more : List ℕ) (entries : List Command) → AreCommands rules input entries → is_closed entries ≡ true → AreCommands rules (input ++ more) entries
 closed_more rules input more entries all closed = (all.0 ++ more, front_more rules entries 0 input all.0 more all.1, rw closed tt)
 
--- whether a line feed stands in some bytes, and where the first does
+-- whether some bytes contain a line feed, and where the first one is
 data FirstEnd (bytes : List ℕ) : Type 0 where
   ended : (line rest : List ℕ) → bytes ≡ line ++ 10 ∷ rest → HasNoEnd line → FirstEnd bytes
   endless : HasNoEnd bytes → FirstEnd bytes

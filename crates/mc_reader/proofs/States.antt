@@ -127,7 +127,7 @@ something_awaited rules (state.Skip skipped) buffer unread full opened h =
     shows rules (whole_skip rules skipped.discarded skipped.refusal buffer unread (rw full at part)) refl
 something_awaited rules state.Closed buffer unread full opened h = absurd h
 
--- A test whether all has come tells whether something is spelled.
+-- A test for completeness decides whether the text of a command is there.
 pub whole_awaited : (rules : Rules) (s : State) (buffer unread : List ℕ) (test : Bool) → (IsTrue test ↔ Completes rules.line_limit s buffer) → IsTrue (is_opened s) → Holds rules s buffer unread → IsTrue test ↔ SpellsSomething rules unread
 whole_awaited rules s buffer unread test is opened h = (
   λ come. something_awaited rules s buffer unread (is.0 come) opened h,
