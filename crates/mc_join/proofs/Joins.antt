@@ -167,7 +167,7 @@ due_unhanded held there opened accepted handed j =
     let behind = prefix_len-drop is_answered n forms (handed_within forms handed j.beginning) in
     rw (there, j.rest, ← drop-take n (prefix_len is_answered (drop n forms)) forms, behind) (ap concat (sym (drop-map form_text n (complete forms))))
 
--- behind those whose turn has come stands one whose turn has not come
+-- the form after the completely answered ones is not completely answered
 pub none_complete : (forms : List Form) (count : ℕ) → count ≡ prefix_len is_answered forms → complete (drop count forms) ≡ []
 none_complete forms count passed =
     let behind = prefix_len-drop is_answered count forms (omega (arith, passed)) in
