@@ -1,4 +1,4 @@
--- The number of shards and their budget are those that are given, or the first thing that is wrong with them is told.
+-- The number of shards and their budget are the given ones, or the first error in them is reported.
 use Rattle.std.proofs.Common.{◌≡◌, ℕ, Bool, List, Option, ap, sym, ◌∙◌}
 use Rattle.std.proofs.lemmas.Result.{IfErr-weaker, IfOk-weaker}
 use Rattle.clap.specs.Words.{first_value, found_of}
