@@ -46,7 +46,7 @@ none_unless true true false number unless = refl
 none_unless true false below number unless = refl
 none_unless false all below number unless = refl
 
--- what the digits spell, by the fact that std's reading of them tells
+-- the value of the digits, from the fact about std's parsing of them
 number_if : (digits : List ℕ) → IsNumeral 16 digits × (digits_value 16 digits < 2 ^ 64) → number_of_digits digits ≡ Some (digits_value 16 digits)
 number_if digits h =
     let some : nat_lt 0 (length digits) ≡ true = grind (arith, nat_tests) in

@@ -19,7 +19,7 @@ other = codes "   1: 00000000:0016 00000000:0000 0A 00000000:0000001A 00:0000000
 abbrev connected : List ℕ
 connected = codes "   2: 0100007F:2BCB 0100007F:D431 01 00000005:00000007 00:00000000 00000000  1000        0 20744 1 0000000000000000 20 4 30 10 -1                    "
 
--- the same of IPv6, at port 11211 of any address with 2 who wait
+-- a socket of IPv6, at port 11211 of any address, with a backlog of 2
 abbrev listening_six : List ℕ
 listening_six = codes "   0: 00000000000000000000000000000000:2BCB 00000000000000000000000000000000:0000 0A 00000000:00000002 00:00000000 00000000     0        0 20750 1 0000000000000000 100 0 0 10 0"
 
