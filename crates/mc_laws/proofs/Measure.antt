@@ -64,7 +64,7 @@ lane_more s piece all = elim (eqb_tells piece.0 s) [
   | inr other ↦ rw other.0 (omega arith)
 ]
 
--- Each piece stands on one shard's lane.
+-- Each piece is on the lane of one shard.
 sum_lanes : (n : ℕ) (all : List (ℕ × Piece)) → sum_to n (λ s. 3 * length (lane s all)) ≤ 3 * length all
 sum_lanes n [] = sum_none n
 sum_lanes n (piece ∷ all) =

@@ -41,7 +41,7 @@ store key = op.Store (record { key = key; mode = mode.Set; compare = None; uniqu
 abbrev old : ℕ → State
 old s = record (empty_shard two s) { time = 1000 }
 
--- the second shard once b was asked for, which it doesn't hold
+-- the second shard after a miss of b
 abbrev missed : State
 missed = noted_in (old 1) (old 1) (op.Fetch b None) Miss
 

@@ -147,7 +147,7 @@ ran_before sizes w after later j a k b some l led handed to_come x y one other a
           absurd (omega (arith, taken, spelled, long, number))
     ]
 
--- where an element that a filter keeps stands in the list
+-- where an element that a filter keeps is in the list
 pub record IsKept {X : Type 0} (xs : List X) (x : X) : Type 0 where
   pub place : ℕ
   pub here : slice_get xs place ≡ Some x
@@ -159,7 +159,7 @@ first_or : {X : Type 0} (first : X) (xs : List X) (i : ℕ) (x : X) → slice_ge
 first_or first xs zero x here = inl (same_Some first x here)
 first_or first xs (suc i) x here = inr (i, here)
 
--- What stands among the entries of a shard stands in the log, and is of that shard.
+-- An entry among those of a shard is in the log, and is of that shard.
 pub on_there : (s : ℕ) (log : List Entry) (i : ℕ) (entry : Entry) → slice_get (on_shard s log) i ≡ Some entry → IsKept log entry × (entry.shard ≡ s)
 on_there s [] i entry here = absurd (cc)
 on_there s (first ∷ log) i entry here = elim (eqb_tells first.shard s) [

@@ -212,7 +212,7 @@ tried_works old mid new events least tried works work sizes w stands =
     let both = leads_join sizes w was.later after.later (repeated was.times events) ran.0 was.led was.memory after.led after.memory in
     (repeated was.times events ++ ran.0, all_both IsWork (repeated was.times events) ran.0 (all_repeated IsWork was.times events work) ran.1, record { later = after.later; led = both.0; memory = both.1; stands = after.stands })
 
--- What a core stands in.
+-- The world of a simulator.
 
 record Standing (sizes : Sizes) (w : World) : Type 0 where
   within : AreWithin sizes
