@@ -400,7 +400,7 @@ gives_none old new shard give seats connections log sizes w world =
       only_rings sizes w old new world seats connections log g.now,
     )
 
--- what stands at a place that was written
+-- the element at an index that was written
 pub mid_is : (seats : List Seat) (c : ℕ) (place first mid : Seat) → slice_get seats c ≡ Some place → mid ≡ slice_index_or (slice_set seats c first) c mid → mid ≡ first
 mid_is seats c place first mid here is =
     let within = slice_get_within seats c place here in

@@ -58,11 +58,11 @@ receives_out laid c s out sizes wires was = record { none = λ there. absurd (ou
 
 -- The seat and the shard, where the lane was looked at.
 
--- What is read at the place of a seat whose lane was looked at is the seat that stands there.
+-- The seat that is read after a look at its lane is the one at its index.
 pub seat_read : (old mid : Laid) (c s n m : ℕ) (seat : Ends Near) → LooksAt c s old mid n m → seat ≡ get_or mid.seats c seat → slice_get mid.seats c ≡ Some seat
 seat_read old mid c s n m seat look read = slice_get_read mid.seats (length mid.seats) c seat refl (slice_get_within mid.seats c look.seat_after (seat_after_here old mid c s n m look)) read
 
--- What is read at the place of a worker whose lane was looked at is the worker that stands there.
+-- The worker that is read after a look at its lane is the one at its index.
 pub desk_read : (old mid : Laid) (c s n m : ℕ) (desk : Desk) → LooksAt c s old mid n m → desk ≡ get_or mid.workers s desk → slice_get mid.workers s ≡ Some desk
 desk_read old mid c s n m desk look read = slice_get_read mid.workers (length mid.workers) s desk refl (slice_get_within mid.workers s look.desk_after (desk_after_here old mid c s n m look)) read
 
@@ -311,7 +311,7 @@ held_after old mid c s n m desk desk_now look there there_now =
     let is : desk_now ≡ look.desk_after = same_Some desk_now look.desk_after (sym there_now ∙ desk_after_here old mid c s n m look) in
     ap (λ (desk : Desk). desk.hand) is ∙ ap (λ (desk : Desk). desk.hand) look.rest ∙ ap (λ (desk : Desk). desk.hand) was
 
--- Where a look finds room on the ring, the reply in the hand goes there, behind all others, and the hand is empty.
+-- If a look finds that the ring isn't full, the reply in the hand is appended to it, and the hand is empty.
 pub gives_reply : (old mid : Laid) (c s n m places : ℕ) (before desk desk' : Desk) → LooksAt c s old mid n m → places ≡ mid.places → m < places → slice_get old.workers s ≡ Some before → option_map (λ held. held.0) before.hand ≡ Some c
     → desk ≡ get_or mid.workers s desk → GivesIt desk desk' → (sizes : Sizes) (wires : Wires) → AreWired sizes old wires → GivesReply sizes wires s (record mid { workers = slice_set mid.workers s desk' })
 unfolding AreWired

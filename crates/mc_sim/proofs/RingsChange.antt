@@ -266,11 +266,11 @@ capacity_at ring (x ∷ xs) (suc k) end all here = capacity_at ring xs k end all
 after_here : {End : Type 0} (says : End → End → Type 0) (p q : ℕ) (old new : Ends End) → p ≡ q → (lane : AtLane says p old new) → slice_get new.lanes q ≡ Some lane.after
 after_here says p q old new same lane = rw (← same, lane.set) (get-set_same old.lanes p lane.before lane.after lane.here)
 
--- After a look at a lane, its seat stands at its place as the look left it.
+-- After a look at a lane, its seat is at its index as the look left it.
 pub seat_after_here : (old new : Laid) (c s n m : ℕ) (look : LooksAt c s old new n m) → slice_get new.seats c ≡ Some look.seat_after
 seat_after_here old new c s n m look = ap (λ (laid : Laid). slice_get laid.seats c) look.set ∙ get-set_same old.seats c look.seat look.seat_after look.seat_here
 
--- After a look at a lane, its worker stands at its place as the look left it.
+-- After a look at a lane, its worker is at its index as the look left it.
 pub desk_after_here : (old new : Laid) (c s n m : ℕ) (look : LooksAt c s old new n m) → slice_get new.workers s ≡ Some look.desk_after
 desk_after_here old new c s n m look = ap (λ (laid : Laid). slice_get laid.workers s) look.set ∙ get-set_same old.workers s look.desk look.desk_after look.desk_here
 

@@ -12,7 +12,7 @@ use Rattle.mc_worker.specs.Desk.{Desk}
 use Rattle.mc_sim.specs.Rings.{HaveWires, IsStarted, ends_of, new_wires}
 use Rattle.mc_ring.proofs.Lists.{get_map, all_at}
 
--- what follows a list in another stands at the place of its length
+-- the element after a prefix is at the index of the prefix's length
 pub at_end : {A : Type 0} (xs : List A) (y : A) (zs : List A) → slice_get (xs ++ y ∷ zs) (length xs) ≡ Some y
 at_end [] y zs = refl
 at_end (x ∷ xs) y zs = at_end xs y zs

@@ -1,4 +1,4 @@
--- A core stands in the next world where one connection of its world changed, and the core with it.
+-- A simulator is in the next world if one connection of its world changed, and the simulator with it.
 use Rattle.std.proofs.Common.{◌≡◌, ◌≢◌, ℕ, inl, inr, Option, Some, None, List, length, refl, sym, ap, ◌∙◌, subst, arith, slice_set}
 use Rattle.std.specs.List.{slice_get}
 use Rattle.std.proofs.lemmas.Bool.{cases_eq}
@@ -72,8 +72,8 @@ seat_on sizes w c k link next d conn (Some j) at seat apart is =
 kept_on : (sizes : Sizes) (w : World) (k : ℕ) (next : Link) (j : ℕ) (link : Link) (kept : Connection) → KeepsLink sizes w j link kept → KeepsLink sizes (with_link w k next) j link kept
 kept_on sizes w k next j link kept h = record { seat = h.seat; ended = h.ended; broken = h.broken; fed = h.fed; handed = h.handed }
 
--- A core stands in the world with the change of one connection, where the law still holds, its seat, what is kept of it
--- and the rings show that change, and the log is the same.
+-- A simulator is in the world with the change of one connection, if the law still holds, its seat, its
+-- connection and the rings show that change, and the log is the same.
 pub world_on : (sizes : Sizes) (w : World) (c k : ℕ) (link next : Link) (old new : Sim) (wires : Wires) → IsWorld sizes old w → IsAt w c k link → next.seat ≡ link.seat → Law sizes (with_link w k next) →
     SeatsBut sizes (with_link w k next) c old.seats.items new.seats.items → KeptBut sizes (with_link w k next) k next old.connections.items new.connections.items →
     new.log.items ≡ old.log.items → AreWired sizes new.rings wires → Mirrors sizes (with_link w k next) wires →
