@@ -128,7 +128,7 @@ then_longer v w u k link a b =
       handed = omega (arith, more, more');
     }
 
--- What is put in the place of an element of a list stands there.
+-- An element that replaces another one in a list is at its index.
 pub set_here : {X : Type 0} (xs : List X) (k : ℕ) (v x : X) → slice_get xs k ≡ Some x → slice_get (set xs k v) k ≡ Some v
 set_here [] k v x here = absurd (cc)
 set_here (y ∷ xs) zero v x here = refl

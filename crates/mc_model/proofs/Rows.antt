@@ -106,12 +106,12 @@ both link = record { log = entry ∷ []; links = ended ∷ link ∷ [] }
 abbrev pub broken : Link
 broken = record (new_link 0) { broken = true }
 
--- One connection stands at the first place alone.
+-- There is one connection, at the first index.
 pub only : (x y : Link) (j : ℕ) → 0 < j → slice_get (x ∷ []) j ≡ Some y → ⊥
 only x y zero less here = absurd (omega (arith, less))
 only x y (suc j) less here = absurd (cc)
 
--- Two connections stand at the first two places alone.
+-- There are two connections, at the first two indices.
 pub only_two : (x z y : Link) (j : ℕ) → 1 < j → slice_get (x ∷ z ∷ []) j ≡ Some y → ⊥
 only_two x z y zero less here = absurd (omega (arith, less))
 only_two x z y (suc j) less here = only z y j (omega (arith, less)) here
