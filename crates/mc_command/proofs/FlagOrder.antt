@@ -36,7 +36,7 @@ both_none : (first second : Option Refusal) → option_or first second ≡ None 
 both_none None second passes = (refl, passes)
 both_none (Some refusal) second passes = absurd cc
 
--- a flag that passes did not stand before, and passes behind whatever flags it is not among
+-- a flag that passes was not among the earlier ones, and passes behind any flags that it is not among
 fresh : (unknown stands : Bool) (rest : Option Refusal) → cond unknown (Some InvalidFlag) (cond stands (Some DuplicateFlag) rest) ≡ None →
     (stands ≡ false) × ((again : Bool) → again ≡ false → cond unknown (Some InvalidFlag) (cond again (Some DuplicateFlag) rest) ≡ None)
 fresh true stands rest passes = absurd cc
@@ -164,7 +164,7 @@ same_whole (Ok asked) (Ok other) same = same
 same_whole (Err refusal) (Err other) same = tt
 same_whole asked other same = absurd same
 
--- The flags that are given back don't tell which item is discarded.
+-- The returned flags don't affect which item is discarded.
 same_key : (asked : Command) (returned : List ReturnFlag) → key_set asked ≡ key_set (with_returned asked returned)
 same_key (command.MetaGet get) returned = refl
 same_key (command.MetaSet set) returned = refl

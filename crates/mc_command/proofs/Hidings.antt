@@ -21,7 +21,7 @@ from_last : (last : Option (List ℕ)) (words : List (List ℕ)) → unwrap_or (
 from_last last [] = refl
 from_last last (word ∷ words) = from_last (Some word) words
 
--- Words end in `noreply` where the last is it, as one after another tells.
+-- Words end in `noreply` if the last one is it, as a walk over them finds.
 pub ends_from : (words : List (List ℕ)) → ends_in_noreply words ≡ noreply_from false words
 ends_from words = from_last None words
 

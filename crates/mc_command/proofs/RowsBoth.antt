@@ -60,8 +60,8 @@ exptimes : AreSo (
 unfolding line_of words_of name_of is_key number_of int_wrap
 exptimes = (refl, refl)
 
--- The server has no `stats` by its own rules. By memcached's it has those of three kinds, and what stands behind the second
--- word is not read.
+-- The native rules have no `stats`. memcached's have three kinds of it, and words after the second one are
+-- not read.
 statistics : AreSo (
     (codes "stats", Refused Unknown, Whole (command.Stats request.General))
     ∷ (codes "stats reset", Refused Unknown, Whole (command.Stats request.Reset))
@@ -78,7 +78,8 @@ statistics : AreSo (
 unfolding line_of words_of name_of
 statistics = (refl, refl)
 
--- Too few words or too many are no command, and a block is skipped where a count stands; but `cas` without its unique has none.
+-- Too few or too many words are an unknown command, and a block is skipped if there is a length; `cas`
+-- without its unique has no block.
 word_counts : AreSo (
     (codes "get", Refused BadFormat, Refused WordCount)
     ∷ (codes "gat 0", Refused BadFormat, Refused WordCount)

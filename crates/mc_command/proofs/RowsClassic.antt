@@ -25,7 +25,7 @@ use Rattle.mc_command.specs.declared.rules.Profile.TheVariants.{Own}
 abbrev Rows : Type 0
 Rows = List (List ℕ × Line)
 
--- each line of the rows is what stands beside it
+-- each line of the rows equals the result beside it
 abbrev AreSo : Rows → Type 0
 AreSo rows = map (λ row. line_of (own DEFAULT_VALUE_LIMIT) (words_of row.0)) rows ≡ map (λ row. row.1) rows
 

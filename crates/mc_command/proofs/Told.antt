@@ -58,7 +58,7 @@ stats_read_told None = refl
 pub stats_told : (rules : Rules) (words : List (List ℕ)) → Told (stats_words rules words)
 stats_told rules words = cond_both (is_drop_in rules) (then_of (ok_or (request_of words) Unknown) (λ request. Ok (command.Stats request))) (Err Unknown) Told (λ drops. stats_read_told (request_of words)) (λ own. refl)
 
--- a line without a block that is read as it stands
+-- a line without a block, read as it is
 pub says_told : (asked read : Result Command Refusal) → read ≡ asked → Told asked → Says (whole_line asked) (whole_line read)
 says_told (Ok command) read same told = rw same refl
 says_told (Err refusal) read same told = rw (same, told) refl
