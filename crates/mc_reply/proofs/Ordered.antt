@@ -38,7 +38,7 @@ headed : (code marks : List ℕ) (one : ReturnFlag → List ℕ) (flags others :
     DiffersInOrder flags others (code ++ (flat_map one flags ++ (marks ++ codes "\r\n"))) (code ++ (flat_map one others ++ (marks ++ codes "\r\n")))
 headed code marks one flags others = record { before = code; behind = marks ++ codes "\r\n"; one = one; text_is = refl; other_is = refl }
 
--- a reply with a value, whose size stands before the flags
+-- a reply with a value, whose size precedes the flags
 valued : (value marks : List ℕ) (one : ReturnFlag → List ℕ) (flags others : List ReturnFlag) →
     DiffersInOrder flags others (codes "VA " ++ (decimal (length value) ++ (flat_map one flags ++ (marks ++ (codes "\r\n" ++ (value ++ codes "\r\n")))))) (codes "VA " ++ (decimal (length value) ++ (flat_map one others ++ (marks ++ (codes "\r\n" ++ (value ++ codes "\r\n"))))))
 valued value marks one flags others = record {

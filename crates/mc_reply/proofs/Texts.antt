@@ -161,11 +161,11 @@ sum_next f slots i slot sum number next below here sum_is number_is next_is =
 pub text_last : {X : Type 0} {whole : List ℕ} {old now : Sight} (f : X → List ℕ) (xs ys : List X) (i : ℕ) → ys ≡ xs → length ys ≤ i → WroteBut whole (flat_map f (drop i xs)) old now → WroteBut whole [] old now
 text_last f xs ys i same past so_far = rw (ap (λ zs. flat_map f (drop i zs)) (sym same) ∙ at_drop_all (λ zs. flat_map f zs) ys i past) at so_far
 
--- the line before a value is the first part of what stands before it
+-- the header of a value is the first part of the text before the value
 pub size-parts : (size : ℕ) (line flags : List ℕ) → line ≡ codes "VA " ++ (decimal size ++ []) → codes "VA " ++ (decimal size ++ flags) ≡ line ++ flags
 size-parts size line flags line_is = rw (line_is, append-nil (decimal size))
 
--- the size and the flags stand before a value
+-- the size and the flags precede a value
 front_text : (size flags rest : List ℕ) → codes "VA " ++ (size ++ (flags ++ rest)) ≡ (codes "VA " ++ (size ++ flags)) ++ rest
 front_text size flags rest = ap (λ xs. codes "VA " ++ xs) (sym (append_assoc size flags rest))
 
