@@ -99,7 +99,7 @@ all_front : {X : Type 0} (P : X → Type 0) (xs ys : List X) → AllByRecursion 
 all_front P [] ys all = (tt, all)
 all_front P (x ∷ xs) ys all = let rest = all_front P xs ys all.1 in ((all.0, rest.0), rest.1)
 
--- the same answers make the same history
+-- equal answers make equal histories
 history_same : (shards : ℕ) (one other : List Shown) (number : ℕ) (taken : List Taken) → AgreeOn one other (pieces_from shards number taken) → history_from shards one number taken ≡ history_from shards other number taken
 history_same shards one other number [] agree = refl
 history_same shards one other number (first ∷ taken) agree =

@@ -43,7 +43,7 @@ shown_next told shards place one all totals after within is are each shown =
     subst (λ them. EachIsShown told (shared_values (take (place + 1) shards)) them) (sym are)
     (subst (λ them. EachIsShown told them (all ++ totals ∷ [])) (sym (shared_next shards place one within is)) (shown_more told (shared_values (take place shards)) all (shared_value one) totals each shown))
 
--- the same counts make the same totals
+-- equal counts make equal totals
 pub same_totals : {items bytes evicted items' bytes' evicted' : ℕ} {tally tally' : Tally} → items ≡ items' → bytes ≡ bytes' → evicted ≡ evicted' → tally ≡ tally'
     → totals_counted items bytes evicted tally ≡ totals_counted items' bytes' evicted' tally'
 same_totals {items} {bytes} {evicted} {items'} {bytes'} {evicted'} {tally} items_are bytes_are evicted_are tally_is =

@@ -18,7 +18,7 @@ next_says : (sizes : Sizes) (lines left behind : List (List ℕ)) (line : List �
 next_says sizes lines left behind line events said so_far first says =
     so_far ∙ (ap (λ (rest : List (List ℕ)). map Some (map shown events) ++ events_in sizes rest) first ∙ ap (λ (one : Option Event). map Some (map shown events) ++ one ∷ events_in sizes behind) says)
 
--- the same lines, with the event among those that were read
+-- these lines, with the event among those that were read
 reads_on : (events grown : List code.Event) (event : code.Event) (behind : List (Option Event)) → grown ≡ events ++ event ∷ []
     → map Some (map shown events) ++ Some (shown event) ∷ behind ≡ map Some (map shown grown) ++ behind
 reads_on events grown event behind is =
