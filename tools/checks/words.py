@@ -31,7 +31,7 @@ BETTER = {
     r"tells?|told|telling": "report, return, show, notify, log",
     r"lets? go|letting go": "drop, free",
     r"stands?|stood|standing": "is, depends on",
-    r"goes (?!out|back|on|into)": "is evicted, expires, is deleted, is removed",
+    r"goes(?! (?:out|back|on|into))": "is evicted, expires, is deleted, is removed",
     r"who(?:ever)? runs": "operator",
     r"where nothing is said|where it isn't said": "by default",
     r"a hundredth": "p99",

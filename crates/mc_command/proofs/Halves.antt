@@ -12,7 +12,8 @@ unfolding int_wrap
 half_is (pos a) low is = (a % 4294967296, is, refl)
 half_is (negsuc a) low is = (4294967296 - 1 - a % 4294967296, is, refl)
 
--- The remainder by 2^32 of a signed number of 64 bits is not negative, and its bits are the 32 that wrapping keeps.
+-- The remainder by 2^32 of a signed number of 64 bits is not negative, and its bits are the 32 that wrapping
+-- keeps.
 pub half_of : (z low : ℤ) → SFits w64 z → low ≡ int_rem_euclid (to_z w64 (of_z w64 z)) (pos 4294967296) → (bits : ℕ) × (low ≡ pos bits) × (int_wrap w32 z ≡ to_z w32 bits)
 half_of z low fits is = half_is z low (is ∙ ap (λ (n : ℤ). int_rem_euclid n (pos 4294967296)) (to_z-of_z w64 z fits))
 

@@ -25,7 +25,7 @@ from_last last (word ∷ words) = from_last (Some word) words
 pub ends_from : (words : List (List ℕ)) → ends_in_noreply words ≡ noreply_from false words
 ends_from words = from_last None words
 
--- Hiding faults neither hides that memory ran out nor makes another refusal say so.
+-- Hiding errors neither hides "out of memory" nor makes another refusal one.
 pub shown_told : (hides : Bool) (refusal : Refusal) → is_memory (shown_refusal hides refusal) ≡ is_memory refusal
 shown_told false refusal = refl
 shown_told true Memory = refl

@@ -87,7 +87,7 @@ asked_next name asked first token shown = record {
   direction = cond (first == 77) (direction_in name (Some token)) asked.direction;
 }
 
--- With a flag more, of a letter that none before it has, a meta line asks what it did and what that flag says.
+-- With one more flag, of a new letter, a meta line has its earlier flags and that one.
 pub asked_of-append : (rules : Rules) (name : MetaKind) (before : List (List ℕ)) (first : ℕ) (token : List ℕ) → has_flag first before ≡ false →
     asked_of rules name (before ++ (first ∷ token) ∷ []) ≡ asked_next name (asked_of rules name before) first token (return_flag first)
 asked_of-append rules name before first token fresh =

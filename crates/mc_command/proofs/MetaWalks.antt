@@ -41,7 +41,7 @@ data Tells (rules : Rules) (name : MetaKind) (letter : ℕ) (token : List ℕ) (
   said : (flag : Flag) → token_refusal name letter token ≡ None → flag_of name letter token ≡ Ok flag →
       with_shown (with_flag (asked_of rules name before) flag) (return_flag letter) ≡ asked_of rules name (before ++ (letter ∷ token) ∷ []) → Tells rules name letter token before
 
--- A flag says what the look-ups give.
+-- A flag means what the lookups find.
 abbrev IsSaid : Rules → MetaKind → ℕ → Type 0
 IsSaid rules name letter = (token : List ℕ) (before : List (List ℕ)) → has_flag letter before ≡ false → Tells rules name letter token before
 

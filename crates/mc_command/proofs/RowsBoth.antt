@@ -1,5 +1,5 @@
--- Worked lines by both rules, where they differ: what the server's own rules say of each, and what memcached's do. The second are
--- what memcached 1.6.18 answered.
+-- Worked lines under both rules, where they differ: the results of the native rules, and of memcached's. The
+-- latter are what memcached 1.6.18 answered.
 use Rattle.std.proofs.Common.{◌≡◌, ℕ, Bool, true, false, List, [], ◌∷◌, ◌++◌, Option, Some, None, refl, codes, ℤ, pos, negsuc, replicate}
 use Rattle.std.specs.Prelude.{map}
 use Rattle.std.specs.Int.{int_wrap}
@@ -131,7 +131,7 @@ hidden_faults : AreSo (
 unfolding line_of words_of name_of is_key keys_of number_of word_count_refusal
 hidden_faults = (refl, refl)
 
--- Where a value is too large the item under the key goes: of `set`, and of `ms` in each of its modes.
+-- If a value is too large the item of the key is deleted: for `set`, and for `ms` in each mode.
 too_large : AreSo (
     (codes "set a 0 0 1048577", Skip None TooLarge 1048579, Skip (Some a) TooLarge 1048579)
     ∷ (codes "set a 0 0 1048576", Data (set (pos 0) false) 1048576, Data (set (pos 0) false) 1048576)

@@ -88,7 +88,7 @@ impl<S: Stream + Drop> Lingering<S> {
         Lingers::More
     }
 
-    /// Whether the deadline is still ahead.
+    /// `Waits` before the deadline, `Over` after it.
     fn wait<R: time::Clock>(&self, rt: &R) -> Lingers {
         match Instant::now(rt) {
             Ok(now) if now < self.until => Lingers::Waits,

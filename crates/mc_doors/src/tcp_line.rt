@@ -202,8 +202,8 @@ impl<S: Stream> TcpLine<S> {
 }
 
 impl<S: Stream + Drop> TcpLine<S> {
-    /// The stream, if it is still usable in both directions: its input has not ended, and it has
-    /// not failed. With `given_up`, only the server's shutdown counts as an end.
+    /// The stream, if it is still usable: its input has not ended, and it has neither failed nor been
+    /// given up, except by the server's shutdown.
     pub(crate) fn into_open(self, given_up: bool) -> Option<S>
         ensures { IfSome result (λ stream. stream ≡ self.tap.stream) }
     {

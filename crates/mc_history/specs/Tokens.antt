@@ -40,7 +40,8 @@ pub record Adds (event : Event) (old new : Acting) : Type 0 where
   pub events : new.events ≡ before ++ event ∷ []
   pub own : own_part new.role new.events ≡ own_part old.role old.events ++ event ∷ []
 
--- A connection was opened on this seat, and this is its actor. It has the next number, and has done nothing yet.
+-- A connection was opened on this seat, and this is its actor. It has the next number, and has done nothing
+-- yet.
 pub record Opens (name : Name) (seat : ℕ) (new : Acting) : Type 0 where
   pub name_is : new.name ≡ name
   pub before : List Event

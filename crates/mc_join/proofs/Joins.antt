@@ -52,7 +52,7 @@ handed_within forms handed beginning =
 first_texts : (forms : List Form) (n : ℕ) → n ≤ prefix_len is_answered forms → take n (map form_text (complete forms)) ≡ map form_text (take n forms)
 first_texts forms n within = take-map form_text n (complete forms) ∙ ap (map form_text) (take-take n (prefix_len is_answered forms) forms within)
 
--- what was handed out stays a beginning of the replies where the first forms stay
+-- the texts written stay a prefix of the replies if the first forms stay
 beginning-same : (forms new : List Form) (handed : List (List ℕ)) → handed ≡ take (length handed) (map form_text (complete forms)) → take (length handed) forms ≡ take (length handed) new → length handed ≤ length new → handed ≡ take (length handed) (map form_text (complete new))
 beginning-same forms new handed beginning same there =
     let within = handed_within forms handed beginning in

@@ -22,8 +22,8 @@ second = record { ticket = record { 0 = 0 }; part = 1; kind = kind.Fetch; answer
 abbrev first : Shown
 first = record { ticket = record { 0 = 0 }; part = 0; kind = kind.Fetch; answer = answer.Hit 0 1 (codes "x") }
 
--- while an answer is missing there is no reply; then it is one, in whichever order the answers came; a complete reply waits
--- for the one before it; and the text has this length
+-- while an answer is missing there is no reply; then it is one, in whichever order the answers came; a
+-- complete reply waits for the one before it; and the text has this length
 two_replies : (replies (two_keys ∷ []) (second ∷ []) ≡ [])
     × (replies (two_keys ∷ []) (second ∷ first ∷ []) ≡ codes "VALUE a 0 1\r\nx\r\nEND\r\n" ∷ [])
     × (replies (two_keys ∷ []) (first ∷ second ∷ []) ≡ replies (two_keys ∷ []) (second ∷ first ∷ []))

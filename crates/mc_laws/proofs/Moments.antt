@@ -1,4 +1,5 @@
--- A get of keys on two shards is not one moment: here it sees the newer value of one key and the older one of another.
+-- A get of keys on two shards is not atomic: here it sees the newer value of one key and the older one of
+-- another.
 use Rattle.std.proofs.Common.{◌≡◌, ℕ, zero, suc, false, inr, List, [], ◌∷◌, Some, None, refl, ◌∙◌, arith, codes, pos}
 use Rattle.std.specs.FinMap.{empty, get, get-empty, insert}
 use Rattle.std.specs.Ordering.{nat_cmp}

@@ -242,7 +242,8 @@ between sizes w (event ∷ events) w' led zero q order = let parts = parts_at si
 between sizes w (event ∷ events) w' led (suc p) zero order = absurd (omega (arith, order))
 between sizes w (event ∷ events) w' led (suc p) (suc q) order = between sizes led.1 events w' led.3 p q (omega (arith, order))
 
--- A command whose reply was out at some point of a run runs before one that was not yet asked there, or later on.
+-- A command whose reply was out at some point of a run runs before one that was not yet asked there, or later
+-- on.
 pub ran_first : (sizes : Sizes) (w : World) (events : List Event) (w' : World) (led : Leads sizes w events w') (p q j a k b : ℕ) → 0 < sizes.shards → Law sizes w → p ≤ q → IsHandedOut (world_at sizes w events w' led p) j a → IsNotYetAsked sizes (world_at sizes w events w' led q) k b → RunsBefore w'.log j a k b
 ran_first sizes w events w' led p q j a k b some l order handed to_come =
     let before = parts_at sizes w events w' led p in

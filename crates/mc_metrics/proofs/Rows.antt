@@ -5,8 +5,9 @@ use Rattle.std.specs.Fmt.{digits}
 use Rattle.mc_metrics.specs.Amounts.{bytes_text, digits_of, duration_text, group_text, grouped, percent_of, tenths_text}
 use Rattle.mc_metrics.specs.Backlog.{behind_colon, hexadecimal, waiting_at, waiting_in, word_at}
 
--- lines as the system writes them: the heading, a socket that listens at port 11211 of 127.0.0.1 with 3 who wait, one that listens
--- at port 22 of any address with 26, and a connection at port 11211 of which 7 bytes are to be read
+-- lines as the system writes them: the heading, a socket that listens at port 11211 of 127.0.0.1 with 3 who
+-- wait, one that listens at port 22 of any address with 26, and a connection at port 11211 of which 7 bytes
+-- are to be read
 abbrev heading : List ℕ
 heading = codes "  sl  local_address rem_address   st tx_queue rx_queue tr tm->when retrnsmt   uid  timeout inode                                                     "
 

@@ -1,4 +1,4 @@
--- Worked texts with what they spell, and worked streams with their commands.
+-- Worked texts with their commands, and worked streams.
 use Rattle.std.proofs.Common.{◌≡◌, ℕ, ◌<◌, Bool, false, ◌||◌, List, [], ◌∷◌, ◌++◌, length, ◌==◌, refl, codes, pos, lit<, None}
 use Rattle.std.proofs.lemmas.Bool.{or_parts}
 use Rattle.std.specs.Int.{int_wrap}

@@ -18,7 +18,7 @@ use Rattle.mc_replay.specs.Report.{connection_line, counts_line}
 use Rattle.mc_replay.specs.Replay.{IsReport, connection_lines, log_line, report}
 use Rattle.mc_replay.specs.Report.{entry_line}
 
--- the lines from a connection on begin with its own
+-- the lines from a connection on start with its own
 pub connection_lines-at : (sizes : Sizes) (w : World) (number : ℕ) (link : Link) → IsLink w number link
     → connection_lines sizes w number (drop number w.links) ≡ connection_line number link.seat (handed_bytes sizes w number link) ++ connection_lines sizes w (number + 1) (drop (number + 1) w.links)
 connection_lines-at sizes w number link here =
@@ -32,7 +32,7 @@ pub connection_lines_more : (sizes : Sizes) (w : World) (number : ℕ) (link : L
 connection_lines_more sizes w number link text whole here lacks =
     append_assoc text _ _ ∙ (ap (λ lines. text ++ lines) (sym (connection_lines-at sizes w number link here)) ∙ lacks)
 
--- as many connections as seats, and their seats the same
+-- as many connections as seats, and each on its seat
 pub same_lengths : {A : Type 0} (f : A → ℕ) (xs : List A) (links : List Link) → map f xs ≡ map (λ link. link.seat) links → length xs ≡ length links
 same_lengths f [] [] same = refl
 same_lengths f [] (link ∷ links) same = absurd cc

@@ -1,4 +1,5 @@
--- The lines of a replay file and the words of a line: lines are ended by the byte 10, words are separated by one space.
+-- The lines of a replay file and the words of a line: lines are ended by the byte 10, words are separated by
+-- one space.
 use Rattle.std.specs.Prelude.{ℕ, ◌-◌, List, ◌∷◌, length, take, drop, Option, Some, None, Result, Ok, codes, if◌then◌else◌, ◌==◌}
 use Rattle.std.specs.List.{slice_split}
 use Rattle.std.specs.Str.{bytes_eq}

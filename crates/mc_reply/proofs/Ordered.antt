@@ -83,7 +83,7 @@ ordered kind flags others value key lenient answers moved =
     let same : shown_key flags key ≡ shown_key (with_flags flags others) key = ap (λ test. cond test (Some key) None) (list_any-IsPermutation is_key_flag flags.returned others moved) in
     rw (← same) (with_key kind flags others value (shown_key flags key) lenient answers)
 
--- Returned flags in another order give the same reply, but for the order in which they are returned.
+-- Another order of the returned flags changes only their order in the reply.
 pub orders_flags : (command : Command) (returned : List ReturnFlag) → IsPermutation (returned_in command) returned → (answers : List Answer) →
     DiffersInOrder (returned_in command) returned (text_of command answers) (text_of (with_returned command returned) answers)
 unfolding shape_of

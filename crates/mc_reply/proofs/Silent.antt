@@ -65,7 +65,7 @@ pub values_shown : (lacks : Bool) (items : List ℕ) → (cond lacks memory_line
 values_shown true items = (λ e. absurd cc, λ e. absurd cc)
 values_shown false items = (λ e. absurd (some_behind items (codes "ND\r\n") 69 e), λ e. absurd cc)
 
--- A reply whose text begins with a byte is not empty, and neither is the memory line.
+-- A reply whose text starts with a byte is not empty, and neither is the memory line.
 pub told_shown : (lacks : Bool) (byte : ℕ) (text : List ℕ) → (cond lacks memory_line (byte ∷ text) ≡ []) ↔ IsTrue false
 told_shown true byte text = (λ e. absurd cc, λ e. absurd cc)
 told_shown false byte text = (λ e. absurd cc, λ e. absurd cc)

@@ -1,4 +1,5 @@
--- The texts of replies, as functions of the whole list of answers (protocol.txt, the reply lines of each command).
+-- The texts of replies, as functions of the whole list of answers (protocol.txt, the reply lines of each
+-- command).
 use Rattle.std.specs.Prelude.{ℕ, ◌^◌, ◌%◌, Bool, true, false, ◌&&◌, List, [], ◌∷◌, ◌++◌, length, codes, decimal, Option, Some, None, if◌then◌else◌}
 use Rattle.std.specs.List.{concat, flat_map, list_any, sum_by, zip}
 use Rattle.mc_command.specs.declared.command.Command.{Command}

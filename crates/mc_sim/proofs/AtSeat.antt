@@ -46,7 +46,8 @@ pub record Finds (sim : Sim) (c number : ℕ) (place : Seat) : Type 0 where
   pub here : slice_get sim.seats.items c ≡ Some place
   pub current : place.current ≡ Some number
 
--- A core that differs at one seat, and in what is kept of its connection; its rings and its log are the same.
+-- A simulator that differs at one seat, and in the history of its connection; its rings and its log are
+-- unchanged.
 pub record Differs (old new : Sim) (c : ℕ) (after : Seat) : Type 0 where
   pub seats : new.seats.items ≡ slice_set old.seats.items c after
   pub log : new.log.items ≡ old.log.items
@@ -170,7 +171,7 @@ broken_before old new c number place kept finds at_kept broken same sizes w worl
       world_stays sizes w old new world same,
     )
 
--- A core whose seat changed inside, while its connection is the same by all lists.
+-- A simulator whose seat changed inside, with a connection that is unchanged by all lists.
 pub seat_again : (sizes : Sizes) (w : World) (old new : Sim) (c number : ℕ) (link : Link) (place after : Seat) → IsWorld sizes old w → Finds old c number place → IsAt w c number link → Differs old new c after → after.current ≡ place.current →
     IsServing sizes (of_asker number w.log) link after.conn → new.connections.items ≡ old.connections.items → IsWorld sizes new w
 seat_again sizes w old new c number link place after world finds at differs same serving connections =
@@ -193,7 +194,7 @@ seat_again sizes w old new c number link place after world finds at differs same
       mirrors = world.mirrors;
     }
 
--- the bytes handed are the same where a command is taken
+-- the bytes written are unchanged if a command is parsed
 taken_bytes : (sizes : Sizes) (w : World) (k : ℕ) (link : Link) (one : Taken) → LinkLaw sizes (of_asker k w.log) link → handed_bytes sizes w k link ≡ handed_bytes sizes w k (record link { taken = link.taken ++ one ∷ [] })
 taken_bytes sizes w k link one law =
     let own = replies_in (of_asker k w.log) in
@@ -268,7 +269,7 @@ takes_none old new c number moment place after finds same differs connections co
       seat_again sizes w old new c number link place after world finds f.1 differs same (record { lent = s.lent; accepted = s.accepted; is = conn (told_of sizes link s.lent s.accepted) s.is; fits = s.fits }) connections,
     )
 
--- A Take is idle where all commands that the bytes spell were taken, and more bytes are needed for another.
+-- A Take is idle if all commands in the input were parsed, and more bytes are needed for another.
 pub takes_all : (old new : Sim) (c number moment : ℕ) (place after : Seat) → Finds old c number place → after.current ≡ place.current → Differs old new c after → new.connections.items ≡ old.connections.items →
     ((told : Told) → IsConn place.conn told → NeedsMore told after.conn) → StepsByEvent old (Take c moment) replied.Idle new
 takes_all old new c number moment place after finds same differs connections conn =
@@ -300,7 +301,7 @@ get_index [] i x below is = absurd (omega (arith, below))
 get_index (y ∷ xs) zero x below is = ap (λ z. Some z) (sym is)
 get_index (y ∷ xs) (suc i) x below is = get_index xs i x (omega (arith, below)) is
 
--- Two readings of the same place within a list give the same element.
+-- Two reads at one index of a list return equal elements.
 pub same_index : {X : Type 0} (xs : List X) (i : ℕ) (x y : X) → i < length xs → x ≡ slice_index_or xs i x → y ≡ slice_index_or xs i y → x ≡ y
 same_index xs i x y below is is' = at_once xs i i x y (get_index xs i x below is) (get_index xs i y below is') refl
 

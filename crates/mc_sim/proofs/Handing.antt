@@ -137,7 +137,8 @@ same_texts sizes own link accepted count law fits within come =
     omega (arith, came, received, given, long)) in
     told.texts ∙ (ap (λ history. map text_done history) (history_same shards accepted (replies_in own) 0 first agree) ∙ sym logged.texts)
 
--- The bytes that the connection was handed before, with those that were waiting, are those that it is handed now.
+-- The bytes that the connection was handed before, with those that were waiting, are those that it is handed
+-- now.
 pub handed_now : (sizes : Sizes) (w : World) (k : ℕ) (link : Link) (conn : Conn) (law : LinkLaw sizes (of_asker k w.log) link) (s : IsServing sizes (of_asker k w.log) link conn) →
     let told = told_of sizes link s.lent s.accepted in
     handed_bytes sizes w k link ++ waiting_text told ≡ handed_bytes sizes w k (record link { handed = length (all_texts told) })

@@ -1,4 +1,4 @@
--- What decoding says of a base64 key word.
+-- The result of decoding a base64 key word.
 use Rattle.std.proofs.Common.{◌≡◌, ℕ, ◌<◌, ◌≤◌, ◌+◌, ◌-◌, ◌*◌, ◌/◌, ◌%◌, true, false, cond, Result, List, [], ◌∷◌, length, Some, None, Ok, Err, is_some, nat_lt, nat_eq, refl, sym, ap, ◌∙◌, arith, length-append}
 use Rattle.std.proofs.lemmas.List.{length-replicate}
 use Rattle.std.proofs.lemmas.Bool.Decides.{nat_tests}

@@ -1,5 +1,5 @@
--- The place of a key among two shards is a parity: the hash's basis and prime are odd, so its lowest bit is that of the
--- basis and of each byte, mixed by exclusive or.
+-- The place of a key among two shards is a parity: the hash's basis and prime are odd, so its lowest bit is
+-- that of the basis and of each byte, mixed by exclusive or.
 use Rattle.std.proofs.Common.{◌≡◌, ℕ, ◌*◌, ◌%◌, ◌^◌, List, [], ◌∷◌, refl, sym, ap, ◌∙◌, arith}
 use Rattle.std.specs.Prelude.{fold, bit_xor}
 use Rattle.std.proofs.lemmas.Nat.{xor_mod}

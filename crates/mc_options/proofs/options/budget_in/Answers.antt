@@ -7,7 +7,7 @@ use Rattle.mc_options.specs.Numbers.{shares_by, total_of}
 use Rattle.mc_options.proofs.Behind.{step}
 use Rattle.mc_options.proofs.options.budget_in.Goals as goal
 
--- a total by the same texts
+-- totals from equal texts
 same_total : (fewest most fewest' most' : ℕ) (bytes bytes' : Bool) (memory megabytes memory' megabytes' : Option (List ℕ)) → fewest ≡ fewest' → most ≡ most' → bytes ≡ bytes'
     → memory ≡ memory' → megabytes ≡ megabytes' → total_of fewest' most' bytes' memory' megabytes' ≡ total_of fewest most bytes memory megabytes
 same_total fewest most fewest' most' bytes bytes' memory megabytes memory' megabytes' first second third fourth fifth =

@@ -1,4 +1,5 @@
--- What is fed comes behind the bytes, so a line end that was found stays where it is; else it is looked for in what is fed.
+-- What is fed comes behind the bytes, so a line end that was found stays where it is; else it is looked for
+-- in what is fed.
 use Rattle.std.proofs.Common.{◌≡◌, ◌<◌, ℕ, ◌+◌, true, List, ◌∷◌, ◌++◌, length, Option, Some, None, IsTrue, nat_lt, ap, sym, ◌∙◌, append_assoc, length-append, arith}
 use Rattle.std.specs.Option.{is_some}
 use Rattle.std.proofs.lemmas.Bool.Decides.{nat_tests}
