@@ -1,6 +1,6 @@
--- The meta commands as a table: the flags and tokens of each, and the result for a line (protocol.txt, "Meta
--- Commands": a name, a key, for `ms` the length of the data block, and flags, each one letter directly
--- followed by its token).
+-- The meta commands as a table: the flags and tokens of each, and the result for a line. A line has a name, a
+-- key, for `ms` the length of the data block, and flags, each one letter directly followed by its token
+-- (protocol.txt, "Meta Commands").
 use Rattle.std.specs.Prelude.{ℕ, zero, ℤ, pos, ◌==◌, ◌^◌, Bool, true, false, ◌&&◌, not, List, [], ◌∷◌, ◌++◌, length, drop, find, Option, Some, None, is_some, unwrap_or, option_and_then, nat_lt, codes, if◌then◌else◌, Result, Ok, Err}
 use Rattle.std.specs.List.{filter_map, list_any, slice_get}
 use Rattle.std.specs.Map.{lookup}

@@ -31,7 +31,7 @@ pub(crate) enum Lingers {
     Over,
 }
 
-/// A connection with its output shut down, whose input is discarded for a while: closing with
+/// A connection with its output shut down, whose input is discarded for a while. Closing with
 /// unread bytes would reset it, and the peer could lose the last reply (RFC 1122, section
 /// 4.2.2.13). Nothing is written to it.
 pub(crate) struct Lingering<S> {

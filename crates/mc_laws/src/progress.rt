@@ -15,7 +15,7 @@ pub fn never_stuck()
         AreWithin sizes → Schedule sizes events w → AllAtRest sizes w ⊎ HasWork sizes w }
 {}
 
-/// Bounded work, from every reachable state: without new input, at most two steps are done for each
+/// Bounded work, from every reachable state. Without new input, at most two steps are done for each
 /// command in the input, four for each of its pieces and two for each connection. Some steps lead
 /// to rest, where every connection that hasn't failed was sent the replies to all its commands.
 pub fn all_comes_to_rest()
@@ -39,7 +39,7 @@ pub fn what_is_tried_is_fair()
         IsWeaklyFair run }
 {}
 
-/// Progress under a fair scheduler, whatever input arrives: if work that stays enabled is
+/// Progress under a fair scheduler, whatever input arrives. If work that stays enabled is
 /// eventually done and no shard ignores a slot forever, each command in a connection's input is
 /// answered, or the connection fails.
 pub fn none_waits_forever()

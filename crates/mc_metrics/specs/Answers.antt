@@ -38,9 +38,9 @@ abbrev pub status_of : List ℕ → List ℕ → ℕ
 status_of method path = if is_read method then status_at (target_of path) else 405
 
 module _ {C : Type 0} (told : C → ℕ → Type 0) where
-  -- the metrics of a server with this configuration, these counters and this uptime in seconds: the values
-  -- read from the counters, the backlog by the tables that were read, and the process's resources as the
-  -- system reports them
+  -- the metrics of a server with this configuration, these counters and this uptime in seconds. Values are
+  -- those read from the counters; the backlog is by the tables that were read, and the process's resources
+  -- are as the system reports them.
   abbrev pub AreMetrics : Facts → Counts C → ℕ → List ℕ → Type 0
   AreMetrics facts counts uptime text =
       (totals : Totals) × (waiting : ℕ) × (process : Process) × AreTotals told counts totals × AreWaiting facts.port waiting

@@ -38,9 +38,9 @@ IsRenewable sizes w seat = (k : ℕ) × (link : Link) × IsAt w seat k link × M
 abbrev pub IsEmptyHand : World → ℕ → Type 0
 IsEmptyHand w shard = (k : ℕ) (link : Link) → IsLink w k link → ran w k shard ≤ link.given shard
 
--- A Feed takes the first count bytes: the whole piece if it is within the limit and every earlier byte
--- belongs to a command that was parsed, and at least one byte if all commands are parsed and the window isn't
--- full.
+-- A Feed takes the first count bytes. It takes the whole piece if that is within the limit and every earlier
+-- byte belongs to a command that was parsed. It takes at least one byte if all commands are parsed and the
+-- window isn't full.
 pub record MayFeed (sizes : Sizes) (link : Link) (bytes : List ℕ) (count : ℕ) : Type 0 where
   pub within : count ≤ length bytes
   pub whole : IsUsedUp sizes link → length bytes ≤ sizes.line → count ≡ length bytes

@@ -8,9 +8,9 @@ ghost use Rattle.mc_model.specs.Log.{Entry};
 ghost use Rattle.mc_model.specs.Alone.{alone};
 ghost use Rattle.mc_model.specs.Served.{IsServedAlone};
 
-/// If the shards ran only the pieces of one connection, in order, and no memory was refused, then
-/// at rest the connection was sent the replies to its commands, each run completely before the
-/// next. The times at which pieces were sent and answers came don't matter.
+/// Assumes that the shards ran only the pieces of one connection, in order, and that no memory was
+/// refused. At rest, the connection was then sent the replies to its commands, each run completely
+/// before the next. The times at which pieces were sent and answers came don't matter.
 pub fn a_connection_is_served_as_alone()
     ensures { (sizes : Sizes) (conn : Conn) (told : Told) (log : List Entry) → 0 < sizes.shards →
         IsConn conn told → told.broken ≡ false → IsAtRest told → IsServedAlone sizes told log →

@@ -12,12 +12,13 @@ ghost use Rattle.mc_model.specs.Alone.{IsAlone, alone};
 ghost use Rattle.mc_model.specs.Law.{Law};
 ghost use Rattle.mc_model.specs.Grows.{Grows};
 
-/// The main theorem. For every list of steps of connections and shards, the bytes written to a
-/// connection are a prefix of the replies to the commands in its input, in order, each once, or
-/// silent as `noreply` and `q` say; at rest they are all of them. Each shard ran each connection's
-/// pieces once, in sending order, and each answer is the protocol's step on that shard's items.
-/// Nothing follows `quit`. This holds for all sizes within the limits, and for connections that
-/// reuse a slot.
+/// The main theorem, for every list of steps of connections and shards.
+///
+/// The bytes written to a connection are a prefix of the replies to the commands in its input.
+/// Replies are in order, each once, or silent as `noreply` and `q` say; at rest they are complete.
+/// Each shard ran each connection's pieces once, in sending order, and each answer is the
+/// protocol's step on that shard's items. Nothing follows `quit`. This holds for all sizes within
+/// the limits, and for connections that reuse a slot.
 pub fn every_schedule()
     ensures { (sizes : Sizes) (events : List Event) (w : World) →
         AreWithin sizes → Schedule sizes events w → Headline sizes w }
@@ -39,8 +40,8 @@ pub fn every_event_keeps_the_law()
 {}
 
 /// If the shards ran pieces of one connection only and no memory was refused, every schedule that
-/// brings the connection to rest writes the same bytes to it: the replies to its commands, each run
-/// completely before the next.
+/// brings the connection to rest writes the same bytes to it. They are the replies to its commands,
+/// each run completely before the next.
 pub fn one_connection_is_served_as_alone()
     ensures { (sizes : Sizes) (events : List Event) (w : World) (k : ℕ) (link : Link) →
         AreWithin sizes → Schedule sizes events w → IsLink w k link → link.broken ≡ false →

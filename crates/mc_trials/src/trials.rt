@@ -259,7 +259,7 @@ impl<R: Threads + Wait + RandomSource + Copy + Send + Drop + 'static> Server<R> 
         Ok(self.meetings(lines, sizes(2, 64, 256), MEETINGS)? == Some(2 * MEETINGS))
     }
 
-    /// Whether a ring holds exactly `ring` pieces: while a shard is blocked, a piece for the other
+    /// Whether a ring holds exactly `ring` pieces. While a shard is blocked, a piece for the other
     /// shard is sent behind as many pieces as the ring holds, and not behind one more.
     fn rings_hold(&self) -> Result<bool, AllocError> {
         let mut is_right = true;
@@ -273,7 +273,7 @@ impl<R: Threads + Wait + RandomSource + Copy + Send + Drop + 'static> Server<R> 
         Ok(is_right)
     }
 
-    /// Whether exactly `window` commands of a line can be open: while a shard is blocked, a piece
+    /// Whether exactly `window` commands of a line can be open. While a shard is blocked, a piece
     /// for the other shard is sent if its command is the last one within the window, and not if it
     /// is the next.
     fn windows_are_wide(&self) -> Result<bool, AllocError> {
@@ -289,8 +289,8 @@ impl<R: Threads + Wait + RandomSource + Copy + Send + Drop + 'static> Server<R> 
     }
 
     /// Whether the shards meet at the gate if a line sends `before` pieces to one of them and then
-    /// one to the other, while the first is blocked by another line's piece; `None` if the replies
-    /// are wrong.
+    /// one to the other. Meanwhile the first is blocked by another line's piece. `None` if the
+    /// replies are wrong.
     fn meets_behind(&self, before: u64, sizes: Sizes) -> Result<Option<bool>, AllocError> {
         let arrived: Come = Arc::new(self.alloc, AtomicU64::new(0))?;
         let met: Met = Arc::new(self.alloc, AtomicU64::new(0))?;

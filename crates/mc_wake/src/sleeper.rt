@@ -173,9 +173,9 @@ impl Sleeper {
         self.waker.callers.take(word)
     }
 
-    /// Takes and clears the bits of those of the thread's 64 slots from `64 * word` on that are
-    /// ready: a reply was pushed, the socket has an event, or a reminder is due. Numbers that the
-    /// thread doesn't serve are always marked.
+    /// Takes and clears the bits of the thread's slots that are ready, 64 of them from `64 * word`
+    /// on. A slot is ready if a reply was pushed, its socket has an event, or a reminder is due.
+    /// Numbers that the thread doesn't serve are always marked.
     #[tactic(auto, using(crate::proofs::Words::words_within))]
     pub fn roused_in(&self, word: usize) -> u64
         ensures unknown { self.now.places ≤ 64 * word → result ≡ 2 ^ 64 - 1 }
