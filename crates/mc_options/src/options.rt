@@ -448,7 +448,7 @@ fn budget_in<'a>(matches: &ArgMatches<'a>) -> Result<Budget, OptionFault<'a>>
     shares_in(matches, range, total)
 }
 
-/// The allowed number of shards: exactly the given one, or any.
+/// The allowed number of shards: exactly the given one, or by default 2 to 64.
 fn range_of(shards: Option<u64>) -> Range
     requires { IfSome shards (λ number. (1 ≤ number) × (number ≤ 64)) }
     ensures fewest { result.fewest ≡ unwrap_or shards 2 }
