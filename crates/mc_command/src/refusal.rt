@@ -22,8 +22,7 @@ pub enum Refusal {
     OpaqueTooLong,
     /// The length of the value is above the value limit.
     TooLarge,
-    /// The data block isn't followed by `\r
-    /// `.
+    /// The data block isn't followed by CR LF.
     BadChunk,
     /// The line is longer than the line limit. The stream is closed.
     LineTooLong,

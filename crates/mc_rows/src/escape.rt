@@ -1,9 +1,8 @@
 //! Escape sequences in the file of rows.
 use std::alloc::{AllocError, Global};
 
-/// Decodes a text: `\r`, `
-/// `, `\t`, `\\` and `\xHH` are one byte each, `{N*TEXT}` is TEXT N times, and every other byte is
-/// itself.
+/// Decodes a text: `\r`, `\n`, `\t`, `\\` and `\xHH` are one byte each, `{N*TEXT}` is TEXT N times,
+/// and every other byte is itself.
 pub fn unescape(alloc: Global, text: &[u8]) -> Result<Vec<u8>, AllocError> {
     let mut bytes = Vec::new(alloc);
     let mut rest = text;

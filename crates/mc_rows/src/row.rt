@@ -55,8 +55,8 @@ impl Row {
     }
 
     /// Number of values in the output that are longer than this. `bytes` must exceed a reply's
-    /// other lines: a value is on a line of its own and ends by `\r
-    /// `. A value that contains a line end may not be counted.
+    /// other lines: a value is on a line of its own and ends by CR LF. A value that
+    /// contains a line end may not be counted.
     pub fn values_longer_than(&self, bytes: usize) -> usize {
         let mut values = 0usize;
         let mut behind_end = 0usize;

@@ -32,8 +32,7 @@ pub const BASE64_LIMIT: usize = 336;
 /// Maximum length in bytes of the opaque token behind a meta command's flag `O`.
 pub const OPAQUE_LIMIT: usize = 32;
 
-/// Default maximum length of a line in bytes, including its `
-/// `.
+/// Default maximum length of a line in bytes, including its line feed.
 pub const DEFAULT_LINE_LIMIT: usize = 65_536;
 
 /// Default maximum length of a line in bytes with `--drop-in`, where memcached's rules apply.
